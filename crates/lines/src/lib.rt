@@ -1,0 +1,16 @@
+//! Lines that are read from any reader, and texts that are written to any writer.
+//!
+//! All room is taken beforehand, by `LineBuffer::new` and `Outbox::new`. No other call takes memory.
+#![tactic(auto)]
+
+mod buffer;
+#[cfg(test)]
+mod fakes;
+mod outbox;
+mod read;
+mod retry;
+mod write;
+
+pub use buffer::{LINE_LIMIT, LineBuffer, Next};
+pub use outbox::Outbox;
+pub use write::{write_text, write_texts};

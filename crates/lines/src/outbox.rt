@@ -1,0 +1,108 @@
+//! Text that waits to be written, so that many short texts become one write.
+ghost use Rattle.std.specs.Prelude.{◌≡◌, ◌≢◌, ◌+◌, ◌≤◌, List, [], ◌++◌, ℕ, length, IsOk, IfOk, IfErr, OnErr, vec_len, vec_capacity, flat_map};
+ghost use Rattle.std.specs.IoError.{error_kind};
+ghost use Rattle.lines.specs.Texts.{Writes, Puts, outbox_room};
+
+use crate::write::{flush, write_text};
+use std::alloc::{AllocError, Global};
+use std::io;
+use std::io::{ErrorKind, Write};
+use std::marker::Model;
+
+// How many bytes may wait.
+const OUTBOX_ROOM: usize = 65_536;
+
+/// Holds text that waits to be written. A contract sees the text that waits.
+///
+/// Its room, 65,536 bytes, is made once, by `new`. A longer text is written without waiting.
+/// After an `Err` a beginning of all that was put is written, and the rest of it is given up.
+#[derive(Drop)]
+pub struct Outbox {
+    waiting: Vec<u8>,
+}
+
+impl Model for Outbox {
+    ghost Value = { List ℕ };
+
+    ghost view = { λ o. o.waiting.items };
+
+    ghost invariant = { λ o. outbox_room ≤ vec_capacity o.waiting };
+}
+
+impl Outbox {
+    /// Makes the room.
+    pub fn new(alloc: Global) -> Result<Outbox, AllocError>
+        ensures { IfOk result (λ o. o ≡ []) }
+    {
+        Ok(Outbox {
+            waiting: Vec::with_capacity(alloc, OUTBOX_ROOM)?,
+        })
+    }
+
+    /// Writes what waits, and flushes the writer. Call it before a read that may wait for an answer.
+    pub fn send<W: Write>(&mut self, writer: &mut W) -> io::Result<()>
+        ensures sent { Writes (W.contents writer.old) (W.contents writer.new) result self.old }
+        ensures empty { self.new ≡ [] }
+        ensures retried { IfErr result (λ e. error_kind e ≢ ErrorKind.Interrupted) }
+    {
+        let outcome = write_flushed(writer, self.waiting.as_slice());
+        self.waiting.clear();
+        outcome
+    }
+
+    /// Puts a text behind what waits, and writes only where there is no room for both.
+    pub fn put<W: Write>(&mut self, writer: &mut W, text: &[u8]) -> io::Result<()>
+        ensures text { Puts (W.contents writer.old) (W.contents writer.new) self.old self.new result text.now }
+        // A text for which there is room is not written yet.
+        ensures waits { length self.old + length text.now ≤ outbox_room → IsOk result × (self.new ≡ self.old ++ text.now) }
+        ensures err { OnErr result (self.new ≡ []) }
+        ensures retried { IfErr result (λ e. error_kind e ≢ ErrorKind.Interrupted) }
+    {
+        if text.len() <= self.waiting.capacity() - self.waiting.len() {
+            append(&mut self.waiting, text);
+            return Ok(());
+        }
+        self.send(writer)?;
+        if text.len() > self.waiting.capacity() {
+            return write_text(writer, text);
+        }
+        append(&mut self.waiting, text);
+        Ok(())
+    }
+
+    /// Puts texts one behind another.
+    pub fn put_all<W: Write>(&mut self, writer: &mut W, texts: &[&[u8]]) -> io::Result<()>
+        ensures texts { Puts (W.contents writer.old) (W.contents writer.new) self.old self.new result (flat_map (λ t. t.now) texts.now) }
+        ensures waits { length self.old + length (flat_map (λ t. t.now) texts.now) ≤ outbox_room
+            → IsOk result × (self.new ≡ self.old ++ flat_map (λ t. t.now) texts.now) }
+        ensures err { OnErr result (self.new ≡ []) }
+        ensures retried { IfErr result (λ e. error_kind e ≢ ErrorKind.Interrupted) }
+    {
+        for text in texts {
+            self.put(writer, *text)?;
+        }
+        Ok(())
+    }
+}
+
+fn write_flushed<W: Write>(writer: &mut W, text: &[u8]) -> io::Result<()>
+    ensures written { Writes (W.contents writer.old) (W.contents writer.new) result text.now }
+    ensures retried { IfErr result (λ e. error_kind e ≢ ErrorKind.Interrupted) }
+{
+    write_text(writer, text)?;
+    flush(writer)
+}
+
+// Copies a text behind what waits, where there is room for it.
+fn append(waiting: &mut Vec<u8>, text: &[u8])
+    requires { vec_len waiting.old + length text.now ≤ vec_capacity waiting.old }
+    ensures items { waiting.new.items ≡ waiting.old.items ++ text.now }
+    ensures capacity { vec_capacity waiting.old ≤ vec_capacity waiting.new }
+{
+    let Ok(()) = waiting.extend_from_slice(text) else {
+        unreachable!()
+    };
+}
+
+#[cfg(test)]
+mod tests;

@@ -1,0 +1,21 @@
+use Rattle.std.proofs.Common.{◌<◌, ◌-◌, sym, subst, arith, rules, length, vec_capacity, vec_len, set}
+use Rattle.registry.proofs.GrowthLemmas.{lists_of-set_same, room-grown}
+use Rattle.registry.specs.Releases.{rooms_of}
+use Rattle.registry.specs.Rooms.{room_where}
+use Rattle.registry.proofs.growing.make_release_room.Goals as goal
+
+pub returns-in_err-reserve-in-Some-clause-lists : goal.returns-in_err-reserve-in-Some-clause-lists
+returns-in_err-reserve-in-Some-clause-lists c =
+    lists_of-set_same c.args.lists.now.items c.in-Some.index c.index_mut-list.result.now c.reserve-in-Some.new.self c.index_mut-list.ensures.value c.reserve-in-Some.ensures.items
+
+pub returns-in_ok-reserve-in-Some-clause-lists : goal.returns-in_ok-reserve-in-Some-clause-lists
+returns-in_ok-reserve-in-Some-clause-lists c =
+    lists_of-set_same c.args.lists.now.items c.in-Some.index c.index_mut-list.result.now c.reserve-in-Some.new.self c.index_mut-list.ensures.value c.reserve-in-Some.ensures.items
+
+pub returns-in_ok-reserve-in-Some-clause-room : goal.returns-in_ok-reserve-in-Some-clause-room
+returns-in_ok-reserve-in-Some-clause-room c =
+    let within : c.in-Some.index < length c.args.lists.now.items = search rules in
+    let grown = room-grown c.args.lists.now.items c.in-Some.index c.reserve-in-Some.new.self within in
+    let room : 0 < vec_capacity c.reserve-in-Some.new.self - vec_len c.reserve-in-Some.new.self = omega (arith, c.in_ok-reserve-in-Some.ensures.ok) in
+    subst (λ o. 0 < room_where (rooms_of (set c.args.lists.now.items c.in-Some.index c.reserve-in-Some.new.self)) (vec_capacity c.args.first.now) o) (sym c.in-Some.is)
+    (subst (λ n. 0 < n) (sym grown) room)

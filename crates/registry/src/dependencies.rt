@@ -1,0 +1,133 @@
+// What a version depends on.
+
+ghost use Rattle.std.specs.Prelude.{◌≡◌, ◌<◌, ◌+◌, ℕ, List, map, length, slice_index_or, true, false, MatchBool, IfErr, IfOk, IsPermutation, IsSorted};
+ghost use Rattle.std.specs.Borrow.{Bor};
+ghost use Rattle.std.specs.Cmp.Lexicographic.{slice_cmp};
+ghost use Rattle.std.specs.Ordering.{nat_cmp};
+ghost use Rattle.std.specs.Str.{bytes_eq};
+ghost use Rattle.registry.specs.Needs.{has_name, names_of, repeats_name};
+
+use std::alloc::Global;
+use std::marker::Model;
+use std::sync::Arc;
+use versions::{Name, Need, Refusal};
+
+/// Up to this many needs are compared each with each, which takes less time than to sort them.
+const FEW: usize = 8;
+
+/// What a version depends on: names of packages, each with a requirement, in order.
+///
+/// Copies share the list. Whether a name comes twice is found once, when the list is made.
+#[derive(Drop)]
+pub struct Dependencies {
+    needs: Arc<Vec<(Name, Need)>, Global>,
+    repeats: bool,
+}
+
+impl Model for Dependencies {
+    ghost use Rattle.std.specs.Prelude.{◌≡◌, List, ℕ};
+    ghost use Rattle.std.specs.Arc.{arc_value};
+    ghost use Rattle.registry.specs.Needs.{repeats_name};
+
+    ghost Value = { List (List ℕ × List ℕ) };
+
+    ghost view = { λ d. (arc_value d.needs).items };
+
+    ghost invariant = { λ d. d.repeats ≡ repeats_name (arc_value d.needs).items };
+}
+
+impl Dependencies {
+    /// Keeps these needs in their order. Takes time in proportion to n log n.
+    pub fn new(alloc: Global, needs: Vec<(Name, Need)>) -> Result<Dependencies, Refusal>
+        ensures kept { IfOk result (λ dependencies. dependencies ≡ needs.items) }
+        ensures only { IfErr result (λ e. e ≡ Refusal.NoMemory) }
+    {
+        let repeats = repeats_name(alloc, &needs)?;
+        Ok(Dependencies {
+            needs: Arc::new(alloc, needs)?,
+            repeats,
+        })
+    }
+
+    /// The names with their requirements, in the order that was given.
+    pub fn needs(&self) -> &[(Name, Need)]
+        ensures { result.now ≡ self.now }
+    {
+        self.needs.as_slice()
+    }
+
+    /// Whether a name comes twice; takes no time.
+    pub fn repeats_name(&self) -> bool
+        ensures { result ≡ repeats_name self.now }
+    {
+        self.repeats
+    }
+
+    /// An equal list, which is shared with this one.
+    pub fn copy(&self) -> Result<Dependencies, Refusal>
+        ensures same { IfOk result (λ dependencies. dependencies ≡ self.now) }
+        ensures only { IfErr result (λ e. e ≡ Refusal.NoMemory) }
+    {
+        Ok(Dependencies {
+            needs: Arc::try_clone(&self.needs)?,
+            repeats: self.repeats,
+        })
+    }
+}
+
+/// Whether a name is among the needs.
+pub fn has_name(needs: &[(Name, Need)], name: &Name) -> bool
+    ensures { result ≡ has_name needs.now name.now }
+{
+    needs.iter().any(|need| *name == need.0)
+}
+
+/// Whether a name comes twice, for few needs: compares each with each.
+fn repeats_among_few(needs: &[(Name, Need)]) -> bool
+    ensures { result ≡ repeats_name needs.now }
+{
+    match needs {
+        [] => false,
+        [first, rest @ ..] => has_name(rest, &first.0) || repeats_among_few(rest),
+    }
+}
+
+/// The names of these needs, in the order of their bytes.
+fn sorted_names<'a>(alloc: Global, needs: &'a [(Name, Need)]) -> Result<Vec<&'a str>, Refusal>
+    ensures same { IfOk result (λ names. IsPermutation (names_of needs.now) (map (λ name. name.now) names.items)) }
+    ensures sorted { IfOk result (λ names. IsSorted (λ a b. slice_cmp nat_cmp a.now b.now) names.items) }
+    ensures only { IfErr result (λ e. e ≡ Refusal.NoMemory) }
+{
+    let mut names = Vec::with_capacity(alloc, needs.len())?;
+    for need in needs {
+        names.push(need.0.text())?;
+    }
+    names.sort_unstable();
+    Ok(names)
+}
+
+/// Whether two texts side by side are the same.
+fn has_equal_neighbours(texts: &[&str]) -> bool
+    ensures { MatchBool result
+        ((k : ℕ) × (k + 1 < length texts.now) × ((d : Bor (List ℕ)) → bytes_eq (slice_index_or texts.now k d).now (slice_index_or texts.now (k + 1) d).now ≡ true))
+        ((k : ℕ) (d : Bor (List ℕ)) → k + 1 < length texts.now → bytes_eq (slice_index_or texts.now k d).now (slice_index_or texts.now (k + 1) d).now ≡ false) }
+{
+    for i in 1..texts.len() {
+        if texts[i - 1] == texts[i] {
+            return true;
+        }
+    }
+    false
+}
+
+/// Whether a name comes twice.
+fn repeats_name(alloc: Global, needs: &[(Name, Need)]) -> Result<bool, Refusal>
+    ensures found { IfOk result (λ repeats. repeats ≡ repeats_name needs.now) }
+    ensures only { IfErr result (λ e. e ≡ Refusal.NoMemory) }
+{
+    if needs.len() <= FEW {
+        return Ok(repeats_among_few(needs));
+    }
+    let names = sorted_names(alloc, needs)?;
+    Ok(has_equal_neighbours(&names))
+}

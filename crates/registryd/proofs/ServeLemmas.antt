@@ -1,0 +1,234 @@
+-- A session so far, and what each step of serving makes of it.
+use Rattle.std.proofs.Common.{◌≡◌, ℕ, ◌+◌, ◌≤◌, ◌<◌, List, [], ◌∷◌, ◌++◌, length, take, flat_map, refl, sym, ap, subst, ◌∙◌, Option, Result, Ok, Err, arith}
+use Rattle.std.proofs.lemmas.List.{append_assoc, append-nil, take_at}
+use Rattle.std.proofs.lemmas.List.Concat.{flat_map-append}
+use Rattle.std.specs.List.{AllByRecursion}
+use Rattle.std.specs.Io.KnownBytes.{Appends, Consumes, Keeps, IsAtEnd}
+use Rattle.std.proofs.KnownBytes.{Appends-nil, Appends-trans, Consumes-nil, Consumes-trans, Consumes-kept}
+use Rattle.lines.specs.Lines.{HasNoFeed, lines_of, whole_lines_of}
+use Rattle.lines.specs.Texts.{IsBeginning, Writes, Puts}
+use Rattle.lines.specs.Unread.{Unread, StandsFor, BeginsWith, line_limit}
+use Rattle.lines.proofs.LineLemmas.{with_feeds, with_feeds-more, lines_of-with_feeds, whole_lines_of-with_feeds, no_feeds-more, whole_lines_of-rest, StandsFor-more}
+use Rattle.wire.specs.Replies.{Reply, reply_text, replies_text}
+use Rattle.registry.specs.Step.{Change}
+use Rattle.registryd.specs.Session.{IsLawful, Session, Serves, Breaks}
+
+-- Whole lines of what was read were answered, and the rest is held; the replies are written or wait.
+pub record Progress (r0 r w0 w : Option (List ℕ)) (old new : List Change) (held : Unread) (waiting : List ℕ) : Type 0 where
+  pub input : List ℕ
+  pub lines : List (List ℕ)
+  pub rest : List ℕ
+  pub replies : List Reply
+  pub text : List ℕ
+  pub read : Consumes r0 r input
+  pub split : input ≡ with_feeds lines ++ rest
+  pub no_feeds : AllByRecursion HasNoFeed lines
+  pub stands : StandsFor held rest
+  pub session : Session old lines replies new
+  pub written : Appends w0 w text
+  pub said : text ++ waiting ≡ replies_text replies
+
+pub Session-append : (lines more : List (List ℕ)) (replies after : List Reply) (old mid new : List Change) → Session old lines replies mid → Session mid more after new
+    → Session old (lines ++ more) (replies ++ after) new
+Session-append [] more [] after old mid new first then = subst (λ n. Session n more after new) first then
+Session-append [] more (reply ∷ replies) after old mid new first then = absurd first
+Session-append (line ∷ lines) more [] after old mid new first then = absurd first
+Session-append (line ∷ lines) more (reply ∷ replies) after old mid new (here, lawful, rest) then = (here, lawful, Session-append lines more replies after here mid new rest then)
+
+replies_text-more : (replies : List Reply) (reply : Reply) → replies_text (replies ++ reply ∷ []) ≡ replies_text replies ++ reply_text reply
+replies_text-more replies reply = flat_map-append reply_text replies (reply ∷ []) ∙ ap (λ l. replies_text replies ++ l) (append-nil (reply_text reply))
+
+-- before the first line
+pub starts : (r w : Option (List ℕ)) (old : List Change) (held : Unread) (waiting : List ℕ) → StandsFor held [] → waiting ≡ [] → Progress r r w w old old held waiting
+starts r w old held waiting stands none = record {
+  input = [];
+  lines = [];
+  rest = [];
+  replies = [];
+  text = [];
+  read = Consumes-nil r;
+  split = refl;
+  no_feeds = tt;
+  stands = stands;
+  session = refl;
+  written = Appends-nil w;
+  said = none;
+}
+
+-- a line was found and its reply put
+pub answers : (r0 r w0 w w' : Option (List ℕ)) (old mid new : List Change) (held held' : Unread) (waiting waiting' line : List ℕ) (reply : Reply) (written : List ℕ)
+    → (p : Progress r0 r w0 w old mid held waiting) → BeginsWith p.rest line held' → IsLawful mid line reply new → Appends w w' written
+    → written ++ waiting' ≡ waiting ++ reply_text reply → Progress r0 r w0 w' old new held' waiting'
+answers r0 r w0 w w' old mid new held held' waiting waiting' line reply written p begins lawful appends all = record {
+  input = p.input;
+  lines = p.lines ++ line ∷ [];
+  rest = begins.rest;
+  replies = p.replies ++ reply ∷ [];
+  text = p.text ++ written;
+  read = p.read;
+  split = p.split ∙ ap (λ l. with_feeds p.lines ++ l) begins.whole ∙ sym (with_feeds-more p.lines line begins.rest);
+  no_feeds = no_feeds-more p.lines line p.no_feeds begins.no_feed;
+  stands = begins.held;
+  session = Session-append p.lines (line ∷ []) p.replies (reply ∷ []) old mid new p.session (new, lawful, refl);
+  written = Appends-trans w0 w w' p.text written p.written appends;
+  said = append_assoc p.text written waiting' ∙ ap (λ l. p.text ++ l) all ∙ sym (append_assoc p.text waiting (reply_text reply))
+      ∙ ap (λ l. l ++ reply_text reply) p.said ∙ sym (replies_text-more p.replies reply);
+}
+
+-- a line was found and the write of its reply failed
+pub answer_fails : (r0 r w0 w w' : Option (List ℕ)) (old mid new : List Change) (held held' : Unread) (waiting line : List ℕ) (reply : Reply) (written : List ℕ)
+    → (p : Progress r0 r w0 w old mid held waiting) → BeginsWith p.rest line held' → IsLawful mid line reply new → Appends w w' written
+    → IsBeginning written (waiting ++ reply_text reply) → Breaks r0 r w0 w' old
+answer_fails r0 r w0 w w' old mid new held held' waiting line reply written p begins lawful appends (more, is) = record {
+  input = p.input;
+  count = length (p.lines ++ line ∷ []);
+  replies = p.replies ++ reply ∷ [];
+  new = new;
+  text = p.text ++ written;
+  read = p.read;
+  session = subst (λ ls. Session old ls (p.replies ++ reply ∷ []) new) (sym front)
+      (Session-append p.lines (line ∷ []) p.replies (reply ∷ []) old mid new p.session (new, lawful, refl));
+  written = Appends-trans w0 w w' p.text written p.written appends;
+  beginning = (
+    more,
+    append_assoc p.text written more ∙ ap (λ l. p.text ++ l) is ∙ sym (append_assoc p.text waiting (reply_text reply))
+        ∙ ap (λ l. l ++ reply_text reply) p.said ∙ sym (replies_text-more p.replies reply),
+  );
+}
+  where
+    all : p.input ≡ with_feeds (p.lines ++ line ∷ []) ++ begins.rest
+    all = p.split ∙ ap (λ l. with_feeds p.lines ++ l) begins.whole ∙ sym (with_feeds-more p.lines line begins.rest)
+
+    front : take (length (p.lines ++ line ∷ [])) (lines_of p.input) ≡ p.lines ++ line ∷ []
+    front = ap (λ l. take (length (p.lines ++ line ∷ [])) (lines_of l)) all
+        ∙ ap (take (length (p.lines ++ line ∷ []))) (lines_of-with_feeds (p.lines ++ line ∷ []) begins.rest (no_feeds-more p.lines line p.no_feeds begins.no_feed))
+        ∙ take_at (p.lines ++ line ∷ []) (lines_of begins.rest) _ refl
+
+-- what waited was sent
+pub sends : (r0 r w0 w w' : Option (List ℕ)) (old new : List Change) (held held' : Unread) (waiting waiting' : List ℕ) (written : List ℕ)
+    → (p : Progress r0 r w0 w old new held waiting) → HasNoFeed p.rest → StandsFor held' p.rest → Appends w w' written → written ≡ waiting → waiting' ≡ []
+    → (q : Progress r0 r w0 w' old new held' waiting') × HasNoFeed q.rest
+sends r0 r w0 w w' old new held held' waiting waiting' written p no_feed stands appends all none = (
+  record {
+    input = p.input;
+    lines = p.lines;
+    rest = p.rest;
+    replies = p.replies;
+    text = p.text ++ written;
+    read = p.read;
+    split = p.split;
+    no_feeds = p.no_feeds;
+    stands = stands;
+    session = p.session;
+    written = Appends-trans w0 w w' p.text written p.written appends;
+    said = ap (λ l. p.text ++ written ++ l) none ∙ append-nil (p.text ++ written) ∙ ap (λ l. p.text ++ l) all ∙ p.said;
+  },
+  no_feed,
+)
+
+-- the write of what waited failed
+pub send_fails : (r0 r w0 w w' : Option (List ℕ)) (old new : List Change) (held : Unread) (waiting written : List ℕ)
+    → (p : Progress r0 r w0 w old new held waiting) → Appends w w' written → IsBeginning written waiting → Breaks r0 r w0 w' old
+send_fails r0 r w0 w w' old new held waiting written p appends (more, is) = record {
+  input = p.input;
+  count = length p.lines;
+  replies = p.replies;
+  new = new;
+  text = p.text ++ written;
+  read = p.read;
+  session = subst (λ ls. Session old ls p.replies new) (sym front) p.session;
+  written = Appends-trans w0 w w' p.text written p.written appends;
+  beginning = (more, append_assoc p.text written more ∙ ap (λ l. p.text ++ l) is ∙ p.said);
+}
+  where
+    front : take (length p.lines) (lines_of p.input) ≡ p.lines
+    front = ap (λ l. take (length p.lines) (lines_of l)) p.split ∙ ap (take (length p.lines)) (lines_of-with_feeds p.lines p.rest p.no_feeds)
+        ∙ take_at p.lines (lines_of p.rest) _ refl
+
+-- more was read
+pub reads : (r0 r r' w0 w : Option (List ℕ)) (old new : List Change) (held held' : Unread) (waiting piece : List ℕ)
+    → Progress r0 r w0 w old new held waiting → Consumes r r' piece → held'.bytes ≡ held.bytes ++ piece → held'.is_long ≡ held.is_long
+    → Progress r0 r' w0 w old new held' waiting
+reads r0 r r' w0 w old new held held' waiting piece p consumes bytes same = record {
+  input = p.input ++ piece;
+  lines = p.lines;
+  rest = p.rest ++ piece;
+  replies = p.replies;
+  text = p.text;
+  read = Consumes-trans r0 r r' p.input piece p.read consumes;
+  split = ap (λ l. l ++ piece) p.split ∙ append_assoc (with_feeds p.lines) p.rest piece;
+  no_feeds = p.no_feeds;
+  stands = StandsFor-more held held' p.rest piece p.stands bytes same;
+  session = p.session;
+  written = p.written;
+  said = p.said;
+}
+
+-- a read gave nothing
+pub reads_none : (r0 r r' w0 w : Option (List ℕ)) (old new : List Change) (held held' : Unread) (waiting piece : List ℕ)
+    → (p : Progress r0 r w0 w old new held waiting) → HasNoFeed p.rest → Consumes r r' piece → held'.bytes ≡ held.bytes ++ piece → held'.is_long ≡ held.is_long
+    → piece ≡ [] → (q : Progress r0 r' w0 w old new held' waiting) × HasNoFeed q.rest
+unfolding reads
+reads_none r0 r r' w0 w old new held held' waiting piece p no_feed consumes bytes same none = (
+  reads r0 r r' w0 w old new held held' waiting piece p consumes bytes same,
+  subst HasNoFeed (sym (append-nil p.rest) ∙ ap (λ l. p.rest ++ l) (sym none)) no_feed,
+)
+
+-- a read failed when no whole line was left, and all replies were sent
+pub read_fails : (r0 r r' w0 w : Option (List ℕ)) (old new : List Change) (held : Unread) (waiting : List ℕ)
+    → (p : Progress r0 r w0 w old new held waiting) → HasNoFeed p.rest → waiting ≡ [] → Keeps r r' → Serves r0 r' w0 w whole_lines_of old new
+read_fails r0 r r' w0 w old new held waiting p no_feed none kept = record {
+  input = p.input;
+  replies = p.replies;
+  read = Consumes-kept r0 r r' p.input p.read kept;
+  session = subst (λ ls. Session old ls p.replies new) (sym all) p.session;
+  written = subst (Appends w0 w) (sym (append-nil p.text) ∙ ap (λ l. p.text ++ l) (sym none) ∙ p.said) p.written;
+}
+  where
+    all : whole_lines_of p.input ≡ p.lines
+    all = ap whole_lines_of p.split ∙ whole_lines_of-with_feeds p.lines p.rest p.no_feeds
+        ∙ ap (λ ls. p.lines ++ ls) (whole_lines_of-rest p.rest no_feed) ∙ append-nil p.lines
+
+-- the text ended, and the rest of it was answered
+pub ends : (r0 r w0 w w' : Option (List ℕ)) (old mid new : List Change) (held : Unread) (waiting : List ℕ) (after : List Reply) (written : List ℕ)
+    → (p : Progress r0 r w0 w old mid held waiting) → waiting ≡ [] → Session mid (lines_of p.rest) after new → Appends w w' written → written ≡ replies_text after
+    → Serves r0 r w0 w' lines_of old new
+ends r0 r w0 w w' old mid new held waiting after written p none session appends is = record {
+  input = p.input;
+  replies = p.replies ++ after;
+  read = p.read;
+  session = subst (λ ls. Session old ls (p.replies ++ after) new) (sym all) (Session-append p.lines (lines_of p.rest) p.replies after old mid new p.session session);
+  written = subst (Appends w0 w') text (Appends-trans w0 w w' p.text written p.written appends);
+}
+  where
+    all : lines_of p.input ≡ p.lines ++ lines_of p.rest
+    all = ap lines_of p.split ∙ lines_of-with_feeds p.lines p.rest p.no_feeds
+
+    text : p.text ++ written ≡ replies_text (p.replies ++ after)
+    text = ap (λ l. l ++ written) (sym (append-nil p.text) ∙ ap (λ l. p.text ++ l) (sym none) ∙ p.said) ∙ ap (λ l. replies_text p.replies ++ l) is
+        ∙ sym (flat_map-append reply_text p.replies after)
+
+-- the text ended, and the write of the last reply failed
+pub end_fails : (r0 r w0 w w' : Option (List ℕ)) (old mid new : List Change) (held : Unread) (waiting : List ℕ) (after : List Reply) (written : List ℕ)
+    → (p : Progress r0 r w0 w old mid held waiting) → waiting ≡ [] → Session mid (lines_of p.rest) after new → Appends w w' written → IsBeginning written (replies_text after)
+    → Breaks r0 r w0 w' old
+end_fails r0 r w0 w w' old mid new held waiting after written p none session appends (more, is) = record {
+  input = p.input;
+  count = length (p.lines ++ lines_of p.rest);
+  replies = p.replies ++ after;
+  new = new;
+  text = p.text ++ written;
+  read = p.read;
+  session = subst (λ ls. Session old ls (p.replies ++ after) new) (sym front) (Session-append p.lines (lines_of p.rest) p.replies after old mid new p.session session);
+  written = Appends-trans w0 w w' p.text written p.written appends;
+  beginning = (
+    more,
+    append_assoc p.text written more ∙ ap (λ l. p.text ++ l) is ∙ ap (λ l. l ++ replies_text after) (sym (append-nil p.text) ∙ ap (λ l. p.text ++ l) (sym none) ∙ p.said)
+        ∙ sym (flat_map-append reply_text p.replies after),
+  );
+}
+  where
+    front : take (length (p.lines ++ lines_of p.rest)) (lines_of p.input) ≡ p.lines ++ lines_of p.rest
+    front = ap (λ l. take (length (p.lines ++ lines_of p.rest)) (lines_of l)) p.split
+        ∙ ap (take (length (p.lines ++ lines_of p.rest))) (lines_of-with_feeds p.lines p.rest p.no_feeds ∙ sym (append-nil (p.lines ++ lines_of p.rest)))
+        ∙ take_at (p.lines ++ lines_of p.rest) [] _ refl

@@ -1,0 +1,34 @@
+-- How the program ends.
+use Rattle.std.specs.Prelude.{ℕ, List, [], ◌++◌, codes, decimal}
+use Rattle.registryd.specs.declared.ending.End.{End}
+use Rattle.registryd.specs.declared.ending.End.TheVariants.{Done, Input, Output, Journal, Memory, Words}
+use Rattle.registryd.specs.declared.serve.RunFault.{RunFault}
+use Rattle.registryd.specs.declared.serve.RunFault.TheVariants as broken
+
+-- the exit status: 0 where all went well, 2 for bad words, and else 1
+abbrev pub status_of : End → ℕ
+status_of Done = 0
+status_of Input = 1
+status_of Output = 1
+status_of (Journal line) = 1
+status_of Memory = 1
+status_of Words = 2
+
+-- the line that tells at which line a journal was refused
+abbrev pub journal_text : ℕ → List ℕ
+journal_text line = codes "registryd: journal line " ++ (decimal line ++ codes "\n")
+
+-- the text on standard error
+abbrev pub text_of : End → List ℕ
+text_of Done = []
+text_of Input = codes "registryd: input failed\n"
+text_of Output = codes "registryd: output failed\n"
+text_of (Journal line) = journal_text line
+text_of Memory = codes "registryd: no memory\n"
+text_of Words = codes "registryd: bad words\n"
+
+-- the end that a fault of serving comes to
+abbrev pub end_of_run : RunFault → End
+end_of_run broken.Input = Input
+end_of_run broken.Output = Output
+end_of_run broken.Memory = Memory

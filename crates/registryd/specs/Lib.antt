@@ -1,0 +1,5 @@
+pub mod CommandLine
+pub mod Ending
+pub mod Replay
+pub mod Session
+pub mod Words

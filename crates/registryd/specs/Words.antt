@@ -1,0 +1,59 @@
+-- What the words of the command line say.
+use Rattle.std.specs.Prelude.{◌≡◌, ◌≤◌, ◌<◌, ◌⊎◌, ℕ, List, Option, Some, codes, map, String, string_bytes, option_map, length}
+use Rattle.std.specs.Str.Parse.{IsNumeral, digits_value, without_leading_plus}
+use Rattle.std.specs.declared.alloc.Global.{Global}
+use Rattle.clap.specs.Words.{IsUnsignedIn, Row, Text, first_of, all_of, one_of}
+use Rattle.registryd.specs.declared.words.Words.{Words}
+use Rattle.registryd.specs.declared.words.Words.TheVariants.{Serve, Race}
+
+abbrev pub texts : List (String Global) → List Text
+texts words = map string_bytes words
+
+-- a text writes the number in decimal digits, perhaps after a plus
+abbrev pub Writes : Text → ℕ → Type 0
+Writes text n = IsNumeral 10 (without_leading_plus text) × (digits_value 10 (without_leading_plus text) ≡ n)
+
+-- the number of workers, which is 1 to 64, is the one that was given
+abbrev pub SaysWorkers : ℕ → List Row → Type 0
+SaysWorkers workers rows = (1 ≤ workers) × (workers ≤ 64)
+    × ((text : Text) × (one_of (codes "workers") rows ≡ Some text) × Writes text workers)
+
+-- the options of `serve` are those that were given
+abbrev pub SaysServe : Words → List Row → Type 0
+SaysServe (Serve workers load save) rows = SaysWorkers workers rows
+    × (option_map string_bytes load ≡ first_of (codes "load") rows)
+    × (option_map string_bytes save ≡ first_of (codes "save") rows)
+SaysServe (Race files) rows = ⊥
+
+-- the files of `race`, 1 to 63, are those that were given
+abbrev pub SaysRace : Words → List Row → Type 0
+SaysRace (Serve workers load save) rows = ⊥
+SaysRace (Race files) rows = (0 < length files.items) × (length files.items ≤ 63)
+    × (Some (texts files.items) ≡ all_of (codes "files") rows)
+
+-- the words say what clap gives for them: a subcommand with its values
+abbrev pub Says : Words → Option (Text × List Row) → Type 0
+Says words given = (rows : List Row) × (((given ≡ Some (codes "serve", rows)) × SaysServe words rows)
+    ⊎ ((given ≡ Some (codes "race", rows)) × SaysRace words rows))
+
+abbrev pub IsManyFiles : List Row → Type 0
+IsManyFiles rows = (files : List Text) × (all_of (codes "files") rows ≡ Some files) × (63 < length files)
+
+-- more files than a race takes
+abbrev pub HasManyFiles : Option (Text × List Row) → Type 0
+HasManyFiles given = (rows : List Row) × (given ≡ Some (codes "race", rows)) × IsManyFiles rows
+
+-- ---- what clap has seen to
+
+-- a number of workers is given, from 1 to 64
+abbrev pub HasWorkers : List Row → Type 0
+HasWorkers rows = (text : Text) × (one_of (codes "workers") rows ≡ Some text) × IsUnsignedIn 1 64 text
+
+-- a file is given
+abbrev pub HasFiles : List Row → Type 0
+HasFiles rows = (files : List Text) × (all_of (codes "files") rows ≡ Some files) × (0 < length files)
+
+-- a subcommand is given, with the values that it has to have
+abbrev pub IsGiven : Option (Text × List Row) → Type 0
+IsGiven given = (rows : List Row) × (((given ≡ Some (codes "serve", rows)) × HasWorkers rows)
+    ⊎ ((given ≡ Some (codes "race", rows)) × HasFiles rows))

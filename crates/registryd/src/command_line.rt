@@ -1,0 +1,88 @@
+//! The command line of the program, as clap is told of it.
+ghost use Rattle.std.specs.Prelude.{◌≡◌, IfOk, true, false};
+ghost use Rattle.clap.specs.Words.{app_of, rule_of};
+ghost use Rattle.clap.specs.declared.Command.TheViews.{out-Command as fields_of};
+ghost use Rattle.registryd.specs.CommandLine.{option_rule, workers_rule, files_rule, serve_app, race_app, program_app};
+
+use clap::builder::ValueParser;
+use clap::{Arg, ArgAction, Command};
+use std::alloc::{AllocError, Global};
+
+/// `registryd serve --workers N [--load FILE] [--save FILE]` or `registryd race FILE...`, without the
+/// program's name.
+pub fn program<'a>(alloc: Global) -> Result<Command<'a>, AllocError>
+    ensures { IfOk result (λ c. app_of c ≡ program_app) }
+{
+    let serve = serve_command(alloc)?;
+    let race = race_command(alloc)?;
+    let plain = Command::new(alloc, "registryd")
+        .about("A package registry that reads request lines and writes reply lines")
+        .no_binary_name(true)
+        .disable_help_subcommand(true)
+        .subcommand_required(true);
+    let with_serve = plain.subcommand(serve)?;
+    let with_race = with_serve.subcommand(race)?;
+    Ok(with_race)
+}
+
+fn serve_command<'a>(alloc: Global) -> Result<Command<'a>, AllocError>
+    ensures app { IfOk result (λ c. app_of c ≡ serve_app) }
+    ensures local { IfOk result (λ c. (fields_of c).has_globals ≡ false) }
+{
+    let workers = workers_option(alloc);
+    let load = file_option(alloc, "load", "A journal to begin from");
+    let save = file_option(alloc, "save", "Where to write the journal at the end");
+    let plain = Command::new(alloc, "serve").about("Answers the request lines of standard input");
+    let with_workers = plain.arg(workers)?;
+    let with_load = with_workers.arg(load)?;
+    let with_save = with_load.arg(save)?;
+    Ok(with_save)
+}
+
+fn race_command<'a>(alloc: Global) -> Result<Command<'a>, AllocError>
+    ensures app { IfOk result (λ c. app_of c ≡ race_app) }
+    ensures local { IfOk result (λ c. (fields_of c).has_globals ≡ false) }
+{
+    let files = files_argument(alloc);
+    let plain = Command::new(alloc, "race").about(
+        "Answers the request lines of files, a thread to each",
+    );
+    let with_files = plain.arg(files)?;
+    Ok(with_files)
+}
+
+fn workers_option<'a>(alloc: Global) -> Arg<'a>
+    ensures rule { rule_of result ≡ workers_rule }
+    ensures local { result.global ≡ false }
+{
+    Arg::new(alloc, "workers")
+        .long("workers")
+        .value_name("N")
+        .help("How many threads resolve, 1 to 64")
+        .required(true)
+        .action(ArgAction::Set)
+        .value_parser(ValueParser::Unsigned(1, 64))
+}
+
+fn file_option<'a>(alloc: Global, name: &'a str, help: &'a str) -> Arg<'a>
+    ensures rule { rule_of result ≡ option_rule name.entry.now }
+    ensures local { result.global ≡ false }
+{
+    Arg::new(alloc, name)
+        .long(name)
+        .value_name("FILE")
+        .help(help)
+        .action(ArgAction::Set)
+}
+
+fn files_argument<'a>(alloc: Global) -> Arg<'a>
+    ensures rule { rule_of result ≡ files_rule }
+    ensures local { result.global ≡ false }
+{
+    Arg::new(alloc, "files")
+        .value_name("FILE")
+        .help("1 to 63 files of request lines")
+        .required(true)
+        .action(ArgAction::Append)
+        .num_args(1..)
+}

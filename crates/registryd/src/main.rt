@@ -1,0 +1,40 @@
+//! The program `registryd`: a package registry that reads request lines and writes reply lines.
+#![tactic(auto)]
+
+mod answer;
+mod command_line;
+mod ending;
+mod obey;
+mod serve;
+mod served;
+#[cfg(test)]
+mod tests;
+mod words;
+
+use ending::{End, ending};
+use obey::obey;
+use std::alloc::Alloc;
+use std::env::Env;
+use std::process::ExitCode;
+use std::{env, io};
+
+fn main(rt: HostRuntime) -> ExitCode {
+    let end = match words_given(&rt) {
+        Ok(words) => obey(
+            &rt,
+            rt.alloc(),
+            words.as_slice(),
+            &mut rt.stdin(),
+            &mut rt.stdout(),
+        ),
+        Err(e) if e.kind() == io::ErrorKind::OutOfMemory => End::Memory,
+        // A word is no text.
+        Err(_) => End::Words,
+    };
+    ExitCode::from(ending(&end, &mut rt.stderr()))
+}
+
+// The words after the program's name.
+fn words_given<R: Env + Alloc>(rt: &R) -> io::Result<Vec<String<R::A>, R::A>> {
+    Ok(env::args(rt)?.skip(1).collect(rt.alloc())?)
+}

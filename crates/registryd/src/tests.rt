@@ -1,0 +1,7 @@
+mod ending;
+mod failures;
+mod hostile;
+mod limits;
+mod obey;
+mod rows;
+mod words;

@@ -1,0 +1,8 @@
+-- Lemmas of this crate.
+pub mod NeverMemory
+pub mod OnLiterals
+pub mod PreReleaseLemmas
+pub mod PrecedenceLemmas
+pub mod ReadingLemmas
+pub mod VersionTextLemmas
+pub mod WorkedRows

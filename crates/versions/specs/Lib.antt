@@ -1,0 +1,8 @@
+-- The definitions that contracts cite.
+pub mod NameLaws
+pub mod PreReleases
+pub mod Precedence
+pub mod Readings
+pub mod Refusals
+pub mod VersionTexts
+pub mod Words

@@ -1,0 +1,22 @@
+//! Names, versions and requirements of packages, and the refusals of the whole product.
+//!
+//! A value of this crate was read from a text and keeps it: what a contract sees of a [`Name`], a
+//! [`Published`] or a [`Need`] is its text. Versions are those of Semantic Versioning 2.0.0, and
+//! requirements those of the Cargo Book, "Specifying Dependencies".
+#![tactic(auto)]
+
+mod faults;
+mod kept;
+mod name;
+mod need;
+mod precedence;
+mod published;
+mod refusal;
+#[cfg(test)]
+mod tests;
+
+pub use name::{NAME_LIMIT, Name};
+pub use need::{Need, REQUIREMENT_LIMIT, pre_releases_are_named};
+pub use precedence::{equal_precedence_is_an_equivalence, order, precedence_is_a_total_preorder};
+pub use published::{Published, VERSION_LIMIT, versions_are_those_of_the_grammar};
+pub use refusal::Refusal;

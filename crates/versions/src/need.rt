@@ -1,0 +1,103 @@
+//! Requirements on the version of a package.
+ghost use Rattle.std.specs.Prelude.{◌≡◌, ◌↔◌, IfErr, IfOk, IsTrue, Ok, false, map};
+ghost use Rattle.semver.specs.Identifiers.{comparator_view};
+ghost use Rattle.semver.specs.Parse.{req_of};
+ghost use Rattle.versions.specs.PreReleases.{PreReleasesAreNamed};
+ghost use Rattle.versions.specs.Readings.{need_in};
+ghost use Rattle.versions.specs.Refusals.{Gives};
+ghost use Rattle.versions.specs.Words.{is_requirement, meets};
+
+use crate::faults::refusal_of;
+use crate::kept::Kept;
+use crate::published::Published;
+use crate::refusal::Refusal;
+use semver::VersionReq;
+use std::alloc::Global;
+use std::marker::Model;
+use std::sync::Arc;
+
+/// The bytes that a requirement's text may have, its spaces among them.
+pub const REQUIREMENT_LIMIT: usize = 256;
+
+/// A requirement on the version of a package, by its text (Cargo Book, "Specifying Dependencies").
+///
+/// A copy shares the text and what was read from it.
+#[derive(Drop)]
+pub struct Need {
+    kept: Arc<Kept<VersionReq>>,
+}
+
+impl Model for Need {
+    ghost use Rattle.std.specs.Prelude.{◌≡◌, ◌≤◌, ℕ, List, Ok, length, map, string_bytes};
+    ghost use Rattle.std.specs.Arc.{arc_value};
+    ghost use Rattle.semver.specs.Identifiers.{comparator_view};
+    ghost use Rattle.semver.specs.Parse.{req_of};
+
+    ghost Value = { List ℕ };
+
+    ghost view = { λ n. string_bytes (arc_value n.kept).text };
+
+    ghost invariant = { λ n. (length (string_bytes (arc_value n.kept).text) ≤ 256)
+        × (req_of (string_bytes (arc_value n.kept).text) ≡ Ok (map comparator_view (arc_value n.kept).parsed.comparators.items)) };
+}
+
+impl Need {
+    /// Reads a requirement and keeps its text.
+    pub fn read(alloc: Global, text: &str) -> Result<Need, Refusal>
+        ensures gives { Gives (λ need. need) result (need_in text.now) }
+        ensures refused { (result ≡ Err Refusal.BadRequirement) ↔ (is_requirement text.now ≡ false) }
+    {
+        if text.len() > REQUIREMENT_LIMIT {
+            return Err(Refusal::BadRequirement);
+        }
+        match VersionReq::parse(alloc, text) {
+            Ok(mut parsed) => {
+                // A list that grew has room for four comparators, and most requirements have one.
+                parsed.comparators.shrink_to_fit();
+                let text = String::from_str(alloc, text)?;
+                Ok(Need {
+                    kept: Arc::new(alloc, Kept { text, parsed })?,
+                })
+            }
+            Err(fault) => Err(refusal_of(fault, Refusal::BadRequirement)),
+        }
+    }
+
+    /// The text of the requirement, as it was read.
+    pub fn text(&self) -> &str
+        ensures text { result.now ≡ self.now }
+        ensures valid { IsTrue (is_requirement self.now) }
+    {
+        self.kept.text.as_str()
+    }
+
+    /// The same requirement once more, for the cost of a count.
+    pub fn copy(&self) -> Result<Need, Refusal>
+        ensures same { IfOk result (λ need. need ≡ self.now) }
+        ensures only { IfErr result (λ e. e ≡ Refusal.NoMemory) }
+    {
+        Ok(Need {
+            kept: self.kept.clone()?,
+        })
+    }
+
+    /// Whether a version meets the requirement.
+    pub fn admits(&self, version: &Published) -> bool
+        ensures { result ≡ meets self.now version.now }
+    {
+        self.parsed().matches(version.parsed())
+    }
+
+    /// What was read from the text.
+    fn parsed(&self) -> &VersionReq
+        ensures { req_of self.now ≡ Ok (map comparator_view result.now.comparators.items) }
+    {
+        &self.kept.parsed
+    }
+}
+
+/// A law of [`Need::admits`]: a pre-release that meets a requirement is named by one of its
+/// comparators, with the same major, minor and patch and a pre-release of its own.
+pub fn pre_releases_are_named()
+    ensures { PreReleasesAreNamed }
+{}

@@ -1,0 +1,94 @@
+//! Versions of packages.
+ghost use Rattle.std.specs.Prelude.{◌≡◌, ◌↔◌, IfErr, IfOk, IsTrue, Ok, false};
+ghost use Rattle.semver.specs.Identifiers.{parts_of};
+ghost use Rattle.semver.specs.Parse.{version_parts};
+ghost use Rattle.versions.specs.Readings.{version_in};
+ghost use Rattle.versions.specs.Refusals.{Gives};
+ghost use Rattle.versions.specs.VersionTexts.{VersionsAreThoseOfTheGrammar};
+ghost use Rattle.versions.specs.Words.{is_version};
+
+use crate::faults::refusal_of;
+use crate::kept::Kept;
+use crate::refusal::Refusal;
+use semver::Version;
+use std::alloc::Global;
+use std::marker::Model;
+use std::sync::Arc;
+
+/// The bytes that a version's text may have.
+pub const VERSION_LIMIT: usize = 256;
+
+/// A version that a package can publish, by its text (Semantic Versioning 2.0.0).
+///
+/// Two texts may be of equal precedence and still differ, in build metadata. A copy shares the
+/// text and what was read from it.
+#[derive(Drop)]
+pub struct Published {
+    kept: Arc<Kept<Version>>,
+}
+
+impl Model for Published {
+    ghost use Rattle.std.specs.Prelude.{◌≡◌, ◌≤◌, ℕ, List, Ok, length, string_bytes};
+    ghost use Rattle.std.specs.Arc.{arc_value};
+    ghost use Rattle.semver.specs.Identifiers.{parts_of};
+    ghost use Rattle.semver.specs.Parse.{version_parts};
+
+    ghost Value = { List ℕ };
+
+    ghost view = { λ p. string_bytes (arc_value p.kept).text };
+
+    ghost invariant = { λ p. (length (string_bytes (arc_value p.kept).text) ≤ 256)
+        × (version_parts (string_bytes (arc_value p.kept).text) ≡ Ok (parts_of (arc_value p.kept).parsed)) };
+}
+
+impl Published {
+    /// Reads a version and keeps its text.
+    pub fn read(alloc: Global, text: &str) -> Result<Published, Refusal>
+        ensures gives { Gives (λ version. version) result (version_in text.now) }
+        ensures refused { (result ≡ Err Refusal.BadVersion) ↔ (is_version text.now ≡ false) }
+    {
+        if text.len() > VERSION_LIMIT {
+            return Err(Refusal::BadVersion);
+        }
+        match Version::parse(alloc, text) {
+            Ok(parsed) => {
+                let text = String::from_str(alloc, text)?;
+                Ok(Published {
+                    kept: Arc::new(alloc, Kept { text, parsed })?,
+                })
+            }
+            Err(fault) => Err(refusal_of(fault, Refusal::BadVersion)),
+        }
+    }
+
+    /// The text of the version, as it was read.
+    pub fn text(&self) -> &str
+        ensures text { result.now ≡ self.now }
+        ensures valid { IsTrue (is_version self.now) }
+    {
+        self.kept.text.as_str()
+    }
+
+    /// The same version once more, for the cost of a count.
+    pub fn copy(&self) -> Result<Published, Refusal>
+        ensures same { IfOk result (λ version. version ≡ self.now) }
+        ensures only { IfErr result (λ e. e ≡ Refusal.NoMemory) }
+    {
+        Ok(Published {
+            kept: self.kept.clone()?,
+        })
+    }
+
+    /// What was read from the text.
+    pub(crate) fn parsed(&self) -> &Version
+        ensures { version_parts self.now ≡ Ok (parts_of result.now) }
+    {
+        &self.kept.parsed
+    }
+}
+
+/// A law of [`Published::read`]: the versions are the texts of the grammar of Semantic Versioning
+/// 2.0.0 with numbers of 64 bits, up to the limit of length.
+pub fn versions_are_those_of_the_grammar()
+    ensures { VersionsAreThoseOfTheGrammar }
+{}

@@ -1,0 +1,114 @@
+-- Texts that are put one behind another.
+use Rattle.std.proofs.Common.{◌≡◌, ℕ, ◌+◌, List, [], ◌++◌, map, take, nat_lt, false, Option, Some, Result, Ok, Err, sym, ap, subst, ◌∙◌}
+use Rattle.std.specs.List.{slice_get}
+use Rattle.std.proofs.lemmas.List.{append_assoc, append-nil}
+use Rattle.std.specs.Io.KnownBytes.{Appends}
+use Rattle.std.proofs.KnownBytes.{Appends-nil, Appends-trans}
+use Rattle.lines.specs.Texts.{IsBeginning, Puts}
+use Rattle.lines.proofs.TextLemmas.{append-beginning, beginning-append}
+use Rattle.serde_json.specs.Data.{Data}
+use Rattle.serde_json.specs.Written.{comma_if, compact_text}
+use Rattle.wire.specs.Joined.{joined}
+use Rattle.wire.proofs.ReplyLemmas.{Makes, joined-front, joined-next}
+
+-- all of a text was put: what was written, and what waits now, are what waited and the text
+pub record Put (old new : Option (List ℕ)) (before after text : List ℕ) : Type 0 where
+  pub written : List ℕ
+  pub appends : Appends old new written
+  pub all : written ++ after ≡ before ++ text
+
+-- a put failed, and a beginning of what waited and the text was written
+pub record Fails (old new : Option (List ℕ)) (before text : List ℕ) : Type 0 where
+  pub written : List ℕ
+  pub appends : Appends old new written
+  pub front : IsBeginning written (before ++ text)
+
+pub nothing_put : (old : Option (List ℕ)) (before : List ℕ) → Put old old before before []
+nothing_put old before = record { written = []; appends = Appends-nil old; all = sym (append-nil before) }
+
+-- one put after another
+pub put_then : {a b c : Option (List ℕ)} {x y z first second : List ℕ} → Put a b x y first → Put b c y z second → Put a c x z (first ++ second)
+put_then {x = x} {y = y} {z = z} {first = first} {second = second} here next = record {
+  written = here.written ++ next.written;
+  appends = Appends-trans _ _ _ _ _ here.appends next.appends;
+  all = append_assoc here.written next.written z ∙ ap (λ l. here.written ++ l) next.all ∙ sym (append_assoc here.written y second)
+      ∙ ap (λ l. l ++ second) here.all ∙ append_assoc x first second;
+}
+
+-- a put that fails after another
+pub put_then_fails : {a b c : Option (List ℕ)} {x y first second : List ℕ} → Put a b x y first → Fails b c y second → Fails a c x (first ++ second)
+put_then_fails {x = x} {y = y} {first = first} {second = second} here next =
+    let text = sym (append_assoc here.written y second) ∙ ap (λ l. l ++ second) here.all ∙ append_assoc x first second in
+    let front = append-beginning here.written next.written (y ++ second) next.front in
+    record {
+      written = here.written ++ next.written;
+      appends = Appends-trans _ _ _ _ _ here.appends next.appends;
+      front = (front.0, front.1 ∙ text);
+    }
+
+-- whatever was to follow a put that failed
+pub fails_before : {a b : Option (List ℕ)} {x text : List ℕ} → Fails a b x text → (more : List ℕ) → Fails a b x (text ++ more)
+fails_before {x = x} {text = text} failed more =
+    let front = beginning-append failed.written (x ++ text) more failed.front in
+    record { written = failed.written; appends = failed.appends; front = (front.0, front.1 ∙ append_assoc x text more) }
+
+-- ---- as a put's clause says it
+
+-- what stands at a put that is `Ok`
+pub put_in : {a b : Option (List ℕ)} {x y text : List ℕ} → (written : List ℕ) × Appends a b written × (written ++ y ≡ x ++ text) → Put a b x y text
+put_in (written, appends, all) = record { written = written; appends = appends; all = all }
+
+-- what stands at a put that is `Err`
+pub fails_in : {a b : Option (List ℕ)} {x text : List ℕ} → (written : List ℕ) × Appends a b written × IsBeginning written (x ++ text) → Fails a b x text
+fails_in (written, appends, front) = record { written = written; appends = appends; front = front }
+
+pub in_put : {a b : Option (List ℕ)} {x y text : List ℕ} → Put a b x y text → (written : List ℕ) × Appends a b written × (written ++ y ≡ x ++ text)
+in_put put = (put.written, put.appends, put.all)
+
+pub in_fails : {a b : Option (List ℕ)} {x text : List ℕ} → Fails a b x text → (written : List ℕ) × Appends a b written × IsBeginning written (x ++ text)
+in_fails failed = (failed.written, failed.appends, failed.front)
+
+-- a put after another, however it ends
+pub puts_then : {E : Type 0} {a b : Option (List ℕ)} {x y first : List ℕ} (c : Option (List ℕ)) (z : List ℕ) (r : Result Unit E) (second : List ℕ) → Put a b x y first
+    → Puts b c y z r second → Puts a c x z r (first ++ second)
+puts_then c z (Ok u) second here next = in_put (put_then here (put_in next))
+puts_then c z (Err e) second here next = in_fails (put_then_fails here (fails_in next))
+
+-- ---- three texts that make one, as puts' clauses have them
+
+module _ {first second third whole : List ℕ} (parts : Makes first second third whole) where
+  pub first_fails : (a b : Option (List ℕ)) (x : List ℕ) → (written : List ℕ) × Appends a b written × IsBeginning written (x ++ first)
+      → (written : List ℕ) × Appends a b written × IsBeginning written (x ++ whole)
+  first_fails a b x failed = in_fails (subst (λ (text : List ℕ). Fails a b x text) parts.whole (fails_before {a = a} {b = b} {x = x} {text = first} (fails_in failed) (second ++ third)))
+
+  pub second_fails : (a b c : Option (List ℕ)) (x y : List ℕ) → (written : List ℕ) × Appends a b written × (written ++ y ≡ x ++ first)
+      → (written : List ℕ) × Appends b c written × IsBeginning written (y ++ second) → (written : List ℕ) × Appends a c written × IsBeginning written (x ++ whole)
+  second_fails a b c x y here failed =
+      let before : Put a b x y first = put_in here in
+      let text : (first ++ second) ++ third ≡ whole = append_assoc first second third ∙ parts.whole in
+      in_fails (subst (λ (text : List ℕ). Fails a c x text) text (fails_before (put_then_fails before (fails_in failed)) third))
+
+  pub third_put : {E : Type 0} (a b c d : Option (List ℕ)) (x y z w : List ℕ) (r : Result Unit E) → (written : List ℕ) × Appends a b written × (written ++ y ≡ x ++ first)
+      → (written : List ℕ) × Appends b c written × (written ++ z ≡ y ++ second) → Puts c d z w r third → Puts a d x w r whole
+  third_put a b c d x y z w r here next last =
+      let before : Put a b x y first = put_in here in
+      let then : Put b c y z second = put_in next in
+      let text : (first ++ second) ++ third ≡ whole = append_assoc first second third ∙ parts.whole in
+      subst (λ (text : List ℕ). Puts a d x w r text) text (puts_then d w r third (put_then before then) last)
+
+-- ---- values with commas between
+
+module _ {A : Type 0} (json : A → Data) (xs : List A) (i : ℕ) (x : A) (here : slice_get xs i ≡ Some x) where
+  -- one value more
+  pub value_put : {a b c : Option (List ℕ)} {p q r : List ℕ} → Put a b p q (joined (map json (take i xs)))
+      → Put b c q r (comma_if (nat_lt 0 i) ++ compact_text (json x)) → Put a c p r (joined (map json (take (i + 1) xs)))
+  value_put {a = a} {c = c} {p = p} {r = r} before put =
+      subst (λ (text : List ℕ). Put a c p r text) (sym (joined-next json false xs i x here)) (put_then before put)
+
+  -- one that fails, whatever was to follow
+  pub value_fails : {a b c : Option (List ℕ)} {p q : List ℕ} → Put a b p q (joined (map json (take i xs)))
+      → Fails b c q (comma_if (nat_lt 0 i) ++ compact_text (json x)) → Fails a c p (joined (map json xs))
+  value_fails {a = a} {c = c} {p = p} before failed =
+      let whole = joined-front json false (i + 1) xs in
+      let up_to = subst (λ (text : List ℕ). Fails a c p text) (sym (joined-next json false xs i x here)) (put_then_fails before failed) in
+      subst (λ (text : List ℕ). Fails a c p text) whole.1 (fails_before up_to whole.0)

@@ -1,0 +1,17 @@
+use Rattle.std.proofs.Common.{refl}
+use Rattle.std.proofs.lemmas.Option.{slice_get_read}
+use Rattle.std.proofs.lemmas.Result.{err_from_is_err_and}
+use Rattle.wire.specs.Entries.{entry_json}
+use Rattle.wire.proofs.PutLemmas.{fails_in, in_fails, put_in, value_fails, value_put}
+use Rattle.wire.proofs.listing.text.put_rows.Goals as goal
+
+pub returns-in_err-put_row-clause-text : goal.returns-in_err-put_row-clause-text
+returns-in_err-put_row-clause-text g c =
+    let err = err_from_is_err_and c.from_residual.result c.from_residual.ensures.1 in
+    let here = slice_get_read c.args.entries.now _ c.loop-place.place _ refl c.loop-place-test.true c.index-entries-place.is in
+    rw err.1 (in_fails (value_fails (entry_json c.args.registry.now.packages) c.args.entries.now c.loop-place.place _ here c.loop-place.invariant (fails_in c.in_err-put_row.ensures.text)))
+
+pub loop-place-preserved : goal.loop-place-preserved
+loop-place-preserved g c =
+    let here = slice_get_read c.args.entries.now _ c.loop-place.place _ refl c.loop-place-test.true c.index-entries-place.is in
+    value_put (entry_json c.args.registry.now.packages) c.args.entries.now c.loop-place.place _ here c.loop-place.invariant (put_in c.in_ok-put_row.ensures.text)

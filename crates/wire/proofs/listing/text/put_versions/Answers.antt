@@ -1,0 +1,23 @@
+use Rattle.std.proofs.Common.{arith}
+use Rattle.std.proofs.lemmas.Result.{err_from_is_err_and}
+use Rattle.wire.specs.Entries.{publication_json}
+use Rattle.wire.proofs.ListingLemmas.{few_versions, is_published-below, publication_at-slice_get}
+use Rattle.wire.proofs.PutLemmas.{fails_in, in_fails, put_in, value_fails, value_put}
+use Rattle.wire.proofs.listing.text.put_versions.Goals as goal
+
+pub overflow_cast-ordinal-end : goal.overflow_cast-ordinal-end
+overflow_cast-ordinal-end g c = omega (arith, c.versions-count.ensures, few_versions c.args.registry.now.packages c.args.number c.requires)
+
+pub facts-facts-requires : goal.facts-facts-requires
+facts-facts-requires g c = is_published-below c.args.registry.now.packages c.args.number c.loop-ordinal.ordinal (omega (arith, c.versions-count.ensures))
+
+pub returns-in_err-put_version-clause-text : goal.returns-in_err-put_version-clause-text
+returns-in_err-put_version-clause-text g c =
+    let err = err_from_is_err_and c.from_residual.result c.from_residual.ensures.1 in
+    let here = publication_at-slice_get c.args.registry.now.packages c.args.number c.loop-ordinal.ordinal _ c.facts-facts.ensures in
+    rw err.1 (in_fails (value_fails publication_json _ c.loop-ordinal.ordinal _ here c.loop-ordinal.invariant (fails_in c.in_err-put_version.ensures.text)))
+
+pub loop-ordinal-preserved : goal.loop-ordinal-preserved
+loop-ordinal-preserved g c =
+    let here = publication_at-slice_get c.args.registry.now.packages c.args.number c.loop-ordinal.ordinal _ c.facts-facts.ensures in
+    value_put publication_json _ c.loop-ordinal.ordinal _ here c.loop-ordinal.invariant (put_in c.in_ok-put_version.ensures.text)

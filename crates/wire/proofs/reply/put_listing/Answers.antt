@@ -1,0 +1,23 @@
+use Rattle.std.proofs.Common.{◌∙◌, refl}
+use Rattle.std.proofs.lemmas.Result.{err_from_is_err_and}
+use Rattle.wire.proofs.ReplyLemmas.{listed_parts}
+use Rattle.wire.proofs.PutLemmas.{first_fails, second_fails, third_put}
+use Rattle.wire.proofs.reply.put_listing.Goals as goal
+
+pub returns-in_err-put-clause-text : goal.returns-in_err-put-clause-text
+returns-in_err-put-clause-text g c =
+    let err = err_from_is_err_and c.from_residual.result c.from_residual.ensures.1 in
+    let parts = listed_parts c.args.listing.now c.args.revision _ refl in
+    rw err.1 (first_fails parts _ _ c.args.outbox.now c.in_err-put.ensures.text)
+
+pub returns-in_err-put_packages-clause-text : goal.returns-in_err-put_packages-clause-text
+returns-in_err-put_packages-clause-text g c =
+    let err = err_from_is_err_and c.from_residual-in_err-put_packages.result c.from_residual-in_err-put_packages.ensures.1 in
+    let parts = listed_parts c.args.listing.now c.args.revision _ refl in
+    rw err.1 (second_fails parts _ _ _ c.args.outbox.now c.put.new.self c.in_ok-put.ensures.text c.in_err-put_packages.ensures.text)
+
+pub returns-clause-text : goal.returns-clause-text
+returns-clause-text g c =
+    let parts = listed_parts c.args.listing.now c.args.revision _ (c.as_bytes.ensures.value ∙ c.format.ensures.text) in
+    third_put parts _ _ _ _ c.args.outbox.now c.put.new.self c.put_packages.new.outbox c.put_all.new.self c.put_all.result
+    c.in_ok-put.ensures.text c.in_ok-put_packages.ensures.text c.put_all.ensures.texts

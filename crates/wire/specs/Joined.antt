@@ -1,0 +1,18 @@
+-- Values as text, one after another, as they are put.
+use Rattle.std.specs.Prelude.{ℕ, List, [], ◌∷◌, ◌++◌, Bool, true, false, codes}
+use Rattle.serde_json.specs.Data.{Data}
+use Rattle.serde_json.specs.Written.{comma_if, compact_text}
+
+-- the texts of values, each after a comma but the first where nothing stands before
+abbrev pub joined_after : Bool → List Data → List ℕ
+joined_after later [] = []
+joined_after later (d ∷ ds) = comma_if later ++ (compact_text d ++ joined_after true ds)
+
+-- the texts of values, with commas between
+abbrev pub joined : List Data → List ℕ
+joined ds = joined_after false ds
+
+-- what ends the pair of a version and its yank, after the version's text
+abbrev pub closing : Bool → List ℕ
+closing true = codes "\",true]"
+closing false = codes "\",false]"

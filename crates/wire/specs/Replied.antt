@@ -1,0 +1,13 @@
+-- Replies as they are kept, by what they tell.
+use Rattle.wire.specs.Replies.{Body, Reply, accepted, listed, refused}
+use Rattle.wire.specs.declared.reply.Body.{Body as Kept}
+use Rattle.wire.specs.declared.reply.Body.TheVariants as kept
+use Rattle.wire.specs.declared.reply.Reply.{Reply as KeptReply}
+
+abbrev pub body_of : Kept → Body
+body_of kept.Accepted = accepted
+body_of (kept.Refusal refusal) = refused refusal
+body_of (kept.Listing rows) = listed rows
+
+abbrev pub reply_of : KeptReply → Reply
+reply_of reply = record { revision = reply.revision; body = body_of reply.body }

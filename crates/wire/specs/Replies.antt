@@ -1,0 +1,54 @@
+-- Replies and their texts.
+use Rattle.std.specs.Prelude.{ℕ, List, [], ◌∷◌, ◌++◌, Bool, true, codes, flat_map, map}
+use Rattle.serde_json.specs.Data.{Data, object, array, string, boolean, number, unsigned, no_items, item, Members, no_members, put}
+use Rattle.serde_json.specs.View.{items_of}
+use Rattle.serde_json.specs.Written.{compact_text}
+use Rattle.versions.specs.Words.{Text}
+use Rattle.versions.specs.Refusals.{name_of, number_of}
+use Rattle.wire.specs.Listings.{Row}
+use Rattle.versions.specs.declared.refusal.Refusal.{Refusal}
+
+-- what is replied
+pub data Body : Type 0 where
+  accepted : Body
+  refused : Refusal → Body
+  listed : List Row → Body
+
+-- what is replied, and the revision at which it was found
+pub record Reply : Type 0 where
+  pub revision : ℕ
+  pub body : Body
+
+-- ---- as JSON
+
+-- a version and its yank, as a pair
+abbrev pub version_json : Text × Bool → Data
+version_json v = array (item (string v.0) (item (boolean v.1) no_items))
+
+-- a package's name and its versions, as a pair
+abbrev pub row_json : Row → Data
+row_json row = array (item (string row.0) (item (array (items_of (map version_json row.1))) no_items))
+
+-- the members that tell what is replied
+abbrev pub body_members : Body → List (Text × Data)
+body_members accepted = (codes "ok", boolean true) ∷ []
+body_members (refused refusal) = (codes "error", number (unsigned (number_of refusal))) ∷ (codes "name", string (name_of refusal)) ∷ []
+body_members (listed rows) = (codes "packages", array (items_of (map row_json rows))) ∷ []
+
+-- members, each at its place in the byte order of their names
+abbrev pub members : List (Text × Data) → Members
+members [] = no_members
+members (m ∷ ms) = put m.0 m.1 (members ms)
+
+abbrev pub json_of : Reply → Data
+json_of reply = object (members ((codes "revision", number (unsigned reply.revision)) ∷ body_members reply.body))
+
+-- ---- as text
+
+-- one line of compact JSON
+unfoldable pub reply_text : Reply → Text
+reply_text reply = compact_text (json_of reply) ++ 10 ∷ []
+
+-- a line for each reply
+abbrev pub replies_text : List Reply → Text
+replies_text replies = flat_map reply_text replies

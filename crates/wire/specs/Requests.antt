@@ -1,0 +1,68 @@
+-- What a request line asks.
+use Rattle.std.specs.Prelude.{ℕ, Bool, List, [], ◌∷◌, if◌then◌else◌, Option, Some, None, Result, Ok, Err, map}
+use Rattle.std.specs.List.{list_all}
+use Rattle.std.specs.Str.{is_utf8}
+use Rattle.serde_json.specs.Data.{Data}
+use Rattle.serde_json.specs.Read.{read}
+use Rattle.versions.specs.Words.{Text, is_name, is_version, is_requirement}
+use Rattle.versions.specs.declared.refusal.Refusal.{Refusal}
+use Rattle.versions.specs.declared.refusal.Refusal.TheVariants.{BadName, BadVersion, BadRequirement, BadLine}
+use Rattle.registry.specs.Needs.{names_of}
+use Rattle.registry.specs.Step.{Publish, Yank, Unyank}
+use Rattle.wire.specs.Shapes.{Request, command, listing, shape_of}
+
+-- the requirements of the needs, in order
+abbrev pub requirements_of : List (Text × Text) → List Text
+requirements_of needs = map (λ (need : Text × Text). need.1) needs
+
+-- all names of a request
+abbrev pub names_in : Request → List Text
+names_in (command (Publish name version needs)) = name ∷ names_of needs
+names_in (command (Yank name version)) = name ∷ []
+names_in (command (Unyank name version)) = name ∷ []
+names_in listing = []
+
+-- all versions of a request
+abbrev pub versions_in : Request → List Text
+versions_in (command (Publish name version needs)) = version ∷ []
+versions_in (command (Yank name version)) = version ∷ []
+versions_in (command (Unyank name version)) = version ∷ []
+versions_in listing = []
+
+-- all requirements of a request
+abbrev pub requirements_in : Request → List Text
+requirements_in (command (Publish name version needs)) = requirements_of needs
+requirements_in (command (Yank name version)) = []
+requirements_in (command (Unyank name version)) = []
+requirements_in listing = []
+
+-- what was tested, where the test holds, or else the refusal
+abbrev pub checked : {X : Type 0} → Bool → X → Refusal → Result X Refusal
+checked holds x refusal = if holds then Ok x else Err refusal
+
+-- the request, or the lowest refusal of its texts: names come before versions, and versions before requirements
+abbrev pub judged : Request → Result Request Refusal
+judged request =
+    if list_all is_name (names_in request) then
+    (if list_all is_version (versions_in request) then
+    checked (list_all is_requirement (requirements_in request)) request BadRequirement
+    else Err BadVersion) else Err BadName
+
+-- the name and the version of a yank or an unyank
+abbrev pub judged_marking : Text → Text → Result (Text × Text) Refusal
+judged_marking name version = if is_name name then checked (is_version version) (name, version) BadVersion else Err BadName
+
+abbrev pub judged_shape : Option Request → Result Request Refusal
+judged_shape None = Err BadLine
+judged_shape (Some request) = judged request
+
+abbrev pub request_in : Data → Result Request Refusal
+request_in d = judged_shape (shape_of d)
+
+abbrev pub request_read : Option Data → Result Request Refusal
+request_read None = Err BadLine
+request_read (Some d) = request_in d
+
+-- what a line asks, or the refusal that it is given
+unfoldable pub request_of : List ℕ → Result Request Refusal
+request_of line = if is_utf8 line then request_read (read line) else Err BadLine

@@ -1,0 +1,114 @@
+//! Replies, and the lines that tell them.
+ghost use Rattle.std.specs.Prelude.{◌≡◌, [], OnErr};
+ghost use Rattle.lines.specs.Texts.{Puts};
+ghost use Rattle.wire.specs.Replied.{reply_of};
+ghost use Rattle.wire.specs.Replies.{accepted, listed, refused, reply_text};
+
+use crate::listing::{Listing, put_packages};
+use itoa::Buffer;
+use lines::Outbox;
+use std::io;
+use std::io::Write;
+use versions::Refusal;
+
+/// What is replied to a line.
+#[derive(Drop)]
+pub struct Reply<'r> {
+    /// The revision of the registry at which the line was answered.
+    pub revision: u64,
+    pub body: Body<'r>,
+}
+
+/// What a reply tells.
+#[derive(Drop)]
+pub enum Body<'r> {
+    /// The command was accepted.
+    Accepted,
+    /// The line was refused.
+    Refusal(Refusal),
+    /// What is published.
+    Listing(Listing<'r>),
+}
+
+/// Puts the line of a reply behind what waits. It takes no memory, however long a listing is.
+pub fn reply_line<W: Write>(
+    outbox: &mut Outbox,
+    writer: &mut W,
+    reply: &Reply<'_>,
+) -> io::Result<()>
+    ensures text { Puts (W.contents writer.old) (W.contents writer.new) outbox.old outbox.new result (reply_text (reply_of reply.now)) }
+    ensures err { OnErr result (outbox.new ≡ []) }
+{
+    match &reply.body {
+        Body::Accepted => put_accepted(outbox, writer, reply.revision),
+        Body::Refusal(refusal) => put_refusal(outbox, writer, *refusal, reply.revision),
+        Body::Listing(listing) => put_listing(outbox, writer, listing, reply.revision),
+    }
+}
+
+fn put_accepted<W: Write>(outbox: &mut Outbox, writer: &mut W, revision: u64) -> io::Result<()>
+    ensures text { Puts (W.contents writer.old) (W.contents writer.new) outbox.old outbox.new result
+        (reply_text (record { revision = revision; body = accepted })) }
+    ensures err { OnErr result (outbox.new ≡ []) }
+{
+    let mut digits = Buffer::new();
+    outbox.put_all(
+        writer,
+        &[
+            b"{\"ok\":true,\"revision\":",
+            digits.format(revision).as_bytes(),
+            b"}\n",
+        ],
+    )
+}
+
+fn put_refusal<W: Write>(
+    outbox: &mut Outbox,
+    writer: &mut W,
+    refusal: Refusal,
+    revision: u64,
+) -> io::Result<()>
+    ensures text { Puts (W.contents writer.old) (W.contents writer.new) outbox.old outbox.new result
+        (reply_text (record { revision = revision; body = refused refusal })) }
+    ensures err { OnErr result (outbox.new ≡ []) }
+{
+    let (mut number, mut digits) = (Buffer::new(), Buffer::new());
+    outbox.put_all(
+        writer,
+        &[
+            b"{\"error\":",
+            number.format(refusal.number()).as_bytes(),
+            b",\"name\":\"",
+            refusal.name().as_bytes(),
+            b"\",\"revision\":",
+            digits.format(revision).as_bytes(),
+            b"}\n",
+        ],
+    )
+}
+
+fn put_listing<W: Write>(
+    outbox: &mut Outbox,
+    writer: &mut W,
+    listing: &Listing<'_>,
+    revision: u64,
+) -> io::Result<()>
+    ensures text { Puts (W.contents writer.old) (W.contents writer.new) outbox.old outbox.new result
+        (reply_text (record { revision = revision; body = listed listing.now })) }
+    ensures err { OnErr result (outbox.new ≡ []) }
+{
+    outbox.put(writer, b"{\"packages\":")?;
+    put_packages(outbox, writer, listing)?;
+    let mut digits = Buffer::new();
+    outbox.put_all(
+        writer,
+        &[
+            b",\"revision\":",
+            digits.format(revision).as_bytes(),
+            b"}\n",
+        ],
+    )
+}
+
+#[cfg(test)]
+mod tests;

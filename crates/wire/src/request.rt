@@ -1,0 +1,61 @@
+//! Request lines.
+//!
+//! A line is first held against the shapes of the requests. Then its texts are judged in passes over the whole line,
+//! all names, then versions, then requirements, so that the lowest refusal is met first.
+ghost use Rattle.std.specs.Prelude.{ok_or};
+ghost use Rattle.serde_json.specs.View.{view};
+ghost use Rattle.versions.specs.Refusals.{Gives};
+ghost use Rattle.versions.specs.declared.refusal.Refusal.TheVariants.{BadLine};
+ghost use Rattle.wire.specs.Requests.{request_of, request_in};
+ghost use Rattle.wire.specs.Asked.{asked_of};
+
+mod judging;
+mod pairs;
+mod shape;
+
+use judging::judge;
+use registry::Command;
+use serde_json::Value;
+use shape::shape_of;
+use std::alloc::Global;
+use versions::Refusal;
+
+/// What a line asks.
+#[derive(Drop)]
+pub enum Asked {
+    /// That the registry be changed.
+    Command(Command),
+    /// What is published.
+    Listing,
+}
+
+/// Reads what a line asks.
+///
+/// A line that is not of its form is [`Refusal::BadLine`] and is judged for nothing else. Of the refusals of its names,
+/// versions and requirements it is given the lowest. Whether the registry takes a command is not judged here.
+pub fn read_request(alloc: Global, line: &[u8]) -> Result<Asked, Refusal>
+    ensures { Gives asked_of result (request_of line.now) }
+{
+    match Value::from_slice(alloc, line) {
+        Ok(value) => request_in(alloc, &value),
+        Err(fault) => {
+            if fault.is_memory() {
+                Err(Refusal::NoMemory)
+            } else {
+                Err(Refusal::BadLine)
+            }
+        }
+    }
+}
+
+fn request_in(alloc: Global, value: &Value) -> Result<Asked, Refusal>
+    ensures { Gives asked_of result (request_in (view value.now)) }
+{
+    match shape_of(value) {
+        Some(shape) => judge(alloc, &shape),
+        None => Err(Refusal::BadLine),
+    }
+}
+
+#[cfg(test)]
+mod tests;

@@ -1,0 +1,87 @@
+//! Judging the texts of a request.
+ghost use Rattle.std.specs.Prelude.{◌≡◌};
+ghost use Rattle.std.specs.List.{list_all};
+ghost use Rattle.registry.specs.Needs.{names_of};
+ghost use Rattle.registry.specs.Step.{Publish};
+ghost use Rattle.versions.specs.Refusals.{Gives};
+ghost use Rattle.versions.specs.Words.{is_name, is_requirement};
+ghost use Rattle.versions.specs.declared.refusal.Refusal.TheVariants.{BadName, BadRequirement};
+ghost use Rattle.wire.specs.Asked.{asked_of, texts_of};
+ghost use Rattle.wire.specs.Requests.{checked, judged, judged_marking, requirements_of};
+ghost use Rattle.wire.specs.Shapes.{command};
+
+use super::Asked;
+use super::pairs::Pairs;
+use super::shape::Shape;
+use registry::{Command, Dependencies};
+use std::alloc::Global;
+use versions::{Name, Need, Published, Refusal};
+
+/// What a shape asks, or the lowest refusal of its texts.
+pub fn judge(alloc: Global, shape: &Shape<'_>) -> Result<Asked, Refusal>
+    ensures { Gives asked_of result (judged (texts_of shape.now)) }
+{
+    match shape {
+        Shape::Publish(name, version, needs) => publication(alloc, *name, *version, needs),
+        Shape::Yank(name, version) => {
+            let (name, version) = marking(alloc, *name, *version)?;
+            Ok(Asked::Command(Command::Yank(name, version)))
+        }
+        Shape::Unyank(name, version) => {
+            let (name, version) = marking(alloc, *name, *version)?;
+            Ok(Asked::Command(Command::Unyank(name, version)))
+        }
+        Shape::Listing => Ok(Asked::Listing),
+    }
+}
+
+fn publication(
+    alloc: Global,
+    name: &str,
+    version: &str,
+    needs: &Pairs<'_>,
+) -> Result<Asked, Refusal>
+    ensures { Gives asked_of result (judged (command (Publish name.now version.now needs.now))) }
+{
+    let name = Name::read(alloc, name)?;
+    let names = names_in(alloc, needs)?;
+    let version = Published::read(alloc, version)?;
+    let needs = Dependencies::new(alloc, needs_in(alloc, names, needs)?)?;
+    Ok(Asked::Command(Command::Publish(name, version, needs)))
+}
+
+/// The name and the version of a yank or an unyank.
+fn marking(alloc: Global, name: &str, version: &str) -> Result<(Name, Published), Refusal>
+    ensures { Gives (λ p. p) result (judged_marking name.now version.now) }
+{
+    Ok((Name::read(alloc, name)?, Published::read(alloc, version)?))
+}
+
+/// The names of these needs.
+fn names_in(alloc: Global, needs: &Pairs<'_>) -> Result<Vec<Name>, Refusal>
+    ensures { Gives (λ v. v.items) result (checked (list_all is_name (names_of needs.now)) (names_of needs.now) BadName) }
+{
+    let mut names = Vec::with_capacity(alloc, needs.len())?;
+    for place in 0..needs.len() {
+        let (name, _) = needs.at(place);
+        names.push(Name::read(alloc, name)?)?;
+    }
+    Ok(names)
+}
+
+/// The needs with these names, which are theirs.
+fn needs_in(
+    alloc: Global,
+    names: Vec<Name>,
+    needs: &Pairs<'_>,
+) -> Result<Vec<(Name, Need)>, Refusal>
+    requires { names.items ≡ names_of needs.now }
+    ensures { Gives (λ v. v.items) result (checked (list_all is_requirement (requirements_of needs.now)) needs.now BadRequirement) }
+{
+    let mut read = Vec::with_capacity(alloc, needs.len())?;
+    for name in names {
+        let (_, requirement) = needs.at(read.len());
+        read.push((name, Need::read(alloc, requirement)?))?;
+    }
+    Ok(read)
+}

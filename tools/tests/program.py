@@ -1,0 +1,42 @@
+"""The program under test, and short ways to talk to it."""
+import json
+import os
+import subprocess
+
+TOP = os.path.dirname(os.path.dirname(os.path.dirname(os.path.abspath(__file__))))
+PROGRAM = os.path.join(TOP, "crates", "registryd", "out", "registryd")
+SERVE = ["serve", "--workers", "1"]
+
+
+def publish(name, version, needs=()):
+    """A publish line; needs are texts `name requirement`."""
+    pairs = [need.split(" ", 1) for need in needs]
+    return json.dumps({"op": "publish", "name": name, "version": version, "needs": pairs})
+
+
+def yank(name, version):
+    return json.dumps({"op": "yank", "name": name, "version": version})
+
+
+def unyank(name, version):
+    return json.dumps({"op": "unyank", "name": name, "version": version})
+
+
+LIST = '{"op":"list"}'
+
+
+def run(words, given=b"", **more):
+    """Runs the program on these bytes and answers what it left."""
+    more.setdefault("stdout", subprocess.PIPE)
+    if "stdin" not in more:
+        more["input"] = given
+    return subprocess.run([PROGRAM, *words], stderr=subprocess.PIPE, timeout=100, **more)
+
+
+def serve(lines, **more):
+    """Answers the reply lines to these request lines."""
+    text = "".join(line + "\n" for line in lines).encode()
+    done = run(SERVE, text, **more)
+    assert done.returncode == 0 and done.stderr == b"", (done.returncode, done.stderr)
+    assert done.stdout == b"" or done.stdout.endswith(b"\n")
+    return done.stdout.decode().split("\n")[:-1]

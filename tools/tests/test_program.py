@@ -1,0 +1,73 @@
+"""The program as a user meets it: words, pipes, exit statuses."""
+import os
+import subprocess
+import tempfile
+import unittest
+
+from program import LIST, PROGRAM, SERVE, publish, run
+
+
+class Program(unittest.TestCase):
+    def ends(self, done, status, said):
+        self.assertEqual((done.returncode, done.stderr), (status, said))
+
+    def test_a_client_that_waits_gets_each_reply(self):
+        with subprocess.Popen([PROGRAM, *SERVE], stdin=subprocess.PIPE, stdout=subprocess.PIPE) as client:
+            for n in range(3):
+                client.stdin.write(publish("a", f"1.{n}.0").encode() + b"\n")
+                client.stdin.flush()
+                self.assertEqual(client.stdout.readline(), b'{"ok":true,"revision":%d}\n' % (n + 1))
+            client.stdin.close()
+            self.assertEqual(client.stdout.read(), b"")
+            self.assertEqual(client.wait(), 0)
+
+    def test_a_line_in_pieces(self):
+        line = publish("a", "1.0.0").encode() + b"\n" + LIST.encode()
+        with subprocess.Popen([PROGRAM, *SERVE], stdin=subprocess.PIPE, stdout=subprocess.PIPE, bufsize=0) as client:
+            for byte in line:
+                client.stdin.write(bytes([byte]))
+            client.stdin.close()
+            self.assertEqual(client.stdout.read(),
+                             b'{"ok":true,"revision":1}\n{"packages":[["a",[["1.0.0",false]]]],"revision":1}\n')
+
+    def test_no_input(self):
+        done = run(SERVE, b"")
+        self.ends(done, 0, b"")
+        self.assertEqual(done.stdout, b"")
+
+    def test_bad_words(self):
+        for words in ([], ["walk"], ["serve"], ["serve", "--workers", "0"], ["serve", "--workers", "65"],
+                      ["serve", "--workers", "x"], ["serve", "--workers", "1", "--walk"], ["--help"],
+                      ["serve", "--help"], ["race"], ["race", *["f"] * 64]):
+            done = run(words)
+            self.ends(done, 2, b"registryd: bad words\n")
+        self.assertIn(b"serve", run(["--help"]).stdout)
+
+    def test_words_of_later_stages(self):
+        for words in (["race", "f"], ["serve", "--workers", "1", "--load", "f"],
+                      ["serve", "--workers", "1", "--save", "f"]):
+            self.ends(run(words), 2, b"registryd: bad words\n")
+
+    def test_every_number_of_workers_serves(self):
+        for workers in ("1", "2", "64"):
+            done = run(["serve", "--workers", workers], LIST.encode())
+            self.ends(done, 0, b"")
+            self.assertEqual(done.stdout, b'{"packages":[],"revision":0}\n')
+
+    def test_a_failed_read(self):
+        # a folder can be opened and not read
+        folder = os.open(tempfile.gettempdir(), os.O_RDONLY)
+        try:
+            done = run(SERVE, stdin=folder)
+        finally:
+            os.close(folder)
+        self.ends(done, 1, b"registryd: input failed\n")
+        self.assertEqual(done.stdout, b"")
+
+    def test_a_failed_write(self):
+        with open("/dev/full", "wb") as full:
+            self.ends(run(SERVE, LIST.encode(), stdout=full), 1, b"registryd: output failed\n")
+
+
+if __name__ == "__main__":
+    unittest.main()
