@@ -1,14 +1,14 @@
 -- What a walk over the words that passes leaves in its rows.
-use Rattle.std.proofs.Common.{◌≡◌, ◌&&◌, ℕ, zero, suc, Bool, true, false, cond, List, [], ◌∷◌, Option, Some, None, refl, sym, subst, ◌∙◌, ap, IfSome, is_some, find, length, drop, fold, encode_utf8, slice_get}
+use Rattle.std.proofs.Common.{◌≡◌, ◌&&◌, ℕ, zero, suc, Bool, true, false, cond, List, [], ◌∷◌, Option, Some, None, refl, IfSome, is_some, find, length, drop, fold, encode_utf8, slice_get}
 use Rattle.std.specs.List.{AllByRecursion}
 use Rattle.std.specs.Option.{option_map_or}
 use Rattle.std.specs.Str.{bytes_eq, chars}
 use Rattle.clap.specs.Lexer.{long_of, short_of}
 use Rattle.clap.specs.Kinds.{Kinds, or_else}
 use Rattle.clap.specs.Simple.{Shape}
-use Rattle.clap.specs.Walk.{Row, Rule, Text, Held, Outcome, done, waits, plain, refused, Waiting, idle, option, positional, Step, next, trailing, subcommand, value, Walk, Names, takes_values, takes_several, is_pending, arg_by_id, arg_by_long, arg_by_short, arg_by_index, attached_value, used, used_by_id, settled, settled_rows, reacted, option_met, flag_met, long_met, short_met, bundle, bundle_step, bundle_met, option_word, plain_word, after_flag, long_or_other, short_or_plain, subcommand_met, subcommand_or_other, word_met, positional_held, to_positional, after_step, walked_from, walked, with_default, default_rows, reading_by, has_row, finished}
-use Rattle.clap.specs.declared.error.ErrorKind.TheVariants.{TooManyValues, UnknownArgument}
-use Rattle.clap.specs.Faults.{use_fault, settle_fault, react_fault, option_fault, long_fault, short_fault, bundle_step_fault, flags_fault, flag_word_fault, other_fault, word_fault, positional_fault, step_fault, turn_fault, walk_fault}
+use Rattle.clap.specs.Walk.{Row, Rule, Text, Held, Outcome, done, waits, plain, refused, Waiting, idle, option, positional, Step, next, trailing, subcommand, value, Walk, Names, takes_values, takes_several, is_pending, arg_by_id, arg_by_long, arg_by_short, arg_by_index, attached_value, used, used_by_id, settled, settled_rows, reacted, option_met, flag_met, long_met, short_met, bundle, bundle_step, bundle_met, option_word, plain_word, after_flag, long_or_other, short_or_plain, subcommand_met, subcommand_or_other, word_met, to_positional, after_step, walked_from, walked}
+use Rattle.clap.specs.declared.error.ErrorKind.TheVariants.{TooManyValues}
+use Rattle.clap.specs.Faults.{use_fault, settle_fault, react_fault, option_fault, long_fault, short_fault, bundle_step_fault, flags_fault, flag_word_fault, other_fault, word_fault, positional_fault, step_fault, walk_fault}
 
 -- where neither of two steps fails, each passes
 pub no_fault : (a b : Kinds) → or_else a b ≡ [] → (a ≡ []) × (b ≡ [])

@@ -1,5 +1,5 @@
 -- Which values the words give where clap finds no fault in them.
-use Rattle.std.proofs.Common.{◌≡◌, ◌<◌, ◌⊎◌, ◌||◌, ℕ, Bool, true, false, not, cond, List, [], ◌∷◌, ◌++◌, Option, Some, None, refl, sym, subst, ◌∙◌, ap, IfSome, is_some, find, length, fold, map, codes, inl, inr, arith, option_and_then, option_map, slice_get, true≢false}
+use Rattle.std.proofs.Common.{◌≡◌, ◌||◌, Bool, true, false, not, cond, List, [], ◌∷◌, ◌++◌, Option, Some, None, refl, sym, subst, ◌∙◌, ap, is_some, find, length, fold, codes, inl, inr, arith, option_and_then, option_map, slice_get, true≢false}
 use Rattle.std.specs.List.{AllByRecursion}
 use Rattle.std.specs.Option.{option_map_or}
 use Rattle.std.specs.Str.{bytes_eq}
@@ -7,11 +7,11 @@ use Rattle.clap.specs.Values.{read_as}
 use Rattle.clap.specs.ValueTests.{accepts}
 use Rattle.clap.specs.Facts.{explicit_source}
 use Rattle.clap.proofs.ValueTestLemmas.{accepts-Accepts}
-use Rattle.clap.specs.Kinds.{Kinds, check_kinds, or_else, values_kinds, value_kinds, range_kinds}
-use Rattle.clap.specs.Simple.{App, Shape, built, built_leaf, filled, help_rule, inherited, marked_built, with_index, with_leaf_noted, entered, label_of, names_of, rows_at, subcommand_of}
+use Rattle.clap.specs.Kinds.{Kinds, check_kinds, or_else, range_kinds}
+use Rattle.clap.specs.Simple.{Shape, built, built_leaf, filled, help_rule, inherited, marked_built, with_index, with_leaf_noted, entered, label_of, names_of, rows_at, subcommand_of}
 use Rattle.clap.specs.Takes.{is_given}
-use Rattle.clap.specs.Walk.{Row, Rule, Text, Held, Walk, action_of, all_of, at_row, answers_to, finished, first_of, has_row, more_values, nothing_held, one_of, reading_by, row_text, settled, used, used_as, values_or_missing, walk, walk_from, walked, with_default, default_rows, with_values, without}
-use Rattle.clap.specs.Faults.{check_fault, entered_fault, fault_of, level_fault, repeat_fault, set_fault, use_fault, values_fault}
+use Rattle.clap.specs.Walk.{Row, Rule, Text, action_of, all_of, at_row, answers_to, finished, has_row, more_values, nothing_held, one_of, reading_by, row_text, settled, used_as, values_or_missing, walk, walk_from, with_default, default_rows, with_values, without}
+use Rattle.clap.specs.Faults.{check_fault, entered_fault, fault_of, level_fault, repeat_fault, set_fault, values_fault}
 use Rattle.clap.specs.declared.builder.action.ArgAction.{ArgAction}
 use Rattle.clap.specs.declared.builder.action.ArgAction.TheVariants as action
 use Rattle.clap.specs.declared.builder.ValueParser.TheVariants.{Unsigned}

@@ -1,13 +1,13 @@
 -- A session so far, and what each step of serving makes of it.
-use Rattle.std.proofs.Common.{◌≡◌, ℕ, ◌+◌, ◌≤◌, ◌<◌, List, [], ◌∷◌, ◌++◌, length, take, flat_map, refl, sym, ap, subst, ◌∙◌, Option, Result, Ok, Err, arith}
+use Rattle.std.proofs.Common.{◌≡◌, ℕ, List, [], ◌∷◌, ◌++◌, length, take, refl, sym, ap, subst, ◌∙◌, Option, arith, inl, inr, length-append}
 use Rattle.std.proofs.lemmas.List.{append_assoc, append-nil, take_at}
 use Rattle.std.proofs.lemmas.List.Concat.{flat_map-append}
 use Rattle.std.specs.List.{AllByRecursion}
 use Rattle.std.specs.Io.KnownBytes.{Appends, Consumes, Keeps, IsAtEnd}
 use Rattle.std.proofs.KnownBytes.{Appends-nil, Appends-trans, Consumes-nil, Consumes-trans, Consumes-kept}
 use Rattle.lines.specs.Lines.{HasNoFeed, lines_of, whole_lines_of}
-use Rattle.lines.specs.Texts.{IsBeginning, Writes, Puts}
-use Rattle.lines.specs.Unread.{Unread, StandsFor, BeginsWith, line_limit}
+use Rattle.lines.specs.Texts.{IsBeginning}
+use Rattle.lines.specs.Unread.{Unread, StandsFor, BeginsWith}
 use Rattle.lines.proofs.LineLemmas.{with_feeds, with_feeds-more, lines_of-with_feeds, whole_lines_of-with_feeds, no_feeds-more, whole_lines_of-rest, StandsFor-more}
 use Rattle.wire.specs.Replies.{Reply, reply_text, replies_text}
 use Rattle.registry.specs.Step.{Change}
@@ -86,6 +86,7 @@ answer_fails r0 r w0 w w' old mid new held held' waiting line reply written p be
   new = new;
   text = p.text ++ written;
   read = p.read;
+  whole = inl (omega (arith, ap length whole, length-append (p.lines ++ line ∷ []) (whole_lines_of begins.rest)));
   session = subst (λ ls. Session old ls (p.replies ++ reply ∷ []) new) (sym front)
       (Session-append p.lines (line ∷ []) p.replies (reply ∷ []) old mid new p.session (new, lawful, refl));
   written = Appends-trans w0 w w' p.text written p.written appends;
@@ -98,6 +99,9 @@ answer_fails r0 r w0 w w' old mid new held held' waiting line reply written p be
   where
     all : p.input ≡ with_feeds (p.lines ++ line ∷ []) ++ begins.rest
     all = p.split ∙ ap (λ l. with_feeds p.lines ++ l) begins.whole ∙ sym (with_feeds-more p.lines line begins.rest)
+
+    whole : whole_lines_of p.input ≡ (p.lines ++ line ∷ []) ++ whole_lines_of begins.rest
+    whole = ap whole_lines_of all ∙ whole_lines_of-with_feeds (p.lines ++ line ∷ []) begins.rest (no_feeds-more p.lines line p.no_feeds begins.no_feed)
 
     front : take (length (p.lines ++ line ∷ [])) (lines_of p.input) ≡ p.lines ++ line ∷ []
     front = ap (λ l. take (length (p.lines ++ line ∷ [])) (lines_of l)) all
@@ -136,11 +140,15 @@ send_fails r0 r w0 w w' old new held waiting written p appends (more, is) = reco
   new = new;
   text = p.text ++ written;
   read = p.read;
+  whole = inl (omega (arith, ap length whole, length-append p.lines (whole_lines_of p.rest)));
   session = subst (λ ls. Session old ls p.replies new) (sym front) p.session;
   written = Appends-trans w0 w w' p.text written p.written appends;
   beginning = (more, append_assoc p.text written more ∙ ap (λ l. p.text ++ l) is ∙ p.said);
 }
   where
+    whole : whole_lines_of p.input ≡ p.lines ++ whole_lines_of p.rest
+    whole = ap whole_lines_of p.split ∙ whole_lines_of-with_feeds p.lines p.rest p.no_feeds
+
     front : take (length p.lines) (lines_of p.input) ≡ p.lines
     front = ap (λ l. take (length p.lines) (lines_of l)) p.split ∙ ap (take (length p.lines)) (lines_of-with_feeds p.lines p.rest p.no_feeds)
         ∙ take_at p.lines (lines_of p.rest) _ refl
@@ -210,15 +218,16 @@ ends r0 r w0 w w' old mid new held waiting after written p none session appends 
 
 -- the text ended, and the write of the last reply failed
 pub end_fails : (r0 r w0 w w' : Option (List ℕ)) (old mid new : List Change) (held : Unread) (waiting : List ℕ) (after : List Reply) (written : List ℕ)
-    → (p : Progress r0 r w0 w old mid held waiting) → waiting ≡ [] → Session mid (lines_of p.rest) after new → Appends w w' written → IsBeginning written (replies_text after)
+    → (p : Progress r0 r w0 w old mid held waiting) → IsAtEnd r → waiting ≡ [] → Session mid (lines_of p.rest) after new → Appends w w' written → IsBeginning written (replies_text after)
     → Breaks r0 r w0 w' old
-end_fails r0 r w0 w w' old mid new held waiting after written p none session appends (more, is) = record {
+end_fails r0 r w0 w w' old mid new held waiting after written p at_end none session appends (more, is) = record {
   input = p.input;
   count = length (p.lines ++ lines_of p.rest);
   replies = p.replies ++ after;
   new = new;
   text = p.text ++ written;
   read = p.read;
+  whole = inr at_end;
   session = subst (λ ls. Session old ls (p.replies ++ after) new) (sym front) (Session-append p.lines (lines_of p.rest) p.replies after old mid new p.session session);
   written = Appends-trans w0 w w' p.text written p.written appends;
   beginning = (

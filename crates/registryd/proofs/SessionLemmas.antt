@@ -14,7 +14,7 @@ use Rattle.wire.specs.Replies.{Reply, accepted, listed, refused}
 use Rattle.wire.specs.Requests.{request_of}
 use Rattle.wire.specs.Shapes.{Request, command, listing}
 use Rattle.registryd.specs.Replay.{at}
-use Rattle.registryd.specs.Session.{Answers, IsLawful, IsRefused, Session, Steps, asked, reply_after, with_command}
+use Rattle.registryd.specs.Session.{Answers, IsLawful, IsRefused, Session, asked, reply_after, with_command}
 
 -- a refusal tells want of memory, or what the definition says
 told : {Y : Type 0} (e : Refusal) (said : Result Y Refusal) → Refuses e said → (e ≡ NoMemory) ⊎ (said ≡ Err e)

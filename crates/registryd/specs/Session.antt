@@ -1,11 +1,11 @@
 -- Which replies are lawful for the lines of a session. The registry is known by the commands that it accepted.
-use Rattle.std.specs.Prelude.{◌≡◌, ◌⊎◌, ℕ, List, [], ◌∷◌, ◌++◌, length, take, nat_le, nat_lt, if◌then◌else◌, Option, Some, None, Result, Ok, Err, MatchResult}
-use Rattle.std.specs.Io.KnownBytes.{Appends, Consumes}
+use Rattle.std.specs.Prelude.{◌≡◌, ◌⊎◌, ◌≤◌, ℕ, List, [], ◌∷◌, ◌++◌, length, take, nat_le, nat_lt, if◌then◌else◌, Option, Some, None, Result, Ok, Err, MatchResult}
+use Rattle.std.specs.Io.KnownBytes.{Appends, Consumes, IsAtEnd}
 use Rattle.versions.specs.Refusals.{Refuses, number_of}
 use Rattle.versions.specs.declared.refusal.Refusal.{Refusal}
 use Rattle.versions.specs.declared.refusal.Refusal.TheVariants.{BadLine, JournalFull, NoMemory}
 use Rattle.registry.specs.Step.{Change, refusal_of}
-use Rattle.lines.specs.Lines.{lines_of}
+use Rattle.lines.specs.Lines.{lines_of, whole_lines_of}
 use Rattle.lines.specs.Texts.{IsBeginning}
 use Rattle.lines.specs.Unread.{line_limit}
 use Rattle.wire.specs.Shapes.{Request, command, listing}
@@ -75,7 +75,7 @@ pub record Serves (read_before read_after written_before written_after : Option 
   pub session : Session old (lines_in input) replies new
   pub written : Appends written_before written_after (replies_text replies)
 
--- Of what was read the first lines were answered, and what was written is a beginning of the texts of their lawful replies.
+-- Of what was read the first lines were answered, each of them whole, and what was written is a beginning of the texts of their lawful replies.
 pub record Breaks (read_before read_after written_before written_after : Option (List ℕ)) (old : List Change) : Type 0 where
   pub input : List ℕ
   pub count : ℕ
@@ -83,6 +83,8 @@ pub record Breaks (read_before read_after written_before written_after : Option 
   pub new : List Change
   pub text : List ℕ
   pub read : Consumes read_before read_after input
+  -- the last line, where it lacks its line feed, is whole at the reader's end
+  pub whole : (count ≤ length (whole_lines_of input)) ⊎ IsAtEnd read_after
   pub session : Session old (take count (lines_of input)) replies new
   pub written : Appends written_before written_after text
   pub beginning : IsBeginning text (replies_text replies)

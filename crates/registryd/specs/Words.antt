@@ -1,8 +1,9 @@
 -- What the words of the command line say.
-use Rattle.std.specs.Prelude.{◌≡◌, ◌≤◌, ◌<◌, ◌⊎◌, ℕ, List, Option, Some, codes, map, String, string_bytes, option_map, length}
+use Rattle.std.specs.Prelude.{◌≡◌, ◌≤◌, ◌<◌, ◌⊎◌, ℕ, List, [], Option, Some, None, codes, map, String, string_bytes, option_map, length}
 use Rattle.std.specs.Str.Parse.{IsNumeral, digits_value, without_leading_plus}
 use Rattle.std.specs.declared.alloc.Global.{Global}
-use Rattle.clap.specs.Words.{IsUnsignedIn, Row, Text, first_of, all_of, one_of}
+use Rattle.clap.specs.Words.{IsUnsignedIn, Row, Text, fault_of, subcommand_of, first_of, all_of, one_of}
+use Rattle.registryd.specs.CommandLine.{program_app}
 use Rattle.registryd.specs.declared.words.Words.{Words}
 use Rattle.registryd.specs.declared.words.Words.TheVariants.{Serve, Race}
 
@@ -42,6 +43,15 @@ IsManyFiles rows = (files : List Text) × (all_of (codes "files") rows ≡ Some 
 -- more files than a race takes
 abbrev pub HasManyFiles : Option (Text × List Row) → Type 0
 HasManyFiles given = (rows : List Row) × (given ≡ Some (codes "race", rows)) × IsManyFiles rows
+
+-- `serve` is given, and no file is named
+abbrev pub IsServeAlone : Option (Text × List Row) → Type 0
+IsServeAlone given = (rows : List Row) × (given ≡ Some (codes "serve", rows))
+    × (first_of (codes "load") rows ≡ None) × (first_of (codes "save") rows ≡ None)
+
+-- clap finds no fault in the words, and they ask to serve with no file
+abbrev pub AskToServe : List Text → Type 0
+AskToServe words = (fault_of program_app words ≡ []) × IsServeAlone (subcommand_of program_app words)
 
 -- ---- what clap has seen to
 

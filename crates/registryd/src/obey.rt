@@ -4,6 +4,7 @@ ghost use Rattle.std.specs.Io.KnownBytes.{Keeps, IsAtEnd};
 ghost use Rattle.registry.specs.Step.{Change};
 ghost use Rattle.lines.specs.Lines.{lines_of, whole_lines_of};
 ghost use Rattle.registryd.specs.Session.{Serves, Breaks};
+ghost use Rattle.registryd.specs.Words.{AskToServe, texts};
 
 use crate::ending::End;
 use crate::serve::run;
@@ -11,6 +12,7 @@ use crate::words::{WordFault, Words, advice_on, read_words};
 use lines::write_text;
 use std::alloc::Global;
 use std::io::{Read, Write};
+use std::mem;
 use std::sync::Wait;
 
 /// Does what the words after the program's name ask for, over standard input and output, and tells
@@ -34,8 +36,11 @@ pub fn obey<H: Wait, R: Read, W: Write>(
     // Nothing was read or written.
     ensures memory { result ≡ End.Memory
         → Keeps (R.remaining reader.old) (R.remaining reader.new) × Keeps (W.contents writer.old) (W.contents writer.new) }
-    // Nothing was read.
-    ensures words { result ≡ End.Words → Keeps (R.remaining reader.old) (R.remaining reader.new) }
+    // Nothing was read, and the words don't ask to serve, which is all that is done so far.
+    ensures words { result ≡ End.Words → Keeps (R.remaining reader.old) (R.remaining reader.new)
+        × (AskToServe (texts words.now) → ⊥) }
+    // Only words that ask to serve are obeyed.
+    ensures asked { result ≢ End.Words → result ≢ End.Memory → AskToServe (texts words.now) }
     ensures no_journal { (line : ℕ) → result ≢ End.Journal line }
 {
     match read_words(alloc, words) {
@@ -46,7 +51,11 @@ pub fn obey<H: Wait, R: Read, W: Write>(
                 save: None,
             },
         ) => match run(rt, alloc, reader, writer, Vec::new(alloc), workers) {
-            Ok(_) => End::Done,
+            Ok(commands) => {
+                // The program ends here, so what they hold needs no walk to be given back.
+                mem::forget(commands);
+                End::Done
+            }
             Err(fault) => End::from(fault),
         },
         // Files are not read or written yet.

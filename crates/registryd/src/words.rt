@@ -1,8 +1,9 @@
 //! The words of the command line, as clap reads them.
-ghost use Rattle.std.specs.Prelude.{◌≡◌, ◌≢◌, [], IfOk, IfErr, OnOk, IsErrOf, option_map, true, map, string_bytes};
-ghost use Rattle.clap.specs.Words.{fault_of, takes, subcommand_of, subcommand_rows_of, rows_of, found_of, kind_of};
+ghost use Rattle.std.specs.Prelude.{◌≡◌, ◌≢◌, [], IfOk, IfErr, OnOk, IsErrOf, option_map, map, string_bytes};
+ghost use Rattle.clap.specs.Words.{fault_of, subcommand_of, subcommand_rows_of, rows_of, found_of, kind_of};
 ghost use Rattle.registryd.specs.CommandLine.{program_app};
 ghost use Rattle.registryd.specs.Words.{texts, Says, SaysServe, SaysRace, HasManyFiles, IsManyFiles, HasWorkers, HasFiles, IsGiven};
+ghost use Rattle.registryd.specs.declared.words.WordFault.TheVariants.{Memory};
 
 use crate::command_line::program;
 use clap::error::ErrorKind;
@@ -37,20 +38,26 @@ pub enum WordFault {
     Memory,
 }
 
+impl From<AllocError> for WordFault {
+    ghost from_gives = { λ _ fault. fault ≡ Memory };
+
+    fn from(_refused: AllocError) -> WordFault {
+        WordFault::Memory
+    }
+}
+
 /// Reads the words after the program's name.
 pub fn read_words(alloc: Global, words: &[String]) -> Result<Words, WordFault>
     // The subcommand, the options and the files are those that clap gives for the words.
     ensures ok { IfOk result (λ w. Says w (subcommand_of program_app (texts words.now))) }
     // Only words in which clap finds no fault are obeyed.
     ensures taken { OnOk result (fault_of program_app (texts words.now) ≡ []) }
-    // Only words that clap refuses are bad, or too many files.
-    ensures bad { IsErrOf result WordFault.Bad → takes program_app (texts words.now) ≡ true
+    // Only words in which clap finds a fault are bad, or too many files.
+    ensures bad { IsErrOf result WordFault.Bad → fault_of program_app (texts words.now) ≡ []
         → HasManyFiles (subcommand_of program_app (texts words.now)) }
 {
-    match matches_of(alloc, words) {
-        Ok(matches) => words_of(alloc, &matches),
-        Err(fault) => Err(fault),
-    }
+    let matches = matches_of(alloc, words)?;
+    words_of(alloc, &matches)
 }
 
 /// What to show a person whose words are bad: what clap says to them, and the help of the program
@@ -67,11 +74,9 @@ fn matches_of<'a>(alloc: Global, words: &'a [String]) -> Result<ArgMatches<'a>, 
     ensures ok { IfOk result (λ m. subcommand_rows_of m ≡ subcommand_of program_app (texts words.entry.now)) }
     ensures given { IfOk result (λ m. IsGiven (subcommand_rows_of m)) }
     ensures taken { OnOk result (fault_of program_app (texts words.entry.now) ≡ []) }
-    ensures bad { IsErrOf result WordFault.Bad → takes program_app (texts words.entry.now) ≢ true }
+    ensures bad { IsErrOf result WordFault.Bad → fault_of program_app (texts words.entry.now) ≢ [] }
 {
-    let Ok(command) = program(alloc) else {
-        return Err(WordFault::Memory);
-    };
+    let command = program(alloc)?;
     match command.try_get_matches_from(words) {
         Ok(matches) => Ok(matches),
         Err(e) => Err(fault_in(&e)),
@@ -80,7 +85,8 @@ fn matches_of<'a>(alloc: Global, words: &'a [String]) -> Result<ArgMatches<'a>, 
 
 // Want of memory is no fault of the words.
 fn fault_in(e: &Error) -> WordFault
-    ensures { result ≡ WordFault.Bad → kind_of e.now ≢ ErrorKind.OutOfMemory }
+    ensures bad { result ≡ WordFault.Bad → kind_of e.now ≢ ErrorKind.OutOfMemory }
+    ensures memory { result ≡ WordFault.Memory → kind_of e.now ≡ ErrorKind.OutOfMemory }
 {
     match e.kind() {
         ErrorKind::OutOfMemory => WordFault::Memory,
@@ -111,14 +117,8 @@ fn serve_words(alloc: Global, given: &ArgMatches) -> Result<Words, WordFault>
     let Some(workers) = given.get_one::<usize>("workers") else {
         unreachable!()
     };
-    let load = match copied(alloc, given.get_str("load")) {
-        Ok(load) => load,
-        Err(_) => return Err(WordFault::Memory),
-    };
-    let save = match copied(alloc, given.get_str("save")) {
-        Ok(save) => save,
-        Err(_) => return Err(WordFault::Memory),
-    };
+    let load = copied(alloc, given.get_str("load"))?;
+    let save = copied(alloc, given.get_str("save"))?;
     Ok(Words::Serve {
         workers,
         load,
@@ -137,10 +137,8 @@ fn race_words(alloc: Global, given: &ArgMatches) -> Result<Words, WordFault>
     if files.len() > MOST_FILES {
         return Err(WordFault::Bad);
     }
-    match copies(alloc, files) {
-        Ok(files) => Ok(Words::Race(files)),
-        Err(_) => Err(WordFault::Memory),
-    }
+    let files = copies(alloc, files)?;
+    Ok(Words::Race(files))
 }
 
 fn copies(alloc: Global, texts: &[&str]) -> Result<Vec<String>, AllocError>

@@ -1,14 +1,14 @@
 -- Texts that are put one behind another.
-use Rattle.std.proofs.Common.{◌≡◌, ℕ, ◌+◌, List, [], ◌++◌, map, take, nat_lt, false, Option, Some, Result, Ok, Err, sym, ap, subst, ◌∙◌}
+use Rattle.std.proofs.Common.{◌≡◌, ℕ, ◌+◌, ◌≤◌, List, [], ◌++◌, map, take, length, nat_lt, false, Option, Some, Result, Ok, Err, arith, length-append, sym, ap, subst, ◌∙◌}
 use Rattle.std.specs.List.{slice_get}
 use Rattle.std.proofs.lemmas.List.{append_assoc, append-nil}
 use Rattle.std.specs.Io.KnownBytes.{Appends}
 use Rattle.std.proofs.KnownBytes.{Appends-nil, Appends-trans}
-use Rattle.lines.specs.Texts.{IsBeginning, Puts}
+use Rattle.lines.specs.Texts.{IsBeginning, Puts, outbox_room}
 use Rattle.lines.proofs.TextLemmas.{append-beginning, beginning-append}
 use Rattle.serde_json.specs.Data.{Data}
 use Rattle.serde_json.specs.Written.{comma_if, compact_text}
-use Rattle.wire.specs.Joined.{joined}
+use Rattle.wire.specs.Joined.{Waits, joined}
 use Rattle.wire.proofs.ReplyLemmas.{Makes, joined-front, joined-next}
 
 -- all of a text was put: what was written, and what waits now, are what waited and the text
@@ -74,6 +74,16 @@ pub puts_then : {E : Type 0} {a b : Option (List ℕ)} {x y first : List ℕ} (c
 puts_then c z (Ok u) second here next = in_put (put_then here (put_in next))
 puts_then c z (Err e) second here next = in_fails (put_then_fails here (fails_in next))
 
+-- ---- where there is room
+
+-- where there is room for both, there is for the first
+pub room_first : (x first second : List ℕ) → length x + length (first ++ second) ≤ outbox_room → length x + length first ≤ outbox_room
+room_first x first second fits = omega (arith, length-append first second)
+
+-- and for the second behind it
+pub room_second : (x y first second : List ℕ) → y ≡ x ++ first → length x + length (first ++ second) ≤ outbox_room → length y + length second ≤ outbox_room
+room_second x y first second is fits = omega (arith, length-append first second, length-append x first, ap length is)
+
 -- ---- three texts that make one, as puts' clauses have them
 
 module _ {first second third whole : List ℕ} (parts : Makes first second third whole) where
@@ -96,6 +106,30 @@ module _ {first second third whole : List ℕ} (parts : Makes first second third
       let text : (first ++ second) ++ third ≡ whole = append_assoc first second third ∙ parts.whole in
       subst (λ (text : List ℕ). Puts a d x w r text) text (puts_then d w r third (put_then before then) last)
 
+  -- where there is room for all three, there is for the first
+  pub first_room : (x : List ℕ) → length x + length whole ≤ outbox_room → length x + length first ≤ outbox_room
+  first_room x fits = room_first x first (second ++ third) (subst (λ (text : List ℕ). length x + length text ≤ outbox_room) (sym parts.whole) fits)
+
+  pub second_room : (x y : List ℕ) → y ≡ x ++ first → length x + length whole ≤ outbox_room → length y + length second ≤ outbox_room
+  second_room x y is fits =
+      room_first y second third (room_second x y first (second ++ third) is (subst (λ (text : List ℕ). length x + length text ≤ outbox_room) (sym parts.whole) fits))
+
+  pub third_room : (x y z : List ℕ) → y ≡ x ++ first → z ≡ y ++ second → length x + length whole ≤ outbox_room → length z + length third ≤ outbox_room
+  third_room x y z y_is z_is fits =
+      room_second y z second third z_is (room_second x y first (second ++ third) y_is (subst (λ (text : List ℕ). length x + length text ≤ outbox_room) (sym parts.whole) fits))
+
+  -- all three wait
+  pub all_wait : {E : Type 0} (x y z w : List ℕ) (r : Result Unit E) → (length x + length first ≤ outbox_room → y ≡ x ++ first)
+      → (length y + length second ≤ outbox_room → z ≡ y ++ second) → Waits z w r third → Waits x w r whole
+  all_wait x y z w r here next last = λ fits.
+      let y_is : y ≡ x ++ first = here (first_room x fits) in
+      let z_is : z ≡ y ++ second = next (second_room x y y_is fits) in
+      let done = last (third_room x y z y_is z_is fits) in (
+        done.0,
+        done.1 ∙ ap (λ (l : List ℕ). l ++ third) z_is ∙ append_assoc y second third ∙ ap (λ (l : List ℕ). l ++ (second ++ third)) y_is
+            ∙ append_assoc x first (second ++ third) ∙ ap (λ (l : List ℕ). x ++ l) parts.whole,
+      )
+
 -- ---- values with commas between
 
 module _ {A : Type 0} (json : A → Data) (xs : List A) (i : ℕ) (x : A) (here : slice_get xs i ≡ Some x) where
@@ -112,3 +146,20 @@ module _ {A : Type 0} (json : A → Data) (xs : List A) (i : ℕ) (x : A) (here 
       let whole = joined-front json false (i + 1) xs in
       let up_to = subst (λ (text : List ℕ). Fails a c p text) (sym (joined-next json false xs i x here)) (put_then_fails before failed) in
       subst (λ (text : List ℕ). Fails a c p text) whole.1 (fails_before up_to whole.0)
+
+  -- where there is room for all values, there is for the next one
+  pub value_room : (p q : List ℕ) → length p + length (joined (map json xs)) ≤ outbox_room → q ≡ p ++ joined (map json (take i xs))
+      → length q + length (comma_if (nat_lt 0 i) ++ compact_text (json x)) ≤ outbox_room
+  value_room p q fits is =
+      let whole = joined-front json false (i + 1) xs in
+      let up_to = room_first p (joined (map json (take (i + 1) xs))) whole.0 (subst (λ (text : List ℕ). length p + length text ≤ outbox_room) (sym whole.1) fits) in
+      room_second p q (joined (map json (take i xs))) (comma_if (nat_lt 0 i) ++ compact_text (json x)) is
+      (subst (λ (text : List ℕ). length p + length text ≤ outbox_room) (joined-next json false xs i x here) up_to)
+
+  -- one value more waits
+  pub value_waits : (p q r : List ℕ) → q ≡ p ++ joined (map json (take i xs)) → r ≡ q ++ (comma_if (nat_lt 0 i) ++ compact_text (json x))
+      → r ≡ p ++ joined (map json (take (i + 1) xs))
+  value_waits p q r is more =
+      more ∙ ap (λ (l : List ℕ). l ++ (comma_if (nat_lt 0 i) ++ compact_text (json x))) is
+      ∙ append_assoc p (joined (map json (take i xs))) (comma_if (nat_lt 0 i) ++ compact_text (json x))
+      ∙ ap (λ (l : List ℕ). p ++ l) (sym (joined-next json false xs i x here))

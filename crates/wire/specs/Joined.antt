@@ -1,5 +1,6 @@
 -- Values as text, one after another, as they are put.
-use Rattle.std.specs.Prelude.{ℕ, List, [], ◌∷◌, ◌++◌, Bool, true, false, codes}
+use Rattle.std.specs.Prelude.{◌≡◌, ℕ, ◌+◌, ◌≤◌, List, [], ◌∷◌, ◌++◌, Bool, true, false, codes, length, IsOk, Result}
+use Rattle.lines.specs.Texts.{outbox_room}
 use Rattle.serde_json.specs.Data.{Data}
 use Rattle.serde_json.specs.Written.{comma_if, compact_text}
 
@@ -16,3 +17,7 @@ joined ds = joined_after false ds
 abbrev pub closing : Bool → List ℕ
 closing true = codes "\",true]"
 closing false = codes "\",false]"
+
+-- where there is room behind what waited, the put does not fail, and the text waits there
+abbrev pub Waits : {E : Type 0} → List ℕ → List ℕ → Result Unit E → List ℕ → Type 0
+Waits before after r text = length before + length text ≤ outbox_room → IsOk r × (after ≡ before ++ text)

@@ -1,6 +1,8 @@
 //! Replies, and the lines that tell them.
-ghost use Rattle.std.specs.Prelude.{◌≡◌, [], OnErr};
+ghost use Rattle.std.specs.Prelude.{◌≡◌, ◌≢◌, [], IfErr, OnErr};
+ghost use Rattle.std.specs.IoError.{error_kind};
 ghost use Rattle.lines.specs.Texts.{Puts};
+ghost use Rattle.wire.specs.Joined.{Waits};
 ghost use Rattle.wire.specs.Replied.{reply_of};
 ghost use Rattle.wire.specs.Replies.{accepted, listed, refused, reply_text};
 
@@ -8,7 +10,7 @@ use crate::listing::{Listing, put_packages};
 use itoa::Buffer;
 use lines::Outbox;
 use std::io;
-use std::io::Write;
+use std::io::{ErrorKind, Write};
 use versions::Refusal;
 
 /// What is replied to a line.
@@ -37,7 +39,9 @@ pub fn reply_line<W: Write>(
     reply: &Reply<'_>,
 ) -> io::Result<()>
     ensures text { Puts (W.contents writer.old) (W.contents writer.new) outbox.old outbox.new result (reply_text (reply_of reply.now)) }
+    ensures waits { Waits outbox.old outbox.new result (reply_text (reply_of reply.now)) }
     ensures err { OnErr result (outbox.new ≡ []) }
+    ensures retried { IfErr result (λ e. error_kind e ≢ ErrorKind.Interrupted) }
 {
     match &reply.body {
         Body::Accepted => put_accepted(outbox, writer, reply.revision),
@@ -49,7 +53,10 @@ pub fn reply_line<W: Write>(
 fn put_accepted<W: Write>(outbox: &mut Outbox, writer: &mut W, revision: u64) -> io::Result<()>
     ensures text { Puts (W.contents writer.old) (W.contents writer.new) outbox.old outbox.new result
         (reply_text (record { revision = revision; body = accepted })) }
+    ensures waits { Waits outbox.old outbox.new result
+        (reply_text (record { revision = revision; body = accepted })) }
     ensures err { OnErr result (outbox.new ≡ []) }
+    ensures retried { IfErr result (λ e. error_kind e ≢ ErrorKind.Interrupted) }
 {
     let mut digits = Buffer::new();
     outbox.put_all(
@@ -70,7 +77,10 @@ fn put_refusal<W: Write>(
 ) -> io::Result<()>
     ensures text { Puts (W.contents writer.old) (W.contents writer.new) outbox.old outbox.new result
         (reply_text (record { revision = revision; body = refused refusal })) }
+    ensures waits { Waits outbox.old outbox.new result
+        (reply_text (record { revision = revision; body = refused refusal })) }
     ensures err { OnErr result (outbox.new ≡ []) }
+    ensures retried { IfErr result (λ e. error_kind e ≢ ErrorKind.Interrupted) }
 {
     let (mut number, mut digits) = (Buffer::new(), Buffer::new());
     outbox.put_all(
@@ -95,7 +105,10 @@ fn put_listing<W: Write>(
 ) -> io::Result<()>
     ensures text { Puts (W.contents writer.old) (W.contents writer.new) outbox.old outbox.new result
         (reply_text (record { revision = revision; body = listed listing.now })) }
+    ensures waits { Waits outbox.old outbox.new result
+        (reply_text (record { revision = revision; body = listed listing.now })) }
     ensures err { OnErr result (outbox.new ≡ []) }
+    ensures retried { IfErr result (λ e. error_kind e ≢ ErrorKind.Interrupted) }
 {
     outbox.put(writer, b"{\"packages\":")?;
     put_packages(outbox, writer, listing)?;

@@ -1,5 +1,6 @@
 //! The text of a listing, put in parts.
-ghost use Rattle.std.specs.Prelude.{◌≡◌, ◌++◌, [], codes, map, OnErr};
+ghost use Rattle.std.specs.Prelude.{◌≡◌, ◌≢◌, ◌++◌, [], codes, map, IfErr, OnErr};
+ghost use Rattle.std.specs.IoError.{error_kind};
 ghost use Rattle.lines.specs.Texts.{Puts};
 ghost use Rattle.registry.specs.Lawful.{IsRegistry};
 ghost use Rattle.registry.specs.Registry.{package_at, versions_or_none};
@@ -7,14 +8,14 @@ ghost use Rattle.serde_json.specs.Data.{array};
 ghost use Rattle.serde_json.specs.View.{items_of};
 ghost use Rattle.serde_json.specs.Written.{comma_if, compact_text};
 ghost use Rattle.wire.specs.Entries.{entry_json, publication_json};
-ghost use Rattle.wire.specs.Joined.{closing, joined};
+ghost use Rattle.wire.specs.Joined.{Waits, closing, joined};
 ghost use Rattle.wire.specs.Replies.{row_json, version_json};
 
 use super::{Entry, Listing};
 use lines::Outbox;
 use registry::{Pkg, Registry};
 use std::io;
-use std::io::Write;
+use std::io::{ErrorKind, Write};
 use versions::Published;
 
 /// Puts the packages of a listing as JSON. It takes no memory, however many they are.
@@ -25,7 +26,10 @@ pub fn put_packages<W: Write>(
 ) -> io::Result<()>
     ensures text { Puts (W.contents writer.old) (W.contents writer.new) outbox.old outbox.new result
         (compact_text (array (items_of (map row_json listing.now)))) }
+    ensures waits { Waits outbox.old outbox.new result
+        (compact_text (array (items_of (map row_json listing.now)))) }
     ensures err { OnErr result (outbox.new ≡ []) }
+    ensures retried { IfErr result (λ e. error_kind e ≢ ErrorKind.Interrupted) }
 {
     outbox.put(writer, b"[")?;
     put_rows(outbox, writer, listing.registry, listing.entries.as_slice())?;
@@ -42,7 +46,10 @@ fn put_rows<W: Write>(
     requires { IsRegistry registry.now.packages }
     ensures text { Puts (W.contents writer.old) (W.contents writer.new) outbox.old outbox.new result
         (joined (map (entry_json registry.now.packages) entries.now)) }
+    ensures waits { Waits outbox.old outbox.new result
+        (joined (map (entry_json registry.now.packages) entries.now)) }
     ensures err { OnErr result (outbox.new ≡ []) }
+    ensures retried { IfErr result (λ e. error_kind e ≢ ErrorKind.Interrupted) }
 {
     for (place, entry) in entries.iter().enumerate() {
         put_row(outbox, writer, registry, entry, place > 0)?;
@@ -61,7 +68,10 @@ fn put_row<W: Write>(
     requires { IsRegistry registry.now.packages }
     ensures text { Puts (W.contents writer.old) (W.contents writer.new) outbox.old outbox.new result
         (comma_if later ++ compact_text (entry_json registry.now.packages entry.now)) }
+    ensures waits { Waits outbox.old outbox.new result
+        (comma_if later ++ compact_text (entry_json registry.now.packages entry.now)) }
     ensures err { OnErr result (outbox.new ≡ []) }
+    ensures retried { IfErr result (λ e. error_kind e ≢ ErrorKind.Interrupted) }
 {
     put_parts(outbox, writer, opening(later), entry.name.text(), "\",[")?;
     put_versions(outbox, writer, registry, entry.number)?;
@@ -78,7 +88,10 @@ fn put_versions<W: Write>(
     requires { IsRegistry registry.now.packages }
     ensures text { Puts (W.contents writer.old) (W.contents writer.new) outbox.old outbox.new result
         (joined (map publication_json (versions_or_none (package_at registry.now.packages number)))) }
+    ensures waits { Waits outbox.old outbox.new result
+        (joined (map publication_json (versions_or_none (package_at registry.now.packages number)))) }
     ensures err { OnErr result (outbox.new ≡ []) }
+    ensures retried { IfErr result (λ e. error_kind e ≢ ErrorKind.Interrupted) }
 {
     let count = registry.versions(number);
     for ordinal in 0..count as u32 {
@@ -98,7 +111,10 @@ fn put_version<W: Write>(
 ) -> io::Result<()>
     ensures text { Puts (W.contents writer.old) (W.contents writer.new) outbox.old outbox.new result
         (comma_if later ++ compact_text (version_json (version.now, yanked))) }
+    ensures waits { Waits outbox.old outbox.new result
+        (comma_if later ++ compact_text (version_json (version.now, yanked))) }
     ensures err { OnErr result (outbox.new ≡ []) }
+    ensures retried { IfErr result (λ e. error_kind e ≢ ErrorKind.Interrupted) }
 {
     put_parts(
         outbox,
@@ -118,7 +134,9 @@ fn put_parts<'p, W: Write>(
     after: &'p str,
 ) -> io::Result<()>
     ensures text { Puts (W.contents writer.old) (W.contents writer.new) outbox.old outbox.new result (before.now ++ (text.now ++ after.now)) }
+    ensures waits { Waits outbox.old outbox.new result (before.now ++ (text.now ++ after.now)) }
     ensures err { OnErr result (outbox.new ≡ []) }
+    ensures retried { IfErr result (λ e. error_kind e ≢ ErrorKind.Interrupted) }
 {
     outbox.put_all(
         writer,

@@ -1,5 +1,5 @@
 use Rattle.std.proofs.Common.{ap, ap₂, codes, true, ◌≡◌, ◌∙◌}
-use Rattle.clap.specs.Simple.{App, Shape, app_of_fields, on_top, shape_of}
+use Rattle.clap.specs.Simple.{App, app_of_fields, on_top, shape_of}
 use Rattle.clap.specs.Words.{app_of, new_app, with_subcommand}
 use Rattle.registryd.specs.CommandLine.{serve_app, race_app}
 use Rattle.registryd.proofs.command_line.program.Goals as goal

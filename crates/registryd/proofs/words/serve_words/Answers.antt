@@ -1,5 +1,5 @@
-use Rattle.std.proofs.Common.{◌≡◌, ◌∙◌, Some, codes, subst, sym, ◌≤◌, ℕ}
-use Rattle.clap.specs.Words.{Text, found_of, one_text}
+use Rattle.std.proofs.Common.{◌∙◌, codes, subst, sym, ◌≤◌, ℕ}
+use Rattle.clap.specs.Words.{found_of}
 use Rattle.clap.proofs.WalkLemmas.{first_value-rows, one_text-rows}
 use Rattle.registryd.proofs.words.serve_words.Goals as goal
 
@@ -18,6 +18,6 @@ returns-clause-ok c =
     let least = let P : ℕ → Type 0 = λ n. 1 ≤ n in subst P (sym read.1) text.2.2 in
     let most = let P : ℕ → Type 0 = λ n. n ≤ 64 in subst P (sym read.1) text.2.3 in (
       (least, most, (text.0, text.1, (read.0.0, sym read.1))),
-      c.in-Ok.ensures ∙ c.get_str.ensures ∙ first_value-rows found (codes "load"),
-      c.in-Ok-copied.ensures ∙ c.get_str-2.ensures ∙ first_value-rows found (codes "save"),
+      c.in_ok-load.ensures ∙ c.get_str.ensures ∙ first_value-rows found (codes "load"),
+      c.in_ok-save.ensures ∙ c.get_str-2.ensures ∙ first_value-rows found (codes "save"),
     )

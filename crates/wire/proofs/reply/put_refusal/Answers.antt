@@ -1,5 +1,6 @@
 use Rattle.std.proofs.Common.{◌≡◌, ◌∙◌, [], ◌++◌, ap, codes, decimal, subst, sym}
 use Rattle.lines.specs.Texts.{Puts}
+use Rattle.wire.specs.Joined.{Waits}
 use Rattle.wire.specs.Replies.{refused, reply_text}
 use Rattle.wire.proofs.ReplyLemmas.{refused_text}
 use Rattle.wire.proofs.reply.put_refusal.Goals as goal
@@ -13,3 +14,13 @@ returns-clause-text g c =
     ≡ reply_text (record { revision = c.args.revision; body = refused c.args.refusal })
     = rw (number, name, digits) (sym (refused_text c.args.refusal c.args.revision)) in
     subst (Puts _ _ _ _ c.put_all.result) all c.put_all.ensures.texts
+
+pub returns-clause-waits : goal.returns-clause-waits
+returns-clause-waits g c =
+    let number = c.as_bytes.ensures.value ∙ c.format.ensures.text ∙ ap decimal c.number.ensures in
+    let name = c.as_bytes-2.ensures.value ∙ c.name.ensures in
+    let digits = c.as_bytes-3.ensures.value ∙ c.format-2.ensures.text in
+    let all : codes "{\"error\":" ++ (c.as_bytes.result.now ++ (codes ",\"name\":\"" ++ (c.as_bytes-2.result.now ++ (codes "\",\"revision\":" ++ (c.as_bytes-3.result.now ++ (codes "}\n" ++ []))))))
+    ≡ reply_text (record { revision = c.args.revision; body = refused c.args.refusal })
+    = rw (number, name, digits) (sym (refused_text c.args.refusal c.args.revision)) in
+    subst (Waits c.args.outbox.now c.put_all.new.self c.put_all.result) all c.put_all.ensures.waits

@@ -1,0 +1,12 @@
+pub mod Ascending
+pub mod SameSets
+pub mod WordBits
+pub mod WordLists
+pub mod MergedWords
+pub mod MergedTerms
+pub mod SameIncompats
+pub mod WorkedConclusion
+pub mod Inserting
+pub mod Cursor
+pub mod SameWords
+pub mod TermLists

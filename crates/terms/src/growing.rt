@@ -1,0 +1,78 @@
+// Sets that grow, with room made beforehand.
+
+ghost use Rattle.std.specs.Prelude.{◌≡◌, ◌<◌, ◌≤◌, ◌+◌, [], IfOk, IsOk, OnErr, OnOk};
+ghost use Rattle.terms.specs.Sets.{has, AddsOrdinal, IsAscending};
+
+use crate::sets::VSet;
+use crate::words::{Word, has_ordinal, insert_ordinal};
+use std::alloc::{AllocError, Global};
+use std::marker::Model;
+
+/// A set of ordinals that grows by one at a time. Room for the next one can be made beforehand, so
+/// that it comes in without memory.
+#[derive(Drop)]
+pub struct GrowingSet {
+    words: Vec<Word>,
+}
+
+impl Model for GrowingSet {
+    ghost use Rattle.std.specs.Prelude.{◌-◌, vec_capacity, vec_len};
+    ghost use Rattle.terms.specs.Growing.{Growing};
+    ghost use Rattle.terms.specs.Words.{AreWords, ordinals_of};
+
+    ghost Value = { Growing };
+
+    ghost view = { λ s. record {
+      ordinals = ordinals_of s.words.items;
+      room = vec_capacity s.words - vec_len s.words;
+    } };
+
+    ghost invariant = { λ s. AreWords s.words.items };
+}
+
+impl GrowingSet {
+    /// The empty set, which takes no memory.
+    pub fn new(alloc: Global) -> GrowingSet
+        ensures { result.ordinals ≡ [] }
+    {
+        GrowingSet {
+            words: Vec::new(alloc),
+        }
+    }
+
+    /// Makes room for one ordinal more.
+    pub fn reserve(&mut self) -> Result<(), AllocError>
+        ensures same { self.new.ordinals ≡ self.old.ordinals }
+        ensures room { OnOk result (0 < self.new.room) }
+        ensures unchanged { OnErr result (self.new ≡ self.old) }
+        ensures succeeds { 0 < self.old.room → IsOk result }
+    {
+        self.words.reserve(1)
+    }
+
+    /// Puts an ordinal in. It costs one step where none above it is there.
+    pub fn insert(&mut self, ordinal: u32) -> Result<(), AllocError>
+        ensures added { OnOk result (AddsOrdinal self.old.ordinals self.new.ordinals ordinal) }
+        ensures unchanged { OnErr result (self.new.ordinals ≡ self.old.ordinals) }
+        ensures room { self.old.room ≤ self.new.room + 1 }
+        ensures succeeds { 0 < self.old.room → IsOk result }
+        ensures ascending { IsAscending self.new.ordinals }
+    {
+        insert_ordinal(&mut self.words, ordinal)
+    }
+
+    /// Whether an ordinal is in the set.
+    pub fn has(&self, ordinal: u32) -> bool
+        ensures { result ≡ has self.now.ordinals ordinal }
+    {
+        has_ordinal(&self.words, ordinal)
+    }
+
+    /// The set as it is now.
+    pub fn set(&self, alloc: Global) -> Result<VSet, AllocError>
+        ensures same { IfOk result (λ set. set ≡ self.now.ordinals) }
+        ensures ascending { IfOk result IsAscending }
+    {
+        VSet::of_words(alloc, &self.words)
+    }
+}

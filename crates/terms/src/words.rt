@@ -1,0 +1,119 @@
+// The words of a set: where one stands, and how an ordinal comes in.
+
+ghost use Rattle.std.specs.Prelude.{◌≡◌, ◌↔◌, ◌<◌, ◌≤◌, ◌+◌, ◌*◌, ◌/◌, ◌%◌, ◌^◌, length, vec_capacity, vec_len, IfOk, IsOk, IsTrue, OnErr, OnOk};
+ghost use Rattle.terms.specs.Sets.{has, AddsOrdinal, HasExactly};
+ghost use Rattle.terms.specs.Words.{AreWords, IsPlace, ordinals_of};
+ghost use Rattle.terms.specs.Words as spec;
+
+use std::alloc::{AllocError, Global};
+use std::cmp::Ordering;
+
+/// How many ordinals a word stands for.
+pub(crate) const WORD_BITS: u32 = 64;
+
+/// Neighbouring ordinals: bit i stands for the ordinal WORD_BITS * number + i.
+#[derive(Clone, Copy, PartialEq, Eq)]
+pub struct Word {
+    pub number: u32,
+    pub bits: u64,
+}
+
+/// The word that has one ordinal.
+fn word_of(ordinal: u32) -> Word
+    ensures number { result.number ≡ ordinal / WORD_BITS }
+    ensures bits { result.bits ≡ 2 ^ (ordinal % WORD_BITS) }
+{
+    Word {
+        number: ordinal / WORD_BITS,
+        bits: 1 << (ordinal % WORD_BITS),
+    }
+}
+
+/// The place of the word with this number, or the place where it would stand. It is found at once
+/// at the end, where a set mostly grows.
+fn place_of(words: &[Word], number: u32) -> Result<usize, usize>
+    requires { AreWords words.now }
+    ensures { IsPlace number words.now result }
+{
+    let Some(last) = words.last() else {
+        return Err(0);
+    };
+    match last.number.cmp(&number) {
+        Ordering::Less => Err(words.len()),
+        Ordering::Equal => Ok(words.len() - 1),
+        Ordering::Greater => words.binary_search_by_key(&number, |word| word.number),
+    }
+}
+
+/// The bits of the word with this number, none where it is not there.
+fn bits_of(words: &[Word], number: u32) -> u64
+    requires { AreWords words.now }
+    ensures { result ≡ spec.bits_of words.now number }
+{
+    match place_of(words, number) {
+        Ok(place) => words[place].bits,
+        Err(_) => 0,
+    }
+}
+
+/// Whether the ordinal is in the set.
+pub(crate) fn has_ordinal(words: &[Word], ordinal: u32) -> bool
+    requires { AreWords words.now }
+    ensures { result ≡ has (ordinals_of words.now) ordinal }
+{
+    let bits = bits_of(words, ordinal / WORD_BITS);
+    bits >> (ordinal % WORD_BITS) & 1 == 1
+}
+
+/// Puts an ordinal in. It costs one step where no ordinal of a higher word is there, and takes
+/// memory only where no ordinal of its word is.
+pub(crate) fn insert_ordinal(words: &mut Vec<Word>, ordinal: u32) -> Result<(), AllocError>
+    requires { AreWords words.old.items }
+    ensures words { AreWords words.new.items }
+    ensures added { OnOk result
+        (AddsOrdinal (ordinals_of words.old.items) (ordinals_of words.new.items) ordinal) }
+    ensures unchanged { OnErr result (words.new.items ≡ words.old.items) }
+    ensures room { vec_capacity words.old ≤ vec_capacity words.new }
+    ensures grown { vec_len words.new ≤ vec_len words.old + 1 }
+    ensures succeeds { vec_len words.old < vec_capacity words.old → IsOk result }
+{
+    let word = word_of(ordinal);
+    match place_of(words, word.number) {
+        Ok(place) => words[place].bits |= word.bits,
+        Err(place) => words.insert(place, word)?,
+    }
+    Ok(())
+}
+
+/// The words of these ordinals. It is linear in ascending ones.
+pub(crate) fn words_of(alloc: Global, ordinals: &[u32]) -> Result<Vec<Word>, AllocError>
+    ensures words { IfOk result (λ words. AreWords words.items) }
+    ensures members { IfOk result (λ words. HasExactly (ordinals_of words.items) ordinals.now) }
+{
+    let mut words = Vec::new(alloc);
+    for ordinal in ordinals {
+        insert_ordinal(&mut words, *ordinal)?;
+    }
+    Ok(words)
+}
+
+/// How many ordinals the words have.
+pub(crate) fn count(words: &[Word]) -> usize
+    requires { AreWords words.now }
+    ensures { result ≡ length (ordinals_of words.now) }
+{
+    let mut total = 0;
+    for word in words {
+        total += word.bits.count_ones() as usize;
+    }
+    total
+}
+
+/// Whether the words have the same ordinals.
+pub(crate) fn are_same(first: &[Word], second: &[Word]) -> bool
+    requires first { AreWords first.now }
+    requires second { AreWords second.now }
+    ensures { IsTrue result ↔ (ordinals_of first.now ≡ ordinals_of second.now) }
+{
+    first == second
+}
