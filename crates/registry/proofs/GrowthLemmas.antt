@@ -1,24 +1,22 @@
 -- How packages and room change where names and releases are added.
 use Rattle.std.proofs.Common.{◌≡◌, ◌<◌, ◌≤◌, ◌∙◌, inl, inr, ℕ, zero, suc, ◌+◌, ◌-◌, List, [], ◌∷◌, ◌++◌, length, refl, sym, ap, subst, arith, Bool, true, false, ◌||◌, if◌then◌else◌, get_or, set, vec_len, vec_capacity}
-use Rattle.std.specs.Prelude.{Result, Ok, Err, OnOk, Option, Some, None, Vec, position, slice_index}
+use Rattle.std.specs.Prelude.{Option, Some, None, position, slice_index}
 use Rattle.std.specs.Option.{option_map}
 use Rattle.std.specs.List.{list_any}
 use Rattle.std.specs.Str.{bytes_eq}
-use Rattle.std.specs.declared.alloc.Global.{Global}
 use Rattle.std.proofs.lemmas.Bool.{cases_Bool}
 use Rattle.versions.specs.Words.{Text}
-use Rattle.registry.proofs.PackageLemmas.{is_known-packages_in, is_known-packages_of, is_known-push, length-mapped, length-packages_of, number_of-packages_of}
+use Rattle.registry.proofs.PackageLemmas.{versions_of-packages_of, versions_where, is_known-packages_in, is_known-packages_of, is_known-push, length-mapped, length-packages_of, number_of-packages_of}
 use Rattle.std.specs.Cmp.Lexicographic.{nat_list_eq_equiv}
 use Rattle.std.proofs.Math.Seq.{map-set_same}
-use Rattle.std.proofs.lemmas.List.{get_or-set_same}
+use Rattle.std.proofs.lemmas.List.{get_or-map, get_or-set_same}
 use Rattle.std.proofs.Common.{length-set}
-use Rattle.registry.specs.Registry.{Package, Packages, Publication, is_known, is_named, number_from, number_of}
-use Rattle.registry.specs.Rooms.{HasRoomToPublish, State, new_names, room_at, room_where, unknown_names}
+use Rattle.registry.specs.Registry.{Package, Packages, Publication, is_known, is_named, number_from, number_of, versions_of}
+use Rattle.registry.specs.Rooms.{unknown_names}
 use Rattle.registry.specs.Step.{with_listed, with_name, with_named, with_versions}
-use Rattle.registry.specs.Releases.{lists_of, packages_in, packages_of, publication_of, publications_of, rooms_of}
+use Rattle.registry.specs.Publications.{PublicationList, lists_of, packages_in, packages_of, rooms_of}
 use Rattle.registry.specs.Needs.{names_of}
 use Rattle.registry.proofs.NeedLemmas.{both_false}
-use Rattle.registry.specs.declared.releases.Release.{Release}
 
 some-same : {A : Type 0} (x y : A) → Some x ≡ Some y → x ≡ y
 some-same x y e = cc e
@@ -51,14 +49,14 @@ number_from-above n (p ∷ rest) name q e = elim (cases_Bool (is_named name p)) 
 ]
 
 -- the list of the package of the name is changed
-change-at : (k : ℕ) (names : List Text) (lists : List (Vec Release Global)) (name : Text) (i : ℕ) (v changed : Vec Release Global) (change : List Publication → List Publication)
-    → number_from k (packages_in names lists) name ≡ Some (k + i) → v ≡ get_or lists i v → publications_of changed.items ≡ change (publications_of v.items)
+change-at : (k : ℕ) (names : List Text) (lists : List PublicationList) (name : Text) (i : ℕ) (v changed : PublicationList) (change : List Publication → List Publication)
+    → number_from k (packages_in names lists) name ≡ Some (k + i) → v ≡ get_or lists i v → changed.publications ≡ change v.publications
     → packages_in names (set lists i changed) ≡ with_versions name change (packages_in names lists)
 change-at k [] lists name i v changed change e at by = absurd (cc e)
 change-at k (x ∷ names) [] name i v changed change e at by = absurd (cc e)
 change-at k (x ∷ names) (w ∷ lists) name zero v changed change e at by = elim (cases_Bool (bytes_eq name x)) [
   | inl t ↦
-      let items : publications_of changed.items ≡ change (publications_of w.items) = by ∙ ap (λ (u : Vec Release Global). change (publications_of u.items)) at in
+      let items : changed.publications ≡ change w.publications = by ∙ ap (λ (u : PublicationList). change u.publications) at in
       rw t (ap (λ (vs : List Publication). (record { name = x; versions = vs }) ∷ packages_in names lists) items)
   | inr f ↦
       let above = number_from-above (suc k) (packages_in names lists) name (k + 0) (rw f at e) in
@@ -71,23 +69,16 @@ change-at k (x ∷ names) (w ∷ lists) name (suc i) v changed change e at by = 
   | inr f ↦
       let place : k + suc i ≡ suc k + i = omega arith in
       let later : number_from (suc k) (packages_in names lists) name ≡ Some (suc k + i) = (rw f at e) ∙ ap (λ j. Some j) place in
-      rw f (ap (λ (l : Packages). (record { name = x; versions = publications_of w.items }) ∷ l) (change-at (suc k) names lists name i v changed change later at by))
+      rw f (ap (λ (l : Packages). (record { name = x; versions = w.publications }) ∷ l) (change-at (suc k) names lists name i v changed change later at by))
 ]
 
-pub packages-changed : (names : List Text) (lists : List (Vec Release Global)) (name : Text) (i : ℕ) (v changed : Vec Release Global) (change : List Publication → List Publication)
-    → number_of (packages_in names lists) name ≡ Some (i + 1) → v ≡ get_or lists i v → publications_of changed.items ≡ change (publications_of v.items)
+pub packages-changed : (names : List Text) (lists : List PublicationList) (name : Text) (i : ℕ) (v changed : PublicationList) (change : List Publication → List Publication)
+    → number_of (packages_in names lists) name ≡ Some (i + 1) → v ≡ get_or lists i v → changed.publications ≡ change v.publications
     → packages_in names (set lists i changed) ≡ with_versions name change (packages_in names lists)
 unfolding number_of
 packages-changed names lists name i v changed change e at by =
     let place : i + 1 ≡ 1 + i = omega arith in
     change-at 1 names lists name i v changed change (e ∙ ap (λ j. Some j) place) at by
-
-pub publications-pushed : (releases pushed : List Release) (release : Release) → pushed ≡ releases ++ release ∷ [] → publications_of pushed ≡ publications_of releases ++ publication_of release ∷ []
-publications-pushed releases pushed release e = ap publications_of e ∙ by releases
-  where
-    by : (rs : List Release) → publications_of (rs ++ release ∷ []) ≡ publications_of rs ++ publication_of release ∷ []
-    by [] = refl
-    by (r ∷ rs) = ap (λ l. publication_of r ∷ l) (by rs)
 
 -- a package that is not there is not changed
 pub unchanged : (packages : Packages) (name : Text) (change : List Publication → List Publication) → is_known packages name ≡ false → with_versions name change packages ≡ packages
@@ -96,7 +87,11 @@ unchanged (p ∷ rest) name change e =
     let parts = both_false (is_named name p) (is_known rest name) e in
     rw (parts.0) (ap (λ (l : Packages). p ∷ l) (unchanged rest name change parts.1))
 
--- ---- the names that are noted
+-- ---- the names that are new
+
+-- the names of these needs that no package has, in order
+abbrev pub new_names : Packages → List (Text × Text) → List Text
+new_names packages needs = unknown_names (is_known packages) needs
 
 pub is_known-grows : (packages : Packages) (added name : Text) → is_known packages name ≡ true → is_known (with_name packages added) name ≡ true
 is_known-grows packages added name t =
@@ -122,23 +117,9 @@ pub with_named-new : (packages : Packages) (name : Text) (needs : List (Text × 
 with_named-new packages name needs = with_listed-new packages (with_name packages name) needs (λ other t. is_known-grows packages name other t)
 
 -- room, list by list
-pub rooms-push : (lists : List (Vec Release Global)) (list : Vec Release Global) (i : ℕ) → i < length lists → slice_index (rooms_of (lists ++ list ∷ [])) i ≡ slice_index (rooms_of lists) i
-rooms-push [] list i lt = absurd (omega arith)
-rooms-push (v ∷ lists) list zero lt = refl
-rooms-push (v ∷ lists) list (suc i) lt = rooms-push lists list i (omega arith)
-
-rooms-end : (lists : List (Vec Release Global)) (list : Vec Release Global) → slice_index (rooms_of (lists ++ list ∷ [])) (length lists) ≡ vec_capacity list - vec_len list
-rooms-end [] list = refl
-rooms-end (v ∷ lists) list = rooms-end lists list
-
-pub rooms-last : (lists : List (Vec Release Global)) (list : Vec Release Global) (last : ℕ) → last ≡ length lists → vec_len list ≡ 0 → slice_index (rooms_of (lists ++ list ∷ [])) last ≡ vec_capacity list
-rooms-last lists list last is empty =
-    let whole : vec_capacity list - vec_len list ≡ vec_capacity list = omega (arith, empty) in
-    ap (λ i. slice_index (rooms_of (lists ++ list ∷ [])) i) is ∙ rooms-end lists list ∙ whole
-
-pub rooms-at : (lists : List (Vec Release Global)) (i : ℕ) (v : Vec Release Global) → i < length lists → v ≡ get_or lists i v → slice_index (rooms_of lists) i ≡ vec_capacity v - vec_len v
+rooms-at : (lists : List PublicationList) (i : ℕ) (v : PublicationList) → i < length lists → v ≡ get_or lists i v → slice_index (rooms_of lists) i ≡ v.room
 rooms-at [] i v lt at = absurd (omega arith)
-rooms-at (w ∷ lists) zero v lt at = ap (λ (u : Vec Release Global). vec_capacity u - vec_len u) (sym at)
+rooms-at (w ∷ lists) zero v lt at = ap (λ (u : PublicationList). u.room) (sym at)
 rooms-at (w ∷ lists) (suc i) v lt at = rooms-at lists i v (omega arith) at
 
 number_from-last : (k : ℕ) (packages : Packages) (p : Package) (name : Text) → number_from k packages name ≡ None → is_named name p ≡ true
@@ -160,9 +141,9 @@ number_of-new packages name e new =
     ap (λ b. number_from 1 (if b then packages else packages ++ p ∷ []) name) new
     ∙ number_from-last 1 packages p name e (nat_list_eq_equiv.refl name) ∙ ap (λ i. Some i) place
 
-module _ (names : List Text) (lists : List (Vec Release Global)) (name : Text) (paired : length names ≡ length lists) where
+module _ (names : List Text) (lists : List PublicationList) (name : Text) (paired : length names ≡ length lists) where
   both : length names ≡ length (lists_of lists)
-  both = paired ∙ sym (length-mapped (λ v. publications_of v.items) lists)
+  both = paired ∙ sym (length-mapped (λ (v : PublicationList). v.publications) lists)
 
   -- the number of a name, by its place among the names
   pub number-placed : (o : Option ℕ) → o ≡ position (bytes_eq name) names → number_of (packages_of names (lists_of lists)) name ≡ option_map (λ i. 1 + i) o
@@ -177,39 +158,18 @@ module _ (names : List Text) (lists : List (Vec Release Global)) (name : Text) (
       let len : length (packages_of names (lists_of lists)) + 1 ≡ n = omega (arith, length-packages_of names (lists_of lists) both, paired, last) in
       number_of-new (packages_of names (lists_of lists)) name (number-placed None e) (is_known-packages_of names (lists_of lists) name both ∙ new) ∙ ap (λ i. Some i) len
 
--- a list that grows in room alone shows the same publications
-pub lists_of-set_same : (lists : List (Vec Release Global)) (i : ℕ) (v grown : Vec Release Global) → v ≡ get_or lists i v → grown.items ≡ v.items → lists_of (set lists i grown) ≡ lists_of lists
+-- a list that changes in room alone shows the same publications
+pub lists_of-set_same : (lists : List PublicationList) (i : ℕ) (v grown : PublicationList) → v ≡ get_or lists i v → grown.publications ≡ v.publications → lists_of (set lists i grown) ≡ lists_of lists
 lists_of-set_same lists i v grown at same =
-    map-set_same (λ (u : Vec Release Global). publications_of u.items) lists i grown v (ap publications_of (same ∙ ap (λ (u : Vec Release Global). u.items) at))
+    map-set_same (λ (u : PublicationList). u.publications) lists i grown v (same ∙ ap (λ (u : PublicationList). u.publications) at)
 
-pub room-grown : (lists : List (Vec Release Global)) (i : ℕ) (grown : Vec Release Global) → i < length lists → slice_index (rooms_of (set lists i grown)) i ≡ vec_capacity grown - vec_len grown
+pub room-grown : (lists : List PublicationList) (i : ℕ) (grown : PublicationList) → i < length lists → slice_index (rooms_of (set lists i grown)) i ≡ grown.room
 room-grown lists i grown lt =
     let len : i < length (set lists i grown) = omega (arith, length-set lists i grown) in
     rooms-at (set lists i grown) i grown len (sym (get_or-set_same lists i grown grown lt))
 
-pub room_at-placed : (more : List ℕ) (first : ℕ) (number o : Option ℕ) → number ≡ option_map (λ i. 1 + i) o → room_at more first number ≡ room_where more first o
-room_at-placed more first number None e = ap (λ n. room_at more first n) e
-room_at-placed more first number (Some i) e =
-    let place : 1 + i ≡ suc i = omega arith in
-    ap (λ n. room_at more first n) (e ∙ ap (λ j. Some j) place)
-
-pub on_ok : {T E A B C P : Type 0} (r : Result T E) → OnOk r A → OnOk r B → OnOk r C → (A → B → C → P) → OnOk r P
-on_ok (Ok x) a b c f = f a b c
-on_ok (Err e) a b c f = tt
-
--- there is room to publish, by what was made of it
-pub has_room : (state : State) (name : Text) (needs : List (Text × Text)) (o : Option ℕ) (count : ℕ) → number_of state.packages name ≡ option_map (λ i. 1 + i) o
-    → state.room.noted ≡ new_names state.packages needs → count ≡ length state.room.noted + 1 → count ≤ state.room.names → count ≤ state.room.lists
-    → 0 < room_where state.room.more state.room.first o → HasRoomToPublish state name needs
-has_room state name needs o count number noted counted names lists release = record {
-  noted = noted;
-  names = omega (arith, names, counted);
-  lists = omega (arith, lists, counted);
-  release = subst (λ n. 0 < n) (sym (room_at-placed state.room.more state.room.first (number_of state.packages name) o number)) release;
-}
-
 -- the new names, by the names of the registry
-pub new_names-packages_in : (names : List Text) (lists : List (Vec Release Global)) (needs : List (Text × Text)) → length names ≡ length lists
+pub new_names-packages_in : (names : List Text) (lists : List PublicationList) (needs : List (Text × Text)) → length names ≡ length lists
     → new_names (packages_in names lists) needs ≡ unknown_names (λ name. list_any (bytes_eq name) names) needs
 new_names-packages_in names lists needs paired = ap (λ (f : Text → Bool). unknown_names f needs) (λ i name. is_known-packages_in names lists name paired i)
 
@@ -221,3 +181,14 @@ same_place (Some i) (Some j) e =
     let same = some-same (1 + i) (1 + j) e in
     let place : i ≡ j = omega (arith, same) in
     ap (λ k. Some k) place
+
+-- the list at the place of a package has its publications
+pub versions_of-placed : (names : List Text) (lists : List PublicationList) (name : Text) (i : ℕ) (v : PublicationList) → length names ≡ length lists
+    → number_of (packages_in names lists) name ≡ Some (i + 1) → i < length lists → v ≡ get_or lists i v → versions_of (packages_in names lists) name ≡ v.publications
+versions_of-placed names lists name i v paired number within at =
+    let both : length names ≡ length (lists_of lists) = paired ∙ sym (length-mapped (λ (u : PublicationList). u.publications) lists) in
+    let next : i + 1 ≡ 1 + i = omega arith in
+    let place : position (bytes_eq name) names ≡ Some i =
+    same_place (position (bytes_eq name) names) (Some i) (sym (number_of-packages_of names (lists_of lists) name both) ∙ number ∙ ap (λ j. Some j) next) in
+    versions_of-packages_of names (lists_of lists) name both ∙ ap (λ o. versions_where o (lists_of lists)) place
+    ∙ get_or-map (λ (u : PublicationList). u.publications) lists i v [] within ∙ ap (λ (u : PublicationList). u.publications) (sym at)

@@ -148,6 +148,10 @@ versions-listed : (packages : Packages) (added : List Text) (name : Text) → ve
 versions-listed packages [] name = refl
 versions-listed packages (x ∷ rest) name = versions-listed (with_name packages x) rest name ∙ versions-name packages x name
 
+-- a publication numbers names, and publishes nothing of other packages
+pub versions-named : (packages : Packages) (name : Text) (added : List Text) (other : Text) → versions_of (with_listed (with_name packages name) added) other ≡ versions_of packages other
+versions-named packages name added other = versions-listed (with_name packages name) added other ∙ versions-name packages name other
+
 -- ---- where more names are known
 
 module _ (P Q : Packages) (more : (name : Text) → is_known P name ≡ true → is_known Q name ≡ true) where
@@ -176,15 +180,15 @@ none-first true e rest h = absurd (cc h)
 none-first false e rest h = (refl, h)
 
 -- what is known of a publication that is accepted
-record Accepted (packages : Packages) (name version : Text) (needs : List (Text × Text)) : Type 0 where
-  once : repeats_name needs ≡ false
-  others : has_name needs name ≡ false
-  few : length needs ≤ 64
-  new : has_version (versions_of packages name) version ≡ false
-  room : length (versions_of packages name) < 1024
-  names : length (with_named packages name needs) ≤ 65535
+pub record Accepted (packages : Packages) (name version : Text) (needs : List (Text × Text)) : Type 0 where
+  pub once : repeats_name needs ≡ false
+  pub others : has_name needs name ≡ false
+  pub few : length needs ≤ 64
+  pub new : has_version (versions_of packages name) version ≡ false
+  pub room : length (versions_of packages name) < 1024
+  pub names : length (with_named packages name needs) ≤ 65535
 
-accepted_by : (packages : Packages) (name version : Text) (needs : List (Text × Text)) → publish_refusal packages name version needs ≡ None → Accepted packages name version needs
+pub accepted_by : (packages : Packages) (name version : Text) (needs : List (Text × Text)) → publish_refusal packages name version needs ≡ None → Accepted packages name version needs
 accepted_by packages name version needs e =
     let a = none-first (repeats_name needs) _ _ e in
     let b = none-first (has_name needs name) _ _ a.1 in

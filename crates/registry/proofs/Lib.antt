@@ -1,9 +1,14 @@
 -- Lemmas.
 pub mod NeedLemmas
+pub mod NameOrder
 pub mod Positions
-pub mod ReleaseLemmas
+pub mod PublicationLemmas
 pub mod PackageLemmas
 pub mod GrowthLemmas
+pub mod ReadyLemmas
 pub mod Lawfulness
-pub mod WorkedRows
 pub mod RegistryLaws
+pub mod RequestLemmas
+pub mod SelectionLaws
+pub mod WorkedRows
+pub mod SelectionRows

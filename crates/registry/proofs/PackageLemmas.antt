@@ -6,8 +6,6 @@ use Rattle.std.specs.List.{list_any}
 use Rattle.std.specs.Str.{bytes_eq}
 use Rattle.std.proofs.lemmas.Bool.{cases_Bool}
 use Rattle.versions.specs.Words.{Text}
-use Rattle.std.specs.Prelude.{Vec}
-use Rattle.std.specs.declared.alloc.Global.{Global}
 use Rattle.std.proofs.lemmas.List.Sums.{sum_by-cons}
 use Rattle.indexmap.specs.IndexSet.{insert_key}
 use Rattle.std.specs.Cmp.Lexicographic.{nat_list_eq_equiv}
@@ -16,8 +14,7 @@ use Rattle.registry.specs.Registry.{Package, Packages, Publication, is_known, is
 use Rattle.registry.specs.Step.{with_listed, with_name, with_named}
 use Rattle.registry.proofs.NeedLemmas.{both_false}
 use Rattle.registry.proofs.Positions.{position-here, position-later}
-use Rattle.registry.specs.Releases.{lists_of, packages_in, packages_of, publication_of, publications_of}
-use Rattle.registry.specs.declared.releases.Release.{Release}
+use Rattle.registry.specs.Publications.{PublicationList, lists_of, packages_in, packages_of}
 
 pub length-packages_of : (names : List Text) (lists : List (List Publication)) → length names ≡ length lists → length (packages_of names lists) ≡ length names
 length-packages_of [] lists e = refl
@@ -63,9 +60,9 @@ is_known-packages_of (x ∷ names) (versions ∷ lists) name e =
     let less : length names ≡ length lists = omega (arith, e) in
     ap (λ b. bytes_eq name x || b) (is_known-packages_of names lists name less)
 
-pub is_known-packages_in : (names : List Text) (lists : List (Vec Release Global)) (name : Text) → length names ≡ length lists
+pub is_known-packages_in : (names : List Text) (lists : List PublicationList) (name : Text) → length names ≡ length lists
     → is_known (packages_in names lists) name ≡ list_any (bytes_eq name) names
-is_known-packages_in names lists name paired = is_known-packages_of names (lists_of lists) name (paired ∙ sym (length-mapped (λ (v : Vec Release Global). publications_of v.items) lists))
+is_known-packages_in names lists name paired = is_known-packages_of names (lists_of lists) name (paired ∙ sym (length-mapped (λ (v : PublicationList). v.publications) lists))
 
 packages_of-push : (names : List Text) (lists : List (List Publication)) (name : Text) (versions : List Publication) → length names ≡ length lists
     → packages_of (names ++ name ∷ []) (lists ++ versions ∷ []) ≡ packages_of names lists ++ (record { name = name; versions = versions }) ∷ []
@@ -81,26 +78,26 @@ map-push f [] x = refl
 map-push f (y ∷ ys) x = ap (λ l. f y ∷ l) (map-push f ys x)
 
 -- a name that is new goes last, with no versions
-pub with_name-new : (names names' : List Text) (lists lists' : List (Vec Release Global)) (name : Text) (list : Vec Release Global)
-    → length names ≡ length lists → list_any (bytes_eq name) names ≡ false → list.items ≡ []
+pub with_name-new : (names names' : List Text) (lists lists' : List PublicationList) (name : Text) (list : PublicationList)
+    → length names ≡ length lists → list_any (bytes_eq name) names ≡ false → list.publications ≡ []
     → names' ≡ insert_key bytes_eq names name → lists' ≡ lists ++ list ∷ []
     → packages_of names' (lists_of lists') ≡ with_name (packages_of names (lists_of lists)) name
 with_name-new names names' lists lists' name list paired new empty is_names is_lists =
-    let both : length names ≡ length (lists_of lists) = paired ∙ sym (length-mapped (λ v. publications_of v.items) lists) in
+    let both : length names ≡ length (lists_of lists) = paired ∙ sym (length-mapped (λ (v : PublicationList). v.publications) lists) in
     let known : is_known (packages_of names (lists_of lists)) name ≡ false = is_known-packages_of names (lists_of lists) name both ∙ new in
     let keys : names' ≡ names ++ name ∷ [] = is_names ∙ ap (λ b. if b then names else names ++ name ∷ []) new in
     let columns : lists_of lists' ≡ lists_of lists ++ [] ∷ [] =
-    ap lists_of is_lists ∙ map-push (λ (v : Vec Release Global). publications_of v.items) lists list ∙ ap (λ (items : List Release). lists_of lists ++ publications_of items ∷ []) empty in
+    ap lists_of is_lists ∙ map-push (λ (v : PublicationList). v.publications) lists list ∙ ap (λ (publications : List Publication). lists_of lists ++ publications ∷ []) empty in
     ap (λ ks. packages_of ks (lists_of lists')) keys ∙ ap (λ ls. packages_of (names ++ name ∷ []) ls) columns
     ∙ packages_of-push names (lists_of lists) name [] both
     ∙ sym (ap (λ b. if b then packages_of names (lists_of lists) else packages_of names (lists_of lists) ++ (record { name = name; versions = [] }) ∷ []) known)
 
 -- a name that is known changes nothing
-pub with_name-known : (names : List Text) (lists : List (Vec Release Global)) (name : Text)
+pub with_name-known : (names : List Text) (lists : List PublicationList) (name : Text)
     → length names ≡ length lists → list_any (bytes_eq name) names ≡ true
     → packages_of names (lists_of lists) ≡ with_name (packages_of names (lists_of lists)) name
 with_name-known names lists name paired there =
-    let both : length names ≡ length (lists_of lists) = paired ∙ sym (length-mapped (λ v. publications_of v.items) lists) in
+    let both : length names ≡ length (lists_of lists) = paired ∙ sym (length-mapped (λ (v : PublicationList). v.publications) lists) in
     let known : is_known (packages_of names (lists_of lists)) name ≡ true = is_known-packages_of names (lists_of lists) name both ∙ there in
     sym (ap (λ b. if b then packages_of names (lists_of lists) else packages_of names (lists_of lists) ++ (record { name = name; versions = [] }) ∷ []) known)
 
@@ -215,30 +212,25 @@ unfolding publication_at package_at
 published-positive packages zero k e = absurd (true≢false (sym e))
 published-positive packages (suc p) k e = omega arith
 
-listed-within : (lists : List (Vec Release Global)) (i k : ℕ) → is_some (listed (slice_get (lists_of lists) i) k) ≡ true → i < length lists
+listed-within : (lists : List PublicationList) (i k : ℕ) → is_some (listed (slice_get (lists_of lists) i) k) ≡ true → i < length lists
 listed-within [] i k e = absurd (true≢false (sym e))
 listed-within (v ∷ lists) zero k e = omega arith
 listed-within (v ∷ lists) (suc i) k e = let less = listed-within lists i k e in omega (arith, less)
 
-listed-at : (lists : List (Vec Release Global)) (i k : ℕ) (v : Vec Release Global) → i < length lists → v ≡ get_or lists i v → listed (slice_get (lists_of lists) i) k ≡ slice_get (publications_of v.items) k
+listed-at : (lists : List PublicationList) (i k : ℕ) (v : PublicationList) → i < length lists → v ≡ get_or lists i v → listed (slice_get (lists_of lists) i) k ≡ slice_get v.publications k
 listed-at [] i k v lt at = absurd (omega arith)
-listed-at (w ∷ lists) zero k v lt at = ap (λ (u : Vec Release Global). slice_get (publications_of u.items) k) (sym at)
+listed-at (w ∷ lists) zero k v lt at = ap (λ (u : PublicationList). slice_get u.publications k) (sym at)
 listed-at (w ∷ lists) (suc i) k v lt at = listed-at lists i k v (omega arith) at
 
-release-within : (releases : List Release) (k : ℕ) → is_some (slice_get (publications_of releases) k) ≡ true → k < length releases
-release-within [] k e = absurd (true≢false (sym e))
-release-within (r ∷ releases) zero e = omega arith
-release-within (r ∷ releases) (suc k) e = let less = release-within releases k e in omega (arith, less)
+publication-within : (publications : List Publication) (k : ℕ) → is_some (slice_get publications k) ≡ true → k < length publications
+publication-within [] k e = absurd (true≢false (sym e))
+publication-within (r ∷ rest) zero e = omega arith
+publication-within (r ∷ rest) (suc k) e = let less = publication-within rest k e in omega (arith, less)
 
-release-at : (releases : List Release) (k : ℕ) (r : Release) → k < length releases → r ≡ get_or releases k r → slice_get (publications_of releases) k ≡ Some (publication_of r)
-release-at [] k r lt at = absurd (omega arith)
-release-at (x ∷ releases) zero r lt at = ap (λ y. Some (publication_of y)) (sym at)
-release-at (x ∷ releases) (suc k) r lt at = release-at releases k r (omega arith) at
-
-module _ (names : List Text) (lists : List (Vec Release Global)) (p k : ℕ) (paired : length names ≡ length lists) (there : is_published (packages_of names (lists_of lists)) p k ≡ true) where
+module _ (names : List Text) (lists : List PublicationList) (p k : ℕ) (paired : length names ≡ length lists) (there : is_published (packages_of names (lists_of lists)) p k ≡ true) where
   placed : publication_at (packages_of names (lists_of lists)) p k ≡ listed (slice_get (lists_of lists) (p - 1)) k
   placed =
-      let both : length names ≡ length (lists_of lists) = paired ∙ sym (length-mapped (λ v. publications_of v.items) lists) in
+      let both : length names ≡ length (lists_of lists) = paired ∙ sym (length-mapped (λ (v : PublicationList). v.publications) lists) in
       let from_one = published-positive (packages_of names (lists_of lists)) p k there in
       let place : p ≡ suc (p - 1) = omega (arith, from_one) in
       ap (λ q. publication_at (packages_of names (lists_of lists)) q k) place ∙ publication_at-packages_of names (lists_of lists) (p - 1) k both
@@ -246,20 +238,17 @@ module _ (names : List Text) (lists : List (Vec Release Global)) (p k : ℕ) (pa
   pub within-lists : p - 1 < length lists
   within-lists = listed-within lists (p - 1) k (sym (ap is_some placed) ∙ there)
 
-  module _ (v : Vec Release Global) (at : v ≡ get_or lists (p - 1) v) where
-    seen : publication_at (packages_of names (lists_of lists)) p k ≡ slice_get (publications_of v.items) k
-    seen = placed ∙ listed-at lists (p - 1) k v within-lists at
+  module _ (v : PublicationList) (at : v ≡ get_or lists (p - 1) v) where
+    pub publication-seen : publication_at (packages_of names (lists_of lists)) p k ≡ slice_get v.publications k
+    publication-seen = placed ∙ listed-at lists (p - 1) k v within-lists at
 
-    pub within-list : k < length v.items
-    within-list = release-within v.items k (sym (ap is_some seen) ∙ there)
-
-    pub publication-read : (r : Release) → r ≡ get_or v.items k r → publication_at (packages_of names (lists_of lists)) p k ≡ Some (publication_of r)
-    publication-read r is = seen ∙ release-at v.items k r within-list is
+    pub within-list : k < length v.publications
+    within-list = publication-within v.publications k (sym (ap is_some publication-seen) ∙ there)
 
 -- ---- packages by number
 
-pub length-packages_in : (names : List Text) (lists : List (Vec Release Global)) → length names ≡ length lists → length (packages_in names lists) ≡ length names
-length-packages_in names lists paired = length-packages_of names (lists_of lists) (paired ∙ sym (length-mapped (λ (v : Vec Release Global). publications_of v.items) lists))
+pub length-packages_in : (names : List Text) (lists : List PublicationList) → length names ≡ length lists → length (packages_in names lists) ≡ length names
+length-packages_in names lists paired = length-packages_of names (lists_of lists) (paired ∙ sym (length-mapped (λ (v : PublicationList). v.publications) lists))
 
 -- a place from 0 on is a number from 1 on
 pub package_at-next : (packages : Packages) (p : ℕ) → 1 ≤ p → package_at packages p ≡ slice_get packages (p - 1)
@@ -272,20 +261,30 @@ unfolding package_at
 package_at-zero packages zero none = refl
 package_at-zero packages (suc n) none = absurd (none (omega arith))
 
-pub name-at : (names : List Text) (lists : List (Vec Release Global)) (i : ℕ) → length names ≡ length lists
+pub name-at : (names : List Text) (lists : List PublicationList) (i : ℕ) → length names ≡ length lists
     → option_map (λ (p : Package). p.name) (slice_get (packages_in names lists) i) ≡ slice_get names i
 name-at [] lists i paired = refl
 name-at (x ∷ names) [] i paired = absurd (omega (arith, paired))
 name-at (x ∷ names) (v ∷ lists) zero paired = refl
 name-at (x ∷ names) (v ∷ lists) (suc i) paired = name-at names lists i (omega (arith, paired))
 
-pub count-at : (names : List Text) (lists : List (Vec Release Global)) (i : ℕ) (v : Vec Release Global) → length names ≡ length lists → i < length lists → v ≡ get_or lists i v
-    → length (versions_or_none (slice_get (packages_in names lists) i)) ≡ length v.items
-count-at [] [] i v paired within at = absurd (omega arith)
-count-at [] (w ∷ lists) i v paired within at = absurd (omega (arith, paired))
-count-at (x ∷ names) [] i v paired within at = absurd (omega arith)
-count-at (x ∷ names) (w ∷ lists) zero v paired within at = length-mapped publication_of w.items ∙ ap (λ (u : Vec Release Global). length u.items) (sym at)
-count-at (x ∷ names) (w ∷ lists) (suc i) v paired within at = count-at names lists i v (omega (arith, paired)) (omega arith) at
+-- the publications of the package at a place
+pub versions-placed : (names : List Text) (lists : List PublicationList) (i : ℕ) (v : PublicationList) → length names ≡ length lists → i < length lists → v ≡ get_or lists i v
+    → versions_or_none (slice_get (packages_in names lists) i) ≡ v.publications
+versions-placed [] [] i v paired within at = absurd (omega arith)
+versions-placed [] (w ∷ lists) i v paired within at = absurd (omega (arith, paired))
+versions-placed (x ∷ names) [] i v paired within at = absurd (omega arith)
+versions-placed (x ∷ names) (w ∷ lists) zero v paired within at = ap (λ (u : PublicationList). u.publications) (sym at)
+versions-placed (x ∷ names) (w ∷ lists) (suc i) v paired within at = versions-placed names lists i v (omega (arith, paired)) (omega arith) at
+
+-- a publication by number and ordinal, by the publications of its package
+pub publication_at-versions : (packages : Packages) (p k : ℕ) → publication_at packages p k ≡ slice_get (versions_or_none (package_at packages p)) k
+unfolding publication_at
+publication_at-versions packages p k = by (package_at packages p)
+  where
+    by : (o : Option Package) → option_and_then (λ (pack : Package). slice_get pack.versions k) o ≡ slice_get (versions_or_none o) k
+    by None = refl
+    by (Some pack) = refl
 
 within-published : (o : Option Package) (k : ℕ) → k < length (versions_or_none o) → is_some (option_and_then (λ (pack : Package). slice_get pack.versions k) o) ≡ true
 within-published None k lt = absurd (omega arith)

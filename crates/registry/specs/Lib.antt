@@ -1,8 +1,13 @@
 -- The definitions that contracts cite.
 pub mod Registry
 pub mod Needs
+pub mod ByName
 pub mod Step
 pub mod Commands
 pub mod Rooms
 pub mod Lawful
-pub mod Releases
+pub mod Publications
+pub mod Highest
+pub mod Requests
+pub mod Selections
+pub mod Preference

@@ -16,3 +16,8 @@ repeats_name (d ∷ rest) = has_name rest d.0 || repeats_name rest
 -- the names of the needs, in order
 abbrev pub names_of : List (Text × Text) → List Text
 names_of needs = map (λ (d : Text × Text). d.0) needs
+
+-- a text comes twice
+abbrev pub repeats : List Text → Bool
+repeats [] = false
+repeats (text ∷ rest) = list_any (bytes_eq text) rest || repeats rest

@@ -79,3 +79,11 @@ publication_meets (Some publication) need = meets need publication.version
 -- whether the version is published and meets the requirement
 abbrev pub meets_at : Packages → ℕ → ℕ → Text → Bool
 meets_at packages p k need = publication_meets (publication_at packages p k) need
+
+abbrev pub publication_equals : Option Publication → Text → Bool
+publication_equals None version = false
+publication_equals (Some publication) version = same_precedence version publication.version
+
+-- whether the version is published and has equal precedence
+abbrev pub equals_at : Packages → ℕ → ℕ → Text → Bool
+equals_at packages p k version = publication_equals (publication_at packages p k) version

@@ -1,55 +1,62 @@
 -- Room that is made for a command, so that it needs no memory.
-use Rattle.std.specs.Prelude.{◌≡◌, ◌<◌, ℕ, suc, zero, Bool, List, [], ◌∷◌, length, slice_index, Option, Some, None, if◌then◌else◌}
+use Rattle.std.specs.Prelude.{◌≡◌, ◌<◌, ℕ, Bool, List, [], ◌∷◌, All, length, map, position, slice_index, Option, Some, None, if◌then◌else◌}
+use Rattle.std.specs.List.{list_any}
+use Rattle.std.specs.Option.{option_map}
+use Rattle.std.specs.Str.{bytes_eq}
 use Rattle.versions.specs.Words.{Text}
-use Rattle.registry.specs.Registry.{Packages, is_known, number_of}
+use Rattle.registry.specs.Publications.{PublicationList, rooms_of}
+use Rattle.registry.specs.Registry.{Packages}
 use Rattle.registry.specs.Step.{Change, Publish, Unyank, Yank}
+use Rattle.registry.specs.declared.ready.Ready.{Ready}
 
-pub record Room : Type 0 where
-  -- the names that were noted to be numbered, in order
-  pub noted : List Text
-  -- how many more names can be numbered
-  pub names : ℕ
-  -- how many more packages can get a list of publications
-  pub lists : ℕ
-  -- how many publications fit the first list of a new package
-  pub first : ℕ
-  -- how many more publications fit the list of each package
-  pub more : List ℕ
-
--- the packages, how many commands were accepted, and the room
+-- the packages, how many commands were accepted, and the publication that room is made for: its package's name and its needs
 pub record State : Type 0 where
   pub packages : Packages
   pub revision : ℕ
-  pub room : Room
+  pub ready : Option (Text × List (Text × Text))
+
+-- there is room for a command; a yank and its undoing need none
+abbrev pub HasRoomFor : State → Change → Type 0
+HasRoomFor state (Publish name version needs) = state.ready ≡ Some (name, needs)
+HasRoomFor state (Yank name version) = Unit {0}
+HasRoomFor state (Unyank name version) = Unit {0}
+
+-- ---- what is made ready
 
 -- the names of these needs that are not known, in order
 abbrev pub unknown_names : (Text → Bool) → List (Text × Text) → List Text
 unknown_names known [] = []
 unknown_names known (d ∷ rest) = if known d.0 then unknown_names known rest else d.0 ∷ unknown_names known rest
 
--- the names of these needs that no package has, in order
-abbrev pub new_names : Packages → List (Text × Text) → List Text
-new_names packages needs = unknown_names (is_known packages) needs
+-- the names of packages, each with its list
+abbrev pub names_in : List (Text × PublicationList) → List Text
+names_in packages = map (λ (p : Text × PublicationList). p.0) packages
 
--- how many more publications fit the package at this place
+-- no package has a publication
+abbrev pub AreEmpty : List (Text × PublicationList) → Type 0
+AreEmpty packages = All (λ (p : Text × PublicationList). p.1.publications ≡ []) packages
+
+-- how many more publications fit the list at this place, or the one of a package that is new
 abbrev pub room_where : List ℕ → ℕ → Option ℕ → ℕ
-room_where more first None = first
-room_where more first (Some i) = slice_index more i
+room_where more own None = own
+room_where more own (Some i) = slice_index more i
 
--- how many more publications fit the package of this number
-abbrev pub room_at : List ℕ → ℕ → Option ℕ → ℕ
-room_at more first None = first
-room_at more first (Some zero) = first
-room_at more first (Some (suc n)) = slice_index more n
+-- what was made ready is what the publication needs, beside these names and lists with room for so many more
+pub record IsReady (names : List Text) (names_room : ℕ) (lists : List PublicationList) (lists_room : ℕ) (ready : Ready) : Type 0 where
+  pub placed : ready.place ≡ position (bytes_eq ready.name) names
+  pub named : names_in ready.added.items ≡ unknown_names (λ name. list_any (bytes_eq name) names) ready.needs
+  pub names_fit : length ready.added.items < names_room
+  pub lists_fit : length ready.added.items < lists_room
+  -- the list of the package itself, where it is new
+  pub own : ready.own.publications ≡ []
+  pub empty : AreEmpty ready.added.items
+  pub room : 0 < room_where (rooms_of lists) ready.own.room ready.place
 
-pub record HasRoomToPublish (state : State) (name : Text) (needs : List (Text × Text)) : Type 0 where
-  pub noted : state.room.noted ≡ new_names state.packages needs
-  pub names : length state.room.noted < state.room.names
-  pub lists : length state.room.noted < state.room.lists
-  pub release : 0 < room_at state.room.more state.room.first (number_of state.packages name)
+-- the publication that something was made ready for
+abbrev pub publication_for : Option Ready → Option (Text × List (Text × Text))
+publication_for ready = option_map (λ (r : Ready). (r.name, r.needs)) ready
 
--- there is room for a command; a yank and its undoing need none
-abbrev pub HasRoomFor : State → Change → Type 0
-HasRoomFor state (Publish name version needs) = HasRoomToPublish state name needs
-HasRoomFor state (Yank name version) = Unit {0}
-HasRoomFor state (Unyank name version) = Unit {0}
+-- what was made ready, if anything, is what the publication needs
+abbrev pub IsReadyIfAny : List Text → ℕ → List PublicationList → ℕ → Option Ready → Type 0
+IsReadyIfAny names names_room lists lists_room None = Unit {0}
+IsReadyIfAny names names_room lists lists_room (Some ready) = IsReady names names_room lists lists_room ready

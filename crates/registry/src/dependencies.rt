@@ -1,12 +1,9 @@
 // What a version depends on.
 
-ghost use Rattle.std.specs.Prelude.{◌≡◌, ◌<◌, ◌+◌, ℕ, List, map, length, slice_index_or, true, false, MatchBool, IfErr, IfOk, IsPermutation, IsSorted};
-ghost use Rattle.std.specs.Borrow.{Bor};
-ghost use Rattle.std.specs.Cmp.Lexicographic.{slice_cmp};
-ghost use Rattle.std.specs.Ordering.{nat_cmp};
-ghost use Rattle.std.specs.Str.{bytes_eq};
-ghost use Rattle.registry.specs.Needs.{has_name, names_of, repeats_name};
+ghost use Rattle.std.specs.Prelude.{◌≡◌, IfErr, IfOk};
+ghost use Rattle.registry.specs.Needs.{has_name, repeats_name};
 
+use crate::by_name::{places_by_name, repeats};
 use std::alloc::Global;
 use std::marker::Model;
 use std::sync::Arc;
@@ -63,6 +60,22 @@ impl Dependencies {
         self.repeats
     }
 
+    /// The same list, kept in these handles of equal texts.
+    pub(crate) fn with_handles(
+        &self,
+        alloc: Global,
+        needs: Vec<(Name, Need)>,
+    ) -> Result<Dependencies, Refusal>
+        requires { needs.items ≡ self.now }
+        ensures same { IfOk result (λ dependencies. dependencies ≡ self.now) }
+        ensures only { IfErr result (λ e. e ≡ Refusal.NoMemory) }
+    {
+        Ok(Dependencies {
+            needs: Arc::new(alloc, needs)?,
+            repeats: self.repeats,
+        })
+    }
+
     /// An equal list, which is shared with this one.
     pub fn copy(&self) -> Result<Dependencies, Refusal>
         ensures same { IfOk result (λ dependencies. dependencies ≡ self.now) }
@@ -92,34 +105,6 @@ fn repeats_among_few(needs: &[(Name, Need)]) -> bool
     }
 }
 
-/// The names of these needs, in the order of their bytes.
-fn sorted_names<'a>(alloc: Global, needs: &'a [(Name, Need)]) -> Result<Vec<&'a str>, Refusal>
-    ensures same { IfOk result (λ names. IsPermutation (names_of needs.now) (map (λ name. name.now) names.items)) }
-    ensures sorted { IfOk result (λ names. IsSorted (λ a b. slice_cmp nat_cmp a.now b.now) names.items) }
-    ensures only { IfErr result (λ e. e ≡ Refusal.NoMemory) }
-{
-    let mut names = Vec::with_capacity(alloc, needs.len())?;
-    for need in needs {
-        names.push(need.0.text())?;
-    }
-    names.sort_unstable();
-    Ok(names)
-}
-
-/// Whether two texts side by side are the same.
-fn has_equal_neighbours(texts: &[&str]) -> bool
-    ensures { MatchBool result
-        ((k : ℕ) × (k + 1 < length texts.now) × ((d : Bor (List ℕ)) → bytes_eq (slice_index_or texts.now k d).now (slice_index_or texts.now (k + 1) d).now ≡ true))
-        ((k : ℕ) (d : Bor (List ℕ)) → k + 1 < length texts.now → bytes_eq (slice_index_or texts.now k d).now (slice_index_or texts.now (k + 1) d).now ≡ false) }
-{
-    for i in 1..texts.len() {
-        if texts[i - 1] == texts[i] {
-            return true;
-        }
-    }
-    false
-}
-
 /// Whether a name comes twice.
 fn repeats_name(alloc: Global, needs: &[(Name, Need)]) -> Result<bool, Refusal>
     ensures found { IfOk result (λ repeats. repeats ≡ repeats_name needs.now) }
@@ -128,6 +113,6 @@ fn repeats_name(alloc: Global, needs: &[(Name, Need)]) -> Result<bool, Refusal>
     if needs.len() <= FEW {
         return Ok(repeats_among_few(needs));
     }
-    let names = sorted_names(alloc, needs)?;
-    Ok(has_equal_neighbours(&names))
+    let places = places_by_name(alloc, needs)?;
+    Ok(repeats(needs, &places))
 }

@@ -1,25 +1,32 @@
 // The registry.
 
-ghost use Rattle.std.specs.Prelude.{◌≡◌, ◌<◌, ◌≤◌, ◌+◌, ◌-◌, ◌^◌, [], false, length, nat_lt, position, slice_index, vec_capacity, vec_len, None, Some, IfErr, IfOk, IsOk, IsTrue, OnErr, OnOk};
-ghost use Rattle.std.specs.Option.{option_map};
+ghost use Rattle.std.specs.Prelude.{◌≡◌, ◌<◌, ◌≤◌, ◌+◌, ◌^◌, [], ℕ, false, length, nat_lt, None, Some, IfErr, IfNone, IfOk, IfSome, IsOk, IsTrue, OnErr, OnOk, is_some, true};
+ghost use Rattle.std.specs.Option.{option_copied, option_map};
+ghost use Rattle.releases.specs.Matching.{ordinals_of};
+ghost use Rattle.terms.specs.Sets.{has, IsAscending};
 ghost use Rattle.registry.specs.Commands.{change_of};
+ghost use Rattle.registry.specs.Highest.{IsHighest};
 ghost use Rattle.registry.specs.Lawful.{IsRegistry};
 ghost use Rattle.registry.specs.Needs.{has_name, repeats_name};
-ghost use Rattle.registry.specs.Registry.{is_published, number_of, package_at, publication_at, versions_of, versions_or_none};
-ghost use Rattle.registry.specs.Releases.{publications_of};
-ghost use Rattle.registry.specs.Rooms.{HasRoomFor, HasRoomToPublish, State};
+ghost use Rattle.registry.specs.Publications.{publications_in};
+ghost use Rattle.registry.specs.Registry.{equals_at, has_version, is_published, meets_at, number_of, package_at, publication_at, versions_of, versions_or_none};
+ghost use Rattle.registry.specs.Requests.{is_allowed};
+ghost use Rattle.registry.specs.Rooms.{HasRoomFor};
 ghost use Rattle.registry.specs.Step as step;
-ghost use Rattle.registry.specs.Step.{after, publish, publish_refusal, refusal_of, with_named, with_versions};
+ghost use Rattle.registry.specs.Step.{after, publish, publish_refusal, refusal_of, with_named, with_versions, yank_of};
 
 use crate::Pkg;
 use crate::commands::Command;
 use crate::dependencies::{Dependencies, has_name};
-use crate::growing::{add_names, count_new, enter_name, make_room, note_new_names, set_yanked_in};
-use crate::releases::{Release, check_unyank, check_yank, has_version};
+use crate::growing::{add_names, count_new, enter_name, set_yanked_in};
+use crate::publications::{Publications, check_unyank, check_yank, count, has_version};
+use crate::ready::{Ready, make_ready, ready_for};
+use crate::requests::Request;
 use indexmap::IndexSet;
+use releases::Matching;
 use std::alloc::Global;
 use std::marker::Model;
-use std::mem;
+use terms::{GrowingSet, VSet};
 use versions::{Name, Need, Published, Refusal};
 
 /// The most names that are numbered.
@@ -40,42 +47,38 @@ pub struct Facts<'a> {
 }
 
 /// Packages, numbered from 1 in order of first mention, each with its publications in order.
+///
+/// A version is found by bisection, in rising precedence. Beside each package stands the matching set
+/// of every requirement that a publication names on it: it is made with the room for that
+/// publication, and each version that is published is tested once against each.
 #[derive(Drop)]
 pub struct Registry {
     names: IndexSet<Name>,
-    lists: Vec<Vec<Release>>,
+    lists: Vec<Publications>,
     revision: u64,
-    noted: Vec<Name>,
-    first: Vec<Release>,
+    ready: Option<Ready>,
     alloc: Global,
 }
 
 impl Model for Registry {
-    ghost use Rattle.std.specs.Prelude.{◌≡◌, ◌-◌, [], length, vec_capacity, vec_len};
+    ghost use Rattle.std.specs.Prelude.{◌≡◌, ◌-◌, length, vec_capacity, vec_len};
     ghost use Rattle.indexmap.specs.IndexSet.{spare};
-    ghost use Rattle.registry.specs.Rooms.{State};
+    ghost use Rattle.registry.specs.Lawful.{IsRegistry};
+    ghost use Rattle.registry.specs.Publications.{packages_in};
+    ghost use Rattle.registry.specs.Rooms.{publication_for, IsReadyIfAny, State};
 
     ghost Value = { State };
-
-    ghost use Rattle.registry.specs.Lawful.{IsRegistry};
-    ghost use Rattle.registry.specs.Releases.{packages_in, rooms_of};
 
     ghost view = { λ r. record {
       packages = packages_in r.names.keys r.lists.items;
       revision = r.revision;
-      room = record {
-        noted = r.noted.items;
-        names = spare r.names;
-        lists = vec_capacity r.lists - vec_len r.lists;
-        first = vec_capacity r.first;
-        more = rooms_of r.lists.items;
-      };
+      ready = publication_for r.ready;
     } };
 
     ghost invariant = { λ r.
         (length r.names.keys ≡ length r.lists.items)
-        × (r.first.items ≡ [])
-        × IsRegistry (packages_in r.names.keys r.lists.items) };
+        × IsRegistry (packages_in r.names.keys r.lists.items)
+        × IsReadyIfAny r.names.keys (spare r.names) r.lists.items (vec_capacity r.lists - vec_len r.lists) r.ready };
 }
 
 impl Registry {
@@ -88,8 +91,7 @@ impl Registry {
             names: IndexSet::new(alloc),
             lists: Vec::new(alloc),
             revision: 0,
-            noted: Vec::new(alloc),
-            first: Vec::new(alloc),
+            ready: None,
             alloc,
         }
     }
@@ -131,13 +133,7 @@ impl Registry {
     pub fn versions(&self, pkg: Pkg) -> usize
         ensures { result ≡ length (versions_or_none (package_at self.now.packages pkg)) }
     {
-        let Some(index) = (pkg as usize).checked_sub(1) else {
-            return 0;
-        };
-        match self.lists.get(index) {
-            None => 0,
-            Some(list) => list.len(),
-        }
+        count(self.publications_at(pkg))
     }
 
     /// The version of a package with this ordinal.
@@ -150,12 +146,75 @@ impl Registry {
         }) }
     {
         let list = &self.lists[pkg as usize - 1];
-        let release = &list[ordinal as usize];
+        let (release, needs) = list.at(ordinal);
         Facts {
             version: &release.version,
-            needs: release.needs.needs(),
+            needs: needs.needs(),
             yanked: release.yanked,
         }
+    }
+
+    /// Whether a version is allowed to a request: it is published, and is not yanked or is named by
+    /// the lock (the Cargo Book, "cargo yank"). Takes no memory.
+    pub fn allowed(&self, request: &Request, pkg: Pkg, ordinal: u32) -> bool
+        ensures { result ≡ is_allowed self.now.packages request.now pkg ordinal }
+    {
+        if ordinal as usize >= self.versions(pkg) {
+            return false;
+        }
+        let facts = self.facts(pkg, ordinal);
+        !facts.yanked || request.is_locked(self.name(pkg), facts.version)
+    }
+
+    /// The ordinals of the published versions of a package that meet a requirement; none of one that
+    /// is not numbered. A copy of what [`Registry::matching_set`] lends.
+    pub fn matching(&self, pkg: Pkg, need: &Need) -> Result<VSet, Refusal>
+        ensures members { IfOk result (λ set. (k : ℕ) → has set k ≡ meets_at self.now.packages pkg k need.now) }
+        ensures ascending { IfOk result IsAscending }
+        ensures only { IfErr result (λ e. e ≡ Refusal.NoMemory) }
+    {
+        let set = self.matching_set(pkg, need)?;
+        Ok(set.set(self.alloc)?)
+    }
+
+    /// The ordinals of the published versions of a package that meet a requirement; none of one that
+    /// is not numbered. Where some publication names this requirement on the package, its kept set is
+    /// lent, at the cost of a look-up by the requirement's text; else each version is tested.
+    pub fn matching_set(&self, pkg: Pkg, need: &Need) -> Result<Matching<'_>, Refusal>
+        ensures members { IfOk result (λ set. (k : ℕ) → has (ordinals_of set) k ≡ meets_at self.now.packages pkg k need.now) }
+        ensures only { IfErr result (λ e. e ≡ Refusal.NoMemory) }
+    {
+        match self.publications_at(pkg) {
+            None => Ok(Matching::Computed(GrowingSet::new(self.alloc))),
+            Some(publications) => Ok(publications.matching(need)?),
+        }
+    }
+
+    /// The ordinal of the version of a package with equal precedence. The cost grows with the
+    /// logarithm of the number of its versions.
+    pub fn find(&self, pkg: Pkg, version: &Published) -> Option<u32>
+        ensures there { is_some result ≡ has_version (versions_or_none (package_at self.now.packages pkg)) version.now }
+        ensures found { IfSome result (λ k. equals_at self.now.packages pkg k version.now ≡ true) }
+    {
+        self.publications_at(pkg)?.find(version)
+    }
+
+    /// The version of highest precedence in a set of a package's ordinals. No versions are compared:
+    /// it costs a look for each version of higher precedence, and for the one that is found.
+    pub fn highest(&self, pkg: Pkg, set: &VSet) -> Option<u32>
+        ensures some { IfSome result (IsHighest (λ k b. has set.now k ≡ b) (versions_or_none (package_at self.now.packages pkg))) }
+        ensures none { IfNone result ((k : ℕ) → k < length (versions_or_none (package_at self.now.packages pkg)) → has set.now k ≡ false) }
+    {
+        self.publications_at(pkg)?.highest(set)
+    }
+
+    /// The version of highest precedence that passes a test of its ordinal, as `highest`.
+    pub fn highest_where<F: Fn(u32) -> bool>(&self, pkg: Pkg, passes: F) -> Option<u32>
+        requires { (k : ℕ) → k < length (versions_or_none (package_at self.now.packages pkg)) → F.pre passes k }
+        ensures some { IfSome result (IsHighest (F.post passes) (versions_or_none (package_at self.now.packages pkg))) }
+        ensures none { IfNone result ((k : ℕ) → k < length (versions_or_none (package_at self.now.packages pkg)) → F.post passes k false) }
+    {
+        self.publications_at(pkg)?.highest_where(passes)
     }
 
     /// Whether a command is accepted, or the lowest refusal that applies. Takes no memory.
@@ -166,8 +225,8 @@ impl Registry {
     {
         match command {
             Command::Publish(name, version, needs) => self.check_publication(name, version, needs),
-            Command::Yank(name, version) => check_yank(self.releases(name), version),
-            Command::Unyank(name, version) => check_unyank(self.releases(name), version),
+            Command::Yank(name, version) => check_yank(self.yank_of(name, version)),
+            Command::Unyank(name, version) => check_unyank(self.yank_of(name, version)),
         }
     }
 
@@ -182,11 +241,31 @@ impl Registry {
         ensures err { IfErr result (λ e. e ≡ Refusal.NoMemory) }
     {
         match command {
-            Command::Publish(name, _, needs) => {
-                self.make_ready(name, needs.needs())?;
-                Ok(())
-            }
+            Command::Publish(name, _, needs) => self.make_ready(name, needs),
             Command::Yank(_, _) | Command::Unyank(_, _) => Ok(()),
+        }
+    }
+
+    /// An equal command. Where room was made for it, it shares the texts that the registry keeps, so
+    /// that equal names and requirements of many commands are kept once; no contract shows that.
+    pub fn shared(&self, command: &Command) -> Result<Command, Refusal>
+        ensures same { IfOk result (λ copy. copy ≡ command.now) }
+        ensures only { IfErr result (λ e. e ≡ Refusal.NoMemory) }
+    {
+        match command {
+            Command::Publish(name, version, needs) => match ready_for(
+                &self.ready,
+                name,
+                needs.needs(),
+            ) {
+                Some(ready) => Ok(Command::Publish(
+                    ready.name.copy()?,
+                    version.copy()?,
+                    ready.needs.copy()?,
+                )),
+                None => command.copy(),
+            },
+            Command::Yank(_, _) | Command::Unyank(_, _) => command.copy(),
         }
     }
 
@@ -210,14 +289,27 @@ impl Registry {
         Ok(())
     }
 
-    /// The releases of the package of this name.
-    fn releases(&self, name: &Name) -> &[Release]
-        ensures { publications_of result.now ≡ versions_of self.now.packages name.now }
+    /// The publications of the package of this number.
+    fn publications_at(&self, pkg: Pkg) -> Option<&Publications>
+        ensures { publications_in (option_copied result) ≡ versions_or_none (package_at self.now.packages pkg) }
     {
-        match self.names.get_index_of(name) {
-            None => &[],
-            Some(index) => self.lists[index].as_slice(),
-        }
+        let index = (pkg as usize).checked_sub(1)?;
+        self.lists.get(index)
+    }
+
+    /// The publications of the package of this name.
+    fn publications(&self, name: &Name) -> Option<&Publications>
+        ensures { publications_in (option_copied result) ≡ versions_of self.now.packages name.now }
+    {
+        let index = self.names.get_index_of(name)?;
+        Some(&self.lists[index])
+    }
+
+    /// Whether the version of equal precedence is yanked, if there is one.
+    fn yank_of(&self, name: &Name, version: &Published) -> Option<bool>
+        ensures { result ≡ yank_of (versions_of self.now.packages name.now) version.now }
+    {
+        self.publications(name)?.yank_of(version)
     }
 
     /// Whether a publication is accepted, or the lowest refusal that applies.
@@ -240,11 +332,11 @@ impl Registry {
         if listed.len() > NEED_LIMIT {
             return Err(Refusal::TooManyDependencies);
         }
-        let releases = self.releases(name);
-        if has_version(releases, version) {
+        let publications = self.publications(name);
+        if has_version(publications, version) {
             return Err(Refusal::AlreadyPublished);
         }
-        if releases.len() >= VERSION_LIMIT {
+        if count(publications) >= VERSION_LIMIT {
             return Err(Refusal::TooManyVersions);
         }
         if self.exceeds_numbers(name, listed) {
@@ -279,25 +371,21 @@ impl Registry {
         self.names.len() + own + count_new(&self.names, needs)
     }
 
-    /// Makes room for a publication, and answers the place of its package where it has one.
-    fn make_ready(&mut self, name: &Name, needs: &[(Name, Need)]) -> Result<Option<usize>, Refusal>
+    /// Makes ready for a publication, unless that is done.
+    fn make_ready(&mut self, name: &Name, needs: &Dependencies) -> Result<(), Refusal>
         ensures packages { self.new.packages ≡ self.old.packages }
         ensures revision { self.new.revision ≡ self.old.revision }
-        ensures ok { OnOk result (HasRoomToPublish self.new name.now needs.now) }
-        ensures place { IfOk result (λ place. number_of self.old.packages name.now ≡ option_map (λ i. 1 + i) place) }
-        ensures succeeds { HasRoomToPublish self.old name.now needs.now → IsOk result }
+        ensures ok { OnOk result (self.new.ready ≡ Some (name.now, needs.now)) }
+        ensures succeeds { self.old.ready ≡ Some (name.now, needs.now) → IsOk result }
         ensures err { IfErr result (λ e. e ≡ Refusal.NoMemory) }
     {
-        note_new_names(self.alloc, &self.names, &mut self.noted, needs)?;
-        let place = self.names.get_index_of(name);
-        make_room(
-            &mut self.names,
-            &mut self.lists,
-            &mut self.first,
-            place,
-            self.noted.len() + 1,
-        )?;
-        Ok(place)
+        if ready_for(&self.ready, name, needs.needs()).is_some() {
+            return Ok(());
+        }
+        self.ready = None;
+        let ready = make_ready(self.alloc, &mut self.names, &mut self.lists, name, needs)?;
+        self.ready = Some(ready);
+        Ok(())
     }
 
     /// Publishes a version that is accepted.
@@ -311,33 +399,34 @@ impl Registry {
         ensures packages { OnOk result (self.new.packages ≡ publish self.old.packages name version needs) }
         ensures unchanged { OnErr result (self.new.packages ≡ self.old.packages) }
         ensures revision { self.new.revision ≡ self.old.revision }
-        ensures succeeds { HasRoomToPublish self.old name needs → IsOk result }
+        ensures succeeds { self.old.ready ≡ Some (name, needs) → IsOk result }
         ensures err { IfErr result (λ e. e ≡ Refusal.NoMemory) }
     {
-        let place = self.make_ready(&name, needs.needs())?;
-        self.enter(place, name, version, needs);
+        self.make_ready(&name, &needs)?;
+        self.enter(name, version, needs);
         Ok(())
     }
 
-    /// Enters a publication of the package at this place, or of a new one, for which there is room.
-    fn enter(&mut self, place: Option<usize>, name: Name, version: Published, needs: Dependencies)
-        requires place { number_of self.old.packages name ≡ option_map (λ i. 1 + i) place }
+    /// Enters a publication that was made ready.
+    fn enter(&mut self, name: Name, version: Published, needs: Dependencies)
+        requires ready { self.old.ready ≡ Some (name, needs) }
         requires accepted { publish_refusal self.old.packages name version needs ≡ None }
-        requires room { HasRoomToPublish self.old name needs }
         ensures packages { self.new.packages ≡ publish self.old.packages name version needs }
         ensures revision { self.new.revision ≡ self.old.revision }
     {
-        let first = mem::replace(&mut self.first, Vec::new(self.alloc));
-        let noted = mem::replace(&mut self.noted, Vec::new(self.alloc));
-        let index = enter_name(&mut self.names, &mut self.lists, name, first, place);
-        add_names(&mut self.names, &mut self.lists, noted, self.alloc);
+        let Some(ready) = self.ready.take() else {
+            unreachable!()
+        };
+        let index = enter_name(
+            &mut self.names,
+            &mut self.lists,
+            name,
+            ready.own,
+            ready.place,
+        );
+        add_names(&mut self.names, &mut self.lists, ready.added);
         let list = &mut self.lists[index];
-        list.push(Release {
-            version,
-            needs,
-            yanked: false,
-        })
-        .unwrap();
+        list.push(version, ready.needs);
     }
 
     /// Marks a version as yanked or not.
@@ -345,6 +434,7 @@ impl Registry {
         ensures packages { self.new.packages ≡ with_versions name.now (step.set_yanked version.now yanked) self.old.packages }
         ensures revision { self.new.revision ≡ self.old.revision }
     {
+        self.ready = None;
         set_yanked_in(&self.names, &mut self.lists, name, version, yanked);
     }
 }

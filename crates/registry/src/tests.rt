@@ -1,4 +1,11 @@
 //! Rows of commands with their answers, each limit at its edge, and each call once.
+//!
+//! The helpers are small for the prover's sake: a proof grows with the values that a function
+//! holds, times its ways out, since each way out lets go of them all.
+mod finding;
+mod matching;
+mod requests;
+
 use crate::*;
 use std::alloc::Global;
 use std::process::Abort;
@@ -58,14 +65,22 @@ const MENTIONED: [Row; 3] = [
     (Op::Publish, "e", "1.0.0", "e *", 5),
 ];
 
-fn dependencies(alloc: Global, listed: &str) -> Result<Dependencies, Refusal> {
+fn named_need(alloc: Global, name: &str, need: &str) -> Result<(Name, Need), Refusal> {
+    Ok((Name::read(alloc, name)?, Need::read(alloc, need)?))
+}
+
+fn needs(alloc: Global, listed: &str) -> Result<Vec<(Name, Need)>, Refusal> {
     let mut needs = Vec::new(alloc);
     for need in listed.split("; ") {
         if let Some((name, need)) = need.split_once(' ') {
-            needs.push((Name::read(alloc, name)?, Need::read(alloc, need)?))?;
+            needs.push(named_need(alloc, name, need)?)?;
         }
     }
-    Dependencies::new(alloc, needs)
+    Ok(needs)
+}
+
+fn dependencies(alloc: Global, listed: &str) -> Result<Dependencies, Refusal> {
+    Dependencies::new(alloc, needs(alloc, listed)?)
 }
 
 fn command(
@@ -97,14 +112,48 @@ fn submit(registry: &mut Registry, command: Command) -> Result<u8, Refusal> {
     Ok(0)
 }
 
+/// Submits a copy of the command of a row.
+fn submit_row(registry: &mut Registry, alloc: Global, row: &Row) -> Result<u8, Refusal> {
+    let (op, name, version, listed, _) = row;
+    let command = command(alloc, *op, name, version, listed)?.copy()?;
+    submit(registry, command)
+}
+
 /// The registry after these rows, each of which must be answered as it says.
 fn told(rt: &impl Abort, alloc: Global, rows: &[Row]) -> Result<Registry, Refusal> {
     let mut registry = Registry::new(alloc);
-    for (op, name, version, listed, want) in rows {
-        let command = command(alloc, *op, name, version, listed)?.copy()?;
-        assert_eq!(rt; submit(&mut registry, command)?, *want, "{name} {version}");
+    for row in rows {
+        let (_, name, version, _, want) = row;
+        assert_eq!(rt;
+            submit_row(&mut registry, alloc, row)?,
+            *want,
+            "{name} {version}"
+        );
     }
     Ok(registry)
+}
+
+/// Submits a command on a version of "a", without needs.
+fn submit_on_a(
+    registry: &mut Registry,
+    alloc: Global,
+    op: Op,
+    version: &str,
+) -> Result<u8, Refusal> {
+    let command = command(alloc, op, "a", version, "")?;
+    submit(registry, command)
+}
+
+/// Publishes the version of "a" with this patch number.
+fn publish_patch(registry: &mut Registry, alloc: Global, patch: u32) -> Result<u8, Refusal> {
+    let version = format!(in alloc; "0.0.{patch}")?;
+    submit_on_a(registry, alloc, Op::Publish, version.as_str())
+}
+
+/// The name of a letter and a number.
+fn numbered_name(alloc: Global, letter: char, number: usize) -> Result<Name, Refusal> {
+    let name = format!(in alloc; "{letter}{number}")?;
+    Name::read(alloc, name.as_str())
 }
 
 /// This many names that begin with a letter and go on with the numbers from `from` on, each needed as `*`.
@@ -117,10 +166,24 @@ fn many(
     let need = Need::read(alloc, "*")?;
     let mut needs = Vec::new(alloc);
     for number in from..from.saturating_add(count) {
-        let name = format!(in alloc; "{letter}{number}")?;
-        needs.push((Name::read(alloc, name.as_str())?, need.copy()?))?;
+        let name = numbered_name(alloc, letter, number)?;
+        needs.push((name, need.copy()?))?;
     }
     Ok(needs)
+}
+
+/// The names "n0", "n1" and so on, this many, and then "n0" once more with this need.
+fn repeated(alloc: Global, count: usize, need: &str) -> Result<Vec<(Name, Need)>, Refusal> {
+    let mut needs = many(alloc, 'n', 0, count)?;
+    needs.push(named_need(alloc, "n0", need)?)?;
+    Ok(needs)
+}
+
+/// The publication of version 1.0.0 of a package that needs these.
+fn first_command(alloc: Global, name: &str, needs: Vec<(Name, Need)>) -> Result<Command, Refusal> {
+    let needs = Dependencies::new(alloc, needs)?;
+    let name = Name::read(alloc, name)?;
+    Ok(Command::Publish(name, Published::read(alloc, "1.0.0")?, needs))
 }
 
 /// Submits version 1.0.0 of a package that needs these.
@@ -130,12 +193,21 @@ fn first(
     name: &str,
     needs: Vec<(Name, Need)>,
 ) -> Result<u8, Refusal> {
-    let command = Command::Publish(
-        Name::read(alloc, name)?,
-        Published::read(alloc, "1.0.0")?,
-        Dependencies::new(alloc, needs)?,
-    );
+    let command = first_command(alloc, name, needs)?;
     submit(registry, command)
+}
+
+/// Submits version 1.0.0 of a package that needs this many names that begin with a letter.
+fn first_of_many(
+    registry: &mut Registry,
+    alloc: Global,
+    name: &str,
+    letter: char,
+    from: usize,
+    count: usize,
+) -> Result<u8, Refusal> {
+    let needs = many(alloc, letter, from, count)?;
+    first(registry, alloc, name, needs)
 }
 
 fn facts_of<'a>(rt: &impl Abort, registry: &'a Registry, pkg: Pkg, ordinal: u32) -> Facts<'a> {
@@ -185,8 +257,17 @@ fn names_are_numbered_by_first_mention(rt: HostRuntime) -> Result<(), Refusal> {
         numbered(&rt, &registry, pkg, &Name::read(rt.alloc(), name)?, count);
     }
     assert_eq!(rt; registry.packages(), 4);
-    assert_eq!(rt; registry.number(&Name::read(rt.alloc(), "e")?), None);
+    assert_eq!(rt; number_of(&registry, rt.alloc(), "e")?, None);
     Ok(())
+}
+
+/// The names and the requirements of these needs, in their order.
+fn texts<'a>(alloc: Global, needs: &'a [(Name, Need)]) -> Result<Vec<(&'a str, &'a str)>, Refusal> {
+    let mut texts = Vec::new(alloc);
+    for (name, need) in needs {
+        texts.push((name.text(), need.text()))?;
+    }
+    Ok(texts)
 }
 
 #[test]
@@ -195,11 +276,8 @@ fn facts_are_what_was_published(rt: HostRuntime) -> Result<(), Refusal> {
     let facts = facts_of(&rt, &registry, 3, 0);
     assert_eq!(rt; facts.version.text(), "0.1.0");
     assert!(rt; !facts.yanked);
-    let mut told = Vec::new(rt.alloc());
-    for (name, need) in facts.needs {
-        told.push((name.text(), need.text()))?;
-    }
-    assert!(rt; told.as_slice() == [("d", "=2.0.0"), ("c", ">1, <2")].as_slice());
+    let needs = texts(rt.alloc(), facts.needs)?;
+    assert!(rt; needs.as_slice() == [("d", "=2.0.0"), ("c", ">1, <2")].as_slice());
     Ok(())
 }
 
@@ -216,12 +294,8 @@ fn no_version_is_published_of_other_numbers(rt: HostRuntime) -> Result<(), Refus
 fn a_version_has_at_most_64_dependencies(rt: HostRuntime) -> Result<(), Refusal> {
     let mut registry = Registry::new(rt.alloc());
     for (name, count, want) in [("a", 65, 6), ("n64", 65, 5), ("b", 64, 0), ("b", 65, 6)] {
-        let needs = many(rt.alloc(), 'n', 0, count)?;
-        assert_eq!(rt;
-            first(&mut registry, rt.alloc(), name, needs)?,
-            want,
-            "{name}"
-        );
+        let number = first_of_many(&mut registry, rt.alloc(), name, 'n', 0, count)?;
+        assert_eq!(rt; number, want, "{name}");
     }
     assert_eq!(rt; registry.packages(), 65);
     Ok(())
@@ -230,24 +304,34 @@ fn a_version_has_at_most_64_dependencies(rt: HostRuntime) -> Result<(), Refusal>
 #[test]
 fn long_lists_of_dependencies_are_refused(rt: HostRuntime) -> Result<(), Refusal> {
     let mut registry = Registry::new(rt.alloc());
-    let distinct = many(rt.alloc(), 'n', 0, 75_000)?;
-    assert_eq!(rt; first(&mut registry, rt.alloc(), "a", distinct)?, 6);
-    let mut repeated = many(rt.alloc(), 'n', 0, 75_000)?;
-    repeated.push((Name::read(rt.alloc(), "n0")?, Need::read(rt.alloc(), "^1")?))?;
-    assert_eq!(rt; first(&mut registry, rt.alloc(), "a", repeated)?, 4);
+    let distinct = first_of_many(&mut registry, rt.alloc(), "a", 'n', 0, 75_000)?;
+    assert_eq!(rt; distinct, 6);
+    let twice = repeated(rt.alloc(), 75_000, "^1")?;
+    assert_eq!(rt; first(&mut registry, rt.alloc(), "a", twice)?, 4);
+    Ok(())
+}
+
+/// So many names, each once, repeat none.
+fn none_is_repeated(rt: &impl Abort, alloc: Global, count: usize) -> Result<(), Refusal> {
+    let once = Dependencies::new(alloc, many(alloc, 'n', 0, count)?)?;
+    assert!(rt; !once.repeats_name(), "{count}");
+    assert_eq!(rt; once.needs().len(), count);
+    Ok(())
+}
+
+/// The name "n0" behind so many names is a repeat, unless it stands alone.
+fn one_is_repeated(rt: &impl Abort, alloc: Global, count: usize) -> Result<(), Refusal> {
+    let needs = repeated(alloc, count, "^1")?;
+    let twice = Dependencies::new(alloc, needs)?.copy()?;
+    assert_eq!(rt; twice.repeats_name(), count > 0, "{count}");
     Ok(())
 }
 
 #[test]
 fn repeats_are_found_in_short_and_long_lists(rt: HostRuntime) -> Result<(), Refusal> {
     for count in 0..40 {
-        let once = Dependencies::new(rt.alloc(), many(rt.alloc(), 'n', 0, count)?)?;
-        assert!(rt; !once.repeats_name(), "{count}");
-        assert_eq!(rt; once.needs().len(), count);
-        let mut needs = many(rt.alloc(), 'n', 0, count)?;
-        needs.push((Name::read(rt.alloc(), "n0")?, Need::read(rt.alloc(), "^1")?))?;
-        let twice = Dependencies::new(rt.alloc(), needs)?.copy()?;
-        assert_eq!(rt; twice.repeats_name(), count > 0, "{count}");
+        none_is_repeated(&rt, rt.alloc(), count)?;
+        one_is_repeated(&rt, rt.alloc(), count)?;
     }
     Ok(())
 }
@@ -256,15 +340,28 @@ fn repeats_are_found_in_short_and_long_lists(rt: HostRuntime) -> Result<(), Refu
 fn a_package_has_at_most_1024_versions(rt: HostRuntime) -> Result<(), Refusal> {
     let mut registry = Registry::new(rt.alloc());
     for number in 0..=1024 {
-        let version = format!(in rt.alloc(); "0.0.{number}")?;
-        let command = command(rt.alloc(), Op::Publish, "a", version.as_str(), "")?;
         let want = if number < 1024 { 0 } else { 8 };
-        assert_eq!(rt; submit(&mut registry, command)?, want, "{version}");
+        assert_eq!(rt;
+            publish_patch(&mut registry, rt.alloc(), number)?,
+            want,
+            "0.0.{number}"
+        );
     }
-    let again = command(rt.alloc(), Op::Publish, "a", "0.0.1023+x", "")?;
-    assert_eq!(rt; submit(&mut registry, again)?, 7);
+    let again = submit_on_a(&mut registry, rt.alloc(), Op::Publish, "0.0.1023+x")?;
+    assert_eq!(rt; again, 7);
     assert_eq!(rt; registry.versions(1), 1024);
     Ok(())
+}
+
+/// Publishes the name before "n" and `numbered`, which needs this many names from there on.
+fn number_more(
+    registry: &mut Registry,
+    alloc: Global,
+    numbered: usize,
+    more: usize,
+) -> Result<u8, Refusal> {
+    let name = format!(in alloc; "n{}", numbered.saturating_sub(1))?;
+    first_of_many(registry, alloc, name.as_str(), 'n', numbered, more)
 }
 
 /// A registry with the names "n0", "n1" and so on, of which this many are numbered.
@@ -272,9 +369,7 @@ fn crowd(alloc: Global, packages: usize) -> Result<Registry, Refusal> {
     let mut registry = Registry::new(alloc);
     for numbered in (1..packages).step_by(64) {
         let more = packages.saturating_sub(numbered).min(64);
-        let name = format!(in alloc; "n{}", numbered.saturating_sub(1))?;
-        let needs = many(alloc, 'n', numbered, more)?;
-        first(&mut registry, alloc, name.as_str(), needs)?;
+        number_more(&mut registry, alloc, numbered, more)?;
     }
     Ok(registry)
 }
@@ -291,29 +386,77 @@ fn at_most_65535_names_are_numbered(rt: HostRuntime) -> Result<(), Refusal> {
         ("m1", 'n', 0, 64, 0, 65_535),
     ];
     for (name, letter, from, count, want, packages) in rows {
-        let needs = many(rt.alloc(), letter, from, count)?;
-        assert_eq!(rt;
-            first(&mut registry, rt.alloc(), name, needs)?,
-            want,
-            "{name}"
-        );
+        let number = first_of_many(&mut registry, rt.alloc(), name, letter, from, count)?;
+        assert_eq!(rt; number, want, "{name}");
         assert_eq!(rt; registry.packages(), packages, "{name}");
     }
     Ok(())
 }
 
+/// Makes room for a publication that is accepted.
+fn make_room(
+    registry: &mut Registry,
+    alloc: Global,
+    name: &str,
+    listed: &str,
+) -> Result<(), Refusal> {
+    let wanted = command(alloc, Op::Publish, name, "1.0.0", listed)?;
+    registry.check(&wanted)?;
+    registry.reserve(&wanted)
+}
+
+/// Publishes version 1.0.0 of a package that needs these, and answers the number of its refusal, or 0.
+fn publish(
+    registry: &mut Registry,
+    alloc: Global,
+    name: &str,
+    listed: &str,
+) -> Result<u8, Refusal> {
+    let wanted = command(alloc, Op::Publish, name, "1.0.0", listed)?;
+    submit(registry, wanted)
+}
+
+fn number_of(registry: &Registry, alloc: Global, name: &str) -> Result<Option<Pkg>, Refusal> {
+    let name = Name::read(alloc, name)?;
+    Ok(registry.number(&name))
+}
+
 #[test]
 fn room_serves_an_equal_command_alone(rt: HostRuntime) -> Result<(), Refusal> {
     let mut registry = Registry::new(rt.alloc());
-    let wanted = command(rt.alloc(), Op::Publish, "a", "1.0.0", "b ^1; c *")?;
-    registry.check(&wanted)?;
-    registry.reserve(&wanted)?;
+    make_room(&mut registry, rt.alloc(), "a", "b ^1; c *")?;
     // Another command comes between, and numbers other names.
-    let other = command(rt.alloc(), Op::Publish, "d", "1.0.0", "c *; e *")?;
-    assert_eq!(rt; submit(&mut registry, other)?, 0);
-    assert_eq!(rt; submit(&mut registry, wanted)?, 0);
+    assert_eq!(rt; publish(&mut registry, rt.alloc(), "d", "c *; e *")?, 0);
+    assert_eq!(rt; publish(&mut registry, rt.alloc(), "a", "b ^1; c *")?, 0);
     for (pkg, name) in [(1, "d"), (2, "c"), (3, "e"), (4, "a"), (5, "b")] {
-        assert_eq!(rt; registry.number(&Name::read(rt.alloc(), name)?), Some(pkg));
+        assert_eq!(rt; number_of(&registry, rt.alloc(), name)?, Some(pkg));
     }
+    Ok(())
+}
+
+/// Whether an equal command is answered: a publication of version 1.0.0 with so many needs.
+fn shares(
+    registry: &Registry,
+    alloc: Global,
+    name: &str,
+    listed: &str,
+    count: usize,
+) -> Result<bool, Refusal> {
+    let wanted = command(alloc, Op::Publish, name, "1.0.0", listed)?;
+    match registry.shared(&wanted)? {
+        Command::Publish(own, version, needs) => Ok(
+            own.text() == name && version.text() == "1.0.0" && needs.needs().len() == count,
+        ),
+        _ => Ok(false),
+    }
+}
+
+#[test]
+fn an_equal_command_is_shared_with_room_or_without(rt: HostRuntime) -> Result<(), Refusal> {
+    let mut registry = Registry::new(rt.alloc());
+    make_room(&mut registry, rt.alloc(), "a", "b ^1; c *")?;
+    assert!(rt; shares(&registry, rt.alloc(), "a", "b ^1; c *", 2)?);
+    assert!(rt; shares(&registry, rt.alloc(), "a", "b ^1", 1)?);
+    assert!(rt; shares(&registry, rt.alloc(), "d", "", 0)?);
     Ok(())
 }

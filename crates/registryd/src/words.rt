@@ -1,6 +1,6 @@
 //! The words of the command line, as clap reads them.
-ghost use Rattle.std.specs.Prelude.{◌≡◌, ◌≢◌, [], IfOk, IfErr, OnOk, IsErrOf, option_map, map, string_bytes};
-ghost use Rattle.clap.specs.Words.{fault_of, subcommand_of, subcommand_rows_of, rows_of, found_of, kind_of};
+ghost use Rattle.std.specs.Prelude.{◌≡◌, ◌≢◌, [], IfOk, IfErr, OnOk, IsErrOf, option_map, true, map, string_bytes};
+ghost use Rattle.clap.specs.Words.{fault_of, takes, subcommand_of, subcommand_rows_of, rows_of, found_of, kind_of};
 ghost use Rattle.registryd.specs.CommandLine.{program_app};
 ghost use Rattle.registryd.specs.Words.{texts, Says, SaysServe, SaysRace, HasManyFiles, IsManyFiles, HasWorkers, HasFiles, IsGiven};
 ghost use Rattle.registryd.specs.declared.words.WordFault.TheVariants.{Memory};
@@ -55,6 +55,9 @@ pub fn read_words(alloc: Global, words: &[String]) -> Result<Words, WordFault>
     // Only words in which clap finds a fault are bad, or too many files.
     ensures bad { IsErrOf result WordFault.Bad → fault_of program_app (texts words.now) ≡ []
         → HasManyFiles (subcommand_of program_app (texts words.now)) }
+    // Words that clap takes are bad only for too many files.
+    ensures refused { IsErrOf result WordFault.Bad → takes program_app (texts words.now) ≡ true
+        → HasManyFiles (subcommand_of program_app (texts words.now)) }
 {
     let matches = matches_of(alloc, words)?;
     words_of(alloc, &matches)
@@ -75,6 +78,7 @@ fn matches_of<'a>(alloc: Global, words: &'a [String]) -> Result<ArgMatches<'a>, 
     ensures given { IfOk result (λ m. IsGiven (subcommand_rows_of m)) }
     ensures taken { OnOk result (fault_of program_app (texts words.entry.now) ≡ []) }
     ensures bad { IsErrOf result WordFault.Bad → fault_of program_app (texts words.entry.now) ≢ [] }
+    ensures refused { IsErrOf result WordFault.Bad → takes program_app (texts words.entry.now) ≢ true }
 {
     let command = program(alloc)?;
     match command.try_get_matches_from(words) {

@@ -1,7 +1,12 @@
 //! Requirements on the version of a package.
 ghost use Rattle.std.specs.Prelude.{◌≡◌, ◌↔◌, IfErr, IfOk, IsTrue, Ok, false, map};
+ghost use Rattle.std.specs.Str.{bytes_eq};
+ghost use Rattle.std.specs.Hash as fed;
+ghost use Rattle.std.specs.Cmp.{partial_equiv_from_equiv};
+ghost use Rattle.std.specs.Cmp.Lexicographic.{nat_list_eq_equiv};
 ghost use Rattle.semver.specs.Identifiers.{comparator_view};
 ghost use Rattle.semver.specs.Parse.{req_of};
+ghost use Rattle.versions.specs.NameLaws.{same_hash};
 ghost use Rattle.versions.specs.PreReleases.{PreReleasesAreNamed};
 ghost use Rattle.versions.specs.Readings.{need_in};
 ghost use Rattle.versions.specs.Refusals.{Gives};
@@ -13,6 +18,7 @@ use crate::published::Published;
 use crate::refusal::Refusal;
 use semver::VersionReq;
 use std::alloc::Global;
+use std::hash::{Hash, Hasher};
 use std::marker::Model;
 use std::sync::Arc;
 
@@ -21,7 +27,8 @@ pub const REQUIREMENT_LIMIT: usize = 256;
 
 /// A requirement on the version of a package, by its text (Cargo Book, "Specifying Dependencies").
 ///
-/// A copy shares the text and what was read from it.
+/// Requirements are equal and hash by their texts, so that two texts with the same meaning are two
+/// requirements. A copy shares the text and what was read from it.
 #[derive(Drop)]
 pub struct Need {
     kept: Arc<Kept<VersionReq>>,
@@ -39,6 +46,30 @@ impl Model for Need {
 
     ghost invariant = { λ n. (length (string_bytes (arc_value n.kept).text) ≤ 256)
         × (req_of (string_bytes (arc_value n.kept).text) ≡ Ok (map comparator_view (arc_value n.kept).parsed.comparators.items)) };
+}
+
+impl PartialEq for Need {
+    ghost eq = { bytes_eq };
+
+    ghost laws = { partial_equiv_from_equiv nat_list_eq_equiv };
+
+    fn eq(&self, other: &Need) -> bool {
+        self.kept.text.as_str() == other.kept.text.as_str()
+    }
+}
+
+impl Eq for Need {
+    ghost laws = { nat_list_eq_equiv };
+}
+
+impl Hash for Need {
+    ghost hash_input = { λ need. fed.str need };
+
+    ghost respects_eq = { same_hash };
+
+    fn hash<H: Hasher>(&self, state: &mut H) {
+        self.kept.text.as_str().hash(state);
+    }
 }
 
 impl Need {

@@ -257,6 +257,21 @@ fn names_are_equal_and_ordered_by_bytes(rt: HostRuntime) -> Result<(), Refusal> 
     Ok(())
 }
 
+#[test]
+fn requirements_are_equal_by_their_texts(rt: HostRuntime) -> Result<(), Refusal> {
+    let alloc = rt.alloc();
+    let mut set = HashSet::new(alloc);
+    for text in ["^1", "^1.0", "1", " ^1"] {
+        assert!(rt; set.insert(Need::read(alloc, text)?)?);
+    }
+    assert_eq!(rt; set.len(), 4);
+    assert!(rt; set.contains(&Need::read(alloc, "^1.0")?));
+    assert!(rt; !set.contains(&Need::read(alloc, "^1.0.0")?));
+    assert!(rt; Need::read(alloc, "^1")? == Need::read(alloc, "^1")?);
+    assert!(rt; Need::read(alloc, "^1")? != Need::read(alloc, "^2")?);
+    Ok(())
+}
+
 /// A value of this type may be handed to another thread, and looked at from several.
 fn is_shared<T: Send + Sync>(_value: &T) {}
 

@@ -107,16 +107,22 @@ fn text_of(alloc: Global, revision: u64, body: Body<'_>) -> Result<Vec<u8>, Fail
     Ok(writer)
 }
 
+/// Carries out what a line asks, if it is a command.
+fn carry_out(alloc: Global, registry: &mut Registry, line: &str) -> Result<(), Fail> {
+    if let Asked::Command(command) = read_request(alloc, line.as_bytes())?
+        && registry.revision() < 1000
+    {
+        registry.check(&command)?;
+        registry.apply(command)?;
+    }
+    Ok(())
+}
+
 /// A registry in which these lines were carried out.
 fn registry_of(alloc: Global, lines: &[&str]) -> Result<Registry, Fail> {
     let mut registry = Registry::new(alloc);
     for line in lines {
-        if let Asked::Command(command) = read_request(alloc, line.as_bytes())?
-            && registry.revision() < 1000
-        {
-            registry.check(&command)?;
-            registry.apply(command)?;
-        }
+        carry_out(alloc, &mut registry, line)?;
     }
     Ok(registry)
 }
@@ -199,25 +205,35 @@ fn packages_are_listed_by_name_and_versions_as_published(rt: HostRuntime) -> Res
     Ok(())
 }
 
-#[test]
-fn a_long_listing_is_whole(rt: HostRuntime) -> Result<(), Fail> {
-    let mut registry = Registry::new(rt.alloc());
-    let mut line = String::from_str(rt.alloc(), "{\"packages\":[[\"a\",[")?;
-    for number in 0..270u32 {
-        let asked = format!(in rt.alloc();
+/// A registry of one package with so many versions, each of a long text.
+fn long_registry(alloc: Global, count: u32) -> Result<Registry, Fail> {
+    let mut registry = Registry::new(alloc);
+    for number in 0..count {
+        let line = format!(in alloc;
             "{{\"op\":\"publish\",\"name\":\"a\",\"version\":\"{number}.0.0-{number:0240}x\",\"needs\":[]}}"
         )?;
-        if let Asked::Command(command) = read_request(rt.alloc(), asked.as_bytes())?
-            && registry.revision() < 1000
-        {
-            registry.check(&command)?;
-            registry.apply(command)?;
-        }
+        carry_out(alloc, &mut registry, line.as_str())?;
+    }
+    Ok(registry)
+}
+
+/// The listing of that registry.
+fn long_line(alloc: Global, count: u32) -> Result<String, Fail> {
+    let mut line = String::from_str(alloc, "{\"packages\":[[\"a\",[")?;
+    for number in 0..count {
         let comma = if number > 0 { "," } else { "" };
-        let version = format!(in rt.alloc(); "{comma}[\"{number}.0.0-{number:0240}x\",false]")?;
+        let version = format!(in alloc; "{comma}[\"{number}.0.0-{number:0240}x\",false]")?;
         line.push_str(version.as_str())?;
     }
-    line.push_str("]]],\"revision\":270}\n")?;
+    let ending = format!(in alloc; "]]],\"revision\":{count}}}\n")?;
+    line.push_str(ending.as_str())?;
+    Ok(line)
+}
+
+#[test]
+fn a_long_listing_is_whole(rt: HostRuntime) -> Result<(), Fail> {
+    let registry = long_registry(rt.alloc(), 270)?;
+    let line = long_line(rt.alloc(), 270)?;
     let text = listed(rt.alloc(), &registry)?;
     assert!(rt; line.len() > 65_536);
     assert_eq!(rt; text.as_slice(), line.as_bytes());

@@ -1,6 +1,6 @@
 use Rattle.std.proofs.Common.{◌∙◌, ◌≡◌, ◌∷◌, ◌++◌, [], if◌then◌else◌, ap, sym, Bool, true, false, not, refl}
 use Rattle.registry.proofs.PackageLemmas.{with_name-new, with_name-known}
-use Rattle.registry.specs.Releases.{packages_in}
+use Rattle.registry.specs.Publications.{packages_in}
 use Rattle.registry.proofs.growing.add_name.Goals as goal
 
 told : (was b : Bool) → was ≡ not b → b ≡ not was
@@ -12,8 +12,8 @@ returns-then-unwrap-clause-packages c =
     let keys = rw c.unwrap.ensures at c.insert.ensures.keys in
     let items = rw c.unwrap-then-unwrap.ensures at c.push.ensures.items in
     let added = rw c.unwrap.ensures at c.insert.ensures.added in
-    with_name-new c.args.names.now.keys c.insert.new.self.keys c.args.lists.now.items c.push.new.self.items c.args.name c.new.result
-    c.requires.paired (told c.unwrap.result _ added ∙ rw c.if-unwrap.true refl) c.new.ensures.items keys items
+    with_name-new c.args.names.now.keys c.insert.new.self.keys c.args.lists.now.items c.push.new.self.items c.args.name c.args.publications
+    c.requires.paired (told c.unwrap.result _ added ∙ rw c.if-unwrap.true refl) c.requires.empty keys items
 
 pub returns-else-unwrap-clause-packages : goal.returns-else-unwrap-clause-packages
 returns-else-unwrap-clause-packages c =

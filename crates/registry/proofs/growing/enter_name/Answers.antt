@@ -23,13 +23,13 @@ returns-in-None-clause-paired c =
     let items = rw c.unwrap-in-None.ensures at c.push.ensures.items in
     let new = list_any-position (bytes_eq c.args.name) names ∙ ap is_some (sym c.requires.placed ∙ c.in-None.is) in
     let more = keys ∙ ap (λ b. if b then names else names ++ c.args.name ∷ []) new in
-    omega (arith, ap length more, length-append names (c.args.name ∷ []), ap length items, length-append c.args.lists.now.items (c.args.first ∷ []), c.requires.paired)
+    omega (arith, ap length more, length-append names (c.args.name ∷ []), ap length items, length-append c.args.lists.now.items (c.args.own ∷ []), c.requires.paired)
 
 pub returns-in-None-clause-packages : goal.returns-in-None-clause-packages
 returns-in-None-clause-packages c =
     let keys = rw c.unwrap.ensures at c.insert.ensures.keys in
     let items = rw c.unwrap-in-None.ensures at c.push.ensures.items in
-    with_name-new c.args.names.now.keys c.insert.new.self.keys c.args.lists.now.items c.push.new.self.items c.args.name c.args.first
+    with_name-new c.args.names.now.keys c.insert.new.self.keys c.args.lists.now.items c.push.new.self.items c.args.name c.args.own
     c.requires.paired (list_any-position (bytes_eq c.args.name) c.args.names.now.keys ∙ ap is_some (sym c.requires.placed ∙ c.in-None.is)) c.requires.empty keys items
 
 pub returns-in-None-clause-number : goal.returns-in-None-clause-number
@@ -37,7 +37,7 @@ returns-in-None-clause-number c =
     let keys = rw c.unwrap.ensures at c.insert.ensures.keys in
     let items = rw c.unwrap-in-None.ensures at c.push.ensures.items in
     let new = list_any-position (bytes_eq c.args.name) c.args.names.now.keys ∙ ap is_some (sym c.requires.placed ∙ c.in-None.is) in
-    let packages = with_name-new c.args.names.now.keys c.insert.new.self.keys c.args.lists.now.items c.push.new.self.items c.args.name c.args.first c.requires.paired new c.requires.empty keys items in
+    let packages = with_name-new c.args.names.now.keys c.insert.new.self.keys c.args.lists.now.items c.push.new.self.items c.args.name c.args.own c.requires.paired new c.requires.empty keys items in
     let last : c.len-last.result + 1 ≡ length c.args.lists.now.items + 1 = search rules in
     ap (λ ps. number_of ps c.args.name) packages
     ∙ number-next c.args.names.now.keys c.args.lists.now.items c.args.name c.requires.paired (sym c.in-None.is ∙ c.requires.placed) new _ last

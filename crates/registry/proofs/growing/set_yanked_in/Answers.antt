@@ -1,7 +1,5 @@
-use Rattle.std.proofs.Common.{◌∙◌, ap, sym}
-use Rattle.registry.specs.Releases.{publications_of}
+use Rattle.std.proofs.Common.{◌∙◌, sym}
 use Rattle.registry.specs.Step as step
-use Rattle.std.proofs.lemmas.List.{with_items_is}
 use Rattle.registry.proofs.PackageLemmas.{is_known-packages_in}
 use Rattle.registry.proofs.GrowthLemmas.{number-found, packages-changed, unchanged}
 use Rattle.registry.proofs.growing.set_yanked_in.Goals as goal
@@ -10,7 +8,7 @@ pub returns-in-Some-clause-packages : goal.returns-in-Some-clause-packages
 returns-in-Some-clause-packages c =
     packages-changed c.args.names.now.keys c.args.lists.now.items c.args.name.now c.in-Some.index c.index_mut-list.result.now _ (step.set_yanked c.args.version.now c.args.yanked)
     (number-found c.args.names.now.keys c.args.lists.now.items c.args.name.now c.requires.paired c.in-Some.index c.in-Some.ensures.index)
-    c.index_mut-list.ensures.value (ap publications_of (with_items_is c.index_mut-list.result.now c.set_yanked.new.releases (c.set_yanked.auto.releases ∙ c.deref_mut.ensures.len)) ∙ c.set_yanked.ensures ∙ ap (λ rs. step.set_yanked c.args.version.now c.args.yanked (publications_of rs)) c.deref_mut.ensures.value)
+    c.index_mut-list.ensures.value c.set_yanked.ensures
 
 pub returns-in_default-clause-packages : goal.returns-in_default-clause-packages
 returns-in_default-clause-packages c =

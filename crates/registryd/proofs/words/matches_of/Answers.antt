@@ -1,5 +1,5 @@
 use Rattle.std.proofs.Common.{ap, refl, sym, subst, true, [], ◌∷◌, inl, inr, ◌≡◌, ◌∙◌}
-use Rattle.clap.specs.Words.{App, HasKind, Kinds, fault_of, is_simple, is_simple_and_free, kind_of, subcommand_of}
+use Rattle.clap.specs.Words.{App, HasKind, Kinds, fault_of, is_simple, is_simple_and_free, kind_of, subcommand_of, takes}
 use Rattle.clap.specs.declared.error.Error.{Error}
 use Rattle.clap.specs.declared.error.kind.ErrorKind.TheVariants.{OutOfMemory}
 use Rattle.clap.proofs.OnLiterals.{clap_on_literals}
@@ -46,3 +46,9 @@ returns-in-Err-clause-bad c = λ bad none.
     let app = c.in_ok-command.ensures in
     let kinds = ap (λ (a : App). fault_of a (texts c.args.words.now)) app ∙ none in
     c.fault_in.ensures.bad (cc) (only_memory _ c.in-Err.e kinds (c.in-Err.ensures.kinds (ap is_simple_and_free app ∙ is_free)))
+
+pub returns-in-Err-clause-refused : goal.returns-in-Err-clause-refused
+returns-in-Err-clause-refused c = λ bad taken.
+    let app = c.in_ok-command.ensures in
+    let memory = c.in-Err.ensures.passes (ap (λ (a : App). takes a (texts c.args.words.now)) app ∙ taken) in
+    c.fault_in.ensures.bad (cc) memory

@@ -1,65 +1,79 @@
-use Rattle.std.proofs.Common.{◌∙◌, ◌≡◌, ◌<◌, ◌+◌, ◌++◌, ◌∷◌, [], ap, sym, subst, arith, rules, set, false, vec_capacity, vec_len, List}
-use Rattle.std.specs.Prelude.{None, Some, position}
+use Rattle.std.proofs.Common.{◌∙◌, ◌≡◌, ◌<◌, ◌+◌, ◌++◌, ◌∷◌, [], ap, sym, subst, arith, rules, set, false, length, List}
+use Rattle.std.specs.Prelude.{None, Some}
+use Rattle.std.specs.List.{list_any}
 use Rattle.std.specs.Str.{bytes_eq}
-use Rattle.versions.specs.Words.{Text}
 use Rattle.registry.specs.Lawful.{IsRegistry}
-use Rattle.registry.specs.Registry.{Packages, Publication, number_of}
-use Rattle.registry.specs.Releases.{packages_in, publication_of, rooms_of}
-use Rattle.registry.specs.Rooms.{State, new_names, room_where}
-use Rattle.registry.specs.Step.{publish, publish_refusal, with_listed, with_versions}
-use Rattle.registry.specs.declared.releases.Release.{Release}
-use Rattle.registry.proofs.GrowthLemmas.{number-placed, number_of-with_listed, packages-changed, publications-pushed, room_at-placed, rooms-at, same_place, with_named-new}
-use Rattle.registry.proofs.Lawfulness.{lawful-publish}
+use Rattle.registry.specs.Publications.{packages_in}
+use Rattle.registry.specs.Registry.{Packages, Publication, has_version, number_of, versions_of}
+use Rattle.registry.specs.Rooms.{State, names_in, unknown_names}
+use Rattle.registry.specs.Step.{publish, publish_refusal, with_listed, with_name, with_versions}
+use Rattle.registry.proofs.GrowthLemmas.{new_names, new_names-packages_in, number_of-with_listed, packages-changed, versions_of-placed, with_named-new}
+use Rattle.registry.proofs.Lawfulness.{accepted_by, lawful-publish, versions-named}
+use Rattle.registry.proofs.ReadyLemmas.{ready-for, ready-taken}
 use Rattle.registry.proofs.registry.Registry.enter.Goals as goal
-use Rattle.registry.proofs.registry.Registry.enter.Goals.{After-unwrap}
+use Rattle.registry.proofs.registry.Registry.enter.Goals.{After-drop-needs-inside, After-index_mut-list}
 
-pub enter_name-index-requires-clause-placed : goal.enter_name-index-requires-clause-placed
-enter_name-index-requires-clause-placed c =
-    same_place c.args.place _
-    (sym c.requires.place ∙ ap (λ (s : State). number_of s.packages c.args.name) (sym c.self.view_is)
-    ∙ number-placed c.self.inside.names.keys c.self.inside.lists.items c.args.name c.self.invariant.0 _ (λ i. position (bytes_eq c.args.name) c.self.inside.names.keys))
+-- the packages before
+abbrev before : After-index_mut-list → Packages
+before c = packages_in c.self.inside.names.keys c.self.inside.lists.items
 
-pub unwrap-requires : goal.unwrap-requires
-unwrap-requires c =
-    let state = c.args.self.now in
-    let placed = room_at-placed state.room.more state.room.first (number_of state.packages c.args.name) c.args.place c.requires.place in
-    let before = subst (λ (s : State). 0 < room_where s.room.more s.room.first c.args.place) (sym c.self.view_is) (subst (λ n. 0 < n) placed c.requires.room.release) in
-    let first = ap (λ v. room_where (rooms_of c.self.inside.lists.items) (vec_capacity v) c.args.place) c.replace-first.ensures.value in
+accepted : (c : After-index_mut-list) → publish_refusal (before c) c.args.name c.args.version c.args.needs ≡ None
+accepted c = subst (λ (s : State). publish_refusal s.packages c.args.name c.args.version c.args.needs ≡ None) (sym c.self.view_is) c.requires.accepted
+
+-- the names are numbered, with nothing published yet
+named : (c : After-index_mut-list) → packages_in c.add_names.new.names.keys c.add_names.new.lists.items ≡ with_listed (with_name (before c) c.args.name) (names_in c.in-Some.ready.added.items)
+named c = c.add_names.ensures.packages ∙ ap (λ (ps : Packages). with_listed ps (names_in c.in-Some.ready.added.items)) c.enter_name-index.ensures.packages
+
+number : (c : After-index_mut-list) → number_of (packages_in c.add_names.new.names.keys c.add_names.new.lists.items) c.args.name ≡ Some (c.enter_name-index.result + 1)
+number c =
+    ap (λ (ps : Packages). number_of ps c.args.name) c.add_names.ensures.packages
+    ∙ number_of-with_listed (packages_in c.enter_name-index.new.names.keys c.enter_name-index.new.lists.items) (names_in c.in-Some.ready.added.items) c.args.name
+    (c.enter_name-index.result + 1) c.enter_name-index.ensures.number
+
+-- the list that the version comes into has the publications of the package
+listed : (c : After-index_mut-list) → c.index_mut-list.result.now.publications ≡ versions_of (before c) c.args.name
+listed c =
     let stay = c.add_names.ensures.stay c.enter_name-index.result c.enter_name-index.ensures.place in
-    let at = rooms-at c.add_names.new.lists.items c.enter_name-index.result c.index_mut-list.result.now stay.0 c.index_mut-list.ensures.value in
-    let room : vec_len c.index_mut-list.result.now < vec_capacity c.index_mut-list.result.now = omega (arith, before, first, c.enter_name-index.ensures.room, stay.1, at) in
-    c.push.ensures.succeeds room
+    sym (versions_of-placed c.add_names.new.names.keys c.add_names.new.lists.items c.args.name c.enter_name-index.result c.index_mut-list.result.now
+    c.add_names.ensures.paired (number c) stay.0 c.index_mut-list.ensures.value)
+    ∙ ap (λ (ps : Packages). versions_of ps c.args.name) (named c) ∙ versions-named (before c) c.args.name (names_in c.in-Some.ready.added.items) c.args.name
 
-published : (c : After-unwrap) → packages_in c.add_names.new.names.keys (set c.add_names.new.lists.items c.enter_name-index.result c.push.new.self)
+pub push-requires-clause-new : goal.push-requires-clause-new
+push-requires-clause-new c =
+    let at = (goal.at.push-requires-clause-new c).After-index_mut-list in
+    ap (λ l. has_version l c.args.version) (listed at) ∙ (accepted_by (before at) c.args.name c.args.version c.args.needs (accepted at)).new
+
+pub push-requires-clause-few : goal.push-requires-clause-few
+push-requires-clause-few c =
+    let at = (goal.at.push-requires-clause-few c).After-index_mut-list in
+    let count = ap length (listed at) in
+    omega (arith, count, (accepted_by (before at) c.args.name c.args.version c.args.needs (accepted at)).room)
+
+published : (c : After-drop-needs-inside) → packages_in c.add_names.new.names.keys (set c.add_names.new.lists.items c.enter_name-index.result c.push.new.self)
     ≡ publish (packages_in c.self.inside.names.keys c.self.inside.lists.items) c.args.name c.args.version c.args.needs
 published c =
-    let release : Release = record { version = c.args.version; needs = c.args.needs; yanked = false } in
-    let add : List Publication → List Publication = λ (versions : List Publication). versions ++ publication_of release ∷ [] in
-    let names = c.add_names.new.names.keys in
-    let lists = c.add_names.new.lists.items in
-    let i = c.enter_name-index.result in
-    let before : Packages = packages_in c.self.inside.names.keys c.self.inside.lists.items in
-    let entered : Packages = packages_in c.enter_name-index.new.names.keys c.enter_name-index.new.lists.items in
-    let added : packages_in names lists ≡ with_listed entered c.replace-noted.result.items = c.add_names.ensures.packages in
-    let number : number_of (packages_in names lists) c.args.name ≡ Some (i + 1) =
-    ap (λ (ps : Packages). number_of ps c.args.name) added ∙ number_of-with_listed entered c.replace-noted.result.items c.args.name (i + 1) c.enter_name-index.ensures.number in
-    let pushed = rw c.unwrap.ensures at c.push.ensures.items in
-    let noted : c.replace-noted.result.items ≡ new_names before c.args.needs =
-    ap (λ v. v.items) c.replace-noted.ensures.value ∙ ap (λ (s : State). s.room.noted) c.self.view_is ∙ c.requires.room.noted ∙ ap (λ (s : State). new_names s.packages c.args.needs) (sym c.self.view_is) in
-    packages-changed names lists c.args.name i c.index_mut-list.result.now c.push.new.self add number c.index_mut-list.ensures.value
-    (publications-pushed c.index_mut-list.result.now.items c.push.new.self.items release pushed)
-    ∙ ap (with_versions c.args.name add)
-    (added ∙ ap (λ (l : List Text). with_listed entered l) noted
-    ∙ ap (λ (ps : Packages). with_listed ps (new_names before c.args.needs)) c.enter_name-index.ensures.packages
-    ∙ sym (with_named-new before c.args.name c.args.needs))
+    let at = (goal.at.invariant_of-self c).After-index_mut-list in
+    let own : Publication = record { version = c.args.version; needs = c.args.needs; yanked = false } in
+    let add : List Publication → List Publication = λ (versions : List Publication). versions ++ own ∷ [] in
+    let taken = sym c.take.ensures.value ∙ c.in-Some.is in
+    let ready = ready-taken c.self.inside.names.keys _ c.self.inside.lists.items _ c.self.inside.ready c.in-Some.ready c.self.invariant.2 taken in
+    let same = ready-for c.self.inside.ready c.in-Some.ready c.args.name c.args.needs (ap (λ (s : State). s.ready) c.self.view_is ∙ c.requires.ready) taken in
+    let added : names_in c.in-Some.ready.added.items ≡ new_names (before at) c.args.needs =
+    ready.named ∙ ap (λ needs. unknown_names (λ name. list_any (bytes_eq name) c.self.inside.names.keys) needs) same.1
+    ∙ sym (new_names-packages_in c.self.inside.names.keys c.self.inside.lists.items c.args.needs c.self.invariant.0) in
+    let pushed : c.push.new.self.publications ≡ add c.index_mut-list.result.now.publications =
+    c.push.ensures ∙ ap (λ needs. c.index_mut-list.result.now.publications ++ (record { version = c.args.version; needs = needs; yanked = false }) ∷ []) same.1 in
+    packages-changed c.add_names.new.names.keys c.add_names.new.lists.items c.args.name c.enter_name-index.result c.index_mut-list.result.now c.push.new.self add
+    (number at) c.index_mut-list.ensures.value pushed
+    ∙ ap (with_versions c.args.name add) (named at ∙ ap (λ l. with_listed (with_name (before at) c.args.name) l) added ∙ sym (with_named-new (before at) c.args.name c.args.needs))
 
 pub invariant_of-self : goal.invariant_of-self
 invariant_of-self c = (
   search rules,
-  ap (λ v. v.items) c.replace-first.ensures.after ∙ c.new.ensures.items,
-  subst IsRegistry (sym (published (goal.at.invariant_of-self c).After-unwrap)) (lawful-publish _ c.args.name c.args.version c.args.needs c.self.invariant.2
+  subst IsRegistry (sym (published c)) (lawful-publish _ c.args.name c.args.version c.args.needs c.self.invariant.1
       (subst (λ (s : State). publish_refusal s.packages c.args.name c.args.version c.args.needs ≡ None) (sym c.self.view_is) c.requires.accepted)),
+  rw c.take.ensures.after tt,
 )
 
 pub returns-clause-packages : goal.returns-clause-packages
-returns-clause-packages c = published (goal.at.returns-clause-packages c).After-unwrap ∙ ap (λ (s : State). publish s.packages c.args.name c.args.version c.args.needs) c.self.view_is
+returns-clause-packages c = published c ∙ ap (λ (s : State). publish s.packages c.args.name c.args.version c.args.needs) c.self.view_is

@@ -1,7 +1,7 @@
 use Rattle.std.proofs.Common.{◌∙◌, ◌≡◌, ap, sym, subst, rules, true, List}
 use Rattle.std.specs.Prelude.{Some}
 use Rattle.versions.specs.Words.{Text}
-use Rattle.registry.proofs.PackageLemmas.{publication-read, published-positive, within-list, within-lists}
+use Rattle.registry.proofs.PackageLemmas.{publication-seen, published-positive, within-list, within-lists}
 use Rattle.registry.specs.Registry.{is_published, publication_at}
 use Rattle.registry.specs.Rooms.{State}
 use Rattle.registry.proofs.registry.Registry.facts.Goals as goal
@@ -15,15 +15,15 @@ index-list-requires c =
     let within = within-lists c.self.inside.names.keys c.self.inside.lists.items c.args.pkg c.args.ordinal c.self.invariant.0 there in
     search rules
 
-pub index-release-requires : goal.index-release-requires
-index-release-requires c =
+pub at-requires : goal.at-requires
+at-requires c =
     let there = subst (λ (s : State). is_published s.packages c.args.pkg c.args.ordinal ≡ true) (sym c.self.view_is) c.requires in
-    let within = within-list c.self.inside.names.keys c.self.inside.lists.items c.args.pkg c.args.ordinal c.self.invariant.0 there c.index-list.result.now c.index-list.ensures in
-    search rules
+    within-list c.self.inside.names.keys c.self.inside.lists.items c.args.pkg c.args.ordinal c.self.invariant.0 there c.index-list.result.now c.index-list.ensures
 
 pub returns : goal.returns
 returns c =
     let there = subst (λ (s : State). is_published s.packages c.args.pkg c.args.ordinal ≡ true) (sym c.self.view_is) c.requires in
     ap (λ (s : State). publication_at s.packages c.args.pkg c.args.ordinal) (sym c.self.view_is)
-    ∙ publication-read c.self.inside.names.keys c.self.inside.lists.items c.args.pkg c.args.ordinal c.self.invariant.0 there c.index-list.result.now c.index-list.ensures c.index-release.result.now c.index-release.ensures
-    ∙ ap (λ (needs : List (Text × Text)). Some (record { version = c.index-release.result.now.version; needs = needs; yanked = c.index-release.result.now.yanked })) (sym c.needs.ensures)
+    ∙ publication-seen c.self.inside.names.keys c.self.inside.lists.items c.args.pkg c.args.ordinal c.self.invariant.0 there c.index-list.result.now c.index-list.ensures
+    ∙ c.at.ensures
+    ∙ ap (λ (needs : List (Text × Text)). Some (record { version = c.at.result.0.now.version; needs = needs; yanked = c.at.result.0.now.yanked })) (sym c.needs.ensures)

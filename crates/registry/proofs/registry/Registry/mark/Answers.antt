@@ -6,6 +6,6 @@ use Rattle.registry.proofs.registry.Registry.mark.Goals as goal
 pub invariant_of-self : goal.invariant_of-self
 invariant_of-self c = (
   c.set_yanked_in.ensures.paired,
-  c.self.invariant.1,
-  subst IsRegistry (sym c.set_yanked_in.ensures.packages) (lawful-mark _ c.args.name.now c.args.version.now c.args.yanked c.self.invariant.2),
+  subst IsRegistry (sym c.set_yanked_in.ensures.packages) (lawful-mark _ c.args.name.now c.args.version.now c.args.yanked c.self.invariant.1),
+  tt,
 )

@@ -9,7 +9,7 @@ use Rattle.registry.proofs.registry.Registry.number.Goals.{In_ok-index}
 small : (c : In_ok-index) → c.in_ok-index.index + 1 ≤ 65535
 small c =
     let len = length-packages_in c.self.inside.names.keys c.self.inside.lists.items c.self.invariant.0 in
-    omega (arith, len, c.self.invariant.2.few, c.in_ok-index.ensures.within)
+    omega (arith, len, c.self.invariant.1.few, c.in_ok-index.ensures.within)
 
 pub overflow_cast-result : goal.overflow_cast-result
 overflow_cast-result c = let most = small c in search rules

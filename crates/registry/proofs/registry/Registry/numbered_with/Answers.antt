@@ -4,7 +4,7 @@ use Rattle.versions.specs.Words.{Text}
 use Rattle.registry.specs.Registry.{Packages, is_known}
 use Rattle.registry.specs.Rooms.{State}
 use Rattle.registry.specs.Step.{with_named}
-use Rattle.registry.specs.Releases.{lists_of, packages_of, publications_of}
+use Rattle.registry.specs.Publications.{PublicationList, lists_of, packages_of}
 use Rattle.registry.proofs.PackageLemmas.{is_known-packages_of, length-mapped, length-numbered, length-packages_of, new_count}
 use Rattle.registry.proofs.registry.Registry.numbered_with.Goals as goal
 use Rattle.registry.proofs.registry.Registry.numbered_with.Goals.{then-known, else-known}
@@ -13,7 +13,7 @@ pub returns : goal.returns
 returns c =
     let lists = lists_of c.self.inside.lists.items in
     let names = c.self.inside.names.keys in
-    let both = c.self.invariant.0 ∙ sym (length-mapped (λ v. publications_of v.items) c.self.inside.lists.items) in
+    let both = c.self.invariant.0 ∙ sym (length-mapped (λ (v : PublicationList). v.publications) c.self.inside.lists.items) in
     let packages : Packages = packages_of names lists in
     let whole = length-numbered packages c.args.name.now c.args.needs.now c.requires.apart c.requires.once in
     let many = length-packages_of names lists both in

@@ -1,0 +1,69 @@
+-- What a search needs to show before its list is cut.
+use Rattle.std.proofs.Common.{◌≡◌, ◌∙◌, ℕ, List, [], ◌∷◌, sym, ap, true, false, not, true≢false, nat_eq, nat_lt, inl, inr, if◌then◌else◌}
+use Rattle.std.proofs.lemmas.Bool.{cases_Bool}
+use Rattle.std.specs.Prelude.{Option, None, Some, is_some, slice_get}
+use Rattle.versions.specs.Words.{Text}
+use Rattle.terms.specs.declared.term.Term.{Term}
+use Rattle.terms.specs.declared.term.Term.TheVariants.{In, NotIn}
+use Rattle.terms.specs.Incompats.{has_term, term_on, true_at}
+use Rattle.terms.specs.Terms.{true_of}
+use Rattle.registry.specs.Registry.{Packages, number_of}
+use Rattle.registry.specs.Requests.{Wanted}
+use Rattle.derivations.specs.Facts.{Terms, dependency, matching, need_terms_at}
+use Rattle.derivations.proofs.Soundness.{dependency-nil}
+use Rattle.derivations.specs.Derivations.{IsFact}
+use Rattle.derivations.specs.Known.{AreLawful, EndsAt, IsResolved, StandsBy}
+use Rattle.derivations.specs.declared.facts.Cause.{Cause}
+use Rattle.derivations.specs.declared.facts.Cause.TheVariants as cause
+use Rattle.derivations.specs.declared.cutting.Known.{Known}
+use Rattle.derivations.specs.declared.cutting.Reason.{Reason}
+use Rattle.derivations.specs.declared.cutting.Reason.TheVariants.{Fact, Resolved}
+
+-- a package on which some choice makes the terms false has a term
+pub has_term_where_false : (terms : Terms) (pkg : ℕ) (choice : Option ℕ) → true_at terms pkg choice ≡ false → has_term terms pkg ≡ true
+has_term_where_false [] pkg choice h = absurd (true≢false h)
+has_term_where_false (t ∷ rest) pkg choice h = elim (cases_Bool (nat_eq t.0 pkg)) [
+  | inl e ↦ ap (λ b. is_some (if b then Some t.1 else term_on rest pkg)) e
+  | inr e ↦
+      let later : true_at rest pkg choice ≡ false = sym (ap (λ b. if b then true_of t.1 choice else true_at rest pkg choice) e) ∙ h in
+      ap (λ b. is_some (if b then Some t.1 else term_on rest pkg)) e ∙ has_term_where_false rest pkg choice later
+]
+
+-- the cause of a derived term has a term on its package: the pivot of conflict resolution
+pub pivot_of_cause : (terms : Terms) (term : Term) (pkg : ℕ) (choice : Option ℕ) → ((c : Option ℕ) → true_at terms pkg c ≡ not (true_of term c)) → true_of term choice ≡ true → has_term terms pkg ≡ true
+pivot_of_cause terms term pkg choice negation t = has_term_where_false terms pkg choice (negation choice ∙ ap not t)
+
+cons_not_nil : (t : ℕ × Term) (rest : Terms) → t ∷ rest ≡ [] → ⊥
+cons_not_nil t rest e = cc
+
+dependency_not_nil : (p : ℕ) (versions : List ℕ) (target : ℕ) (within : List ℕ) → dependency p versions target within ≡ [] → ⊥
+dependency_not_nil p versions target [] h = cons_not_nil (p, In versions) [] (sym (dependency-nil p versions target) ∙ h)
+dependency_not_nil p versions target (k ∷ rest) h = elim (cases_Bool (nat_lt p target)) [
+  | inl e ↦ cons_not_nil (p, In versions) ((target, NotIn (k ∷ rest)) ∷ []) (ap (λ b. if b then (p, In versions) ∷ (target, NotIn (k ∷ rest)) ∷ [] else (target, NotIn (k ∷ rest)) ∷ (p, In versions) ∷ []) (sym e) ∙ h)
+  | inr e ↦ cons_not_nil (target, NotIn (k ∷ rest)) ((p, In versions) ∷ []) (ap (λ b. if b then (p, In versions) ∷ (target, NotIn (k ∷ rest)) ∷ [] else (target, NotIn (k ∷ rest)) ∷ (p, In versions) ∷ []) (sym e) ∙ h)
+]
+
+need_not_nil : (packages : Packages) (o : Option ℕ) (need : Text) → need_terms_at packages o need ≡ [] → ⊥
+need_not_nil packages None need h = cons_not_nil _ _ h
+need_not_nil packages (Some q) need h = dependency_not_nil 0 (0 ∷ []) q (matching packages q need) h
+
+-- no fact is without terms
+pub no_fact_is_empty : (packages : Packages) (wanted : Wanted) (c : Cause) (terms : Terms) → IsFact packages wanted c terms → terms ≡ [] → ⊥
+no_fact_is_empty packages wanted (cause.Line n) terms h e = absurd h
+no_fact_is_empty packages wanted (cause.Premise p) terms h e = dependency_not_nil p.package p.versions p.target p.within (sym h.1 ∙ e)
+no_fact_is_empty packages wanted (cause.Need i) terms h e = need_not_nil packages (number_of packages h.0.0) h.0.1 (sym h.2 ∙ e)
+no_fact_is_empty packages wanted (cause.NotAllowed p versions) terms h e = cons_not_nil _ _ (sym h.2 ∙ e)
+no_fact_is_empty packages wanted cause.Root terms h e = cons_not_nil _ _ (sym h ∙ e)
+
+resolved_by : (packages : Packages) (wanted : Wanted) (known : List Known) (terms : Terms) (reason : Reason) → StandsBy packages wanted known terms reason → terms ≡ [] → IsResolved reason
+resolved_by packages wanted known terms (Fact c) h e = no_fact_is_empty packages wanted c terms h e
+resolved_by packages wanted known terms (Resolved i j pivot) h e = tt
+
+-- a line without terms in a lawful list is no fact
+pub ends_at : (packages : Packages) (wanted : Wanted) (known : List Known) (end : ℕ) (line : Known) → AreLawful packages wanted known → slice_get known end ≡ Some line → line.conclusion ≡ [] → EndsAt known end
+ends_at packages wanted known end line lawful at empty = record {
+  line = line;
+  at = at;
+  resolved = resolved_by packages wanted known line.conclusion line.reason (lawful end line at) empty;
+  empty = empty;
+}

@@ -1,0 +1,11 @@
+-- Lemmas.
+pub mod Published
+pub mod Asking
+pub mod Matching
+pub mod Soundness
+pub mod Lasting
+pub mod Walking
+pub mod Judging
+pub mod LastLine
+pub mod Sound
+pub mod Ends

@@ -1,0 +1,36 @@
+-- Why derivations and what is learnt can be trusted.
+use Rattle.std.specs.Prelude.{◌≡◌, ℕ, List, [], Some, slice_get}
+use Rattle.terms.specs.Incompats.{Follows}
+use Rattle.registry.specs.Registry.{Packages}
+use Rattle.registry.specs.Requests.{Wanted}
+use Rattle.derivations.specs.Facts.{Holds, Stands, Terms, premise_terms}
+use Rattle.derivations.specs.Derivations.{AreDerived, IsDerivation, NoSelection, last_conclusion}
+use Rattle.derivations.specs.Known.{AreLawful, EndsAt}
+use Rattle.derivations.specs.Learning.{AllStand, IsLearnt}
+use Rattle.derivations.specs.declared.cutting.Known.{Known}
+use Rattle.derivations.specs.declared.facts.Premise.{Premise}
+use Rattle.derivations.specs.declared.line.Line.{Line}
+
+-- what a premise that stands says holds
+abbrev pub PremisesHold : Type 0
+PremisesHold = (packages : Packages) (premise : Premise) → Stands packages premise → Holds packages (premise_terms premise)
+
+-- what follows from two incompatibilities that hold, holds
+abbrev pub ResolventsHold : Type 0
+ResolventsHold = (packages : Packages) (c i j : Terms) (pivot : ℕ) → Holds packages i → Holds packages j → Follows c i j pivot → Holds packages c
+
+-- what is learnt holds where its premises stand
+abbrev pub LearntHolds : Type 0
+LearntHolds = (packages : Packages) (lines : List Line) (terms : Terms) → IsLearnt lines → AllStand packages lines → last_conclusion lines ≡ Some terms → Holds packages terms
+
+-- where there is a derivation, no selection meets the request
+abbrev pub DerivationsRefute : Type 0
+DerivationsRefute = (packages : Packages) (wanted : Wanted) (lines : List Line) → IsDerivation packages wanted lines → NoSelection packages wanted
+
+-- the premises stand of lines that are derived from facts
+abbrev pub DerivedPremisesStand : Type 0
+DerivedPremisesStand = (packages : Packages) (wanted : Wanted) (earlier : List Terms) (lines : List Line) → AreDerived packages wanted earlier lines → AllStand packages lines
+
+-- in lines that are derived from facts the one without terms is no fact, so it ends what can be cut
+abbrev pub EmptyIsNoFact : Type 0
+EmptyIsNoFact = (packages : Packages) (wanted : Wanted) (known : List Known) (end : ℕ) (line : Known) → AreLawful packages wanted known → slice_get known end ≡ Some line → line.conclusion ≡ [] → EndsAt known end

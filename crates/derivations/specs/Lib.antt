@@ -1,0 +1,8 @@
+-- The definitions that contracts cite.
+pub mod Facts
+pub mod Derivations
+pub mod Causes
+pub mod Learning
+pub mod Known
+pub mod Laws
+pub mod Stored

@@ -1,0 +1,214 @@
+// What the causes of a line give.
+
+ghost use Rattle.std.specs.Prelude.{◌≡◌, ◌↔◌, ◌∷◌, [], Some, IfErr, IfOk, IsSome, IsTrue};
+ghost use Rattle.std.specs.Option.{option_map};
+ghost use Rattle.terms.specs.declared.term.Term.TheVariants.{NotIn};
+ghost use Rattle.registry.specs.Registry.{package_at};
+ghost use Rattle.derivations.specs.Causes.{given_terms};
+ghost use Rattle.derivations.specs.Derivations.{conclusions, Finds, IsConclusion, IsFact, IsStanding, NoneAllowed, Yields};
+ghost use Rattle.derivations.specs.Facts.{need_terms};
+ghost use Rattle.derivations.specs.Learning.{Offers};
+
+use crate::facts::{Cause, Premise};
+use crate::line::Line;
+use crate::standing::stands_by_matching;
+use registry::{Registry, Request};
+use std::alloc::Global;
+use terms::{Incompat, Pkg, Term, VSet};
+use versions::{Name, Need, Refusal};
+
+/// The package of the request itself, which has the one version 0.
+const ROOT: Pkg = 0;
+
+/// The conclusion of an earlier line, or what a fact says.
+#[derive(Drop)]
+pub enum Given<'a> {
+    Conclusion(&'a Incompat),
+    Fact(Incompat),
+}
+
+impl Given<'_> {
+    /// The incompatibility that is given.
+    pub fn incompat(&self) -> &Incompat
+        ensures { result.now ≡ given_terms self.now }
+    {
+        match self {
+            Given::Conclusion(incompat) => incompat,
+            Given::Fact(incompat) => incompat,
+        }
+    }
+}
+
+/// The conclusion of the line with this number, counted from 1.
+fn concluded(earlier: &[Line], number: usize) -> Option<Given<'_>>
+    ensures { Finds (IsConclusion (conclusions earlier.now) number) (option_map given_terms result) }
+{
+    if number == 0 {
+        return None;
+    }
+    if number > earlier.len() {
+        return None;
+    }
+    Some(Given::Conclusion(&earlier[number - 1].conclusion))
+}
+
+/// What a premise says, if it stands.
+fn premise_fact(
+    alloc: Global,
+    registry: &Registry,
+    premise: &Premise,
+) -> Result<Option<Incompat>, Refusal>
+    ensures found { IfOk result
+        (Finds (IsStanding registry.now.packages premise.now)) }
+    ensures only { IfErr result (λ e. e ≡ Refusal.NoMemory) }
+{
+    if stands_by_matching(registry, premise)? {
+        Ok(Some(premise.incompat(alloc)?))
+    } else {
+        Ok(None)
+    }
+}
+
+/// What a need says: root In({0}), and on its package, where that is numbered, NotIn of the
+/// published versions that meet it.
+fn need_incompat(
+    alloc: Global,
+    registry: &Registry,
+    name: &Name,
+    need: &Need,
+) -> Result<Incompat, Refusal>
+    ensures same { IfOk result (λ incompat.
+        incompat ≡ need_terms registry.now.packages name.now need.now) }
+    ensures only { IfErr result (λ e. e ≡ Refusal.NoMemory) }
+{
+    let root = Term::In(VSet::single(alloc, 0)?);
+    match registry.number(name) {
+        None => Ok(Incompat::single(alloc, ROOT, root)?),
+        Some(pkg) => {
+            let matching = Term::NotIn(registry.matching(pkg, need)?);
+            Ok(Incompat::pair(alloc, ROOT, root, pkg, matching)?)
+        }
+    }
+}
+
+/// What the request's need at this place says, if there is one.
+fn need_fact(
+    alloc: Global,
+    registry: &Registry,
+    request: &Request,
+    index: usize,
+) -> Result<Option<Incompat>, Refusal>
+    ensures found { IfOk result
+        (Finds (IsFact registry.now.packages request.now (Cause.Need index))) }
+    ensures only { IfErr result (λ e. e ≡ Refusal.NoMemory) }
+{
+    match request.needs().get(index) {
+        None => Ok(None),
+        Some(entry) => Ok(Some(need_incompat(alloc, registry, &entry.0, &entry.1)?)),
+    }
+}
+
+/// Whether the package is numbered.
+fn is_package(registry: &Registry, pkg: Pkg) -> bool
+    ensures { IsTrue result ↔ IsSome (package_at registry.now.packages pkg) }
+{
+    pkg >= 1 && pkg as usize <= registry.packages()
+}
+
+/// Whether no version of the set is allowed to the request.
+fn is_none_allowed(registry: &Registry, request: &Request, pkg: Pkg, versions: &VSet) -> bool
+    ensures { IsTrue result ↔ NoneAllowed registry.now.packages request.now pkg versions.now }
+{
+    for ordinal in versions.iter() {
+        if registry.allowed(request, pkg, ordinal) {
+            return false;
+        }
+    }
+    true
+}
+
+/// That a package is in a set of versions of which none is allowed.
+fn barred_fact(
+    alloc: Global,
+    registry: &Registry,
+    request: &Request,
+    pkg: Pkg,
+    versions: &VSet,
+) -> Result<Option<Incompat>, Refusal>
+    ensures found { IfOk result
+        (Finds (IsFact registry.now.packages request.now (Cause.NotAllowed pkg versions.now))) }
+    ensures only { IfErr result (λ e. e ≡ Refusal.NoMemory) }
+{
+    if is_package(registry, pkg) && is_none_allowed(registry, request, pkg, versions) {
+        let term = Term::In(versions.copy(alloc)?);
+        Ok(Some(Incompat::single(alloc, pkg, term)?))
+    } else {
+        Ok(None)
+    }
+}
+
+/// That the root is chosen.
+fn root_fact(alloc: Global) -> Result<Incompat, Refusal>
+    ensures same { IfOk result (λ incompat. incompat ≡ (0, NotIn (0 ∷ [])) ∷ []) }
+    ensures only { IfErr result (λ e. e ≡ Refusal.NoMemory) }
+{
+    let term = Term::NotIn(VSet::single(alloc, 0)?);
+    Ok(Incompat::single(alloc, ROOT, term)?)
+}
+
+/// What a fact says, as given.
+fn as_given<'a>(fact: Option<Incompat>) -> Option<Given<'a>>
+    ensures { option_map given_terms result ≡ fact }
+{
+    match fact {
+        None => None,
+        Some(incompat) => Some(Given::Fact(incompat)),
+    }
+}
+
+/// What a cause yields after these lines, if it is one of them or a true fact.
+pub fn find_given<'a>(
+    alloc: Global,
+    registry: &Registry,
+    request: &Request,
+    earlier: &'a [Line],
+    cause: &Cause,
+) -> Result<Option<Given<'a>>, Refusal>
+    ensures found { IfOk result (λ found.
+        Finds (Yields registry.now.packages request.now (conclusions earlier.now) cause.now)
+        (option_map given_terms found)) }
+    ensures only { IfErr result (λ e. e ≡ Refusal.NoMemory) }
+{
+    match cause {
+        Cause::Line(number) => Ok(concluded(earlier, *number)),
+        Cause::Premise(premise) => Ok(as_given(premise_fact(alloc, registry, premise)?)),
+        Cause::Need(index) => Ok(as_given(need_fact(alloc, registry, request, *index)?)),
+        Cause::NotAllowed(pkg, versions) => Ok(as_given(barred_fact(
+            alloc, registry, request, *pkg, versions,
+        )?)),
+        Cause::Root => Ok(Some(Given::Fact(root_fact(alloc)?))),
+    }
+}
+
+/// What a cause yields after these lines whatever the registry holds, if it may be learnt.
+pub fn find_offered<'a>(
+    alloc: Global,
+    earlier: &'a [Line],
+    cause: &Cause,
+) -> Result<Option<Given<'a>>, Refusal>
+    ensures found { IfOk result (λ found.
+        Finds (Offers (conclusions earlier.now) cause.now) (option_map given_terms found)) }
+    ensures only { IfErr result (λ e. e ≡ Refusal.NoMemory) }
+{
+    match cause {
+        Cause::Line(number) => Ok(concluded(earlier, *number)),
+        Cause::Premise(premise) => {
+            if premise.package == premise.target || premise.versions.is_empty() {
+                Ok(None)
+            } else {
+                Ok(Some(Given::Fact(premise.incompat(alloc)?)))
+            }
+        }
+        Cause::Need(_) | Cause::NotAllowed(_, _) | Cause::Root => Ok(None),
+    }
+}

@@ -1,0 +1,184 @@
+// The lines of a search, cut down to a derivation.
+
+ghost use Rattle.std.specs.Prelude.{◌≡◌, ◌<◌, ◌↔◌, ℕ, length, slice_index, IfErr, IfOk, IfSome, IfNone, IsTrue};
+ghost use Rattle.registry.specs.Registry.{Packages};
+ghost use Rattle.registry.specs.Requests.{Wanted};
+ghost use Rattle.derivations.specs.Derivations.{IsDerivation};
+ghost use Rattle.derivations.specs.Known.{cited, is_open, AreCited, AreLawful, AreOrdered, EndsAt, IsCauseOf, IsEndLine, IsLineFor, IsOpen, IsReady, IsResolved, IsResolvedAt, ShowsLine};
+
+use crate::derivation::Derivation;
+use crate::facts::Cause;
+use crate::line::{Line, is_root_alone};
+use std::alloc::{AllocError, Global};
+use terms::{Incompat, Pkg};
+use versions::Refusal;
+
+/// Why a line of a search stands.
+#[derive(Drop)]
+pub enum Reason {
+    /// It is a fact.
+    Fact(Cause),
+    /// It follows from the lines at these places, counted from 0, on this pivot.
+    Resolved(usize, usize, Pkg),
+}
+
+/// A line of a search.
+#[derive(Drop)]
+pub struct Known {
+    pub conclusion: Incompat,
+    pub reason: Reason,
+}
+
+/// Whether the line is one that a derivation has to write, and has no number yet.
+fn is_open(line: &Known, number: usize) -> bool
+    ensures { result ≡ is_open line.now.reason number }
+{
+    match line.reason {
+        Reason::Fact(_) => false,
+        Reason::Resolved(_, _, _) => number == 0,
+    }
+}
+
+/// How a line is cited: a fact by itself, another by its number.
+fn cited(alloc: Global, line: &Known, number: usize) -> Result<Cause, Refusal>
+    ensures same { IfOk result (λ cause. cause ≡ cited line.now.reason number) }
+    ensures only { IfErr result (λ e. e ≡ Refusal.NoMemory) }
+{
+    match &line.reason {
+        Reason::Fact(cause) => Ok(cause.copy(alloc)?),
+        Reason::Resolved(_, _, _) => Ok(Cause::Line(number)),
+    }
+}
+
+/// The two lines that a line cites, and the pivot.
+fn cites(line: &Known) -> (usize, usize, Pkg)
+    requires { IsResolved line.now.reason }
+    ensures { line.now.reason ≡ Reason.Resolved result.0 result.1 result.2 }
+{
+    match line.reason {
+        Reason::Fact(_) => unreachable!(),
+        Reason::Resolved(i, j, pivot) => (i, j, pivot),
+    }
+}
+
+/// The first of the two lines that a line cites which is still to be written.
+fn open_cause(known: &[Known], numbers: &[usize], at: usize) -> Option<usize>
+    requires ordered { AreOrdered known.now }
+    requires lengths { length numbers.now ≡ length known.now }
+    requires here { IsOpen known.now numbers.now at }
+    ensures open_there { IfSome result (IsOpen known.now numbers.now) }
+    ensures below { IfSome result (λ m. m < at) }
+    ensures cause { IfSome result (λ m. IsCauseOf known.now m at) }
+    ensures ready { IfNone result (IsReady known.now numbers.now at) }
+{
+    let (i, j, _) = cites(&known[at]);
+    if is_open(&known[i], numbers[i]) {
+        return Some(i);
+    }
+    if is_open(&known[j], numbers[j]) {
+        return Some(j);
+    }
+    None
+}
+
+/// The line of a derivation for the one at a place, whose causes are written.
+fn line_for(alloc: Global, known: &[Known], numbers: &[usize], at: usize) -> Result<Line, Refusal>
+    requires lengths { length numbers.now ≡ length known.now }
+    requires ready { IsReady known.now numbers.now at }
+    ensures same { IfOk result (IsLineFor known.now numbers.now at) }
+    ensures only { IfErr result (λ e. e ≡ Refusal.NoMemory) }
+{
+    let own = &known[at];
+    let (i, j, pivot) = cites(own);
+    let one = &known[i];
+    let two = &known[j];
+    let first = cited(alloc, one, numbers[i])?;
+    let second = cited(alloc, two, numbers[j])?;
+    let conclusion = own.conclusion.copy(alloc)?;
+    Ok(Line {
+        conclusion,
+        causes: (first, second),
+        pivot,
+    })
+}
+
+/// A list of so many zeros.
+fn zeros(alloc: Global, count: usize) -> Result<Vec<usize>, AllocError>
+    ensures length { IfOk result (λ list. length list.items ≡ count) }
+    ensures zeros { IfOk result (λ list. (k : ℕ) → slice_index list.items k ≡ 0) }
+{
+    let mut list = Vec::new(alloc);
+    'fill: while list.len() < count {
+        list.push(0)?;
+    }
+    Ok(list)
+}
+
+/// The lines that the one at a place rests on, with itself as the last: from facts, each written
+/// once and before the lines that cite it. Linear in the lines of the search, without recursion.
+pub fn lines_of(alloc: Global, known: &[Known], place: usize) -> Result<Vec<Line>, Refusal>
+    requires ordered { AreOrdered known.now }
+    requires resolved { IsResolvedAt known.now place }
+    ensures shows { IfOk result (λ lines. ShowsLine known.now place lines.items) }
+    ensures only { IfErr result (λ e. e ≡ Refusal.NoMemory) }
+{
+    let mut numbers = zeros(alloc, known.len())?;
+    let mut lines = Vec::new(alloc);
+    let mut users: Vec<usize> = Vec::new(alloc);
+    let mut at = place;
+    'walk: loop {
+        match open_cause(known, &numbers, at) {
+            Some(cause) => {
+                users.push(at)?;
+                at = cause;
+            }
+            None => {
+                let line = line_for(alloc, known, &numbers, at)?;
+                lines.push(line)?;
+                numbers[at] = lines.as_slice().len();
+                match users.pop() {
+                    None => return Ok(lines),
+                    Some(user) => at = user,
+                }
+            }
+        }
+    }
+}
+
+fn is_resolved(line: &Known) -> bool
+    ensures { IsTrue result ↔ IsResolved line.now.reason }
+{
+    match line.reason {
+        Reason::Fact(_) => false,
+        Reason::Resolved(_, _, _) => true,
+    }
+}
+
+/// The end, or the line that it resolves with the root's fact.
+fn last_step(known: &[Known], end: usize) -> usize
+    requires ordered { AreOrdered known.now }
+    requires end { EndsAt known.now end }
+    ensures { IsEndLine known.now result }
+{
+    let (i, _, _) = cites(&known[end]);
+    let before = &known[i];
+    if is_resolved(before) && is_root_alone(&before.conclusion) {
+        i
+    } else {
+        end
+    }
+}
+
+/// The derivation of a refusal, cut from the lines of a search: those that the one at `end` rests
+/// on, each written once, from facts. Linear in the lines of the search.
+pub fn cut(alloc: Global, known: &[Known], end: usize) -> Result<Derivation, Refusal>
+    requires ordered { AreOrdered known.now }
+    requires end { EndsAt known.now end }
+    ensures derived { IfOk result (λ derivation. (packages : Packages) (wanted : Wanted) →
+        AreLawful packages wanted known.now → IsDerivation packages wanted derivation) }
+    ensures cited { IfOk result AreCited }
+    ensures only { IfErr result (λ e. e ≡ Refusal.NoMemory) }
+{
+    let lines = lines_of(alloc, known, last_step(known, end))?;
+    Ok(Derivation::new(lines))
+}

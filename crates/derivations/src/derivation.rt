@@ -1,0 +1,82 @@
+// Derivations, and their checker.
+
+ghost use Rattle.std.specs.Prelude.{◌≡◌, ◌↔◌, IfErr, IfOk, IsTrue};
+ghost use Rattle.std.specs.Bool.{OnTrue};
+ghost use Rattle.derivations.specs.Derivations.{IsDerivation, NoSelection};
+
+use crate::following::are_derived;
+use crate::line::{Line, copied, is_end, last_conclusion};
+use registry::{Registry, Request};
+use std::alloc::Global;
+use std::marker::Model;
+use versions::Refusal;
+
+/// Lines that may show that no selection meets a request. Any lines make one; [`check`] judges it.
+#[derive(Drop)]
+pub struct Derivation {
+    lines: Vec<Line>,
+}
+
+impl Model for Derivation {
+    ghost use Rattle.std.specs.Prelude.{List};
+    ghost use Rattle.derivations.specs.declared.line.Line.{Line};
+
+    ghost Value = { List Line };
+
+    ghost view = { λ d. d.lines.items };
+}
+
+impl Derivation {
+    /// A derivation of these lines.
+    pub fn new(lines: Vec<Line>) -> Derivation
+        ensures { result ≡ lines.items }
+    {
+        Derivation { lines }
+    }
+
+    /// The lines, in order.
+    pub fn lines(&self) -> &[Line]
+        ensures { result.now ≡ self.now }
+    {
+        self.lines.as_slice()
+    }
+
+    /// An equal derivation.
+    pub fn copy(&self, alloc: Global) -> Result<Derivation, Refusal>
+        ensures same { IfOk result (λ derivation. derivation ≡ self.now) }
+        ensures only { IfErr result (λ e. e ≡ Refusal.NoMemory) }
+    {
+        Ok(Derivation {
+            lines: copied(alloc, &self.lines)?,
+        })
+    }
+}
+
+/// Whether the lines show that no selection meets the request: each follows from facts of the
+/// registry and the request and from earlier lines, and the last says that the root is not chosen,
+/// or that nothing can be. Linear in the lines, but for matching versions that the registry has not
+/// at hand.
+pub fn check(
+    alloc: Global,
+    registry: &Registry,
+    request: &Request,
+    derivation: &Derivation,
+) -> Result<bool, Refusal>
+    ensures exact { IfOk result (λ yes. IsTrue yes
+        ↔ IsDerivation registry.now.packages request.now derivation.now) }
+    ensures sound { IfOk result (λ yes.
+        OnTrue yes (NoSelection registry.now.packages request.now)) }
+    ensures only { IfErr result (λ e. e ≡ Refusal.NoMemory) }
+{
+    let lines = derivation.lines();
+    match last_conclusion(lines) {
+        None => Ok(false),
+        Some(conclusion) => {
+            if is_end(conclusion) {
+                are_derived(alloc, registry, request, lines)
+            } else {
+                Ok(false)
+            }
+        }
+    }
+}

@@ -1,0 +1,89 @@
+// What lines follow from.
+
+ghost use Rattle.std.specs.Prelude.{◌≡◌, ◌≢◌, ◌↔◌, IfErr, IfOk, IsTrue};
+ghost use Rattle.std.specs.Bool.{OnTrue};
+ghost use Rattle.derivations.specs.Facts.{premise_terms, Holds, Stands};
+
+use crate::standing::{covers, is_dependent};
+use registry::Registry;
+use std::alloc::Global;
+use terms::{Incompat, Pkg, Term, VSet};
+use versions::{Need, Refusal};
+
+/// That each of these versions of a package depends on a target with this requirement, and that the
+/// versions of the target that meet it are within a set.
+#[derive(Drop)]
+pub struct Premise {
+    pub package: Pkg,
+    pub versions: VSet,
+    pub target: Pkg,
+    pub need: Need,
+    pub within: VSet,
+}
+
+/// What a line follows from.
+#[derive(Drop)]
+pub enum Cause {
+    /// The conclusion of the line with this number, counted from 1.
+    Line(usize),
+    /// That versions of a package depend on a target.
+    Premise(Premise),
+    /// The request's need at this place, counted from 0.
+    Need(usize),
+    /// That none of these versions of a package is allowed to the request.
+    NotAllowed(Pkg, VSet),
+    /// That the request must be met.
+    Root,
+}
+
+impl Premise {
+    /// Whether the premise is true of the registry. Takes no memory. The cost grows with the
+    /// dependencies of its versions and with the published versions of the target.
+    pub fn stands(&self, registry: &Registry) -> bool
+        ensures exact { IsTrue result ↔ Stands registry.now.packages self.now }
+        ensures sound { OnTrue result (Holds registry.now.packages (premise_terms self.now)) }
+    {
+        is_dependent(registry, self) && covers(registry, self)
+    }
+
+    /// What the premise says: package In(versions), target NotIn(within).
+    pub(crate) fn incompat(&self, alloc: Global) -> Result<Incompat, Refusal>
+        requires { self.now.package ≢ self.now.target }
+        ensures same { IfOk result (λ incompat. incompat ≡ premise_terms self.now) }
+        ensures only { IfErr result (λ e. e ≡ Refusal.NoMemory) }
+    {
+        let versions = Term::In(self.versions.copy(alloc)?);
+        let within = Term::NotIn(self.within.copy(alloc)?);
+        Ok(Incompat::pair(alloc, self.package, versions, self.target, within)?)
+    }
+
+    /// An equal premise, which shares the requirement with this one.
+    pub fn copy(&self, alloc: Global) -> Result<Premise, Refusal>
+        ensures same { IfOk result (λ premise. premise ≡ self.now) }
+        ensures only { IfErr result (λ e. e ≡ Refusal.NoMemory) }
+    {
+        Ok(Premise {
+            package: self.package,
+            versions: self.versions.copy(alloc)?,
+            target: self.target,
+            need: self.need.copy()?,
+            within: self.within.copy(alloc)?,
+        })
+    }
+}
+
+impl Cause {
+    /// An equal cause.
+    pub fn copy(&self, alloc: Global) -> Result<Cause, Refusal>
+        ensures same { IfOk result (λ cause. cause ≡ self.now) }
+        ensures only { IfErr result (λ e. e ≡ Refusal.NoMemory) }
+    {
+        Ok(match self {
+            Cause::Line(number) => Cause::Line(*number),
+            Cause::Premise(premise) => Cause::Premise(premise.copy(alloc)?),
+            Cause::Need(index) => Cause::Need(*index),
+            Cause::NotAllowed(pkg, versions) => Cause::NotAllowed(*pkg, versions.copy(alloc)?),
+            Cause::Root => Cause::Root,
+        })
+    }
+}

@@ -1,0 +1,36 @@
+// Laws: why derivations and what is learnt can be trusted.
+
+ghost use Rattle.derivations.specs.Laws.{DerivationsRefute, DerivedPremisesStand, EmptyIsNoFact, LearntHolds, PremisesHold, ResolventsHold};
+
+/// What a premise that stands says holds of the registry. It does nothing when it runs.
+pub fn premises_hold()
+    ensures { PremisesHold }
+{}
+
+/// What follows from two incompatibilities that hold of a registry holds. It does nothing when it
+/// runs.
+pub fn resolvents_hold()
+    ensures { ResolventsHold }
+{}
+
+/// What is learnt holds where its premises stand. It does nothing when it runs.
+pub fn learnt_holds()
+    ensures { LearntHolds }
+{}
+
+/// Where there is a derivation, no selection meets the request. It does nothing when it runs.
+pub fn derivations_refute()
+    ensures { DerivationsRefute }
+{}
+
+/// The premises stand of lines that are derived from facts, so that what is learnt of such lines
+/// stands. It does nothing when it runs.
+pub fn derived_premises_stand()
+    ensures { DerivedPremisesStand }
+{}
+
+/// In the lines of a search one without terms is no fact, so that [`cut`](crate::cut) can be asked
+/// for what it rests on. It does nothing when it runs.
+pub fn empty_is_no_fact()
+    ensures { EmptyIsNoFact }
+{}

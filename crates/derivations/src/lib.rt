@@ -1,0 +1,29 @@
+//! Derivations: why no selection meets a request, and what may be learnt of it.
+//!
+//! The words are those of Dart pub's doc/solver.md. A derivation is a list of lines, each of which
+//! follows from facts of a registry and a request or from earlier lines.
+#![tactic(auto)]
+
+mod causes;
+mod cutting;
+mod derivation;
+mod facts;
+mod following;
+mod laws;
+mod learnt;
+mod line;
+mod standing;
+mod store;
+#[cfg(test)]
+mod tests;
+
+pub use cutting::{Known, Reason, cut, lines_of};
+pub use derivation::{Derivation, check};
+pub use facts::{Cause, Premise};
+pub use laws::{
+    derivations_refute, derived_premises_stand, empty_is_no_fact, learnt_holds, premises_hold,
+    resolvents_hold,
+};
+pub use learnt::{LINE_LIMIT, Learnt};
+pub use line::Line;
+pub use store::Store;

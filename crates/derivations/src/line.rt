@@ -1,0 +1,82 @@
+// Lines of a derivation.
+
+ghost use Rattle.std.specs.Prelude.{◌≡◌, ◌↔◌, ◌∷◌, [], IfErr, IfOk, IsTrue};
+ghost use Rattle.std.specs.Option.{option_copied};
+ghost use Rattle.terms.specs.declared.term.Term.TheVariants.{In};
+ghost use Rattle.derivations.specs.Derivations.{last_conclusion, IsEnd};
+
+use crate::facts::Cause;
+use std::alloc::Global;
+use terms::{Incompat, Pkg, Term};
+use versions::Refusal;
+
+/// An incompatibility that follows from two causes on a pivot: there one of the two must hold, on
+/// every other package both (doc/solver.md, "Conflict Resolution").
+#[derive(Drop)]
+pub struct Line {
+    pub conclusion: Incompat,
+    pub causes: (Cause, Cause),
+    pub pivot: Pkg,
+}
+
+impl Line {
+    /// An equal line.
+    pub fn copy(&self, alloc: Global) -> Result<Line, Refusal>
+        ensures same { IfOk result (λ line. line ≡ self.now) }
+        ensures only { IfErr result (λ e. e ≡ Refusal.NoMemory) }
+    {
+        Ok(Line {
+            conclusion: self.conclusion.copy(alloc)?,
+            causes: (self.causes.0.copy(alloc)?, self.causes.1.copy(alloc)?),
+            pivot: self.pivot,
+        })
+    }
+}
+
+/// Equal lines.
+pub fn copied(alloc: Global, lines: &[Line]) -> Result<Vec<Line>, Refusal>
+    ensures same { IfOk result (λ copy. copy.items ≡ lines.now) }
+    ensures only { IfErr result (λ e. e ≡ Refusal.NoMemory) }
+{
+    let mut copy = Vec::with_capacity(alloc, lines.len())?;
+    for line in lines {
+        copy.push(line.copy(alloc)?)?;
+    }
+    Ok(copy)
+}
+
+/// What the last line says.
+pub fn last_conclusion(lines: &[Line]) -> Option<&Incompat>
+    ensures { option_copied result ≡ last_conclusion lines.now }
+{
+    if lines.is_empty() {
+        return None;
+    }
+    Some(&lines[lines.len() - 1].conclusion)
+}
+
+fn is_zero_alone(term: &Term) -> bool
+    ensures { IsTrue result ↔ (term.now ≡ In (0 ∷ [])) }
+{
+    match term {
+        Term::In(set) => set.has(0) && set.len() == 1,
+        Term::NotIn(_) => false,
+    }
+}
+
+/// Whether the only term says that the root is chosen.
+pub fn is_root_alone(conclusion: &Incompat) -> bool
+    ensures { IsTrue result ↔ (conclusion.now ≡ (0, In (0 ∷ [])) ∷ []) }
+{
+    match conclusion.terms() {
+        [only] => only.0 == 0 && is_zero_alone(&only.1),
+        _ => false,
+    }
+}
+
+/// Whether a derivation may end with this conclusion.
+pub fn is_end(conclusion: &Incompat) -> bool
+    ensures { IsTrue result ↔ IsEnd conclusion.now }
+{
+    conclusion.terms().is_empty() || is_root_alone(conclusion)
+}

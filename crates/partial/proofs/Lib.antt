@@ -1,0 +1,16 @@
+pub mod Lists
+pub mod Counting
+pub mod Says
+pub mod Rank
+pub mod Deciding
+pub mod Places
+pub mod Order
+pub mod Noting
+pub mod TermsSeen
+pub mod Reaching
+pub mod Satisfiers
+pub mod Pending
+pub mod Choices
+pub mod Falling
+pub mod Back
+pub mod Standings

@@ -1,0 +1,5 @@
+use Rattle.partial.proofs.Pending.{undecided-selected}
+use Rattle.partial.proofs.laws.undecided_is_selected.Goals as goal
+
+pub returns : goal.returns
+returns c = undecided-selected

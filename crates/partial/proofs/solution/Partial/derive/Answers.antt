@@ -1,0 +1,30 @@
+use Rattle.std.proofs.Common.{arith, refl, sym, subst, true≢false}
+use Rattle.partial.specs.Assignments.{IsPartial}
+use Rattle.partial.proofs.Deciding.{said-derived, IsPartial-push}
+use Rattle.partial.proofs.Places.{last-within, said-up_to}
+use Rattle.partial.proofs.Falling.{rank-falls, rank-falls_from}
+use Rattle.partial.proofs.solution.Partial.derive.Goals as goal
+
+pub add-requires-clause-said : goal.add-requires-clause-said
+add-requires-clause-said c =
+    said-derived c.self.inside.ledger.made.items _ c.said_at.result.now c.in_ok-said.said
+    (said-up_to c.self.inside.ledger.made.items c.args.pkg c.last_on-earlier.result c.said_at.result.now c.last_on-earlier.ensures c.said_at.ensures) c.in_ok-said.ensures.exact
+
+pub said_at-requires-clause-within : goal.said_at-requires-clause-within
+said_at-requires-clause-within c = rw c.last_on-earlier.ensures (last-within c.self.inside.ledger.made.items c.args.pkg)
+
+pub invariant_of-self-2 : goal.invariant_of-self-2
+invariant_of-self-2 c =
+    let whole : IsPartial c.args.self.now = subst IsPartial c.self.view_is c.self.invariant.0 in (
+      rw (c.in_ok-add.ensures.ok, c.self.view_is) (IsPartial-push c.args.self.now _ whole (omega (arith, c.level-level.ensures)) (omega arith) tt (λ e. absurd (true≢false (sym e))) c.requires),
+      c.add.ensures.kept,
+    )
+
+pub returns-clause-falls : goal.returns-clause-falls
+returns-clause-falls c = λ away.
+    let whole : IsPartial c.args.self.now = subst IsPartial c.self.view_is c.self.invariant.0 in
+    rw (c.in_ok-add.ensures.ok, c.self.view_is) (rank-falls c.args.self.now _ whole c.level-level.ensures refl (omega arith) away)
+
+pub returns-clause-falls_back : goal.returns-clause-falls_back
+returns-clause-falls_back c = λ away before level whole opened is.
+    rw (c.in_ok-add.ensures.ok, c.self.view_is) (rank-falls_from c.args.self.now before level _ whole opened is c.level-level.ensures refl (omega arith) away)

@@ -1,0 +1,217 @@
+// The assignments, kept in order and by package.
+
+ghost use Rattle.std.specs.Prelude.{◌≡◌, ◌≤◌, ◌<◌, ◌+◌, ◌-◌, ◌++◌, ◌∷◌, ℕ, [], Option, false, true, is_some, nat_eq, take, length, if◌then◌else◌, OnErr, OnOk};
+ghost use Rattle.indexmap.specs.IndexMap.{get, index_map_len, keys, spare};
+ghost use Rattle.terms.specs.Sets.{has};
+ghost use Rattle.terms.specs.Terms.{true_of};
+ghost use Rattle.partial.specs.Assignments.{decided, decided_by, decisions, is_decided, is_decision, one_if, says, upto, LevelsFrom};
+ghost use Rattle.partial.specs.Ledger.{last_place, through, HasRoom, IsLedger, IsPlaceOn};
+
+use crate::assignment::{Assignment, Why};
+use indexmap::IndexMap;
+use std::alloc::{AllocError, Global};
+use terms::{Pkg, Term, VSet};
+
+/// What is kept beside an assignment.
+#[derive(Drop)]
+pub(crate) struct Note {
+    /// What the assignments on its package say together, from the first one to this.
+    pub(crate) said: Term,
+    /// What they decide.
+    pub(crate) decided: Option<u32>,
+    /// The place of the one before it on its package.
+    pub(crate) earlier: Option<usize>,
+}
+
+/// The assignments in order, a note beside each, and for each package the place of its last one.
+///
+/// The packages that are decided come first in `heads`, in the order of their decisions, so that the
+/// others can be found without a look at these. A package whose assignments were all taken away stays.
+#[derive(Drop)]
+pub(crate) struct Ledger {
+    pub(crate) made: Vec<Assignment>,
+    pub(crate) notes: Vec<Note>,
+    pub(crate) heads: IndexMap<Pkg, Option<usize>>,
+    /// What is said of a package without assignments: that any choice will do.
+    pub(crate) any: Term,
+}
+
+pub(crate) fn empty(alloc: Global) -> Ledger
+    ensures kept { IsLedger result }
+    ensures made { result.made.items ≡ [] }
+{
+    Ledger {
+        made: Vec::new(alloc),
+        notes: Vec::new(alloc),
+        heads: IndexMap::new(alloc),
+        any: Term::NotIn(VSet::new(alloc)),
+    }
+}
+
+/// The place of the last assignment on a package.
+pub(crate) fn last_on(ledger: &Ledger, pkg: Pkg) -> Option<usize>
+    requires { IsLedger ledger.now }
+    ensures { result ≡ last_place ledger.now.made.items pkg }
+{
+    match ledger.heads.get(&pkg) {
+        None => None,
+        Some(last) => *last,
+    }
+}
+
+/// What the assignments on a package say together up to one of them, or with none.
+pub(crate) fn said_at(ledger: &Ledger, place: Option<usize>) -> &Term
+    requires kept { IsLedger ledger.now }
+    requires within { through place ≤ length ledger.now.made.items }
+    ensures { (pkg : ℕ) (choice : Option ℕ) → IsPlaceOn ledger.now.made.items pkg place → true_of result.now choice ≡ says (take (through place) ledger.now.made.items) pkg choice }
+{
+    match place {
+        None => &ledger.any,
+        Some(at) => &ledger.notes[at].said,
+    }
+}
+
+/// What the assignments on a package decide up to one of them.
+pub(crate) fn decided_at(ledger: &Ledger, place: Option<usize>) -> Option<u32>
+    requires kept { IsLedger ledger.now }
+    requires within { through place ≤ length ledger.now.made.items }
+    ensures { (pkg : ℕ) → IsPlaceOn ledger.now.made.items pkg place → result ≡ decided (take (through place) ledger.now.made.items) pkg }
+{
+    match place {
+        None => None,
+        Some(at) => ledger.notes[at].decided,
+    }
+}
+
+/// What all assignments on a package say together.
+pub(crate) fn said_on(ledger: &Ledger, pkg: Pkg) -> &Term
+    requires { IsLedger ledger.now }
+    ensures { (choice : Option ℕ) → true_of result.now choice ≡ says ledger.now.made.items pkg choice }
+{
+    said_at(ledger, last_on(ledger, pkg))
+}
+
+/// What all assignments on a package decide.
+pub(crate) fn decided_on(ledger: &Ledger, pkg: Pkg) -> Option<u32>
+    requires { IsLedger ledger.now }
+    ensures { result ≡ decided ledger.now.made.items pkg }
+{
+    decided_at(ledger, last_on(ledger, pkg))
+}
+
+/// The level of the last assignment, 0 where there is none.
+pub(crate) fn level_of(made: &[Assignment]) -> usize
+    requires { LevelsFrom 0 made.now }
+    ensures { result ≡ decisions made.now }
+{
+    match made {
+        [] => 0,
+        [.., last] => last.level,
+    }
+}
+
+/// Makes a place the last one of a package. A decision puts the package behind those decided before
+/// it, of which there are `level - 1`.
+fn enter(heads: &mut IndexMap<Pkg, Option<usize>>, pkg: Pkg, place: usize, level: usize, why: Why)
+    requires room { 0 < spare heads.old }
+    requires opened { one_if (is_some (decided_by why)) ≤ level }
+    requires within { level ≤ index_map_len heads.old + one_if (is_some (decided_by why)) }
+    requires new { is_some (decided_by why) ≡ true → has (take (level - 1) (keys heads.old)) pkg ≡ false }
+    ensures own { get nat_eq heads.new pkg ≡ Some (Some place) }
+    ensures other { (q : ℕ) → nat_eq pkg q ≡ false → get nat_eq heads.new q ≡ get nat_eq heads.old q }
+    ensures order { take level (keys heads.new) ≡ take (level - one_if (is_some (decided_by why))) (keys heads.old) ++ (if is_some (decided_by why) then pkg ∷ [] else []) }
+{
+    let (index, _) = heads.insert_full(pkg, Some(place)).unwrap();
+    if let Why::Decided(_) = why {
+        heads.swap_indices(index, level - 1);
+    }
+}
+
+/// Makes room for one assignment more.
+fn make_room(
+    made: &mut Vec<Assignment>,
+    notes: &mut Vec<Note>,
+    heads: &mut IndexMap<Pkg, Option<usize>>,
+) -> Result<(), AllocError>
+    ensures made { made.new.items ≡ made.old.items }
+    ensures notes { notes.new.items ≡ notes.old.items }
+    ensures heads { heads.new.entries ≡ heads.old.entries }
+    ensures room { OnOk result (HasRoom made.new notes.new heads.new) }
+{
+    made.reserve(1)?;
+    notes.reserve(1)?;
+    heads.reserve(1)?;
+    Ok(())
+}
+
+/// Adds an assignment where there is room, given the place of the one before it on its package and
+/// what they say with it.
+fn put(ledger: &mut Ledger, a: Assignment, earlier: Option<usize>, said: Term)
+    requires kept { IsLedger ledger.old }
+    requires room { HasRoom ledger.old.made ledger.old.notes ledger.old.heads }
+    requires earlier { earlier ≡ last_place ledger.old.made.items a.pkg }
+    requires said { (choice : Option ℕ) → true_of said choice ≡ says (ledger.old.made.items ++ a ∷ []) a.pkg choice }
+    requires level { a.level ≡ decisions ledger.old.made.items + one_if (is_decision a) }
+    requires once { is_decision a ≡ true → is_decided ledger.old.made.items a.pkg ≡ false }
+    ensures kept { IsLedger ledger.new }
+    ensures made { ledger.new.made.items ≡ ledger.old.made.items ++ a ∷ [] }
+{
+    let decided = match a.why {
+        Why::Decided(ordinal) => Some(ordinal),
+        Why::Derived(_) => decided_at(ledger, earlier),
+    };
+    let place = ledger.made.len();
+    enter(&mut ledger.heads, a.pkg, place, a.level, a.why);
+    let note = Note {
+        said,
+        decided,
+        earlier,
+    };
+    ledger.notes.push(note).unwrap();
+    ledger.made.push(a).unwrap();
+}
+
+/// Adds an assignment, given the place of the one before it on its package and what they say with it.
+pub(crate) fn add(
+    ledger: &mut Ledger,
+    a: Assignment,
+    earlier: Option<usize>,
+    said: Term,
+) -> Result<(), AllocError>
+    requires kept { IsLedger ledger.old }
+    requires earlier { earlier ≡ last_place ledger.old.made.items a.pkg }
+    requires said { (choice : Option ℕ) → true_of said choice ≡ says (ledger.old.made.items ++ a ∷ []) a.pkg choice }
+    requires level { a.level ≡ decisions ledger.old.made.items + one_if (is_decision a) }
+    requires once { is_decision a ≡ true → is_decided ledger.old.made.items a.pkg ≡ false }
+    ensures kept { IsLedger ledger.new }
+    ensures ok { OnOk result (ledger.new.made.items ≡ ledger.old.made.items ++ a ∷ []) }
+    ensures err { OnErr result (ledger.new.made.items ≡ ledger.old.made.items) }
+{
+    make_room(&mut ledger.made, &mut ledger.notes, &mut ledger.heads)?;
+    put(ledger, a, earlier, said);
+    Ok(())
+}
+
+/// Takes the last assignment away.
+fn undo(ledger: &mut Ledger)
+    requires some { 0 < length ledger.old.made.items }
+    requires kept { IsLedger ledger.old }
+    ensures kept { IsLedger ledger.new }
+    ensures made { (a : Assignment) × (ledger.old.made.items ≡ ledger.new.made.items ++ a ∷ []) }
+{
+    let a = ledger.made.pop().unwrap();
+    let note = ledger.notes.pop().unwrap();
+    let _last = ledger.heads.insert(a.pkg, note.earlier).unwrap();
+}
+
+/// Takes the assignments above a level away, from the last one on.
+pub(crate) fn go_back(ledger: &mut Ledger, level: usize)
+    requires kept { IsLedger ledger.old }
+    requires levels { LevelsFrom 0 ledger.old.made.items }
+    ensures kept { IsLedger ledger.new }
+    ensures made { ledger.new.made.items ≡ upto level ledger.old.made.items }
+{
+    'back: while level_of(&ledger.made) > level {
+        undo(ledger);
+    }
+}

@@ -1,0 +1,115 @@
+// The satisfier of an incompatibility, and the previous level.
+
+ghost use Rattle.std.specs.Prelude.{◌≡◌, ◌≤◌, ◌<◌, ◌||◌, Option, ℕ, length, not, take, true, false, IfOk};
+ghost use Rattle.terms.specs.Incompats.{IsIncompat};
+ghost use Rattle.terms.specs.Terms.{true_of, Exception, Implies};
+ghost use Rattle.partial.specs.Assignments.{LevelsFrom};
+ghost use Rattle.partial.specs.Ledger.{through, IsLedger, IsPlaceOn};
+ghost use Rattle.partial.specs.Reach.{Holds, IsReach, IsShortestOn};
+ghost use Rattle.partial.specs.Satisfying.{Satisfied, IsSatisfier};
+
+use crate::ledger::{Ledger, last_on, level_of, said_at};
+use std::alloc::{AllocError, Global};
+use terms::{Pkg, Relation, Term, relation};
+
+/// How far the assignments must go to satisfy terms.
+#[derive(Clone, Copy)]
+struct Reach {
+    /// How many assignments it takes, from the first on.
+    count: usize,
+    /// The place of the term on the package of the last one of these.
+    own: usize,
+    /// How many it takes for the other terms.
+    others: usize,
+}
+
+/// Whether a term must hold where another does.
+fn implies(said: &Term, term: &Term) -> bool
+    ensures yes { result ≡ true → Implies said.now term.now }
+    ensures no { result ≡ false → Exception said.now term.now }
+{
+    match relation(said, term) {
+        Relation::Satisfies => true,
+        Relation::Contradicts => false,
+        Relation::Inconclusive => false,
+    }
+}
+
+/// How many assignments it takes, from the first on, until a package's term must hold, where it must
+/// with those up to the place `last`. This looks at the assignments on that package alone.
+fn shortest_on(ledger: &Ledger, last: Option<usize>, entry: &(Pkg, Term)) -> usize
+    requires kept { IsLedger ledger.now }
+    requires on { IsPlaceOn ledger.now.made.items entry.now.0 last }
+    requires holds { Holds (take (through last) ledger.now.made.items) entry.now.0 entry.now.1 }
+    ensures shortest { IsShortestOn ledger.now.made.items entry.now.0 entry.now.1 result }
+    ensures within { result ≤ through last }
+{
+    let notes = ledger.notes.as_slice();
+    let mut place = last;
+    'walk: while let Some(at) = place {
+        let note = &notes[at];
+        if !implies(said_at(ledger, note.earlier), &entry.1) {
+            return at + 1;
+        }
+        place = note.earlier;
+    }
+    0
+}
+
+/// How far the assignments must go to satisfy terms, which they do.
+fn reach_of(ledger: &Ledger, terms: &[(Pkg, Term)]) -> Reach
+    requires kept { IsLedger ledger.now }
+    requires lawful { IsIncompat terms.now }
+    requires some { 0 < length terms.now }
+    requires satisfied { Satisfied ledger.now.made.items terms.now }
+    ensures { IsReach ledger.now.made.items terms.now result.count result.own result.others }
+{
+    let mut reach = Reach {
+        count: 0,
+        own: 0,
+        others: 0,
+    };
+    for (i, entry) in terms.iter().enumerate() {
+        let count = shortest_on(ledger, last_on(ledger, entry.0), entry);
+        if count > reach.count {
+            reach = Reach {
+                count,
+                own: i,
+                others: reach.count,
+            };
+        } else {
+            reach.others = reach.others.max(count);
+        }
+    }
+    reach
+}
+
+/// The term that must hold before an assignment so that with it another term holds.
+fn rest_of(alloc: Global, assigned: &Term, term: &Term) -> Result<Term, AllocError>
+    ensures { IfOk result (λ rest. (choice : Option ℕ) → true_of rest choice ≡ (not (true_of assigned.now choice) || true_of term.now choice)) }
+{
+    Ok(assigned.copy(alloc)?.negate().or(alloc, term)?)
+}
+
+/// The satisfier's place and the previous level.
+pub(crate) fn satisfier_of(
+    alloc: Global,
+    ledger: &Ledger,
+    terms: &[(Pkg, Term)],
+) -> Result<(usize, usize), AllocError>
+    requires kept { IsLedger ledger.now }
+    requires levels { LevelsFrom 0 ledger.now.made.items }
+    requires lawful { IsIncompat terms.now }
+    requires some { 0 < length terms.now }
+    requires satisfied { Satisfied ledger.now.made.items terms.now }
+    ensures { IfOk result (λ found. IsSatisfier ledger.now.made.items terms.now found.0 found.1) }
+{
+    let reach = reach_of(ledger, terms);
+    let index = reach.count - 1;
+    let own = &terms[reach.own];
+    let rest = (own.0, rest_of(alloc, &ledger.made[index].term, &own.1)?);
+    let alone = shortest_on(ledger, ledger.notes[index].earlier, &rest);
+    let before = alone.max(reach.others);
+    let level = level_of(&ledger.made[..before]);
+    Ok((index, level.max(1)))
+}

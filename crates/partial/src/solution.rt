@@ -1,0 +1,188 @@
+// The partial solution.
+
+ghost use Rattle.std.specs.Prelude.{◌≡◌, ◌+◌, ◌<◌, ◌++◌, ◌∷◌, ℕ, [], Option, None, Some, false, true, length, nat_eq, take, IfNone, IfOk, IfSome, OnErr, OnOk};
+ghost use Rattle.std.specs.List.{IsDistinct};
+ghost use Rattle.std.specs.List.Sorted.{IsStrictlyIncreasing};
+ghost use Rattle.terms.specs.Sets.{has};
+ghost use Rattle.terms.specs.Terms.{true_of};
+ghost use Rattle.partial.specs.Assignments.{decided, decisions, is_decided, is_undecided, says, upto, IsOpenTo, IsPartial};
+ghost use Rattle.partial.specs.Rank.{rank, FallsBack, TakesAway};
+ghost use Rattle.partial.specs.Satisfying.{CanGoBack, IsSatisfier, Satisfied, Stands};
+
+use crate::assignment::{Assignment, Why};
+use crate::ledger::{Ledger, add, decided_on, empty, go_back, last_on, level_of, said_at};
+use crate::satisfier::satisfier_of;
+use crate::standing::{Standing, standing_of};
+use crate::undecided::{pending_in, undecided_in};
+use std::alloc::{AllocError, Global};
+use std::marker::Model;
+use terms::{Incompat, Pkg, Term, VSet};
+
+/// Decisions and derivations in the order in which they were made (doc/solver.md, "Partial
+/// Solution"). What they say of a package is at hand, whatever the number of the others.
+#[derive(Drop)]
+pub struct Partial {
+    ledger: Ledger,
+    alloc: Global,
+}
+
+impl Model for Partial {
+    ghost use Rattle.std.specs.Prelude.{List};
+    ghost use Rattle.partial.specs.declared.assignment.Assignment.{Assignment};
+    ghost use Rattle.partial.specs.Assignments.{IsPartial};
+    ghost use Rattle.partial.specs.Ledger.{IsLedger};
+
+    ghost Value = { List Assignment };
+
+    ghost view = { λ p. p.ledger.made.items };
+
+    ghost invariant = { λ p. IsPartial p.ledger.made.items × IsLedger p.ledger };
+}
+
+/// That an ordinal is chosen.
+fn only(alloc: Global, ordinal: u32) -> Result<Term, AllocError>
+    ensures { IfOk result (λ term. term ≡ Term.In (ordinal ∷ [])) }
+{
+    Ok(Term::In(VSet::single(alloc, ordinal)?))
+}
+
+impl Partial {
+    /// Without assignments; it takes no memory.
+    pub fn new(alloc: Global) -> Partial
+        ensures { result ≡ [] }
+    {
+        Partial {
+            ledger: empty(alloc),
+            alloc,
+        }
+    }
+
+    /// The assignments, in order.
+    pub fn assignments(&self) -> &[Assignment]
+        ensures same { result.now ≡ self.now }
+        ensures lawful { IsPartial self.now }
+    {
+        self.ledger.made.as_slice()
+    }
+
+    /// How many decisions there are.
+    pub fn level(&self) -> usize
+        ensures { result ≡ decisions self.now }
+    {
+        level_of(&self.ledger.made)
+    }
+
+    /// What the assignments on a package say together, none where there is no assignment on it.
+    pub fn said(&self, pkg: Pkg) -> Option<&Term>
+        ensures some { IfSome result (λ term. (choice : Option ℕ) → true_of term.now choice ≡ says self.now pkg choice) }
+        ensures none { IfNone result ((choice : Option ℕ) → says self.now pkg choice ≡ true) }
+        ensures lawful { IsPartial self.now }
+    {
+        let last = last_on(&self.ledger, pkg);
+        match last {
+            None => None,
+            Some(_) => Some(said_at(&self.ledger, last)),
+        }
+    }
+
+    /// The ordinal that is decided of a package.
+    pub fn decision(&self, pkg: Pkg) -> Option<u32>
+        ensures exactly { result ≡ decided self.now pkg }
+        ensures only { IfSome result (λ ordinal. (choice : Option ℕ) → says self.now pkg choice ≡ true → choice ≡ Some ordinal) }
+        ensures lawful { IsPartial self.now }
+    {
+        decided_on(&self.ledger, pkg)
+    }
+
+    /// The packages that an assignment was on and that have no decision, each once and in no order:
+    /// the undecided ones are among them. It costs nothing.
+    pub fn pending(&self) -> &[Pkg]
+        ensures undecided { (pkg : ℕ) → is_undecided self.now pkg ≡ true → has result.now pkg ≡ true }
+        ensures open { (pkg : ℕ) → has result.now pkg ≡ true → is_decided self.now pkg ≡ false }
+        ensures once { IsDistinct nat_eq result.now }
+        ensures lawful { IsPartial self.now }
+    {
+        pending_in(&self.ledger)
+    }
+
+    /// The packages with a positive derivation and no decision, in rising order. It looks at the
+    /// pending ones alone.
+    pub fn undecided(&self) -> Result<Vec<Pkg>, AllocError>
+        ensures exactly { IfOk result (λ found. (pkg : ℕ) → has found.items pkg ≡ is_undecided self.now pkg) }
+        ensures rising { IfOk result (λ found. IsStrictlyIncreasing found.items) }
+        ensures lawful { IsPartial self.now }
+    {
+        Ok(undecided_in(self.alloc, &self.ledger)?)
+    }
+
+    /// How an incompatibility stands to the assignments, by one look at each of its packages.
+    pub fn relation(&self, incompat: &Incompat) -> Standing
+        ensures stands { Stands self.now incompat.now result }
+        ensures lawful { IsPartial self.now }
+    {
+        standing_of(&self.ledger, incompat.terms())
+    }
+
+    /// The place of the satisfier of an incompatibility, and the previous level, at least 1
+    /// (doc/solver.md, "Conflict Resolution"). This looks at the assignments on the incompatibility's
+    /// packages alone.
+    pub fn satisfier(&self, incompat: &Incompat) -> Result<(usize, usize), AllocError>
+        requires some { 0 < length incompat.now }
+        requires satisfied { Satisfied self.now incompat.now }
+        ensures satisfier { IfOk result (λ found. IsSatisfier self.now incompat.now found.0 found.1) }
+        ensures early { IfOk result (λ found. (bound : ℕ) → Satisfied (take bound self.now) incompat.now → found.0 < bound) }
+        ensures back { IfOk result (λ found. CanGoBack self.now incompat.now found.0 found.1) }
+    {
+        Ok(satisfier_of(self.alloc, &self.ledger, incompat.terms())?)
+    }
+
+    /// Adds a derivation at the present level, with the place of its cause in the caller's list.
+    pub fn derive(&mut self, pkg: Pkg, term: Term, cause: usize) -> Result<(), AllocError>
+        requires { IsOpenTo self.old pkg term }
+        ensures ok { OnOk result (self.new ≡ self.old ++ record { pkg = pkg; term = term; level = decisions self.old; why = Why.Derived cause } ∷ []) }
+        ensures falls { OnOk result (TakesAway self.old pkg term → rank self.new < rank self.old) }
+        ensures falls_back { OnOk result (TakesAway self.old pkg term → FallsBack self.old self.new) }
+        ensures err { OnErr result (self.new ≡ self.old) }
+    {
+        let level = self.level();
+        let earlier = last_on(&self.ledger, pkg);
+        let said = said_at(&self.ledger, earlier).and(self.alloc, &term)?;
+        let derivation = Assignment {
+            pkg,
+            term,
+            level,
+            why: Why::Derived(cause),
+        };
+        add(&mut self.ledger, derivation, earlier, said)?;
+        Ok(())
+    }
+
+    /// Decides for an ordinal, which opens a level.
+    pub fn decide(&mut self, pkg: Pkg, ordinal: u32) -> Result<(), AllocError>
+        requires undecided { is_decided self.old pkg ≡ false }
+        requires within { says self.old pkg (Some ordinal) ≡ true }
+        ensures ok { OnOk result (self.new ≡ self.old ++ record { pkg = pkg; term = Term.In (ordinal ∷ []); level = decisions self.old + 1; why = Why.Decided ordinal } ∷ []) }
+        ensures falls { OnOk result (rank self.new < rank self.old) }
+        ensures err { OnErr result (self.new ≡ self.old) }
+    {
+        let level = self.level() + 1;
+        let term = only(self.alloc, ordinal)?;
+        let said = only(self.alloc, ordinal)?;
+        let earlier = last_on(&self.ledger, pkg);
+        let decision = Assignment {
+            pkg,
+            term,
+            level,
+            why: Why::Decided(ordinal),
+        };
+        add(&mut self.ledger, decision, earlier, said)?;
+        Ok(())
+    }
+
+    /// Removes the assignments above a level. The cost is that of what is removed.
+    pub fn back_to(&mut self, level: usize)
+        ensures { self.new ≡ upto level self.old }
+    {
+        go_back(&mut self.ledger, level);
+    }
+}

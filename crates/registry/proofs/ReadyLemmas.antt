@@ -1,0 +1,74 @@
+-- What is made ready for a publication.
+use Rattle.std.proofs.Common.{◌≡◌, ◌<◌, ◌+◌, ◌∙◌, ℕ, suc, List, [], ◌∷◌, ◌++◌, Bool, true, false, if◌then◌else◌, add-one, ap, drop, get_or, length, take, refl, subst, sym}
+use Rattle.std.specs.Borrow.{Bor}
+use Rattle.std.specs.List.{find}
+use Rattle.std.specs.Option.{option_map}
+use Rattle.std.specs.Prelude.{Option, None, Some, IfSome}
+use Rattle.std.specs.Str.{bytes_eq}
+use Rattle.std.proofs.lemmas.Map.Made.{IfSome-find_same}
+use Rattle.std.proofs.lemmas.Slice.Eq.{bytes_eq-Decides}
+use Rattle.std.proofs.Math.Seq.{drop-cons}
+use Rattle.std.proofs.lemmas.List.{append_assoc, take_more}
+use Rattle.std.proofs.lemmas.List.Elements.{All-append, All-cons, All-nil}
+use Rattle.versions.specs.Words.{Text}
+use Rattle.registry.specs.Publications.{PublicationList}
+use Rattle.registry.specs.Rooms.{AreEmpty, IsReady, IsReadyIfAny, names_in, publication_for, unknown_names}
+use Rattle.registry.specs.declared.ready.Ready.{Ready}
+use Rattle.registry.proofs.PackageLemmas.{map-push}
+
+-- ---- the needs, one by one
+
+module _ (known : Text → Bool) (needs : List (Text × Text)) (i : ℕ) (d : Text × Text) (lt : i < length needs) (at : d ≡ get_or needs i d) where
+  this : unknown_names known (drop i needs) ≡ (if known d.0 then unknown_names known (drop (i + 1) needs) else d.0 ∷ unknown_names known (drop (i + 1) needs))
+  this = ap (unknown_names known) (drop-cons needs i d lt ∙ ap (λ x. x ∷ drop (suc i) needs) (sym at)) ∙ ap (λ n. unknown_names known (d ∷ drop n needs)) (sym (add-one i))
+
+  -- a name that is known is passed over
+  pub unknown-known : (added : List (Text × PublicationList)) → known d.0 ≡ true → names_in added ++ unknown_names known (drop i needs) ≡ unknown_names known needs
+      → names_in added ++ unknown_names known (drop (i + 1) needs) ≡ unknown_names known needs
+  unknown-known added t all =
+      sym (ap (λ l. names_in added ++ l) (this ∙ ap (λ b. if b then unknown_names known (drop (i + 1) needs) else d.0 ∷ unknown_names known (drop (i + 1) needs)) t)) ∙ all
+
+  -- a name that is new is added
+  pub unknown-new : (added : List (Text × PublicationList)) (new : Text × PublicationList) → known d.0 ≡ false → new.0 ≡ d.0
+      → names_in added ++ unknown_names known (drop i needs) ≡ unknown_names known needs
+      → names_in (added ++ new ∷ []) ++ unknown_names known (drop (i + 1) needs) ≡ unknown_names known needs
+  unknown-new added new f same all =
+      ap (λ l. l ++ unknown_names known (drop (i + 1) needs)) (map-push (λ (p : Text × PublicationList). p.0) added new)
+      ∙ append_assoc (names_in added) (new.0 ∷ []) (unknown_names known (drop (i + 1) needs))
+      ∙ ap (λ (n : Text). names_in added ++ (n ∷ unknown_names known (drop (i + 1) needs))) same
+      ∙ sym (ap (λ l. names_in added ++ l) (this ∙ ap (λ b. if b then unknown_names known (drop (i + 1) needs) else d.0 ∷ unknown_names known (drop (i + 1) needs)) f)) ∙ all
+
+pub AreEmpty-push : (added : List (Text × PublicationList)) (new : Text × PublicationList) → AreEmpty added → new.1.publications ≡ [] → AreEmpty (added ++ new ∷ [])
+AreEmpty-push added new all empty =
+    let P : Text × PublicationList → Type 0 = λ p. p.1.publications ≡ [] in
+    All-append P added (new ∷ []) all (All-cons P new [] empty (All-nil P))
+
+-- an equal need more
+pub taken-push : (needs same : List (Text × Text)) (i : ℕ) (d kept : Text × Text) → i < length needs → d ≡ get_or needs i d → kept ≡ d → same ≡ take i needs → same ++ kept ∷ [] ≡ take (i + 1) needs
+taken-push needs same i d kept lt at is before =
+    ap (λ (n : Text × Text). same ++ n ∷ []) (is ∙ at) ∙ ap (λ l. l ++ get_or needs i d ∷ []) before ∙ sym (take_more needs i d lt)
+
+-- the name that a look-up finds is the name that is looked up
+pub kept-same : (found : Option (ℕ × Bor Text)) (name : Text) (names : List Text) → option_map (λ (p : ℕ × Bor Text). p.1.now) found ≡ find (bytes_eq name) names
+    → IfSome found (λ (p : ℕ × Bor Text). p.1.now ≡ name)
+kept-same found name names at =
+    let P : Text → Type 0 = λ kept. kept ≡ name in
+    behind P found (subst (λ o. IfSome o P) (sym at) (IfSome-find_same {eq = bytes_eq} bytes_eq-Decides name names))
+  where
+    behind : (P : Text → Type 0) (found : Option (ℕ × Bor Text)) → IfSome (option_map (λ (p : ℕ × Bor Text). p.1.now) found) P → IfSome found (λ (p : ℕ × Bor Text). P p.1.now)
+    behind P None h = h
+    behind P (Some kept) h = h
+
+-- ---- what was made ready is taken
+
+pub ready-taken : (names : List Text) (names_room : ℕ) (lists : List PublicationList) (lists_room : ℕ) (o : Option Ready) (r : Ready)
+    → IsReadyIfAny names names_room lists lists_room o → o ≡ Some r → IsReady names names_room lists lists_room r
+ready-taken names names_room lists lists_room o r h e = subst (IsReadyIfAny names names_room lists lists_room) e h
+
+some-same : {A : Type 0} (x y : A) → Some x ≡ Some y → x ≡ y
+some-same x y e = cc e
+
+pub ready-for : (o : Option Ready) (r : Ready) (name : Text) (needs : List (Text × Text)) → publication_for o ≡ Some (name, needs) → o ≡ Some r → (r.name ≡ name) × (r.needs ≡ needs)
+ready-for o r name needs for_this e =
+    let same = some-same {A = Text × List (Text × Text)} (r.name, r.needs) (name, needs) (sym (ap publication_for e) ∙ for_this) in
+    (ap (λ (p : Text × List (Text × Text)). p.0) same, ap (λ (p : Text × List (Text × Text)). p.1) same)

@@ -1,0 +1,10 @@
+use Rattle.std.proofs.Common.{ap, arith, length}
+use Rattle.registry.specs.Publications.{PublicationList}
+use Rattle.registry.proofs.PublicationLemmas.{length-publications_of}
+use Rattle.registry.proofs.publications.Publications.len.Goals as goal
+
+pub returns : goal.returns
+returns c =
+    let count = length-publications_of c.self.inside.releases.releases c.self.inside.needs.items c.self.invariant in
+    let seen = ap (λ (l : PublicationList). length l.publications) c.self.view_is in
+    omega (arith, count, seen, c.len.ensures, c.self.invariant, c.self.inside.needs.ok.0)

@@ -1,0 +1,25 @@
+use Rattle.std.proofs.Common.{◌∙◌, ap, false, sym, true}
+use Rattle.registry.specs.Publications.{PublicationList, publications_of}
+use Rattle.registry.specs.Step.{set_yanked}
+use Rattle.registry.proofs.PublicationLemmas.{set_yanked-found, set_yanked-none}
+use Rattle.registry.proofs.publications.Publications.set_yanked.Goals as goal
+
+pub returns-in_default : goal.returns-in_default
+returns-in_default c =
+    rw (← c.self.view_is) (sym (set_yanked-none c.self.inside.releases.releases c.self.inside.needs.items c.args.version.now c.args.yanked (sym c.in_default.ensures.there)))
+
+pub returns-then-yanked : goal.returns-then-yanked
+returns-then-yanked c =
+    ap (λ l. publications_of l c.self.inside.needs.items) c.yank.ensures.releases
+    ∙ set_yanked-found c.self.inside.releases.releases c.self.inside.needs.items c.args.version.now c.in-Some.ordinal true c.self.invariant
+    (record { found = c.in-Some.ensures.found; only = c.in-Some.ensures.only })
+    ∙ ap (λ b. set_yanked c.args.version.now b (publications_of c.self.inside.releases.releases c.self.inside.needs.items)) (sym c.if-yanked.true)
+    ∙ ap (λ (l : PublicationList). set_yanked c.args.version.now c.args.yanked l.publications) c.self.view_is
+
+pub returns-else-yanked : goal.returns-else-yanked
+returns-else-yanked c =
+    ap (λ l. publications_of l c.self.inside.needs.items) c.unyank.ensures.releases
+    ∙ set_yanked-found c.self.inside.releases.releases c.self.inside.needs.items c.args.version.now c.in-Some.ordinal false c.self.invariant
+    (record { found = c.in-Some.ensures.found; only = c.in-Some.ensures.only })
+    ∙ ap (λ b. set_yanked c.args.version.now b (publications_of c.self.inside.releases.releases c.self.inside.needs.items)) (sym c.if-yanked.false)
+    ∙ ap (λ (l : PublicationList). set_yanked c.args.version.now c.args.yanked l.publications) c.self.view_is

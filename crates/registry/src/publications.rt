@@ -1,0 +1,210 @@
+// The publications of one package.
+
+ghost use Rattle.std.specs.Prelude.{◌≡◌, ◌<◌, ◌∷◌, ◌++◌, [], ℕ, false, length, slice_get, None, Some, IfErr, IfNone, IfOk, IfSome, IsOk, OnOk, is_some, true};
+ghost use Rattle.std.specs.Option.{option_copied};
+ghost use Rattle.releases.specs.Matching.{ordinals_of};
+ghost use Rattle.terms.specs.Sets.{has};
+ghost use Rattle.registry.specs.Highest.{IsHighest};
+ghost use Rattle.registry.specs.Publications.{publications_in};
+ghost use Rattle.registry.specs.Registry.{has_version, publication_equals, publication_meets};
+ghost use Rattle.registry.specs.Step.{set_yanked, unyank_refusal, yank_of, yank_refusal};
+
+use crate::dependencies::Dependencies;
+use releases::{Matching, Release, Releases};
+use std::alloc::{AllocError, Global};
+use std::marker::Model;
+use terms::VSet;
+use versions::{Need, Published, Refusal};
+
+/// The publications of a package, in order: its releases, and beside each what it depends on.
+#[derive(Drop)]
+pub struct Publications {
+    releases: Releases,
+    needs: Vec<Dependencies>,
+}
+
+impl Model for Publications {
+    ghost use Rattle.std.specs.Prelude.{◌≡◌, ◌-◌, length, min, vec_capacity, vec_len};
+    ghost use Rattle.registry.specs.Publications.{PublicationList, publications_of};
+
+    ghost Value = { PublicationList };
+
+    ghost view = { λ p. record {
+      publications = publications_of p.releases.releases p.needs.items;
+      room = min p.releases.room (vec_capacity p.needs - vec_len p.needs);
+    } };
+
+    ghost invariant = { λ p. length p.needs.items ≡ length p.releases.releases };
+}
+
+impl Publications {
+    /// No publications.
+    pub fn new(alloc: Global) -> Publications
+        ensures { result.publications ≡ [] }
+    {
+        Publications {
+            releases: Releases::new(alloc),
+            needs: Vec::new(alloc),
+        }
+    }
+
+    /// How many there are.
+    pub fn len(&self) -> usize
+        ensures { result ≡ length self.now.publications }
+    {
+        self.needs.len()
+    }
+
+    /// The release with this ordinal, and what it depends on.
+    pub fn at(&self, ordinal: u32) -> (&Release, &Dependencies)
+        requires { ordinal < length self.now.publications }
+        ensures { slice_get self.now.publications ordinal ≡ Some (record {
+          version = result.0.now.version;
+          needs = result.1.now;
+          yanked = result.0.now.yanked;
+        }) }
+    {
+        let place = ordinal as usize;
+        (&self.releases.as_slice()[place], &self.needs[place])
+    }
+
+    /// Whether there is one of equal precedence.
+    pub fn has_version(&self, version: &Published) -> bool
+        ensures { result ≡ has_version self.now.publications version.now }
+    {
+        self.releases.find(version).is_some()
+    }
+
+    /// The ordinal of the one of equal precedence.
+    pub fn find(&self, version: &Published) -> Option<u32>
+        ensures there { is_some result ≡ has_version self.now.publications version.now }
+        ensures found { IfSome result (λ k. publication_equals (slice_get self.now.publications k) version.now ≡ true) }
+    {
+        self.releases.find(version)
+    }
+
+    /// Whether the one of equal precedence is yanked, if there is one.
+    pub fn yank_of(&self, version: &Published) -> Option<bool>
+        ensures { result ≡ yank_of self.now.publications version.now }
+    {
+        let ordinal = self.releases.find(version)?;
+        Some(self.releases.as_slice()[ordinal as usize].yanked)
+    }
+
+    /// The ordinals of those that meet a requirement: the kept set where its text is named, else one
+    /// that is computed.
+    pub fn matching(&self, need: &Need) -> Result<Matching<'_>, AllocError>
+        ensures { IfOk result (λ set. (k : ℕ) → has (ordinals_of set) k ≡ publication_meets (slice_get self.now.publications k) need.now) }
+    {
+        self.releases.matching(need)
+    }
+
+    /// The one of highest precedence in a set.
+    pub fn highest(&self, set: &VSet) -> Option<u32>
+        ensures some { IfSome result (IsHighest (λ k b. has set.now k ≡ b) self.now.publications) }
+        ensures none { IfNone result ((k : ℕ) → k < length self.now.publications → has set.now k ≡ false) }
+    {
+        self.releases.highest(set)
+    }
+
+    /// The one of highest precedence that passes a test of its ordinal.
+    pub fn highest_where<F: Fn(u32) -> bool>(&self, passes: F) -> Option<u32>
+        requires { (k : ℕ) → k < length self.now.publications → F.pre passes k }
+        ensures some { IfSome result (IsHighest (F.post passes) self.now.publications) }
+        ensures none { IfNone result ((k : ℕ) → k < length self.now.publications → F.post passes k false) }
+    {
+        self.releases.highest_where(passes)
+    }
+
+    /// The equal requirement whose matching set is kept, where there is one.
+    pub fn named(&self, need: &Need) -> Option<&Need>
+        ensures { IfSome result (λ kept. kept.now ≡ need.now) }
+    {
+        self.releases.named(need)
+    }
+
+    /// Keeps the matching set of a requirement from now on.
+    pub fn name_need(&mut self, need: &Need) -> Result<(), AllocError>
+        ensures { self.new.publications ≡ self.old.publications }
+    {
+        self.releases.name_need(need)
+    }
+
+    /// Makes room for one more.
+    pub fn reserve(&mut self) -> Result<(), AllocError>
+        ensures same { self.new.publications ≡ self.old.publications }
+        ensures ok { OnOk result (0 < self.new.room) }
+    {
+        self.needs.reserve(1)?;
+        self.releases.reserve()
+    }
+
+    /// Publishes a version of new precedence, in room that was made.
+    pub fn push(&mut self, version: Published, needs: Dependencies)
+        requires room { 0 < self.old.room }
+        requires new { has_version self.old.publications version ≡ false }
+        requires few { length self.old.publications < 1024 }
+        ensures { self.new.publications ≡ self.old.publications ++ (record { version = version; needs = needs; yanked = false }) ∷ [] }
+    {
+        self.releases.push(version);
+        self.needs.push(needs).unwrap();
+    }
+
+    /// Marks the one of equal precedence as yanked or not, if there is one.
+    pub fn set_yanked(&mut self, version: &Published, yanked: bool)
+        ensures { self.new.publications ≡ set_yanked version.now yanked self.old.publications }
+    {
+        let Some(ordinal) = self.releases.find(version) else {
+            return;
+        };
+        if yanked {
+            self.releases.yank(ordinal);
+        } else {
+            self.releases.unyank(ordinal);
+        }
+    }
+}
+
+/// Whether there is a publication of equal precedence.
+pub fn has_version(publications: Option<&Publications>, version: &Published) -> bool
+    ensures { result ≡ has_version (publications_in (option_copied publications.entry)) version.now }
+{
+    match publications {
+        None => false,
+        Some(publications) => publications.has_version(version),
+    }
+}
+
+/// How many publications there are.
+pub fn count(publications: Option<&Publications>) -> usize
+    ensures { result ≡ length (publications_in (option_copied publications.entry)) }
+{
+    match publications {
+        None => 0,
+        Some(publications) => publications.len(),
+    }
+}
+
+/// Whether a version can be yanked, or why not: by whether the one of equal precedence is yanked.
+pub fn check_yank(yank: Option<bool>) -> Result<(), Refusal>
+    ensures accepted { OnOk result (yank_refusal yank ≡ None) }
+    ensures refused { IfErr result (λ e. yank_refusal yank ≡ Some e) }
+{
+    match yank {
+        None => Err(Refusal::NoSuchVersion),
+        Some(true) => Err(Refusal::AlreadyYanked),
+        Some(false) => Ok(()),
+    }
+}
+
+/// Whether the yank of a version can be undone, or why not.
+pub fn check_unyank(yank: Option<bool>) -> Result<(), Refusal>
+    ensures accepted { OnOk result (unyank_refusal yank ≡ None) }
+    ensures refused { IfErr result (λ e. unyank_refusal yank ≡ Some e) }
+{
+    match yank {
+        None => Err(Refusal::NoSuchVersion),
+        Some(true) => Ok(()),
+        Some(false) => Err(Refusal::NotYanked),
+    }
+}

@@ -1,0 +1,235 @@
+// What is made ready for a publication, so that it takes no memory.
+
+ghost use Rattle.std.specs.Prelude.{◌≡◌, ◌<◌, ◌-◌, ◌↔◌, ◌≢◌, ◌∷◌, ℕ, List, [], length, vec_capacity, vec_len, None, Some, IfErr, IfNone, IfOk, IfSome, IsTrue, OnOk, is_some, position};
+ghost use Rattle.std.specs.List.{list_any};
+ghost use Rattle.std.specs.Option.{ForSome, option_map};
+ghost use Rattle.std.specs.Str.{bytes_eq};
+ghost use Rattle.indexmap.specs.IndexSet.{spare};
+ghost use Rattle.registry.specs.Publications.{lists_of, rooms_of};
+ghost use Rattle.registry.specs.Rooms.{names_in, publication_for, room_where, unknown_names, AreEmpty, IsReady};
+
+use crate::dependencies::Dependencies;
+use crate::publications::Publications;
+use indexmap::IndexSet;
+use std::alloc::Global;
+use versions::{Name, Need, Refusal};
+
+/// What is made ready for a publication: where its package stands, and the names to be numbered,
+/// each with its list of publications, which keeps the matching sets of what the publication needs.
+#[derive(Drop)]
+pub struct Ready {
+    pub name: Name,
+    pub needs: Dependencies,
+    /// The place of the package, where it has one.
+    pub place: Option<usize>,
+    /// The list of the package, where it is new.
+    pub own: Publications,
+    /// The names of the needs that are new.
+    pub added: Vec<(Name, Publications)>,
+}
+
+/// The needs after the first, where the first is this need.
+fn after_first<'a>(needs: &'a [(Name, Need)], need: &(Name, Need)) -> Option<&'a [(Name, Need)]>
+    ensures some { IfSome result (λ rest. needs.now ≡ need.now ∷ rest.now) }
+    ensures none { IfNone result ((rest : List (List ℕ × List ℕ)) → needs.now ≢ need.now ∷ rest) }
+{
+    let (first, rest) = needs.split_first()?;
+    if first.0 != need.0 || first.1 != need.1 {
+        return None;
+    }
+    Some(rest)
+}
+
+/// Whether two lists of needs are the same.
+fn are_same(first: &[(Name, Need)], second: &[(Name, Need)]) -> bool
+    ensures { IsTrue result ↔ (first.now ≡ second.now) }
+{
+    let mut rest = first;
+    for need in second {
+        match after_first(rest, need) {
+            Some(others) => rest = others,
+            None => return false,
+        }
+    }
+    rest.is_empty()
+}
+
+/// What was made ready for this publication.
+pub fn ready_for<'a>(
+    ready: &'a Option<Ready>,
+    name: &Name,
+    needs: &[(Name, Need)],
+) -> Option<&'a Ready>
+    ensures there { IsTrue (is_some result) ↔ (publication_for ready.now ≡ Some (name.now, needs.now)) }
+    ensures name { IfSome result (λ ready. ready.now.name ≡ name.now) }
+    ensures needs { IfSome result (λ ready. ready.now.needs ≡ needs.now) }
+{
+    let ready = ready.as_ref()?;
+    if ready.name == *name && are_same(ready.needs.needs(), needs) {
+        Some(ready)
+    } else {
+        None
+    }
+}
+
+/// A package that is new, which keeps the matching set of the need that names it.
+fn new_package(alloc: Global, need: &(Name, Need)) -> Result<(Name, Publications), Refusal>
+    ensures name { IfOk result (λ new. new.0 ≡ need.now.0) }
+    ensures empty { IfOk result (λ new. new.1.publications ≡ []) }
+    ensures err { IfErr result (λ e. e ≡ Refusal.NoMemory) }
+{
+    let mut publications = Publications::new(alloc);
+    publications.name_need(&need.1)?;
+    Ok((need.0.copy()?, publications))
+}
+
+/// What the needs of a publication come to.
+#[derive(Drop)]
+struct Named {
+    /// The same needs, in texts that the registry keeps already where it has equal ones.
+    needs: Vec<(Name, Need)>,
+    /// The names that are new, each with its list of publications.
+    added: Vec<(Name, Publications)>,
+}
+
+/// Where a name stands, and the equal name there.
+fn kept_in<'a>(names: &'a IndexSet<Name>, name: &Name) -> Option<(usize, &'a Name)>
+    ensures place { option_map (λ found. found.0) result ≡ position (bytes_eq name.now) names.now.keys }
+    ensures there { is_some result ≡ list_any (bytes_eq name.now) names.now.keys }
+    ensures within { IfSome result (λ found. found.0 < length names.now.keys) }
+    ensures same { IfSome result (λ found. found.1.now ≡ name.now) }
+{
+    names.get_full(name)
+}
+
+/// An equal need.
+fn copied(need: &(Name, Need)) -> Result<(Name, Need), Refusal>
+    ensures same { IfOk result (λ copy. copy ≡ need.now) }
+    ensures err { IfErr result (λ e. e ≡ Refusal.NoMemory) }
+{
+    Ok((need.0.copy()?, need.1.copy()?))
+}
+
+/// Names a requirement on a package, and answers the equal one that the package keeps, with the name.
+fn kept(list: &mut Publications, name: &Name, need: &Need) -> Result<(Name, Need), Refusal>
+    ensures publications { list.new.publications ≡ list.old.publications }
+    ensures same { IfOk result (λ kept. kept ≡ (name.now, need.now)) }
+    ensures err { IfErr result (λ e. e ≡ Refusal.NoMemory) }
+{
+    let need = kept_need(list, need)?;
+    Ok((name.copy()?, need))
+}
+
+/// Names a requirement on a package, and answers the equal one that the package keeps.
+fn kept_need(list: &mut Publications, need: &Need) -> Result<Need, Refusal>
+    ensures publications { list.new.publications ≡ list.old.publications }
+    ensures same { IfOk result (λ kept. kept ≡ need.now) }
+    ensures err { IfErr result (λ e. e ≡ Refusal.NoMemory) }
+{
+    if let Some(kept) = list.named(need) {
+        return kept.copy();
+    }
+    list.name_need(need)?;
+    need.copy()
+}
+
+/// Names the requirements on the packages that they are on.
+fn name_needs(
+    alloc: Global,
+    names: &IndexSet<Name>,
+    lists: &mut Vec<Publications>,
+    needs: &[(Name, Need)],
+) -> Result<Named, Refusal>
+    requires paired { length names.now.keys ≡ length lists.old.items }
+    ensures lists { lists_of lists.new.items ≡ lists_of lists.old.items }
+    ensures length { length lists.new.items ≡ length lists.old.items }
+    ensures same { IfOk result (λ named. named.needs.items ≡ needs.now) }
+    ensures named { IfOk result (λ named. names_in named.added.items ≡ unknown_names (λ name. list_any (bytes_eq name) names.now.keys) needs.now) }
+    ensures empty { IfOk result (λ named. AreEmpty named.added.items) }
+    ensures err { IfErr result (λ e. e ≡ Refusal.NoMemory) }
+{
+    let mut same = Vec::with_capacity(alloc, needs.len())?;
+    let mut added = Vec::new(alloc);
+    for need in needs {
+        match kept_in(names, &need.0) {
+            Some((index, name)) => {
+                let list = &mut lists[index];
+                same.push(kept(list, name, &need.1)?)?;
+            }
+            None => {
+                added.push(new_package(alloc, need)?)?;
+                same.push(copied(need)?)?;
+            }
+        }
+    }
+    Ok(Named { needs: same, added })
+}
+
+/// Makes room for one publication: in the list at this place, or else in that of a new package.
+fn make_list_room(
+    lists: &mut Vec<Publications>,
+    own: &mut Publications,
+    place: Option<usize>,
+) -> Result<(), Refusal>
+    requires within { ForSome place (λ i. i < length lists.old.items) }
+    ensures lists { lists_of lists.new.items ≡ lists_of lists.old.items }
+    ensures length { length lists.new.items ≡ length lists.old.items }
+    ensures same_room { vec_capacity lists.new - vec_len lists.new ≡ vec_capacity lists.old - vec_len lists.old }
+    ensures own { own.new.publications ≡ own.old.publications }
+    ensures room { OnOk result (0 < room_where (rooms_of lists.new.items) own.new.room place) }
+    ensures err { IfErr result (λ e. e ≡ Refusal.NoMemory) }
+{
+    match place {
+        None => own.reserve()?,
+        Some(index) => {
+            let list = &mut lists[index];
+            list.reserve()?;
+        }
+    }
+    Ok(())
+}
+
+/// Where a name stands, if it does, and an equal name: the one that stands there, where there is one.
+fn kept_name(names: &IndexSet<Name>, name: &Name) -> Result<(Option<usize>, Name), Refusal>
+    ensures place { IfOk result (λ found. found.0 ≡ position (bytes_eq name.now) names.now.keys) }
+    ensures same { IfOk result (λ found. found.1 ≡ name.now) }
+    ensures err { IfErr result (λ e. e ≡ Refusal.NoMemory) }
+{
+    match kept_in(names, name) {
+        Some((index, kept)) => Ok((Some(index), kept.copy()?)),
+        None => Ok((None, name.copy()?)),
+    }
+}
+
+/// Makes ready for a publication. The packages stay as they were.
+pub fn make_ready(
+    alloc: Global,
+    names: &mut IndexSet<Name>,
+    lists: &mut Vec<Publications>,
+    name: &Name,
+    needs: &Dependencies,
+) -> Result<Ready, Refusal>
+    requires paired { length names.old.keys ≡ length lists.old.items }
+    ensures keys { names.new.keys ≡ names.old.keys }
+    ensures lists { lists_of lists.new.items ≡ lists_of lists.old.items }
+    ensures length { length lists.new.items ≡ length lists.old.items }
+    ensures ready { IfOk result (IsReady names.new.keys (spare names.new) lists.new.items (vec_capacity lists.new - vec_len lists.new)) }
+    ensures publication { IfOk result (λ ready. publication_for (Some ready) ≡ Some (name.now, needs.now)) }
+    ensures err { IfErr result (λ e. e ≡ Refusal.NoMemory) }
+{
+    let named = name_needs(alloc, names, lists, needs.needs())?;
+    let needs = needs.with_handles(alloc, named.needs)?;
+    let added = named.added;
+    let (place, name) = kept_name(names, name)?;
+    let mut own = Publications::new(alloc);
+    names.reserve(added.len() + 1)?;
+    lists.reserve(added.len() + 1)?;
+    make_list_room(lists, &mut own, place)?;
+    Ok(Ready {
+        name,
+        needs,
+        place,
+        own,
+        added,
+    })
+}

@@ -1,0 +1,117 @@
+// Requests.
+
+ghost use Rattle.std.specs.Prelude.{◌≡◌, None};
+ghost use Rattle.std.specs.Map.{lookup};
+ghost use Rattle.std.specs.Option.{option_copied};
+ghost use Rattle.std.specs.Str.{bytes_eq};
+ghost use Rattle.versions.specs.Refusals.{Gives};
+ghost use Rattle.registry.specs.Preference.{meets_needs};
+ghost use Rattle.registry.specs.Requests.{is_locked, request_in, request_refusal};
+
+use crate::by_name::{find, places_by_name, repeats};
+use crate::registry::NEED_LIMIT;
+use std::alloc::Global;
+use std::marker::Model;
+use versions::{Name, Need, Published, Refusal, order};
+
+/// The most lines of a request's lock.
+pub const LOCK_LIMIT: usize = 65_535;
+
+/// What is asked for: packages with requirements, and the versions that a lock names.
+///
+/// The places of both lists in the order of their names are kept with them, so that the line of a
+/// package is found without a look at each.
+#[derive(Drop)]
+pub struct Request {
+    needs: Vec<(Name, Need)>,
+    lock: Vec<(Name, Published)>,
+    needs_by_name: Vec<usize>,
+    lock_by_name: Vec<usize>,
+}
+
+impl Model for Request {
+    ghost use Rattle.registry.specs.Requests.{Wanted, IsRequest};
+
+    ghost Value = { Wanted };
+
+    ghost view = { λ r. record { needs = r.needs.items; lock = r.lock.items } };
+
+    ghost invariant = { λ r. IsRequest (record { needs = r.needs.items; lock = r.lock.items }) r.needs_by_name.items r.lock_by_name.items };
+}
+
+impl Request {
+    /// A request of these needs under this lock. The cost grows with n log n of the needs and lines.
+    pub fn new(
+        alloc: Global,
+        needs: Vec<(Name, Need)>,
+        lock: Vec<(Name, Published)>,
+    ) -> Result<Request, Refusal>
+        ensures { Gives (λ request. request) result (request_in needs.items lock.items) }
+    {
+        let needs_by_name = places_by_name(alloc, &needs)?;
+        let lock_by_name = places_by_name(alloc, &lock)?;
+        if repeats(&needs, &needs_by_name) || repeats(&lock, &lock_by_name) {
+            return Err(Refusal::RepeatedDependency);
+        }
+        if needs.len() > NEED_LIMIT || lock.len() > LOCK_LIMIT {
+            return Err(Refusal::TooManyDependencies);
+        }
+        Ok(Request {
+            needs,
+            lock,
+            needs_by_name,
+            lock_by_name,
+        })
+    }
+
+    /// The needs, in the order that was given.
+    pub fn needs(&self) -> &[(Name, Need)]
+        ensures needs { result.now ≡ self.now.needs }
+        ensures lawful { request_refusal self.now ≡ None }
+    {
+        &self.needs
+    }
+
+    /// The lock's lines, in the order that was given.
+    pub fn lock(&self) -> &[(Name, Published)]
+        ensures lock { result.now ≡ self.now.lock }
+        ensures lawful { request_refusal self.now ≡ None }
+    {
+        &self.lock
+    }
+
+    /// The need on a package. The cost grows with the logarithm of the number of needs.
+    pub fn need_on(&self, name: &Name) -> Option<&Need>
+        ensures { option_copied result ≡ lookup (bytes_eq name.now) self.now.needs }
+    {
+        find(&self.needs, &self.needs_by_name, name)
+    }
+
+    /// The version that the lock names of a package. The cost grows with the logarithm of the
+    /// number of lines.
+    pub fn locked(&self, name: &Name) -> Option<&Published>
+        ensures { option_copied result ≡ lookup (bytes_eq name.now) self.now.lock }
+    {
+        find(&self.lock, &self.lock_by_name, name)
+    }
+
+    /// Whether the lock names this version of a package, by equal precedence.
+    pub fn is_locked(&self, name: &Name, version: &Published) -> bool
+        ensures { result ≡ is_locked self.now.lock name.now version.now }
+    {
+        match find(&self.lock, &self.lock_by_name, name) {
+            None => false,
+            Some(locked) => order(locked, version).is_eq(),
+        }
+    }
+
+    /// Whether a version of a package meets the need on it, where there is one.
+    pub fn admits(&self, name: &Name, version: &Published) -> bool
+        ensures { result ≡ meets_needs self.now.needs name.now version.now }
+    {
+        match find(&self.needs, &self.needs_by_name, name) {
+            None => true,
+            Some(need) => need.admits(version),
+        }
+    }
+}

@@ -1,0 +1,7 @@
+-- Lemmas of this crate.
+pub mod Searching
+pub mod Raising
+pub mod Marking
+pub mod Room
+pub mod Standing
+pub mod MatchingLemmas

@@ -1,0 +1,190 @@
+-- Matching sets: computed afresh, and kept up at a publication.
+use Rattle.std.proofs.Common.{◌≡◌, ◌∙◌, ◌<◌, ◌≤◌, ◌+◌, ◌++◌, ◌∷◌, [], ℕ, List, length, get_or, set, arith, ap, subst, sym, inl, inr, true, false, ◌||◌, ◌&&◌, ◌≢◌, length-append, get_or-set_same, get_or-set_other}
+use Rattle.std.specs.Prelude.{nat_eq, nat_lt, position, Some}
+use Rattle.std.specs.Str.{bytes_eq}
+use Rattle.std.proofs.lemmas.List.Quantifiers.{position-Some}
+use Rattle.versions.specs.NameLaws.{same_name}
+use Rattle.std.proofs.lemmas.Bool.{cases_lt}
+use Rattle.std.proofs.lemmas.Option.{slice_get-get_or, slice_get_past}
+use Rattle.std.proofs.lemmas.List.{get_or-map, get_or_append_left, get_or_default, length-map, length-set}
+use Rattle.std.proofs.Math.Bool.{and-false, and-true, or-false, or-true}
+use Rattle.std.proofs.Math.Seq.{get_or-append_seam}
+use Rattle.terms.specs.Growing.{Growing}
+use Rattle.terms.specs.Sets.{has}
+use Rattle.versions.specs.Words.{Text, meets}
+use Rattle.releases.specs.declared.release.Release.{Release}
+use Rattle.releases.specs.Kept.{AreMatching, IsMatching}
+use Rattle.releases.specs.Releases.{meets_at, meets_some, versions_of}
+
+itself : (k : ℕ) → nat_eq k k ≡ true
+itself k = grind arith
+
+apart : (n k : ℕ) → (n ≡ k → ⊥) → nat_eq n k ≡ false
+apart n k h = grind arith
+
+under : (k n : ℕ) → k < n → nat_lt k n ≡ true
+under k n h = grind arith
+
+past : (k n : ℕ) → n ≤ k → nat_lt k n ≡ false
+past k n h = grind arith
+
+-- what one version more meets
+pub meets_at-push : (versions : List Text) (version need : Text) (k : ℕ) → meets_at (versions ++ version ∷ []) need k ≡ (meets_at versions need k || (nat_eq (length versions) k && meets need version))
+meets_at-push versions version need k = elim (cases_lt k (length versions)) [
+  | inl older ↦
+      ap (meets_some need) (slice_get-get_or (versions ++ version ∷ []) k [] (omega (arith, length-append versions (version ∷ [])))
+      ∙ ap (λ (t : Text). Some t) (get_or_append_left versions (version ∷ []) [] k older) ∙ sym (slice_get-get_or versions k [] older))
+      ∙ sym (ap (λ b. meets_at versions need k || (b && meets need version)) (apart (length versions) k (λ e. absurd (omega arith))) ∙ or-false (meets_at versions need k))
+  | inr from ↦ elim (cases_lt (length versions) k) [
+    | inl over ↦
+        ap (meets_some need) (slice_get_past (versions ++ version ∷ []) k (omega (arith, length-append versions (version ∷ []))))
+        ∙ sym (ap (λ b. meets_at versions need k || (b && meets need version)) (apart (length versions) k (λ e. absurd (omega arith)))
+        ∙ or-false (meets_at versions need k) ∙ ap (meets_some need) (slice_get_past versions k from))
+    | inr to ↦
+        let is : k ≡ length versions = omega arith in
+        let P : ℕ → Type 0 = λ n. meets_at (versions ++ version ∷ []) need n ≡ (meets_at versions need n || (nat_eq (length versions) n && meets need version)) in
+        subst P (sym is) (
+        ap (meets_some need) (slice_get-get_or (versions ++ version ∷ []) (length versions) [] (omega (arith, length-append versions (version ∷ [])))
+        ∙ ap (λ (t : Text). Some t) (get_or-append_seam versions version [] []))
+        ∙ sym (ap (λ b. b || (nat_eq (length versions) (length versions) && meets need version)) (ap (meets_some need) (slice_get_past versions (length versions) (omega arith)))
+        ∙ ap (λ b. b && meets need version) (itself (length versions)))
+        )
+  ]
+]
+
+-- the set has the ordinals below n that it is to have
+abbrev pub IsMatchingBelow : List Text → Text → ℕ → List ℕ → Type 0
+IsMatchingBelow versions need n set = (k : ℕ) → has set k ≡ (nat_lt k n && meets_at versions need k)
+
+pub matching-begin : (versions : List Text) (need : Text) → IsMatchingBelow versions need 0 []
+matching-begin versions need k = sym (ap (λ b. b && meets_at versions need k) (past k 0 (omega arith)))
+
+-- the version that was read
+pub meets_at-read : (releases : List Release) (need : Text) (n : ℕ) (d : Release) → n < length releases → meets_at (versions_of releases) need n ≡ meets need (get_or releases n d).version
+meets_at-read releases need n d lt =
+    ap (meets_some need) (slice_get-get_or (versions_of releases) n [] (omega (arith, lt, length-map releases (λ (r : Release). r.version))))
+    ∙ ap (meets need) (get_or-map (λ (r : Release). r.version) releases n d [] lt)
+
+module _ (versions : List Text) (need : Text) (n : ℕ) (was : List ℕ) (m : IsMatchingBelow versions need n was) where
+  -- the version with the next ordinal meets the requirement
+  pub matching-in : (now : List ℕ) → meets_at versions need n ≡ true → ((k : ℕ) → has now k ≡ (has was k || nat_eq n k)) → IsMatchingBelow versions need (n + 1) now
+  matching-in now met grown k = grown k ∙ elim (cases_lt k n) [
+    | inl less ↦
+        ap (λ b. has was k || b) (apart n k (λ e. absurd (omega arith))) ∙ or-false (has was k) ∙ m k
+        ∙ ap (λ b. b && meets_at versions need k) (under k n less ∙ sym (under k (n + 1) (omega arith)))
+    | inr from ↦ elim (cases_lt n k) [
+      | inl over ↦
+          ap (λ b. has was k || b) (apart n k (λ e. absurd (omega arith))) ∙ or-false (has was k) ∙ m k
+          ∙ ap (λ b. b && meets_at versions need k) (past k n from ∙ sym (past k (n + 1) (omega arith)))
+      | inr to ↦
+          let is : n ≡ k = omega arith in
+          ap (λ b. has was k || b) (ap (λ x. nat_eq x k) is ∙ itself k) ∙ or-true (has was k)
+          ∙ sym (ap (λ b. b && meets_at versions need k) (under k (n + 1) (omega arith)) ∙ ap (meets_at versions need) (sym is) ∙ met)
+    ]
+  ]
+
+  -- the version with the next ordinal does not meet it
+  pub matching-out : meets_at versions need n ≡ false → IsMatchingBelow versions need (n + 1) was
+  matching-out unmet k = m k ∙ elim (cases_lt k n) [
+    | inl less ↦ ap (λ b. b && meets_at versions need k) (under k n less ∙ sym (under k (n + 1) (omega arith)))
+    | inr from ↦ elim (cases_lt n k) [
+      | inl over ↦ ap (λ b. b && meets_at versions need k) (past k n from ∙ sym (past k (n + 1) (omega arith)))
+      | inr to ↦
+          let is : n ≡ k = omega arith in
+          ap (λ b. b && meets_at versions need k) (past k n from)
+          ∙ sym (ap (λ b. b && meets_at versions need k) (under k (n + 1) (omega arith)) ∙ ap (meets_at versions need) (sym is) ∙ unmet)
+    ]
+  ]
+
+pub matching-end : (versions : List Text) (need : Text) (n : ℕ) (set : List ℕ) → length versions ≤ n → IsMatchingBelow versions need n set → IsMatching versions need set
+matching-end versions need n set le m k = m k ∙ elim (cases_lt k n) [
+  | inl less ↦ ap (λ b. b && meets_at versions need k) (under k n less)
+  | inr from ↦ ap (λ b. b && meets_at versions need k) (past k n from) ∙ sym (ap (meets_some need) (slice_get_past versions k (omega arith)))
+]
+
+-- ---- a version is published
+
+-- the matching sets when those below i have the next ordinal where it is to be in
+pub record IsKeepingUp (versions : List Text) (version : Text) (needs : List Text) (sets : List Growing) (i : ℕ) : Type 0 where
+  pub paired : length sets ≡ length needs
+  pub done : (j : ℕ) (need : Text) (set : Growing) → j < i → j < length needs → IsMatching (versions ++ version ∷ []) (get_or needs j need) (get_or sets j set).ordinals
+  pub left : (j : ℕ) (need : Text) (set : Growing) → i ≤ j → j < length needs → IsMatching versions (get_or needs j need) (get_or sets j set).ordinals
+  pub room : (j : ℕ) (set : Growing) → i ≤ j → j < length sets → 0 < (get_or sets j set).room
+
+pub keeping_up-begin : (versions : List Text) (version : Text) (needs : List Text) (sets : List Growing) → AreMatching versions needs sets
+    → ((j : ℕ) (set : Growing) → j < length sets → 0 < (get_or sets j set).room) → IsKeepingUp versions version needs sets 0
+keeping_up-begin versions version needs sets m room = record {
+  paired = m.paired;
+  done = λ j need set lt. absurd (omega arith);
+  left = λ j need set le lt. m.exact j need set lt;
+  room = λ j set le lt. room j set lt;
+}
+
+pub keeping_up-end : (versions : List Text) (version : Text) (needs : List Text) (sets : List Growing) (i : ℕ) → length sets ≤ i → IsKeepingUp versions version needs sets i
+    → AreMatching (versions ++ version ∷ []) needs sets
+keeping_up-end versions version needs sets i le m = record {
+  paired = m.paired;
+  exact = λ j need set lt. m.done j need set (omega (arith, m.paired)) lt;
+}
+
+module _ (versions : List Text) (version : Text) (needs : List Text) (sets : List Growing) (i : ℕ) (m : IsKeepingUp versions version needs sets i) (lt : i < length sets) where
+  other : (now : Growing) (sets' : List Growing) → sets' ≡ set sets i now → (j : ℕ) (d : Growing) → j ≢ i → get_or sets' j d ≡ get_or sets j d
+  other now sets' e j d ne = ap (λ l. get_or l j d) e ∙ get_or-set_other sets i j now d ne
+
+  same : (now : Growing) (sets' : List Growing) → sets' ≡ set sets i now → (d : Growing) → get_or sets' i d ≡ now
+  same now sets' e d = ap (λ l. get_or l i d) e ∙ get_or-set_same sets i now d lt
+
+  -- the set at i is as it is to be
+  stepped : (now : Growing) (sets' : List Growing) → sets' ≡ set sets i now → ((need : Text) → IsMatching (versions ++ version ∷ []) (get_or needs i need) now.ordinals)
+      → IsKeepingUp versions version needs sets' (i + 1)
+  stepped now sets' e exact = record {
+    paired = ap length e ∙ length-set sets i now ∙ m.paired;
+    done = λ j need d below within. elim (cases_lt j i) [
+      | inl before ↦
+          let P : Growing → Type 0 = λ g. IsMatching (versions ++ version ∷ []) (get_or needs j need) g.ordinals in
+          subst P (sym (other now sets' e j d (λ (h : j ≡ i). absurd (omega arith)))) (m.done j need d before within)
+      | inr from ↦
+          let is : i ≡ j = omega arith in
+          let P : ℕ → Type 0 = λ n. IsMatching (versions ++ version ∷ []) (get_or needs n need) (get_or sets' n d).ordinals in
+          let Q : Growing → Type 0 = λ g. IsMatching (versions ++ version ∷ []) (get_or needs i need) g.ordinals in
+          subst P is (subst Q (sym (same now sets' e d)) (exact need))
+    ];
+    left = λ j need d from within.
+        let P : Growing → Type 0 = λ g. IsMatching versions (get_or needs j need) g.ordinals in
+        subst P (sym (other now sets' e j d (λ (h : j ≡ i). absurd (omega arith)))) (m.left j need d (omega arith) within);
+    room = λ j d from within.
+        let P : Growing → Type 0 = λ g. 0 < g.room in
+        subst P (sym (other now sets' e j d (λ (h : j ≡ i). absurd (omega arith)))) (m.room j d (omega arith) (omega (arith, within, ap length e, length-set sets i now)));
+  }
+
+  pub met-step : (now : Growing) (d : Growing) (r : Text) → meets (get_or needs i r) version ≡ true
+      → ((k : ℕ) → has now.ordinals k ≡ (has (get_or sets i d).ordinals k || nat_eq (length versions) k)) → (sets' : List Growing) → sets' ≡ set sets i now
+      → IsKeepingUp versions version needs sets' (i + 1)
+  met-step now d r met grown sets' e = stepped now sets' e (λ need k.
+      let lt' : i < length needs = omega (arith, m.paired) in
+      let met' : meets (get_or needs i need) version ≡ true = ap (λ t. meets t version) (get_or_default needs i need r lt') ∙ met in
+      grown k
+      ∙ ap (λ b. b || nat_eq (length versions) k) (m.left i need d (omega arith) lt' k)
+      ∙ sym (meets_at-push versions version (get_or needs i need) k ∙ ap (λ b. meets_at versions (get_or needs i need) k || (nat_eq (length versions) k && b)) met'
+      ∙ ap (λ b. meets_at versions (get_or needs i need) k || b) (and-true (nat_eq (length versions) k))))
+
+  pub unmet-step : (d : Growing) (r : Text) → meets (get_or needs i r) version ≡ false → (sets' : List Growing) → sets' ≡ set sets i (get_or sets i d)
+      → IsKeepingUp versions version needs sets' (i + 1)
+  unmet-step d r unmet sets' e = stepped (get_or sets i d) sets' e (λ need k.
+      let lt' : i < length needs = omega (arith, m.paired) in
+      let unmet' : meets (get_or needs i need) version ≡ false = ap (λ t. meets t version) (get_or_default needs i need r lt') ∙ unmet in
+      m.left i need d (omega arith) lt' k
+      ∙ sym (meets_at-push versions version (get_or needs i need) k ∙ ap (λ b. meets_at versions (get_or needs i need) k || (nat_eq (length versions) k && b)) unmet'
+      ∙ ap (λ b. meets_at versions (get_or needs i need) k || b) (and-false (nat_eq (length versions) k)) ∙ or-false (meets_at versions (get_or needs i need) k)))
+
+-- ---- a look-up
+
+-- the set at the place of the requirement is its matching set
+pub known-matching : (versions needs : List Text) (sets : List Growing) (need : Text) (i : ℕ) (set : Growing) → AreMatching versions needs sets
+    → position (bytes_eq need) needs ≡ Some i → set ≡ get_or sets i set → IsMatching versions need set.ordinals
+known-matching versions needs sets need i set m at is =
+    let p = position-Some (bytes_eq need) needs i [] at in
+    let named : need ≡ get_or needs i [] = same_name need (get_or needs i []) p.1 in
+    let P : Text → Type 0 = λ t. IsMatching versions t (get_or sets i set).ordinals in
+    let Q : Growing → Type 0 = λ s. IsMatching versions need s.ordinals in
+    subst Q (sym is) (subst P (sym named) (m.exact i [] set p.0))

@@ -1,0 +1,22 @@
+use Rattle.std.proofs.Common.{◌∙◌, ap, false, set}
+use Rattle.releases.specs.declared.release.Release.{Release}
+use Rattle.releases.proofs.Marking.{IsKept-marked, marked-found, marked-set}
+use Rattle.releases.proofs.releases.Releases.unyank.Goals as goal
+
+pub invariant_of-self : goal.invariant_of-self
+invariant_of-self c =
+    let e = ap (λ (r : Release). set c.self.inside.releases.items c.args.ordinal (record { version = r.version; yanked = false })) c.index_mut-release.ensures.value
+    ∙ marked-set c.self.inside.releases.items c.args.ordinal c.index_mut-release.result.now false in
+    rw e (IsKept-marked c.self.inside.releases.items _ _ _ c.args.ordinal false c.self.invariant)
+
+pub returns-clause-releases : goal.returns-clause-releases
+returns-clause-releases c =
+    rw (← c.self.view_is) (ap (λ (r : Release). set c.self.inside.releases.items c.args.ordinal (record { version = r.version; yanked = false })) c.index_mut-release.ensures.value
+    ∙ marked-set c.self.inside.releases.items c.args.ordinal c.index_mut-release.result.now false)
+
+pub returns-clause-stamped : goal.returns-clause-stamped
+returns-clause-stamped c =
+    let e = ap (λ (r : Release). set c.self.inside.releases.items c.args.ordinal (record { version = r.version; yanked = false })) c.index_mut-release.ensures.value
+    ∙ marked-set c.self.inside.releases.items c.args.ordinal c.index_mut-release.result.now false in
+    rw (← c.self.view_is) (λ version found.
+    e ∙ marked-found c.self.inside.releases.items c.self.inside.rising.items version c.args.ordinal false c.self.invariant.in_order found)

@@ -1,0 +1,95 @@
+//! The releases that meet a requirement.
+
+ghost use Rattle.std.specs.Prelude.{◌≡◌, ◌<◌, ◌≤◌, ◌^◌, ◌∷◌, ◌++◌, [], ℕ, length, slice_index_or, IfOk, IsOk, OnOk};
+ghost use Rattle.terms.specs.Growing.{Growing};
+ghost use Rattle.terms.specs.Sets.{has, IsAscending};
+ghost use Rattle.releases.specs.Kept.{AreMatching, IsMatching};
+ghost use Rattle.releases.specs.Releases.{versions_of};
+ghost use Rattle.releases.specs.Matching.{ordinals_of};
+
+use crate::release::Release;
+use std::alloc::{AllocError, Global};
+use terms::{GrowingSet, VSet};
+use versions::{Need, Published};
+
+/// The ordinals of the releases that meet a requirement: the set that is kept, or one that was
+/// computed for once.
+#[derive(Drop)]
+pub enum Matching<'a> {
+    Known(&'a GrowingSet),
+    Computed(GrowingSet),
+}
+
+impl Matching<'_> {
+    /// Whether an ordinal is in the set.
+    pub fn has(&self, ordinal: u32) -> bool
+        ensures { result ≡ has (ordinals_of self.now) ordinal }
+    {
+        match self {
+            Matching::Known(set) => set.has(ordinal),
+            Matching::Computed(set) => set.has(ordinal),
+        }
+    }
+
+    /// The set.
+    pub fn set(&self, alloc: Global) -> Result<VSet, AllocError>
+        ensures same { IfOk result (λ set. set ≡ ordinals_of self.now) }
+        ensures ascending { IfOk result IsAscending }
+    {
+        match self {
+            Matching::Known(set) => set.set(alloc),
+            Matching::Computed(set) => set.set(alloc),
+        }
+    }
+}
+
+/// The matching set of a requirement, computed afresh: one test a release.
+pub(crate) fn computed(
+    alloc: Global,
+    releases: &[Release],
+    need: &Need,
+) -> Result<GrowingSet, AllocError>
+    requires { length releases.now ≤ 2 ^ 32 }
+    ensures { IfOk result (λ set. IsMatching (versions_of releases.now) need.now set.ordinals) }
+{
+    let mut set = GrowingSet::new(alloc);
+    for (ordinal, release) in releases.iter().enumerate() {
+        if need.admits(&release.version) {
+            set.insert(ordinal as u32)?;
+        }
+    }
+    Ok(set)
+}
+
+/// Makes room for one ordinal more in each set.
+pub(crate) fn make_room(sets: &mut [GrowingSet]) -> Result<(), AllocError>
+    ensures same { (i : ℕ) (d : Growing) → (slice_index_or sets.new i d).ordinals ≡ (slice_index_or sets.old i d).ordinals }
+    ensures room { OnOk result ((i : ℕ) (d : Growing) → i < length sets.new → 0 < (slice_index_or sets.new i d).room) }
+    ensures succeeds { ((i : ℕ) (d : Growing) → i < length sets.old → 0 < (slice_index_or sets.old i d).room) → IsOk result }
+{
+    for set in sets.iter_mut() {
+        set.reserve()?;
+    }
+    Ok(())
+}
+
+/// Puts the ordinal of a version that is published into each matching set whose requirement it
+/// meets: one test a requirement. Takes no memory.
+pub(crate) fn keep_up(
+    releases: &[Release],
+    needs: &[Need],
+    sets: &mut [GrowingSet],
+    version: &Published,
+)
+    requires matching { AreMatching (versions_of releases.now) needs.now sets.old }
+    requires few { length releases.now < 2 ^ 32 }
+    requires room { (i : ℕ) (d : Growing) → i < length sets.old → 0 < (slice_index_or sets.old i d).room }
+    ensures { AreMatching (versions_of releases.now ++ version.now ∷ []) needs.now sets.new }
+{
+    let ordinal = releases.len() as u32;
+    for (i, set) in sets.iter_mut().enumerate() {
+        if needs[i].admits(version) {
+            set.insert(ordinal).unwrap();
+        }
+    }
+}

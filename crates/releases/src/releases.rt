@@ -1,0 +1,219 @@
+// The releases of a package.
+
+ghost use Rattle.std.specs.Prelude.{◌≡◌, ◌<◌, ◌≤◌, ◌^◌, ◌∷◌, ◌++◌, [], ℕ, Bool, true, false, is_some, length, slice_get, Some, IfNone, IfOk, IfSome, IsOk, OnErr, OnOk};
+ghost use Rattle.terms.specs.Sets.{has};
+ghost use Rattle.releases.specs.Matching.{ordinals_of};
+ghost use Rattle.releases.specs.Releases.{has_version, is_named, is_yanked, marked, meets_at, published, stamped, versions_of, with_need, IsFound};
+ghost use Rattle.releases.specs.Rising.{IsHighest, IsRising};
+ghost use Rattle.releases.specs.declared.release.Release.{Release};
+ghost use Rattle.versions.specs.Words.{Text};
+
+use crate::matching::{Matching, computed, keep_up, make_room};
+use crate::release::Release;
+use crate::rising::{highest_of, place_of, raise};
+use indexmap::IndexSet;
+use std::alloc::{AllocError, Global};
+use std::marker::Model;
+use terms::{GrowingSet, VSet};
+use versions::{Need, Published};
+
+/// The releases of a package, in order of publication: the first has the ordinal 0. No two of them
+/// have equal precedence.
+///
+/// Contracts speak of the list of releases, of the requirements that are named, and of the room: how
+/// many more releases can come in without memory. It keeps the allocator that it was made with.
+#[derive(Drop)]
+pub struct Releases {
+    releases: Vec<Release>,
+    rising: Vec<u32>,
+    needs: IndexSet<Need>,
+    sets: Vec<GrowingSet>,
+    alloc: Global,
+}
+
+impl Model for Releases {
+    ghost use Rattle.std.specs.Prelude.{◌-◌, min, vec_capacity, vec_len};
+    ghost use Rattle.releases.specs.Kept.{IsKept, Listing, least_room};
+
+    ghost Value = { Listing };
+
+    ghost view = { λ r. record {
+      releases = r.releases.items;
+      needs = r.needs.keys;
+      room = least_room (min (vec_capacity r.releases - vec_len r.releases) (vec_capacity r.rising - vec_len r.rising)) r.sets.items;
+    } };
+
+    ghost invariant = { λ r. IsKept r.releases.items r.rising.items r.needs.keys r.sets.items };
+}
+
+impl Releases {
+    /// No releases.
+    pub fn new(alloc: Global) -> Releases
+        ensures releases { result.releases ≡ [] }
+        ensures needs { result.needs ≡ [] }
+    {
+        Releases {
+            releases: Vec::new(alloc),
+            rising: Vec::new(alloc),
+            needs: IndexSet::new(alloc),
+            sets: Vec::new(alloc),
+            alloc,
+        }
+    }
+
+    /// How many releases there are.
+    pub fn len(&self) -> usize
+        ensures { result ≡ length self.now.releases }
+    {
+        self.releases.len()
+    }
+
+    /// The releases, by their ordinals.
+    pub fn as_slice(&self) -> &[Release]
+        ensures { result.now ≡ self.now.releases }
+    {
+        &self.releases
+    }
+
+    /// The ordinals of the releases in rising precedence.
+    pub fn rising(&self) -> &[u32]
+        ensures { IsRising (versions_of self.now.releases) result.now }
+    {
+        &self.rising
+    }
+
+    /// The ordinal of the release of equal precedence. The cost grows with the logarithm of the
+    /// number of releases.
+    pub fn find(&self, version: &Published) -> Option<u32>
+        ensures there { is_some result ≡ has_version (versions_of self.now.releases) version.now }
+        ensures found { IfSome result (IsFound (versions_of self.now.releases) version.now) }
+        ensures only { IfSome result (λ k. (j : ℕ) → IsFound (versions_of self.now.releases) version.now j → j ≡ k) }
+        ensures yanked { IfSome result (λ k. (release : Release) → slice_get self.now.releases k ≡ Some release → release.yanked ≡ is_yanked self.now.releases version.now) }
+    {
+        match place_of(&self.releases, &self.rising, version) {
+            Ok(place) => Some(self.rising[place]),
+            Err(_) => None,
+        }
+    }
+
+    /// The ordinals of the releases that meet a requirement: a look-up where its text is named, which
+    /// takes no memory, else one test a release.
+    pub fn matching(&self, need: &Need) -> Result<Matching<'_>, AllocError>
+        ensures members { IfOk result (λ m. (k : ℕ) → has (ordinals_of m) k ≡ meets_at (versions_of self.now.releases) need.now k) }
+        ensures known { is_named self.now.needs need.now ≡ true → IsOk result }
+    {
+        match self.needs.get_index_of(need) {
+            Some(index) => Ok(Matching::Known(&self.sets[index])),
+            None => Ok(Matching::Computed(computed(self.alloc, &self.releases, need)?)),
+        }
+    }
+
+    /// The release of highest precedence in a set. No versions are compared: it costs a look for each
+    /// release of higher precedence, and for the one that is found.
+    pub fn highest(&self, set: &VSet) -> Option<u32>
+        ensures some { IfSome result (IsHighest (λ k b. has set.now k ≡ b) (versions_of self.now.releases)) }
+        ensures none { IfNone result ((k : ℕ) → k < length self.now.releases → has set.now k ≡ false) }
+    {
+        set.highest(&self.rising)
+    }
+
+    /// The release of highest precedence that passes a test of its ordinal, as `highest`.
+    pub fn highest_where<F: Fn(u32) -> bool>(&self, passes: F) -> Option<u32>
+        requires { (k : ℕ) → k < length self.now.releases → F.pre passes k }
+        ensures some { IfSome result (IsHighest (F.post passes) (versions_of self.now.releases)) }
+        ensures none { IfNone result ((k : ℕ) → k < length self.now.releases → F.post passes k false) }
+    {
+        highest_of(&self.rising, passes)
+    }
+
+    /// Makes room for one release more, at the cost of a look at each named requirement. To every
+    /// other call the releases are as they were.
+    pub fn reserve(&mut self) -> Result<(), AllocError>
+        ensures releases { self.new.releases ≡ self.old.releases }
+        ensures needs { self.new.needs ≡ self.old.needs }
+        ensures ok { OnOk result (0 < self.new.room) }
+        ensures succeeds { 0 < self.old.room → IsOk result }
+    {
+        self.releases.reserve(1)?;
+        self.rising.reserve(1)?;
+        make_room(&mut self.sets)
+    }
+
+    /// Publishes a version of new precedence, in room that was made: it takes no memory. It costs one
+    /// test a named requirement, and moves the ordinals of higher precedence up by one place.
+    pub fn push(&mut self, version: Published)
+        requires room { 0 < self.old.room }
+        requires new { has_version (versions_of self.old.releases) version ≡ false }
+        requires few { length self.old.releases < 2 ^ 32 }
+        ensures releases { self.new.releases ≡ self.old.releases ++ published version ∷ [] }
+        ensures needs { self.new.needs ≡ self.old.needs }
+    {
+        keep_up(
+            &self.releases,
+            self.needs.as_slice(),
+            &mut self.sets,
+            &version,
+        );
+        raise(&self.releases, &mut self.rising, &version);
+        self.releases
+            .push(Release {
+                version,
+                yanked: false,
+            })
+            .unwrap();
+    }
+
+    /// The equal requirement whose matching set is kept, so that equal ones can share its text.
+    pub fn named(&self, need: &Need) -> Option<&Need>
+        ensures same { IfSome result (λ kept. kept.now ≡ need.now) }
+        ensures there { is_some result ≡ is_named self.now.needs need.now }
+    {
+        self.needs.get(need)
+    }
+
+    /// Names a requirement on the package: its matching set is kept from now on. It costs one test a
+    /// release where the requirement is new, else a look-up. No answer but the speed of
+    /// [`Releases::matching`] shows it, so it can be called ahead of the publication that names it.
+    pub fn name_need(&mut self, need: &Need) -> Result<(), AllocError>
+        ensures releases { self.new.releases ≡ self.old.releases }
+        ensures ok { OnOk result (self.new.needs ≡ with_need self.old.needs need.now) }
+        ensures unchanged { OnErr result (self.new.needs ≡ self.old.needs) }
+        ensures succeeds { is_named self.old.needs need.now ≡ true → IsOk result }
+    {
+        if self.needs.contains(need) {
+            return Ok(());
+        }
+        let set = computed(self.alloc, &self.releases, need)?;
+        self.sets.reserve(1)?;
+        let Ok(named) = need.copy() else {
+            return Err(AllocError);
+        };
+        self.needs.insert(named)?;
+        self.sets.push(set).unwrap();
+        Ok(())
+    }
+
+    /// Yanks a release. Takes no memory.
+    pub fn yank(&mut self, ordinal: u32)
+        requires { ordinal < length self.old.releases }
+        ensures releases { self.new.releases ≡ marked self.old.releases ordinal true }
+        ensures stamped { (version : Text) → IsFound (versions_of self.old.releases) version ordinal → self.new.releases ≡ stamped version true self.old.releases }
+        ensures needs { self.new.needs ≡ self.old.needs }
+        ensures room { self.new.room ≡ self.old.room }
+    {
+        let release = &mut self.releases[ordinal as usize];
+        release.yanked = true;
+    }
+
+    /// Takes a yank back. Takes no memory.
+    pub fn unyank(&mut self, ordinal: u32)
+        requires { ordinal < length self.old.releases }
+        ensures releases { self.new.releases ≡ marked self.old.releases ordinal false }
+        ensures stamped { (version : Text) → IsFound (versions_of self.old.releases) version ordinal → self.new.releases ≡ stamped version false self.old.releases }
+        ensures needs { self.new.needs ≡ self.old.needs }
+        ensures room { self.new.room ≡ self.old.room }
+    {
+        let release = &mut self.releases[ordinal as usize];
+        release.yanked = false;
+    }
+}
