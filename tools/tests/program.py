@@ -22,6 +22,14 @@ def unyank(name, version):
     return json.dumps({"op": "unyank", "name": name, "version": version})
 
 
+def resolve(*needs, lock=None):
+    """A resolve line; needs are texts `name requirement`, the lock's lines texts `name version`."""
+    asked = {"op": "resolve", "needs": [need.split(" ", 1) for need in needs]}
+    if lock is not None:
+        asked["lock"] = [line.split(" ", 1) for line in lock]
+    return json.dumps(asked)
+
+
 LIST = '{"op":"list"}'
 
 

@@ -6,11 +6,12 @@ import subprocess
 import tempfile
 import unittest
 
-from program import LIST, PROGRAM, SERVE, TOP, publish, unyank, yank
+from plain_search import Published
+from program import LIST, PROGRAM, SERVE, TOP, publish, resolve, unyank, yank
 from reference import Registry
 
 LINES = [
-    publish("b", "1.0.0", ["a ^1", "c >=1.0.0, <2.0.0-rc.1"]),
+    publish("b", "1.0.0", ["a ^1.0.0", "c >=1.0.0, <2.0.0-rc.1"]),
     publish("a", "1.0.0-alpha.beta+x"),
     LIST,
     publish("a", "1.0.0-alpha.beta+y"),
@@ -18,11 +19,16 @@ LINES = [
     yank("a", "1.0.0-alpha.beta"),
     LIST,
     unyank("a", "1.0.0-alpha.beta+z"),
-    publish("b", "1.0.1", ["d ^1", "a *"]),
+    publish("b", "1.0.1", ["d ^1.0.0", "a *"]),
+    resolve("a >=1.0.0-alpha", lock=["b 1.0.0"]),
+    resolve("b ^1.0.0"),
+    publish("e", "1.1.0", ["d ^1.0.0"]),
+    publish("e", "1.0.0", ["a >=1.0.0-alpha"]),
+    resolve("e *"),
     publish("A", "1"),
     LIST,
 ]
-REQUIREMENTS = ["^1", ">=1.0.0, <2.0.0-rc.1", "*"]
+REQUIREMENTS = ["^1.0.0", ">=1.0.0, <2.0.0-rc.1", "*", ">=1.0.0-alpha"]
 
 
 class Memory(unittest.TestCase):
@@ -45,14 +51,26 @@ class Memory(unittest.TestCase):
 
     def follow(self, replies, number):
         """Checks the replies by the rules, and answers how many are 18."""
-        registry, short = Registry(), 0
+        registry, published, short = Registry(), Published(), 0
         self.assertEqual(len(replies), len(LINES), number)
         for line, reply in zip(LINES, replies):
+            request = json.loads(line)
             if reply == registry.refused(18):
                 short += 1
+            elif request["op"] == "resolve":
+                self.assertIn(reply, self.answers(published, registry.revision, request), (number, line))
             else:
-                self.assertEqual(reply, registry.answer(json.loads(line), REQUIREMENTS), (number, line))
+                self.assertEqual(reply, registry.answer(request, REQUIREMENTS), (number, line))
+                if reply.startswith('{"ok"'):
+                    published.apply(request)
         return short
+
+    def answers(self, published, revision, request):
+        """The lawful replies to a resolve line."""
+        found = [json.dumps(selection, separators=(",", ":")) for selection in published.answers(request)]
+        if not found:
+            return [f'{{"refused":true,"revision":{revision}}}']
+        return [f'{{"revision":{revision},"selected":{selection}}}' for selection in found]
 
     def test_each_request_refused(self):
         with tempfile.TemporaryDirectory() as folder:

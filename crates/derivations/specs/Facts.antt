@@ -59,6 +59,10 @@ dependency p versions target within = pair_of p (In versions) target (NotIn with
 abbrev pub premise_terms : Premise → Terms
 premise_terms premise = dependency premise.package premise.versions premise.target premise.within
 
+-- the terms are what the premise says; one on its own package says nothing
+abbrev pub Says : Premise → Terms → Type 0
+Says premise terms = (premise.package ≢ premise.target) × (terms ≡ premise_terms premise)
+
 -- the ordinals from k on of the publications that meet a requirement
 abbrev pub matching_from : ℕ → List Publication → Text → List ℕ
 matching_from k [] need = []

@@ -63,15 +63,15 @@ fn premise_fact(
     ensures only { IfErr result (λ e. e ≡ Refusal.NoMemory) }
 {
     if stands_by_matching(registry, premise)? {
-        Ok(Some(premise.incompat(alloc)?))
+        premise.incompat(alloc)
     } else {
         Ok(None)
     }
 }
 
-/// What a need says: root In({0}), and on its package, where that is numbered, NotIn of the
-/// published versions that meet it.
-fn need_incompat(
+/// What a need of a request says: root In({0}), and on its package NotIn of the published versions
+/// that meet it; without the term on its package where none does or the name has no number.
+pub fn need_incompat(
     alloc: Global,
     registry: &Registry,
     name: &Name,
@@ -203,11 +203,10 @@ pub fn find_offered<'a>(
     match cause {
         Cause::Line(number) => Ok(concluded(earlier, *number)),
         Cause::Premise(premise) => {
-            if premise.package == premise.target || premise.versions.is_empty() {
-                Ok(None)
-            } else {
-                Ok(Some(Given::Fact(premise.incompat(alloc)?)))
+            if premise.versions.is_empty() {
+                return Ok(None);
             }
+            Ok(as_given(premise.incompat(alloc)?))
         }
         Cause::Need(_) | Cause::NotAllowed(_, _) | Cause::Root => Ok(None),
     }

@@ -1,8 +1,9 @@
 // What lines follow from.
 
-ghost use Rattle.std.specs.Prelude.{◌≡◌, ◌≢◌, ◌↔◌, IfErr, IfOk, IsTrue};
+ghost use Rattle.std.specs.Prelude.{◌≡◌, ◌↔◌, IfErr, IfOk, IsTrue};
 ghost use Rattle.std.specs.Bool.{OnTrue};
-ghost use Rattle.derivations.specs.Facts.{premise_terms, Holds, Stands};
+ghost use Rattle.derivations.specs.Derivations.{Finds};
+ghost use Rattle.derivations.specs.Facts.{premise_terms, Holds, Says, Stands};
 
 use crate::standing::{covers, is_dependent};
 use registry::Registry;
@@ -46,15 +47,19 @@ impl Premise {
         is_dependent(registry, self) && covers(registry, self)
     }
 
-    /// What the premise says: package In(versions), target NotIn(within).
-    pub(crate) fn incompat(&self, alloc: Global) -> Result<Incompat, Refusal>
-        requires { self.now.package ≢ self.now.target }
-        ensures same { IfOk result (λ incompat. incompat ≡ premise_terms self.now) }
+    /// What the premise says: package In(versions), target NotIn(within); without the term on the
+    /// target where nothing is within. A premise on its own package says nothing.
+    pub fn incompat(&self, alloc: Global) -> Result<Option<Incompat>, Refusal>
+        ensures found { IfOk result (Finds (Says self.now)) }
         ensures only { IfErr result (λ e. e ≡ Refusal.NoMemory) }
     {
+        if self.package == self.target {
+            return Ok(None);
+        }
         let versions = Term::In(self.versions.copy(alloc)?);
         let within = Term::NotIn(self.within.copy(alloc)?);
-        Ok(Incompat::pair(alloc, self.package, versions, self.target, within)?)
+        let said = Incompat::pair(alloc, self.package, versions, self.target, within)?;
+        Ok(Some(said))
     }
 
     /// An equal premise, which shares the requirement with this one.

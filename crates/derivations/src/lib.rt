@@ -17,6 +17,7 @@ mod store;
 #[cfg(test)]
 mod tests;
 
+pub use causes::need_incompat;
 pub use cutting::{Known, Reason, cut, lines_of};
 pub use derivation::{Derivation, check};
 pub use facts::{Cause, Premise};

@@ -3,6 +3,7 @@ use Rattle.std.proofs.Common.{◌≡◌, ◌⊎◌, ℕ, ◌<◌, ◌≤◌, tru
 use Rattle.versions.specs.Refusals.{Refuses}
 use Rattle.versions.specs.declared.refusal.Refusal.{Refusal}
 use Rattle.versions.specs.declared.refusal.Refusal.TheVariants.{BadName, BadVersion, BadRequirement, RepeatedDependency, SelfDependency, TooManyDependencies, AlreadyPublished, TooManyVersions, TooManyPackages, JournalFull, NoSuchVersion, AlreadyYanked, NotYanked, Stale, Known, StoreFull, Stray, NoMemory, BadLine, TooLong, NotADerivation, BudgetSpent}
+use Rattle.registry.specs.Requests.{Wanted}
 use Rattle.registry.specs.Step.{Change}
 use Rattle.lines.specs.Lines.{HasNoFeed, lines_of}
 use Rattle.lines.specs.Unread.{Unread, BeginsWith, IsFound, Finds, FindsLast, line_limit}
@@ -12,7 +13,7 @@ use Rattle.lines.proofs.LineLemmas.{lines_of-last}
 use Rattle.wire.specs.Listings.{IsListing, Row}
 use Rattle.wire.specs.Replies.{Reply, accepted, listed, refused}
 use Rattle.wire.specs.Requests.{request_of}
-use Rattle.wire.specs.Shapes.{Request, command, listing}
+use Rattle.wire.specs.Shapes.{Request, command, listing, resolve}
 use Rattle.registryd.specs.Replay.{at}
 use Rattle.registryd.specs.Session.{Answers, IsLawful, IsRefused, Session, asked, reply_after, with_command}
 
@@ -72,6 +73,14 @@ lawful_bad e old line short said = elim (told e (request_of line) said) [
 pub lawful_listed : (old : List Change) (line : List ℕ) (rows : List Row) → length line ≤ line_limit → request_of line ≡ Ok listing → IsListing (at old) rows
     → IsLawful old line (reply_after old (listed rows)) old
 lawful_listed old line rows short said is = as_asked old line _ old _ (asked-short line short ∙ said) ((rows, is, refl), refl)
+
+-- a request that was answered, or for which no memory was there
+pub lawful_resolved : (old : List Change) (line : List ℕ) (wanted : Wanted) (reply : Reply) → length line ≤ line_limit → request_of line ≡ Ok (resolve wanted)
+    → IsRefused NoMemory old reply old ⊎ Answers old (resolve wanted) reply old → IsLawful old line reply old
+lawful_resolved old line wanted reply short said answered = elim answered [
+  | inl memory ↦ inl memory
+  | inr answers ↦ as_asked old line reply old _ (asked-short line short ∙ said) answers
+]
 
 -- a command that was accepted
 pub lawful_accepted : (old : List Change) (line : List ℕ) (change : Change) (new : List Change) → length line ≤ line_limit → request_of line ≡ Ok (command change)

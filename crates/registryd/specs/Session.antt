@@ -4,14 +4,17 @@ use Rattle.std.specs.Io.KnownBytes.{Appends, Consumes, IsAtEnd}
 use Rattle.versions.specs.Refusals.{Refuses, number_of}
 use Rattle.versions.specs.declared.refusal.Refusal.{Refusal}
 use Rattle.versions.specs.declared.refusal.Refusal.TheVariants.{BadLine, JournalFull, NoMemory}
+use Rattle.versions.specs.Words.{Text}
+use Rattle.registry.specs.Requests.{Wanted}
 use Rattle.registry.specs.Step.{Change, refusal_of}
 use Rattle.lines.specs.Lines.{lines_of, whole_lines_of}
 use Rattle.lines.specs.Texts.{IsBeginning}
 use Rattle.lines.specs.Unread.{line_limit}
-use Rattle.wire.specs.Shapes.{Request, command, listing}
+use Rattle.wire.specs.Shapes.{Request, command, listing, resolve}
 use Rattle.wire.specs.Requests.{request_of}
-use Rattle.wire.specs.Replies.{Body, Reply, accepted, refused, listed, replies_text}
+use Rattle.wire.specs.Replies.{Body, Reply, accepted, refused, listed, no_selection, replies_text, selected}
 use Rattle.wire.specs.Listings.{IsListing, Row}
+use Rattle.registryd.specs.Outcomes.{IsAnswer, IsRefuted}
 use Rattle.registryd.specs.Replay.{at, most_commands}
 
 -- the lower one of a command's refusal and `JournalFull`
@@ -48,11 +51,20 @@ reply_after changes body = record { revision = length changes; body = body }
 abbrev pub IsRefused : Refusal → List Change → Reply → List Change → Type 0
 IsRefused refusal old reply new = (reply ≡ reply_after old (refused refusal)) × (new ≡ old)
 
+-- The reply tells a selection that answers what is wanted of the registry at this line.
+abbrev pub TellsSelection : List Change → Wanted → Reply → Type 0
+TellsSelection changes wanted reply = (list : List (Text × Text)) × IsAnswer (at changes) wanted list × (reply ≡ reply_after changes (selected list))
+
+-- The reply tells that no selection of the registry at this line meets what is wanted.
+abbrev pub TellsNone : List Change → Wanted → Reply → Type 0
+TellsNone changes wanted reply = IsRefuted (at changes) wanted × (reply ≡ reply_after changes no_selection)
+
 -- A request may be answered so, and leaves these commands.
 abbrev pub Answers : List Change → Request → Reply → List Change → Type 0
 Answers old (command change) reply new = MatchResult (with_command old change)
     (λ changes. (reply ≡ reply_after changes accepted) × (new ≡ changes))
     (λ refusal. IsRefused refusal old reply new)
+Answers old (resolve wanted) reply new = (TellsSelection old wanted reply ⊎ TellsNone old wanted reply) × (new ≡ old)
 Answers old listing reply new = ((rows : List Row) × IsListing (at old) rows × (reply ≡ reply_after old (listed rows))) × (new ≡ old)
 
 -- A line may be answered so: for want of memory, or as what it asks is.

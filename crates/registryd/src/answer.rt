@@ -1,13 +1,18 @@
 //! The reply to one line.
-ghost use Rattle.std.specs.Prelude.{◌≡◌, ℕ, ◌≤◌, List, [], length};
+ghost use Rattle.std.specs.Prelude.{◌≡◌, ◌⊎◌, ℕ, ◌≤◌, List, [], length};
+ghost use Rattle.versions.specs.declared.refusal.Refusal.TheVariants.{NoMemory};
 ghost use Rattle.lines.specs.Texts.{Puts};
 ghost use Rattle.lines.specs.Unread.{IsFound, line_limit};
 ghost use Rattle.wire.specs.Replied.{body_of};
 ghost use Rattle.wire.specs.Replies.{Reply, reply_text};
-ghost use Rattle.registryd.specs.Session.{IsLawful};
+ghost use Rattle.wire.specs.Shapes.{resolve};
+ghost use Rattle.registryd.specs.Session.{Answers, IsLawful, IsRefused};
 
 use crate::served::Served;
+use derivations::Store;
 use lines::{LineBuffer, Next, Outbox};
+use registry::Request;
+use solver::{Outcome, solve};
 use std::alloc::Global;
 use std::io;
 use std::io::Write;
@@ -57,11 +62,35 @@ fn reply_to<W: Write>(
             Ok(()) => put_reply(outbox, writer, served.revision(), Body::Accepted),
             Err(e) => put_reply(outbox, writer, served.revision(), Body::Refusal(e)),
         },
+        Ok(Asked::Resolve(request)) => reply_to_request(alloc, served, outbox, writer, &request),
         Ok(Asked::Listing) => match Listing::new(alloc, served.registry()) {
             Ok(listing) => put_reply(outbox, writer, served.revision(), Body::Listing(listing)),
             Err(e) => put_reply(outbox, writer, served.revision(), Body::Refusal(e)),
         },
         Err(e) => put_reply(outbox, writer, served.revision(), Body::Refusal(e)),
+    }
+}
+
+// Replies to a request with what the solver answers, which nothing is learnt of.
+fn reply_to_request<W: Write>(
+    alloc: Global,
+    served: &Served,
+    outbox: &mut Outbox,
+    writer: &mut W,
+    request: &Request,
+) -> io::Result<()>
+    ensures { (reply : Reply)
+        × (IsRefused NoMemory served.now reply served.now ⊎ Answers served.now (resolve request.now) reply served.now)
+        × Puts (W.contents writer.old) (W.contents writer.new) outbox.old outbox.new result (reply_text reply) }
+{
+    let store = Store::new(alloc);
+    let revision = served.revision();
+    match solve(alloc, served.registry(), request, &store) {
+        Ok(Outcome::Selection(list, _)) => {
+            put_reply(outbox, writer, revision, Body::Selection(list.as_slice()))
+        }
+        Ok(Outcome::Refused(_, _)) => put_reply(outbox, writer, revision, Body::NoSelection),
+        Err(e) => put_reply(outbox, writer, revision, Body::Refusal(e)),
     }
 }
 

@@ -3,5 +3,6 @@ mod failures;
 mod hostile;
 mod limits;
 mod obey;
+mod requests;
 mod rows;
 mod words;

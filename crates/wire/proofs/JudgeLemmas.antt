@@ -1,16 +1,18 @@
 -- Texts that are judged one after another.
-use Rattle.std.proofs.Common.{◌≡◌, ℕ, zero, suc, ◌+◌, add-one, List, [], ◌∷◌, ◌++◌, take, drop, map, Bool, true, false, ◌&&◌, if◌then◌else◌, Some, Result, Ok, Err, refl, sym, ap, ◌∙◌, subst}
+use Rattle.std.proofs.Common.{◌≡◌, ℕ, zero, suc, ◌+◌, add-one, List, [], ◌∷◌, ◌++◌, take, drop, map, Bool, true, false, ◌&&◌, if◌then◌else◌, Option, Some, None, Result, Ok, Err, refl, sym, ap, ◌∙◌, subst}
 use Rattle.std.specs.List.{list_all, slice_get}
 use Rattle.std.proofs.lemmas.List.{take_more}
 use Rattle.std.proofs.lemmas.List.Folds.{list_all-append}
 use Rattle.std.proofs.lemmas.Option.{slice_get_within, get_or_from_slice_get}
 use Rattle.versions.specs.Refusals.{Refuses}
-use Rattle.versions.specs.Words.{Text, is_requirement}
+use Rattle.versions.specs.Words.{Text, is_name, is_requirement, is_version}
 use Rattle.versions.specs.declared.refusal.Refusal.{Refusal}
 use Rattle.versions.specs.declared.refusal.Refusal.TheVariants.{BadName, BadRequirement, BadVersion, NoMemory}
 use Rattle.registry.specs.Needs.{names_of}
-use Rattle.wire.specs.Requests.{checked, requirements_of}
-use Rattle.wire.specs.Shapes.{Request}
+use Rattle.registry.specs.Requests as kept
+use Rattle.registry.specs.Requests.{Wanted, request_refusal}
+use Rattle.wire.specs.Requests.{checked, judged, locked_versions, requirements_of, unless_refused}
+use Rattle.wire.specs.Shapes.{Request, resolve}
 
 -- where a test decides what was read, its refusal is the one that is said
 pub refuses_by : {X Y : Type 0} (b : Bool) (x : X) (bad e : Refusal) (said : Result Y Refusal) → Refuses e (if b then Ok x else Err bad)
@@ -58,24 +60,24 @@ drop_next part xs i x here = rw add-one (next part xs i x here)
     next part (y ∷ xs) zero x here = let same : y ≡ x = cc in rw same refl
     next part (y ∷ xs) (suc i) x here = next part xs i x here
 
--- the needs that were read so far: their names are taken, and their requirements hold the test
-pub record Read (needs : List (Text × Text)) (left : List Text) (done : List (Text × Text)) (n : ℕ) : Type 0 where
-  pub left_is : left ≡ names_of (drop n needs)
-  pub done_is : done ≡ take n needs
-  pub good : list_all is_requirement (requirements_of (take n needs)) ≡ true
+-- the pairs that were read so far: their names are taken, and the test holds of their other texts
+pub record Read (test : Text → Bool) (pairs : List (Text × Text)) (left : List Text) (done : List (Text × Text)) (n : ℕ) : Type 0 where
+  pub left_is : left ≡ names_of (drop n pairs)
+  pub done_is : done ≡ take n pairs
+  pub good : list_all test (map (λ (d : Text × Text). d.1) (take n pairs)) ≡ true
 
--- one more need is read
-pub read_more : (needs : List (Text × Text)) (left later : List Text) (done : List (Text × Text)) (n : ℕ) (name requirement : Text) (need : Text × Text)
-    → Read needs left done n → left ≡ name ∷ later → slice_get needs n ≡ Some need → requirement ≡ need.1 → is_requirement need.1 ≡ true
-    → Read needs later (done ++ (name, requirement) ∷ []) (n + 1)
-read_more needs left later done n name requirement need before taken here kept good =
-    let next = drop_next (λ (d : Text × Text). d.0) needs n need here in
-    let first : name ∷ later ≡ need.0 ∷ names_of (drop (n + 1) needs) = sym taken ∙ before.left_is ∙ next in
+-- one more pair is read
+pub read_more : (test : Text → Bool) (pairs : List (Text × Text)) (left later : List Text) (done : List (Text × Text)) (n : ℕ) (name other : Text) (pair : Text × Text)
+    → Read test pairs left done n → left ≡ name ∷ later → slice_get pairs n ≡ Some pair → other ≡ pair.1 → test pair.1 ≡ true
+    → Read test pairs later (done ++ (name, other) ∷ []) (n + 1)
+read_more test pairs left later done n name other pair before taken here kept good =
+    let next = drop_next (λ (d : Text × Text). d.0) pairs n pair here in
+    let first : name ∷ later ≡ pair.0 ∷ names_of (drop (n + 1) pairs) = sym taken ∙ before.left_is ∙ next in
     record {
       left_is = cc;
-      done_is = let same : name ≡ need.0 = cc in
-          rw (same, kept) (ap (λ l. l ++ need ∷ []) before.done_is ∙ sym (take_more_at needs n need here));
-      good = holds_more (λ (d : Text × Text). d.1) is_requirement needs n need here before.good good;
+      done_is = let same : name ≡ pair.0 = cc in
+          rw (same, kept) (ap (λ l. l ++ pair ∷ []) before.done_is ∙ sym (take_more_at pairs n pair here));
+      good = holds_more (λ (d : Text × Text). d.1) test pairs n pair here before.good good;
     }
   where
     take_more_at : (xs : List (Text × Text)) (i : ℕ) (x : Text × Text) → slice_get xs i ≡ Some x → take (i + 1) xs ≡ take i xs ++ x ∷ []
@@ -96,3 +98,61 @@ pub refuses_marking : (named : Bool) (versioned : Bool) (marking : Text × Text)
 refuses_marking false versioned marking request e refuses = refuses_alike _ _ BadName e refuses
 refuses_marking true false marking request e refuses = refuses_alike _ _ BadVersion e refuses
 refuses_marking true true marking request e refuses = refuses_none _ e marking _ refuses
+
+-- ---- the request of a resolve line
+
+-- the names of both lists are judged one list after the other
+pub both_named : (needs lock : List (Text × Text)) → list_all is_name (names_of needs) ≡ true → list_all is_name (names_of lock) ≡ true
+    → list_all is_name (names_of needs ++ names_of lock) ≡ true
+both_named needs lock needed locked = rw (list_all-append, needed, locked) refl
+
+-- a bad name among the needs
+pub misnamed_needs : (needs lock : List (Text × Text)) → list_all is_name (names_of needs) ≡ false → list_all is_name (names_of needs ++ names_of lock) ≡ false
+misnamed_needs needs lock bad = rw (list_all-append, bad) refl
+
+-- a bad name among the lock lines
+pub misnamed_lock : (needs lock : List (Text × Text)) → list_all is_name (names_of lock) ≡ false → list_all is_name (names_of needs ++ names_of lock) ≡ false
+misnamed_lock needs lock bad = rw (list_all-append, bad) (either (list_all is_name (names_of needs)))
+  where
+    either : (b : Bool) → (b && false) ≡ false
+    either true = refl
+    either false = refl
+
+-- what a request is refused for, its line is
+refuses_line : (wanted : Wanted) (refusal : Option Refusal) (e : Refusal) → Refuses e (kept.unless_refused refusal wanted) → Refuses e (unless_refused refusal (resolve wanted))
+refuses_line wanted None e refuses = refuses_none _ e wanted _ refuses
+refuses_line wanted (Some bad) e refuses = refuses_alike _ _ bad e refuses
+
+-- what a request is made of, its line asks
+asks_line : (wanted made : Wanted) (refusal : Option Refusal) → kept.unless_refused refusal wanted ≡ Ok made → unless_refused refusal (resolve wanted) ≡ Ok (resolve made)
+asks_line wanted made None is = let same : wanted ≡ made = cc in ap (λ (w : Wanted). Ok (resolve w)) same
+asks_line wanted made (Some bad) is = absurd (cc)
+
+-- what needs and a lock ask for
+abbrev pub wanted_of : List (Text × Text) → List (Text × Text) → Wanted
+wanted_of needs lock = record { needs = needs; lock = lock }
+
+-- the texts of a resolve line are names, versions and requirements
+pub record AreTexts (needs lock : List (Text × Text)) : Type 0 where
+  pub named : list_all is_name (names_of needs ++ names_of lock) ≡ true
+  pub versioned : list_all is_version (locked_versions lock) ≡ true
+  pub required : list_all is_requirement (requirements_of needs) ≡ true
+
+-- then the line is judged as its request is
+judged_texts : (needs lock : List (Text × Text)) → AreTexts needs lock → judged (resolve (wanted_of needs lock)) ≡ unless_refused (request_refusal (wanted_of needs lock)) (resolve (wanted_of needs lock))
+judged_texts needs lock texts = rw (texts.named, texts.versioned, texts.required) refl
+
+module _ (needs lock kept_needs kept_lock : List (Text × Text)) (texts : AreTexts needs lock) (same_needs : kept_needs ≡ needs) (same_lock : kept_lock ≡ lock) where
+  -- the request, of what was read of these texts, is refused
+  pub refuses_judged : (e : Refusal) → Refuses e (kept.request_in kept_needs kept_lock) → Refuses e (judged (resolve (wanted_of needs lock)))
+  refuses_judged e refuses =
+      let of_needs : Refuses e (kept.request_in needs kept_lock) = subst (λ (l : List (Text × Text)). Refuses e (kept.request_in l kept_lock)) same_needs refuses in
+      let of_both : Refuses e (kept.request_in needs lock) = subst (λ (l : List (Text × Text)). Refuses e (kept.request_in needs l)) same_lock of_needs in
+      subst (λ (said : Result Request Refusal). Refuses e said) (sym (judged_texts needs lock texts)) (refuses_line (wanted_of needs lock) (request_refusal (wanted_of needs lock)) e of_both)
+
+  -- or it is made
+  pub asks_judged : (made : Wanted) → kept.request_in kept_needs kept_lock ≡ Ok made → judged (resolve (wanted_of needs lock)) ≡ Ok (resolve made)
+  asks_judged made is =
+      let of_needs : kept.request_in needs kept_lock ≡ Ok made = subst (λ (l : List (Text × Text)). kept.request_in l kept_lock ≡ Ok made) same_needs is in
+      let of_both : kept.request_in needs lock ≡ Ok made = subst (λ (l : List (Text × Text)). kept.request_in needs l ≡ Ok made) same_lock of_needs in
+      judged_texts needs lock texts ∙ asks_line (wanted_of needs lock) made (request_refusal (wanted_of needs lock)) of_both

@@ -17,7 +17,7 @@ use Rattle.registry.specs.Registry.{Packages, Publication, package_at, versions_
 use Rattle.wire.specs.Entries.{entry_json, publication_json, row_at}
 use Rattle.wire.specs.declared.listing.Entry.{Entry}
 use Rattle.wire.specs.Listings.{Row, versions_in}
-use Rattle.wire.specs.Replies.{accepted, listed, refused, reply_text, row_json, version_json}
+use Rattle.wire.specs.Replies.{accepted, listed, no_selection, pair_json, refused, reply_text, row_json, selected, version_json}
 
 pub accepted_text : (revision : ℕ) → reply_text (record { revision = revision; body = accepted }) ≡ codes "{\"ok\":true,\"revision\":" ++ (decimal revision ++ (codes "}\n" ++ []))
 unfolding serde_json_on_literals reply_text
@@ -51,6 +51,10 @@ pub refused_text : (e : Refusal) (revision : ℕ) → reply_text (record { revis
     ≡ codes "{\"error\":" ++ (decimal (number_of e) ++ (codes ",\"name\":\"" ++ (name_of e ++ (codes "\",\"revision\":" ++ (decimal revision ++ (codes "}\n" ++ []))))))
 unfolding serde_json_on_literals reply_text
 refused_text e revision = simp (append_assoc, escape-plain (name_of e) (name_plain e))
+
+pub no_selection_text : (revision : ℕ) → reply_text (record { revision = revision; body = no_selection }) ≡ codes "{\"refused\":true,\"revision\":" ++ (decimal revision ++ (codes "}\n" ++ []))
+unfolding serde_json_on_literals reply_text
+no_selection_text revision = simp append_assoc
 
 -- ---- listings
 
@@ -86,6 +90,23 @@ pub listed_text : (rows : List Row) (revision : ℕ) → reply_text (record { re
     ≡ codes "{\"packages\":" ++ (compact_text (array (items_of (map row_json rows))) ++ (codes ",\"revision\":" ++ (decimal revision ++ (codes "}\n" ++ []))))
 unfolding serde_json_on_literals reply_text
 listed_text rows revision = ap (λ (l : List ℕ). codes "{\"packages\":[" ++ l) (end_text (items_text false (items_of (map row_json rows))) (decimal revision))
+
+-- ---- selections
+
+-- a package and its version
+pub pair_text : (later : Bool) (name version : Text) → list_all is_plain name ≡ true → list_all is_plain version ≡ true
+    → (comma_if later ++ codes "[\"") ++ (name ++ (codes "\",\"" ++ (version ++ codes "\"]"))) ≡ comma_if later ++ compact_text (pair_json (name, version))
+unfolding serde_json_on_literals
+pair_text later name version named versioned = simp (append_assoc, escape-plain name named, escape-plain version versioned)
+
+-- a selection
+pub selected_text : (pairs : List (Text × Text)) (revision : ℕ)
+    → (codes "{\"revision\":" ++ (decimal revision ++ (codes ",\"selected\":[" ++ []))) ++ (joined (map pair_json pairs) ++ codes "]}\n")
+    ≡ reply_text (record { revision = revision; body = selected pairs })
+unfolding serde_json_on_literals reply_text
+selected_text pairs revision = simp (append_assoc, items_text-joined false (map pair_json pairs))
+
+-- ---- values with commas between
 
 regroup : (a b c d : List ℕ) → a ++ (b ++ (c ++ d)) ≡ (a ++ (b ++ c)) ++ d
 regroup a b c d = simp append_assoc
@@ -156,3 +177,9 @@ listed_parts rows revision digits is = record { whole = rw is (sym (listed_text 
 -- the same, from the rows
 pub array_parts : (rows : List Row) → Makes (91 ∷ []) (joined (map row_json rows)) (93 ∷ []) (compact_text (array (items_of (map row_json rows))))
 array_parts rows = record { whole = array_text (map row_json rows) }
+
+-- the parts in which the reply with a selection is put
+pub selected_parts : (pairs : List (Text × Text)) (revision : ℕ) (digits : List ℕ) → digits ≡ decimal revision
+    → Makes (codes "{\"revision\":" ++ (digits ++ (codes ",\"selected\":[" ++ []))) (joined (map pair_json pairs)) (codes "]}\n")
+    (reply_text (record { revision = revision; body = selected pairs }))
+selected_parts pairs revision digits is = record { whole = rw is (selected_text pairs revision) }

@@ -1,7 +1,7 @@
 -- Requests as they are kept, by their texts.
 use Rattle.registry.specs.Step.{Publish, Yank, Unyank}
 use Rattle.registry.specs.Commands.{change_of}
-use Rattle.wire.specs.Shapes.{Request, command, listing}
+use Rattle.wire.specs.Shapes.{Request, command, listing, resolve}
 use Rattle.wire.specs.declared.request.Asked.{Asked}
 use Rattle.wire.specs.declared.request.Asked.TheVariants as asked
 use Rattle.wire.specs.declared.request.shape.Shape.{Shape}
@@ -9,6 +9,7 @@ use Rattle.wire.specs.declared.request.shape.Shape.TheVariants as shape
 
 abbrev pub asked_of : Asked → Request
 asked_of (asked.Command c) = command (change_of c)
+asked_of (asked.Resolve wanted) = resolve wanted
 asked_of asked.Listing = listing
 
 -- a shape, by the texts in the line
@@ -16,4 +17,5 @@ abbrev pub texts_of : Shape → Request
 texts_of (shape.Publish name version needs) = command (Publish name.now version.now needs)
 texts_of (shape.Yank name version) = command (Yank name.now version.now)
 texts_of (shape.Unyank name version) = command (Unyank name.now version.now)
+texts_of (shape.Resolve needs lock) = resolve (record { needs = needs; lock = lock })
 texts_of shape.Listing = listing

@@ -12,6 +12,10 @@ use Rattle.versions.specs.declared.refusal.Refusal.{Refusal}
 pub data Body : Type 0 where
   accepted : Body
   refused : Refusal → Body
+  -- packages, each with the version that was chosen of it
+  selected : List (Text × Text) → Body
+  -- no selection meets the request
+  no_selection : Body
   listed : List Row → Body
 
 -- what is replied, and the revision at which it was found
@@ -20,6 +24,10 @@ pub record Reply : Type 0 where
   pub body : Body
 
 -- ---- as JSON
+
+-- two texts, as a pair
+abbrev pub pair_json : Text × Text → Data
+pair_json p = array (item (string p.0) (item (string p.1) no_items))
 
 -- a version and its yank, as a pair
 abbrev pub version_json : Text × Bool → Data
@@ -33,6 +41,8 @@ row_json row = array (item (string row.0) (item (array (items_of (map version_js
 abbrev pub body_members : Body → List (Text × Data)
 body_members accepted = (codes "ok", boolean true) ∷ []
 body_members (refused refusal) = (codes "error", number (unsigned (number_of refusal))) ∷ (codes "name", string (name_of refusal)) ∷ []
+body_members (selected pairs) = (codes "selected", array (items_of (map pair_json pairs))) ∷ []
+body_members no_selection = (codes "refused", boolean true) ∷ []
 body_members (listed rows) = (codes "packages", array (items_of (map row_json rows))) ∷ []
 
 -- members, each at its place in the byte order of their names

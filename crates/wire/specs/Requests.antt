@@ -1,5 +1,5 @@
 -- What a request line asks.
-use Rattle.std.specs.Prelude.{ℕ, Bool, List, [], ◌∷◌, if◌then◌else◌, Option, Some, None, Result, Ok, Err, map}
+use Rattle.std.specs.Prelude.{ℕ, Bool, List, [], ◌∷◌, ◌++◌, if◌then◌else◌, Option, Some, None, Result, Ok, Err, map}
 use Rattle.std.specs.List.{list_all}
 use Rattle.std.specs.Str.{is_utf8}
 use Rattle.serde_json.specs.Data.{Data}
@@ -8,18 +8,24 @@ use Rattle.versions.specs.Words.{Text, is_name, is_version, is_requirement}
 use Rattle.versions.specs.declared.refusal.Refusal.{Refusal}
 use Rattle.versions.specs.declared.refusal.Refusal.TheVariants.{BadName, BadVersion, BadRequirement, BadLine}
 use Rattle.registry.specs.Needs.{names_of}
+use Rattle.registry.specs.Requests.{request_refusal}
 use Rattle.registry.specs.Step.{Publish, Yank, Unyank}
-use Rattle.wire.specs.Shapes.{Request, command, listing, shape_of}
+use Rattle.wire.specs.Shapes.{Request, command, listing, resolve, shape_of}
 
 -- the requirements of the needs, in order
 abbrev pub requirements_of : List (Text × Text) → List Text
 requirements_of needs = map (λ (need : Text × Text). need.1) needs
+
+-- the versions that a lock names, in order of its lines
+abbrev pub locked_versions : List (Text × Text) → List Text
+locked_versions lock = map (λ (line : Text × Text). line.1) lock
 
 -- all names of a request
 abbrev pub names_in : Request → List Text
 names_in (command (Publish name version needs)) = name ∷ names_of needs
 names_in (command (Yank name version)) = name ∷ []
 names_in (command (Unyank name version)) = name ∷ []
+names_in (resolve wanted) = names_of wanted.needs ++ names_of wanted.lock
 names_in listing = []
 
 -- all versions of a request
@@ -27,6 +33,7 @@ abbrev pub versions_in : Request → List Text
 versions_in (command (Publish name version needs)) = version ∷ []
 versions_in (command (Yank name version)) = version ∷ []
 versions_in (command (Unyank name version)) = version ∷ []
+versions_in (resolve wanted) = locked_versions wanted.lock
 versions_in listing = []
 
 -- all requirements of a request
@@ -34,19 +41,30 @@ abbrev pub requirements_in : Request → List Text
 requirements_in (command (Publish name version needs)) = requirements_of needs
 requirements_in (command (Yank name version)) = []
 requirements_in (command (Unyank name version)) = []
+requirements_in (resolve wanted) = requirements_of wanted.needs
 requirements_in listing = []
 
 -- what was tested, where the test holds, or else the refusal
 abbrev pub checked : {X : Type 0} → Bool → X → Refusal → Result X Refusal
 checked holds x refusal = if holds then Ok x else Err refusal
 
--- the request, or the lowest refusal of its texts: names come before versions, and versions before requirements
+abbrev pub unless_refused : Option Refusal → Request → Result Request Refusal
+unless_refused None request = Ok request
+unless_refused (Some refusal) request = Err refusal
+
+-- What a resolve line names twice, and how much it asks, is judged with it; of a command that is the registry's to judge.
+abbrev pub counted : Request → Result Request Refusal
+counted (command change) = Ok (command change)
+counted (resolve wanted) = unless_refused (request_refusal wanted) (resolve wanted)
+counted listing = Ok listing
+
+-- the request, or its lowest refusal: names come before versions, versions before requirements, and these before repeats and numbers
 abbrev pub judged : Request → Result Request Refusal
 judged request =
     if list_all is_name (names_in request) then
     (if list_all is_version (versions_in request) then
-    checked (list_all is_requirement (requirements_in request)) request BadRequirement
-    else Err BadVersion) else Err BadName
+    (if list_all is_requirement (requirements_in request) then counted request
+    else Err BadRequirement) else Err BadVersion) else Err BadName
 
 -- the name and the version of a yank or an unyank
 abbrev pub judged_marking : Text → Text → Result (Text × Text) Refusal

@@ -4,8 +4,10 @@
 #![tactic(auto)]
 
 mod listing;
+mod parts;
 mod reply;
 mod request;
+mod selection;
 
 pub use listing::Listing;
 pub use reply::{Body, Reply, reply_line};

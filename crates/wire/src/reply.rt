@@ -4,14 +4,15 @@ ghost use Rattle.std.specs.IoError.{error_kind};
 ghost use Rattle.lines.specs.Texts.{Puts};
 ghost use Rattle.wire.specs.Joined.{Waits};
 ghost use Rattle.wire.specs.Replied.{reply_of};
-ghost use Rattle.wire.specs.Replies.{accepted, listed, refused, reply_text};
+ghost use Rattle.wire.specs.Replies.{accepted, listed, no_selection, refused, reply_text, selected};
 
 use crate::listing::{Listing, put_packages};
+use crate::selection::put_selected;
 use itoa::Buffer;
 use lines::Outbox;
 use std::io;
 use std::io::{ErrorKind, Write};
-use versions::Refusal;
+use versions::{Name, Published, Refusal};
 
 /// What is replied to a line.
 #[derive(Drop)]
@@ -28,11 +29,16 @@ pub enum Body<'r> {
     Accepted,
     /// The line was refused.
     Refusal(Refusal),
+    /// The packages that are selected, each with its version. The caller gives them in byte order of their names.
+    Selection(&'r [(Name, Published)]),
+    /// No selection meets the request.
+    NoSelection,
     /// What is published.
     Listing(Listing<'r>),
 }
 
-/// Puts the line of a reply behind what waits. It takes no memory, however long a listing is.
+/// Puts the line of a reply behind what waits. It takes no memory, however long a listing or a
+/// selection is.
 pub fn reply_line<W: Write>(
     outbox: &mut Outbox,
     writer: &mut W,
@@ -46,6 +52,8 @@ pub fn reply_line<W: Write>(
     match &reply.body {
         Body::Accepted => put_accepted(outbox, writer, reply.revision),
         Body::Refusal(refusal) => put_refusal(outbox, writer, *refusal, reply.revision),
+        Body::Selection(pairs) => put_selection(outbox, writer, *pairs, reply.revision),
+        Body::NoSelection => put_no_selection(outbox, writer, reply.revision),
         Body::Listing(listing) => put_listing(outbox, writer, listing, reply.revision),
     }
 }
@@ -91,6 +99,51 @@ fn put_refusal<W: Write>(
             b",\"name\":\"",
             refusal.name().as_bytes(),
             b"\",\"revision\":",
+            digits.format(revision).as_bytes(),
+            b"}\n",
+        ],
+    )
+}
+
+fn put_selection<W: Write>(
+    outbox: &mut Outbox,
+    writer: &mut W,
+    pairs: &[(Name, Published)],
+    revision: u64,
+) -> io::Result<()>
+    ensures text { Puts (W.contents writer.old) (W.contents writer.new) outbox.old outbox.new result
+        (reply_text (record { revision = revision; body = selected pairs.now })) }
+    ensures waits { Waits outbox.old outbox.new result
+        (reply_text (record { revision = revision; body = selected pairs.now })) }
+    ensures err { OnErr result (outbox.new ≡ []) }
+    ensures retried { IfErr result (λ e. error_kind e ≢ ErrorKind.Interrupted) }
+{
+    let mut digits = Buffer::new();
+    outbox.put_all(
+        writer,
+        &[
+            b"{\"revision\":",
+            digits.format(revision).as_bytes(),
+            b",\"selected\":[",
+        ],
+    )?;
+    put_selected(outbox, writer, pairs)?;
+    outbox.put(writer, b"]}\n")
+}
+
+fn put_no_selection<W: Write>(outbox: &mut Outbox, writer: &mut W, revision: u64) -> io::Result<()>
+    ensures text { Puts (W.contents writer.old) (W.contents writer.new) outbox.old outbox.new result
+        (reply_text (record { revision = revision; body = no_selection })) }
+    ensures waits { Waits outbox.old outbox.new result
+        (reply_text (record { revision = revision; body = no_selection })) }
+    ensures err { OnErr result (outbox.new ≡ []) }
+    ensures retried { IfErr result (λ e. error_kind e ≢ ErrorKind.Interrupted) }
+{
+    let mut digits = Buffer::new();
+    outbox.put_all(
+        writer,
+        &[
+            b"{\"refused\":true,\"revision\":",
             digits.format(revision).as_bytes(),
             b"}\n",
         ],

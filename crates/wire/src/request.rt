@@ -1,7 +1,8 @@
 //! Request lines.
 //!
 //! A line is first held against the shapes of the requests. Then its texts are judged in passes over the whole line,
-//! all names, then versions, then requirements, so that the lowest refusal is met first.
+//! all names, then versions, then requirements, so that the lowest refusal is met first. Of a resolve line come then a
+//! package that is named twice, and needs or lock lines that are too many.
 ghost use Rattle.std.specs.Prelude.{ok_or};
 ghost use Rattle.serde_json.specs.View.{view};
 ghost use Rattle.versions.specs.Refusals.{Gives};
@@ -14,7 +15,7 @@ mod pairs;
 mod shape;
 
 use judging::judge;
-use registry::Command;
+use registry::{Command, Request};
 use serde_json::Value;
 use shape::shape_of;
 use std::alloc::Global;
@@ -25,6 +26,8 @@ use versions::Refusal;
 pub enum Asked {
     /// That the registry be changed.
     Command(Command),
+    /// Which versions meet these needs under this lock.
+    Resolve(Request),
     /// What is published.
     Listing,
 }
@@ -32,7 +35,8 @@ pub enum Asked {
 /// Reads what a line asks.
 ///
 /// A line that is not of its form is [`Refusal::BadLine`] and is judged for nothing else. Of the refusals of its names,
-/// versions and requirements it is given the lowest. Whether the registry takes a command is not judged here.
+/// versions and requirements, and of what a resolve line repeats or asks too much, it is given the lowest. Whether the
+/// registry takes a command is not judged here. The cost grows with n log n of the line.
 pub fn read_request(alloc: Global, line: &[u8]) -> Result<Asked, Refusal>
     ensures { Gives asked_of result (request_of line.now) }
 {

@@ -1,5 +1,5 @@
 //! The text of a listing, put in parts.
-ghost use Rattle.std.specs.Prelude.{◌≡◌, ◌≢◌, ◌++◌, [], codes, map, IfErr, OnErr};
+ghost use Rattle.std.specs.Prelude.{◌≡◌, ◌≢◌, ◌++◌, [], map, IfErr, OnErr};
 ghost use Rattle.std.specs.IoError.{error_kind};
 ghost use Rattle.lines.specs.Texts.{Puts};
 ghost use Rattle.registry.specs.Lawful.{IsRegistry};
@@ -12,6 +12,7 @@ ghost use Rattle.wire.specs.Joined.{Waits, closing, joined};
 ghost use Rattle.wire.specs.Replies.{row_json, version_json};
 
 use super::{Entry, Listing};
+use crate::parts::{opening, put_parts};
 use lines::Outbox;
 use registry::{Pkg, Registry};
 use std::io;
@@ -123,32 +124,6 @@ fn put_version<W: Write>(
         version.text(),
         closing(yanked),
     )
-}
-
-/// Puts a text between two others.
-fn put_parts<'p, W: Write>(
-    outbox: &mut Outbox,
-    writer: &mut W,
-    before: &'p str,
-    text: &'p str,
-    after: &'p str,
-) -> io::Result<()>
-    ensures text { Puts (W.contents writer.old) (W.contents writer.new) outbox.old outbox.new result (before.now ++ (text.now ++ after.now)) }
-    ensures waits { Waits outbox.old outbox.new result (before.now ++ (text.now ++ after.now)) }
-    ensures err { OnErr result (outbox.new ≡ []) }
-    ensures retried { IfErr result (λ e. error_kind e ≢ ErrorKind.Interrupted) }
-{
-    outbox.put_all(
-        writer,
-        &[before.as_bytes(), text.as_bytes(), after.as_bytes()],
-    )
-}
-
-/// What begins a pair that starts with a text.
-fn opening(later: bool) -> &'static str
-    ensures { result.now ≡ comma_if later ++ codes "[\"" }
-{
-    if later { ",[\"" } else { "[\"" }
 }
 
 /// What ends a version's pair, after its text.

@@ -107,6 +107,14 @@ fn text_of(alloc: Global, revision: u64, body: Body<'_>) -> Result<Vec<u8>, Fail
     Ok(writer)
 }
 
+/// The line of the selection that the lock of a resolve line names.
+fn selected(alloc: Global, revision: u64, line: &str) -> Result<Vec<u8>, Fail> {
+    match read_request(alloc, line.as_bytes())? {
+        Asked::Resolve(request) => text_of(alloc, revision, Body::Selection(request.lock())),
+        _ => Err(Fail::from(Refusal::BadLine)),
+    }
+}
+
 /// Carries out what a line asks, if it is a command.
 fn carry_out(alloc: Global, registry: &mut Registry, line: &str) -> Result<(), Fail> {
     if let Asked::Command(command) = read_request(alloc, line.as_bytes())?
@@ -159,6 +167,70 @@ fn each_refusal_is_told_by_number_and_name(rt: HostRuntime) -> Result<(), Fail> 
         let text = text_of(rt.alloc(), 3, Body::Refusal(refusal))?;
         assert_eq!(rt; text.as_slice(), line.as_bytes());
     }
+    Ok(())
+}
+
+#[test]
+fn a_selection_is_told_by_names_and_versions(rt: HostRuntime) -> Result<(), Fail> {
+    for (lock, revision, line) in [
+        (
+            "{\"op\":\"resolve\",\"needs\":[]}",
+            0,
+            "{\"revision\":0,\"selected\":[]}\n",
+        ),
+        (
+            "{\"op\":\"resolve\",\"needs\":[],\"lock\":[[\"a\",\"1.0.0\"]]}",
+            1,
+            "{\"revision\":1,\"selected\":[[\"a\",\"1.0.0\"]]}\n",
+        ),
+        (
+            "{\"op\":\"resolve\",\"needs\":[],\"lock\":[[\"foo\",\"1.0.0\"],[\"target\",\"2.0.0\"]]}",
+            8,
+            "{\"revision\":8,\"selected\":[[\"foo\",\"1.0.0\"],[\"target\",\"2.0.0\"]]}\n",
+        ),
+        // In the order that is given, and with the texts that are.
+        (
+            "{\"op\":\"resolve\",\"needs\":[],\"lock\":[[\"b-_9\",\"1.0.0-rc.1+x.y\"],[\"a\",\"0.0.0\"],[\"c\",\"1.0.0\"]]}",
+            18446744073709551615,
+            "{\"revision\":18446744073709551615,\"selected\":[[\"b-_9\",\"1.0.0-rc.1+x.y\"],[\"a\",\"0.0.0\"],[\"c\",\"1.0.0\"]]}\n",
+        ),
+    ] {
+        let text = selected(rt.alloc(), revision, lock)?;
+        assert_eq!(rt; text.as_slice(), line.as_bytes());
+    }
+    Ok(())
+}
+
+#[test]
+fn that_no_selection_meets_a_request_is_told(rt: HostRuntime) -> Result<(), Fail> {
+    let text = text_of(rt.alloc(), 4, Body::NoSelection)?;
+    assert_eq!(rt;
+        text.as_slice(),
+        b"{\"refused\":true,\"revision\":4}\n".as_slice()
+    );
+    let text = text_of(rt.alloc(), 0, Body::NoSelection)?;
+    assert_eq!(rt;
+        text.as_slice(),
+        b"{\"refused\":true,\"revision\":0}\n".as_slice()
+    );
+    Ok(())
+}
+
+#[test]
+fn a_long_selection_is_whole(rt: HostRuntime) -> Result<(), Fail> {
+    let mut lock = String::from_str(rt.alloc(), "")?;
+    for number in 0..270u32 {
+        let comma = if number > 0 { "," } else { "" };
+        let pair = format!(in rt.alloc();
+            "{comma}[\"a{number}\",\"{number}.0.0-{number:0240}x\"]"
+        )?;
+        lock.push_str(pair.as_str())?;
+    }
+    let asked = format!(in rt.alloc(); "{{\"op\":\"resolve\",\"needs\":[],\"lock\":[{lock}]}}")?;
+    let line = format!(in rt.alloc(); "{{\"revision\":270,\"selected\":[{lock}]}}\n")?;
+    let text = selected(rt.alloc(), 270, asked.as_str())?;
+    assert!(rt; line.len() > 65_536);
+    assert_eq!(rt; text.as_slice(), line.as_bytes());
     Ok(())
 }
 

@@ -4,16 +4,16 @@ ghost use Rattle.std.specs.List.{list_all};
 ghost use Rattle.registry.specs.Needs.{names_of};
 ghost use Rattle.registry.specs.Step.{Publish};
 ghost use Rattle.versions.specs.Refusals.{Gives};
-ghost use Rattle.versions.specs.Words.{is_name, is_requirement};
-ghost use Rattle.versions.specs.declared.refusal.Refusal.TheVariants.{BadName, BadRequirement};
+ghost use Rattle.versions.specs.Words.{is_name, is_requirement, is_version};
+ghost use Rattle.versions.specs.declared.refusal.Refusal.TheVariants.{BadName, BadRequirement, BadVersion};
 ghost use Rattle.wire.specs.Asked.{asked_of, texts_of};
-ghost use Rattle.wire.specs.Requests.{checked, judged, judged_marking, requirements_of};
-ghost use Rattle.wire.specs.Shapes.{command};
+ghost use Rattle.wire.specs.Requests.{checked, judged, judged_marking, locked_versions, requirements_of};
+ghost use Rattle.wire.specs.Shapes.{command, resolve};
 
 use super::Asked;
 use super::pairs::Pairs;
 use super::shape::Shape;
-use registry::{Command, Dependencies};
+use registry::{Command, Dependencies, Request};
 use std::alloc::Global;
 use versions::{Name, Need, Published, Refusal};
 
@@ -31,6 +31,7 @@ pub fn judge(alloc: Global, shape: &Shape<'_>) -> Result<Asked, Refusal>
             let (name, version) = marking(alloc, *name, *version)?;
             Ok(Asked::Command(Command::Unyank(name, version)))
         }
+        Shape::Resolve(needs, lock) => resolution(alloc, needs, lock),
         Shape::Listing => Ok(Asked::Listing),
     }
 }
@@ -57,13 +58,23 @@ fn marking(alloc: Global, name: &str, version: &str) -> Result<(Name, Published)
     Ok((Name::read(alloc, name)?, Published::read(alloc, version)?))
 }
 
-/// The names of these needs.
-fn names_in(alloc: Global, needs: &Pairs<'_>) -> Result<Vec<Name>, Refusal>
-    ensures { Gives (λ v. v.items) result (checked (list_all is_name (names_of needs.now)) (names_of needs.now) BadName) }
+fn resolution(alloc: Global, needs: &Pairs<'_>, lock: &Pairs<'_>) -> Result<Asked, Refusal>
+    ensures { Gives asked_of result (judged (resolve (record { needs = needs.now; lock = lock.now }))) }
 {
-    let mut names = Vec::with_capacity(alloc, needs.len())?;
-    for place in 0..needs.len() {
-        let (name, _) = needs.at(place);
+    let needed = names_in(alloc, needs)?;
+    let locked = names_in(alloc, lock)?;
+    let lock = lock_in(alloc, locked, lock)?;
+    let needs = needs_in(alloc, needed, needs)?;
+    Ok(Asked::Resolve(Request::new(alloc, needs, lock)?))
+}
+
+/// The names of these needs or lock lines.
+fn names_in(alloc: Global, pairs: &Pairs<'_>) -> Result<Vec<Name>, Refusal>
+    ensures { Gives (λ v. v.items) result (checked (list_all is_name (names_of pairs.now)) (names_of pairs.now) BadName) }
+{
+    let mut names = Vec::with_capacity(alloc, pairs.len())?;
+    for place in 0..pairs.len() {
+        let (name, _) = pairs.at(place);
         names.push(Name::read(alloc, name)?)?;
     }
     Ok(names)
@@ -82,6 +93,23 @@ fn needs_in(
     for name in names {
         let (_, requirement) = needs.at(read.len());
         read.push((name, Need::read(alloc, requirement)?))?;
+    }
+    Ok(read)
+}
+
+/// The lock lines with these names, which are theirs.
+fn lock_in(
+    alloc: Global,
+    names: Vec<Name>,
+    lock: &Pairs<'_>,
+) -> Result<Vec<(Name, Published)>, Refusal>
+    requires { names.items ≡ names_of lock.now }
+    ensures { Gives (λ v. v.items) result (checked (list_all is_version (locked_versions lock.now)) lock.now BadVersion) }
+{
+    let mut read = Vec::with_capacity(alloc, lock.len())?;
+    for name in names {
+        let (_, version) = lock.at(read.len());
+        read.push((name, Published::read(alloc, version)?))?;
     }
     Ok(read)
 }

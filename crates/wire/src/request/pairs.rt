@@ -26,6 +26,13 @@ impl<'v> Model for Pairs<'v> {
 }
 
 impl<'v> Pairs<'v> {
+    /// No pairs.
+    pub fn none() -> Pairs<'v>
+        ensures { result ≡ [] }
+    {
+        Pairs { items: &[] }
+    }
+
     /// The pairs that this value is, if it is an array of pairs of texts and of nothing else.
     pub fn of(value: &'v Value) -> Option<Pairs<'v>>
         ensures { result ≡ pairs_in (view value.now) }

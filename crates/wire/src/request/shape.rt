@@ -1,7 +1,7 @@
 //! The shapes of request lines.
 ghost use Rattle.std.specs.Prelude.{◌≡◌, option_map};
 ghost use Rattle.serde_json.specs.View.{view};
-ghost use Rattle.wire.specs.Shapes.{text_at, member_count, shape_of, publication_in, marking_in};
+ghost use Rattle.wire.specs.Shapes.{text_at, pairs_at, member_count, shape_of, publication_in, marking_in, lock_in, resolution_in};
 ghost use Rattle.wire.specs.Asked.{texts_of};
 ghost use Rattle.registry.specs.Step.{Yank, Unyank};
 
@@ -14,6 +14,8 @@ pub enum Shape<'v> {
     Publish(&'v str, &'v str, Pairs<'v>),
     Yank(&'v str, &'v str),
     Unyank(&'v str, &'v str),
+    /// The needs and the lock.
+    Resolve(Pairs<'v>, Pairs<'v>),
     Listing,
 }
 
@@ -31,6 +33,7 @@ pub fn shape_of(value: &Value) -> Option<Shape<'_>>
             let (name, version) = marking_in(value)?;
             Some(Shape::Unyank(name, version))
         }
+        "resolve" => resolution_in(value),
         "list" if member_count(value) == 1 => Some(Shape::Listing),
         _ => None,
     }
@@ -44,7 +47,7 @@ fn publication_in(value: &Value) -> Option<Shape<'_>>
     }
     let name = text_at(value, "name")?;
     let version = text_at(value, "version")?;
-    let needs = Pairs::of(value.get("needs")?)?;
+    let needs = pairs_at(value, "needs")?;
     Some(Shape::Publish(name, version, needs))
 }
 
@@ -56,6 +59,25 @@ fn marking_in(value: &Value) -> Option<(&str, &str)>
         return None;
     }
     Some((text_at(value, "name")?, text_at(value, "version")?))
+}
+
+fn resolution_in(value: &Value) -> Option<Shape<'_>>
+    ensures { option_map texts_of result ≡ resolution_in (view value.now) }
+{
+    let lock = lock_in(value)?;
+    let needs = pairs_at(value, "needs")?;
+    Some(Shape::Resolve(needs, lock))
+}
+
+/// The lock of a resolve line, which may be left out.
+fn lock_in(value: &Value) -> Option<Pairs<'_>>
+    ensures { result ≡ lock_in (view value.now) }
+{
+    match member_count(value) {
+        2 => Some(Pairs::none()),
+        3 => pairs_at(value, "lock"),
+        _ => None,
+    }
 }
 
 /// How many members an object has.
@@ -73,4 +95,11 @@ fn text_at<'v>(value: &'v Value, name: &str) -> Option<&'v str>
     ensures { option_map (λ s. s.now) result ≡ text_at name.now (view value.now) }
 {
     value.get(name).and_then(Value::as_str)
+}
+
+/// The pairs of a member.
+fn pairs_at<'v>(value: &'v Value, name: &str) -> Option<Pairs<'v>>
+    ensures { result ≡ pairs_at name.now (view value.now) }
+{
+    Pairs::of(value.get(name)?)
 }

@@ -4,8 +4,10 @@ use registry::Dependencies;
 use std::test::Fail;
 use versions::{Name, Published};
 
+mod resolutions;
+
 /// Lines that are not of their form.
-const BAD_LINES: [&str; 45] = [
+const BAD_LINES: [&str; 44] = [
     "",
     " ",
     "{\"op\":\"resolve\",\"nee",
@@ -26,8 +28,7 @@ const BAD_LINES: [&str; 45] = [
     "{\"op\":\"List\"}",
     "{\"op\":\"lists\"}",
     "{\"Op\":\"list\"}",
-    // Stages to come read these.
-    "{\"op\":\"resolve\",\"needs\":[]}",
+    // A stage to come reads this.
     "{\"op\":\"check\",\"needs\":[],\"derivation\":[]}",
     // A member too many.
     "{\"op\":\"list\",\"name\":\"a\"}",
@@ -141,7 +142,7 @@ fn refusal_of(alloc: Global, line: &[u8]) -> Option<Refusal> {
 fn command_of(alloc: Global, line: &str) -> Result<Command, Fail> {
     match read_request(alloc, line.as_bytes())? {
         Asked::Command(command) => Ok(command),
-        Asked::Listing => Err(Fail::from(Refusal::BadLine)),
+        _ => Err(Fail::from(Refusal::BadLine)),
     }
 }
 

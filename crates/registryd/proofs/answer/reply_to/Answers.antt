@@ -2,7 +2,7 @@ use Rattle.std.proofs.Common.{subst}
 use Rattle.wire.specs.Listings.{IsListing}
 use Rattle.wire.specs.Replies.{refused}
 use Rattle.registryd.specs.Session.{reply_after}
-use Rattle.registryd.proofs.SessionLemmas.{lawful_memory, lawful_bad, lawful_listed, lawful_accepted, lawful_refused}
+use Rattle.registryd.proofs.SessionLemmas.{lawful_memory, lawful_bad, lawful_listed, lawful_accepted, lawful_refused, lawful_resolved}
 use Rattle.registryd.proofs.answer.reply_to.Goals as goal
 
 pub returns-in-Ok : goal.returns-in-Ok
@@ -16,6 +16,12 @@ returns-in-Err-accept g c =
     let same = c.in-Err-accept.ensures.0 in
     let puts = rw (c.revision-in-Err-accept.ensures, same) at c.put_reply-in-Err-accept.ensures in
     (reply_after c.args.served.now (refused c.in-Err-accept.e), rw same (lawful_refused c.in-Err-accept.e _ _ _ c.requires said c.in-Err-accept.ensures.1), puts)
+
+pub returns-in-Ok-Resolve : goal.returns-in-Ok-Resolve
+returns-in-Ok-Resolve g c =
+    let said = rw c.in-Ok-Resolve.field-0-is at c.in-Ok-Resolve.ensures in
+    let replied = c.reply_to_request.ensures in
+    (replied.0, lawful_resolved _ _ _ _ c.requires said replied.1, replied.2)
 
 pub returns-in-Ok-new : goal.returns-in-Ok-new
 returns-in-Ok-new g c =

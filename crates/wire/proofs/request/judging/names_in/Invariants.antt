@@ -5,4 +5,4 @@ use Rattle.registry.specs.Needs.{names_of}
 use Rattle.wire.proofs.request.judging.names_in.Given as goal
 
 abbrev pub invariant-loop-place : goal.invariant-loop-place
-invariant-loop-place l = (l.names.items ≡ names_of (take l.place l.needs)) × (list_all is_name (names_of (take l.place l.needs)) ≡ true)
+invariant-loop-place l = (l.names.items ≡ names_of (take l.place l.pairs)) × (list_all is_name (names_of (take l.place l.pairs)) ≡ true)

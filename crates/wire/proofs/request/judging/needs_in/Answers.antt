@@ -16,4 +16,4 @@ loop-name-preserved c =
     let at = ap (λ (n : ℕ). slice_get c.args.needs.now n) (sym c.len-in-loop-name.ensures) ∙ c.at.ensures in
     let read = given_by _ _ _ BadRequirement c.in_ok-read-2.ensures.gives in
     rw (c.in_ok-push.ensures.items, c.in_ok-push.ensures.len)
-    (read_more c.args.needs.now _ _ c.loop-name.read.items _ c.in-Some.name _ _ c.loop-name.invariant c.in-Some.ensures.steps.0 at read.1 read.0)
+    (read_more is_requirement c.args.needs.now _ _ c.loop-name.read.items _ c.in-Some.name _ _ c.loop-name.invariant c.in-Some.ensures.steps.0 at read.1 read.0)

@@ -1,7 +1,8 @@
 use Rattle.std.proofs.Common.{vec_len}
 use Rattle.std.specs.Vec.Iter.{into_iter_items}
+use Rattle.versions.specs.Words.{is_requirement}
 use Rattle.wire.proofs.JudgeLemmas.{Read}
 use Rattle.wire.proofs.request.judging.needs_in.Given as goal
 
 abbrev pub invariant-loop-name : goal.invariant-loop-name
-invariant-loop-name l = Read l.needs (into_iter_items l.name-iterator) l.read.items (vec_len l.read)
+invariant-loop-name l = Read is_requirement l.needs (into_iter_items l.name-iterator) l.read.items (vec_len l.read)

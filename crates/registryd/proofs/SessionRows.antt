@@ -1,0 +1,198 @@
+-- Worked rows of resolve lines, computed from the definitions.
+use Rattle.std.proofs.Common.{◌≡◌, ◌∙◌, ◌||◌, ℕ, Bool, refl, sym, ap, subst, inl, inr, codes, List, [], ◌∷◌, arith, true, false, not, nat_eq}
+use Rattle.std.proofs.lemmas.Bool.{cases_Bool, eqb-true}
+use Rattle.std.proofs.lemmas.Option.{none-some, same_Some}
+use Rattle.std.specs.List.{IsDistinct}
+use Rattle.std.specs.Prelude.{Option, Some, Contains}
+use Rattle.versions.proofs.OnLiterals.{semver_on_literals}
+use Rattle.versions.specs.Words.{Text, meets, parts_of_text, precedence, same_precedence}
+use Rattle.registry.specs.Registry.{Packages, needs_of, number_of, package_at, publication_at}
+use Rattle.registry.specs.Requests.{Wanted, is_allowed}
+use Rattle.registry.specs.Selections.{Choices, IsMet, IsReached, Meets, needed}
+use Rattle.registry.specs.Preference.{IsPreferredSelection, preferred}
+use Rattle.registry.specs.Step.{Change, Publish, after, refusal_of}
+use Rattle.registry.proofs.NeedLemmas.{each-need}
+use Rattle.registry.proofs.SelectionLaws.{holds-reached, preferred-once}
+use Rattle.terms.specs.Incompats.{joined, true_at}
+use Rattle.terms.specs.Terms.{is_in}
+use Rattle.terms.specs.declared.term.Term.TheVariants.{In, NotIn}
+use Rattle.derivations.proofs.Soundness.{NoSelection-IsDerivation}
+use Rattle.derivations.specs.Derivations.{FollowsOn, IsDerivation, IsDerivedBy, Yields}
+use Rattle.derivations.specs.Facts.{need_terms}
+use Rattle.derivations.specs.declared.facts.Cause.TheVariants.{Need, Root}
+use Rattle.derivations.specs.declared.line.Line.{Line}
+use Rattle.walk.specs.Choosing.{choice_of}
+use Rattle.solver.specs.Outcomes.{Tells}
+use Rattle.wire.specs.Replies.{Reply, no_selection, selected}
+use Rattle.wire.specs.Shapes.{resolve}
+use Rattle.registryd.specs.Outcomes.{IsAnswer, IsRefuted}
+use Rattle.registryd.specs.Replay.{at}
+use Rattle.registryd.specs.Session.{Answers, TellsNone}
+
+-- ---- `a` 1.0.0 is published, and `a` with `^1` is asked for
+
+unfoldable one : List Change
+one = Publish (codes "a") (codes "1.0.0") [] ∷ []
+
+unfoldable a_alone : Packages
+a_alone = (record { name = codes "a"; versions = (record { version = codes "1.0.0"; needs = []; yanked = false }) ∷ [] }) ∷ []
+
+abbrev needs_a : Wanted
+needs_a = record { needs = (codes "a", codes "^1") ∷ []; lock = [] }
+
+abbrev a_selected : List (Text × Text)
+a_selected = (codes "a", codes "1.0.0") ∷ []
+
+at-one : at one ≡ a_alone
+unfolding semver_on_literals one a_alone at refusal_of after same_precedence precedence parts_of_text
+at-one = refl
+
+-- its one version
+abbrev first : Choices
+first = choice_of ((1, 0) ∷ [])
+
+each : (P : ℕ → ℕ → Type 0) → P 1 0 → (p k : ℕ) → first p ≡ Some k → P p k
+each P h p k e = elim (cases_Bool (nat_eq p 1)) [
+  | inl t ↦ subst (λ q. P q k) (sym (eqb-true p 1 t)) (subst (λ j. P 1 j) (same_Some 0 k (rw t at e)) h)
+  | inr f ↦ absurd (none-some k (rw f at e))
+]
+
+a-number : number_of a_alone (codes "a") ≡ Some 1
+unfolding a_alone number_of
+a-number = refl
+
+a-needs : needs_of a_alone 1 0 ≡ []
+unfolding a_alone publication_at package_at
+a-needs = refl
+
+a-allowed : is_allowed a_alone needs_a 1 0 ≡ true
+unfolding a_alone is_allowed publication_at package_at
+a-allowed = refl
+
+a-preferred : preferred a_alone needs_a 1 ≡ Some 0
+unfolding semver_on_literals a_alone preferred package_at meets same_precedence precedence parts_of_text
+a-preferred = refl
+
+a-met : IsMet a_alone first (codes "a") (codes "^1")
+unfolding semver_on_literals a_alone publication_at package_at meets
+a-met = record { target = 1; ordinal = 0; numbered = a-number; selected = refl; meeting = refl }
+
+a-reached : (s : Choices) → IsReached a_alone needs_a.needs s 1
+a-reached s = needed 1 (codes "a") (codes "^1") (0, omega arith, refl) a-number
+
+among-none : (pairs : List (Text × Text)) (name need : Text) → pairs ≡ [] → Contains {X = Text × Text} pairs (name, need) → ⊥
+among-none [] name need is among = omega (arith, among.1)
+among-none (d ∷ pairs) name need is among = absurd (cc)
+
+first-meets : Meets a_alone needs_a first
+unfolding a_alone publication_at package_at
+first-meets = record {
+  selection = each _ refl;
+  closed = λ p k name need e. each (λ q j. Contains {X = Text × Text} (needs_of a_alone q j) (name, need) → IsMet a_alone first name need)
+      (λ among. absurd (among-none (needs_of a_alone 1 0) name need a-needs among)) p k e;
+  allowed = each (λ p k. is_allowed a_alone needs_a p k ≡ true) a-allowed;
+  needs = λ name need among. each-need (IsMet a_alone first) needs_a.needs (a-met, tt) name need among;
+  reached = each (λ p k. IsReached a_alone needs_a.needs first p) (a-reached first);
+}
+
+-- the request names no other package
+only-a : (s : Choices) → s 1 ≡ Some 0 → (p : ℕ) → IsReached a_alone needs_a.needs s p → p ≡ 1
+only-a s chosen = holds-reached a_alone needs_a.needs s (λ p. p ≡ 1) from_need from_version
+  where
+    same_number : (x y : ℕ) → Some x ≡ Some y → x ≡ y
+    same_number x y e = cc
+
+    from_need : (p : ℕ) (name need : Text) → Contains needs_a.needs (name, need) → number_of a_alone name ≡ Some p → p ≡ 1
+    from_need p name need among at =
+        each-need (λ n _. number_of a_alone n ≡ Some p → p ≡ 1) needs_a.needs ((λ e. same_number p 1 (sym e ∙ a-number)), tt) name need among at
+
+    from_version : (from k to : ℕ) (name need : Text) → from ≡ 1 → s from ≡ Some k → Contains (needs_of a_alone from k) (name, need) → number_of a_alone name ≡ Some to → to ≡ 1
+    from_version from k to name need is e among at =
+        let zeroth : k ≡ 0 = same_number k 0 (sym e ∙ ap s is ∙ chosen) in
+        let none : needs_of a_alone from k ≡ [] = ap (λ p. needs_of a_alone p k) is ∙ ap (λ j. needs_of a_alone 1 j) zeroth ∙ a-needs in
+        absurd (among-none (needs_of a_alone from k) name need none among)
+
+first-preferred : IsPreferredSelection a_alone needs_a first
+first-preferred = record {
+  reached = λ p r. subst (λ q. (k : ℕ) × (preferred a_alone needs_a q ≡ Some k) × (first q ≡ Some k)) (sym (only-a (preferred a_alone needs_a) a-preferred p r)) (0, a-preferred, refl);
+  others = each (λ p k. IsReached a_alone needs_a.needs (preferred a_alone needs_a) p) (a-reached (preferred a_alone needs_a));
+}
+
+a-tells : Tells a_alone first a_selected
+unfolding IsDistinct a_alone publication_at package_at
+a-tells = record {
+  chosen = (1, 0) ∷ [];
+  selects = refl;
+  once = (tt, tt);
+  sorted = λ k d low high. absurd (omega (arith, high));
+  told = refl;
+}
+
+-- the reply that lists `a` 1.0.0 is lawful
+listed-a : Answers one (resolve needs_a) (record { revision = 1; body = selected a_selected }) one
+unfolding one
+listed-a =
+    let answer : IsAnswer a_alone needs_a a_selected = record {
+      lawful = record { selection = first; meets = first-meets; tells = a-tells };
+      preferred = λ s is meets. subst (λ (x : Choices). Tells a_alone x a_selected) (λ i p. preferred-once a_alone needs_a first s first-preferred is p i) a-tells;
+    } in
+    (inl (a_selected, subst (λ packages. IsAnswer packages needs_a a_selected) (sym at-one) answer, refl), refl)
+
+-- and no reply that none meets the request is
+told-none : (reply : Reply) → TellsNone one needs_a reply → ⊥
+told-none reply told = told.0.none first (subst (λ packages. Meets packages needs_a first) (sym at-one) first-meets)
+
+-- ---- nothing is published, and `zed` is asked for
+
+abbrev needs_zed : Wanted
+needs_zed = record { needs = (codes "zed", codes "*") ∷ []; lock = [] }
+
+at-none : at [] ≡ []
+unfolding at
+at-none = refl
+
+zed-terms : need_terms [] (codes "zed") (codes "*") ≡ (0, In (0 ∷ [])) ∷ []
+unfolding number_of
+zed-terms = refl
+
+-- the need cannot be met, and the request must be
+end : Line
+end = record { conclusion = []; causes = (Need 0, Root); pivot = 0 }
+
+end-follows : (pkg : ℕ) (choice : Option ℕ) →
+    true ≡ joined (nat_eq pkg 0) (true_at ((0, In (0 ∷ [])) ∷ []) pkg choice) (true_at ((0, NotIn (0 ∷ [])) ∷ []) pkg choice)
+end-follows pkg choice = elim (cases_Bool (nat_eq 0 pkg)) [
+  | inl t ↦ subst (λ q. true ≡ joined (nat_eq q 0) (true_at ((0, In (0 ∷ [])) ∷ []) q choice) (true_at ((0, NotIn (0 ∷ [])) ∷ []) q choice)) (eqb-true 0 pkg t) (at_root (is_in (0 ∷ []) choice))
+  | inr f ↦ rw f (elsewhere (nat_eq pkg 0))
+]
+  where
+    at_root : (b : Bool) → true ≡ b || not b
+    at_root true = refl
+    at_root false = refl
+
+    elsewhere : (b : Bool) → true ≡ joined b true true
+    elsewhere true = refl
+    elsewhere false = refl
+
+zed-derivation : IsDerivation [] needs_zed (end ∷ [])
+unfolding end
+zed-derivation =
+    let follows : FollowsOn ((0, In (0 ∷ [])) ∷ []) ((0, NotIn (0 ∷ [])) ∷ []) end = record { on_pivot = refl; follows = end-follows } in
+    let derived : IsDerivedBy (Yields [] needs_zed []) end = record {
+      one = (0, In (0 ∷ [])) ∷ [];
+      two = (0, NotIn (0 ∷ [])) ∷ [];
+      gives_one = ((codes "zed", codes "*"), refl, sym zed-terms);
+      gives_two = refl;
+      follows = follows;
+    } in
+    record { derived = (derived, tt); conclusion = []; last = refl; ended = inl refl }
+
+refused-zed : Answers [] (resolve needs_zed) (record { revision = 0; body = no_selection }) []
+refused-zed = (
+  inr (
+    subst (λ packages. IsRefuted packages needs_zed) (sym at-none)
+        (record { lines = end ∷ []; derivation = zed-derivation; none = NoSelection-IsDerivation [] needs_zed (end ∷ []) zed-derivation }),
+    refl,
+  ),
+  refl,
+)

@@ -1,0 +1,73 @@
+-- Selections as they are told.
+use Rattle.std.proofs.Common.{◌≡◌, ◌<◌, ◌≤◌, ◌+◌, ◌∙◌, ℕ, zero, suc, List, [], ◌∷◌, ◌++◌, length, take, map, refl, sym, ap, arith, true, true≢false, nat_eq, inl, inr, get_or}
+use Rattle.std.proofs.lemmas.Bool.{cases_lt}
+use Rattle.std.proofs.lemmas.Cmp.{nat_eq_equiv}
+use Rattle.std.proofs.lemmas.List.{map-append}
+use Rattle.std.proofs.lemmas.Map.Entries.{lookup_from_place}
+use Rattle.std.proofs.lemmas.Option.{none-some, same_Some}
+use Rattle.std.specs.List.{IsDistinct}
+use Rattle.std.specs.Map.{keys_of}
+use Rattle.std.specs.Option.{option_map}
+use Rattle.std.specs.Prelude.{Option, None, Some, is_some, slice_get}
+use Rattle.versions.specs.Words.{Text}
+use Rattle.registry.specs.Registry.{Package, Packages, Publication, is_published, package_at, publication_at}
+use Rattle.registry.specs.Selections.{IsSelection}
+use Rattle.registry.proofs.RegistryLaws.{publication_at-package}
+use Rattle.walk.specs.Choosing.{choice_of}
+use Rattle.walk.specs.Names.{name_of, name_or_none}
+use Rattle.walk.proofs.Preferring.{package_at-past, package_at-zero}
+use Rattle.solver.specs.Outcomes.{told, version_or_none}
+use Rattle.solver.proofs.Lists.{next}
+
+-- ---- lists
+
+-- one entry more
+pub told_next : (packages : Packages) (chosen : List (ℕ × ℕ)) (i : ℕ) (e : ℕ × ℕ) → slice_get chosen i ≡ Some e
+    → map (told packages) (take (i + 1) chosen) ≡ map (told packages) (take i chosen) ++ told packages e ∷ []
+told_next packages chosen i e at = ap (map (told packages)) (next chosen i e at) ∙ map-append (told packages) (take i chosen) (e ∷ [])
+
+-- what stands in a selection's list is published
+pub listed_published : (packages : Packages) (chosen : List (ℕ × ℕ)) (i : ℕ) (e : ℕ × ℕ) → IsDistinct nat_eq (keys_of chosen) → IsSelection packages (choice_of chosen) → slice_get chosen i ≡ Some e
+    → is_published packages e.0 e.1 ≡ true
+listed_published packages chosen i e once selection at = selection e.0 e.1 (lookup_from_place nat_eq_equiv chosen i e.0 e.1 once at)
+
+pub get_there : (chosen : List (ℕ × ℕ)) (i : ℕ) (d : ℕ × ℕ) → i < length chosen → slice_get chosen i ≡ Some (get_or chosen i d)
+get_there [] i d lt = absurd (omega (arith, lt))
+get_there (x ∷ xs) zero d lt = refl
+get_there (x ∷ xs) (suc i) d lt = get_there xs i d (omega (arith, lt))
+
+-- ---- entries
+
+there : {X : Type 0} (o : Option X) → is_some o ≡ true → (x : X) × (o ≡ Some x)
+there None e = absurd (true≢false (sym e))
+there (Some x) e = (x, refl)
+
+-- what is published has a package, which is numbered
+published_package : (packages : Packages) (p k : ℕ) → is_published packages p k ≡ true → (pack : Package) × (package_at packages p ≡ Some pack)
+published_package packages p k published =
+    let v = there (publication_at packages p k) published in
+    let found = publication_at-package packages p k v.0 v.1 in
+    (found.0, found.1)
+
+pub published_first : (packages : Packages) (p k : ℕ) → is_published packages p k ≡ true → 1 ≤ p
+published_first packages zero k published =
+    let found = published_package packages 0 k published in
+    absurd (none-some found.0 (sym (package_at-zero packages) ∙ found.1))
+published_first packages (suc p) k published = omega arith
+
+pub published_last : (packages : Packages) (p k : ℕ) → is_published packages p k ≡ true → p ≤ length packages
+published_last packages p k published = elim (cases_lt (length packages) p) [
+  | inl past ↦ let found = published_package packages p k published in absurd (none-some found.0 (sym (package_at-past packages p past) ∙ found.1))
+  | inr within ↦ omega (arith, within)
+]
+
+name_is : (o : Option Package) (name : Text) → option_map (λ (p : Package). p.name) o ≡ Some name → name ≡ name_or_none o
+name_is None name e = absurd (none-some name e)
+name_is (Some pack) name e = sym (same_Some pack.name name e)
+
+-- a name and a version's text are what is told
+pub told_is : (packages : Packages) (e : ℕ × ℕ) (name : Text) (v : Publication) → option_map (λ (p : Package). p.name) (package_at packages e.0) ≡ Some name → publication_at packages e.0 e.1 ≡ Some v
+    → (name, v.version) ≡ told packages e
+told_is packages e name v named at =
+    ap (λ (n : Text). (n, v.version)) (name_is (package_at packages e.0) name named)
+    ∙ ap (λ (o : Option Publication). (name_of packages e.0, version_or_none o)) (sym at)

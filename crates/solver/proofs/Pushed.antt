@@ -1,0 +1,42 @@
+-- Facts as lines.
+use Rattle.std.proofs.Common.{◌≡◌, ◌≢◌, ◌↔◌, ◌∙◌, ℕ, List, [], ◌∷◌, ◌++◌, length, refl, sym, ap, true≢false}
+use Rattle.std.specs.Prelude.{Contains, IsTrue, Some}
+use Rattle.versions.specs.Words.{Text}
+use Rattle.terms.specs.Sets.{has}
+use Rattle.partial.specs.declared.assignment.Assignment.{Assignment}
+use Rattle.registry.specs.Registry.{Packages, meets_at, needs_of, number_of}
+use Rattle.registry.specs.Requests.{Wanted}
+use Rattle.derivations.specs.Derivations.{IsFact}
+use Rattle.derivations.specs.Facts.{Stands, Terms}
+use Rattle.derivations.specs.declared.facts.Cause.{Cause}
+use Rattle.derivations.specs.declared.facts.Premise.{Premise}
+use Rattle.derivations.specs.declared.cutting.Known.{Known}
+use Rattle.derivations.specs.declared.cutting.Reason.TheVariants.{Fact}
+use Rattle.solver.specs.Pushing.{SaysAt}
+use Rattle.solver.specs.Searching.{IsSearch}
+use Rattle.solver.proofs.Lists.{get-last}
+use Rattle.solver.proofs.Kept.{IsSearch-line}
+
+-- a fact behind the lines
+pub fact_extends : (packages : Packages) (wanted : Wanted) (old new : List Known) (cause : Cause) (terms : Terms) → IsFact packages wanted cause terms
+    → new ≡ old ++ record { conclusion = terms; reason = Fact cause } ∷ [] → (made : List Assignment) → IsSearch packages wanted made old → IsSearch packages wanted made new
+fact_extends packages wanted old new cause terms fact is made search =
+    rw is (IsSearch-line packages wanted made old (record { conclusion = terms; reason = Fact cause }) search fact)
+
+pub fact_place : (old new : List Known) (cause : Cause) (terms : Terms) (at : ℕ) → new ≡ old ++ record { conclusion = terms; reason = Fact cause } ∷ [] → at ≡ length old → SaysAt new terms at
+fact_place old new cause terms at is place =
+    rw (is, place) (record { conclusion = terms; reason = Fact cause }, get-last old (record { conclusion = terms; reason = Fact cause }), refl)
+
+-- the premise of a dependency
+pub premise_stands : (packages : Packages) (premise : Premise) (name : Text) → premise.package ≢ premise.target → number_of packages name ≡ Some premise.target
+    → (k : ℕ) → Contains (needs_of packages premise.package k) (name, premise.need)
+    → ((k : ℕ) → IsTrue (has premise.versions k) ↔ Contains (needs_of packages premise.package k) (name, premise.need))
+    → ((k : ℕ) → has premise.within k ≡ meets_at packages premise.target k premise.need) → Stands packages premise
+premise_stands packages premise name apart numbered k used having meeting = record {
+  depends = record {
+    different = apart;
+    some = λ none. true≢false (sym ((having k).1 used) ∙ ap (λ set. has set k) none);
+    each = λ j h. (name, numbered, (having j).0 h);
+  };
+  covers = λ j h. meeting j ∙ h;
+}

@@ -1,0 +1,37 @@
+use Rattle.std.proofs.Common.{◌∙◌, sym}
+use Rattle.std.proofs.lemmas.Option.{none-some, slice_get_within}
+use Rattle.solver.proofs.Naming.{dependency_apart, dependency_numbered}
+use Rattle.solver.proofs.Obstacles.{dependency_decides, entry_contained, entry_unmet}
+use Rattle.solver.proofs.meeting.meet_dependency.Goals as goal
+
+pub unreachable-requires : goal.unreachable-requires
+unreachable-requires c =
+    let found = dependency_numbered c.args.task.now.registry.now.packages c.args.pkg c.args.ordinal _ c.packages-packages.ensures.reachable
+    (entry_contained c.args.task.now.registry.now.packages c.args.search.now.partial c.args.pkg c.args.ordinal c.args.index _ c.index-facts-index.result c.facts-facts.ensures c.requires.unmet c.index-facts-index.is) in
+    none-some found.0 (sym c.in_default.is ∙ c.number.ensures ∙ found.1)
+
+pub push_dependency-requires-clause-apart : goal.push_dependency-requires-clause-apart
+push_dependency-requires-clause-apart c =
+    dependency_apart c.args.task.now.registry.now.packages c.args.pkg c.args.ordinal c.in-Some.target _ c.packages-packages.ensures.reachable
+    (entry_contained c.args.task.now.registry.now.packages c.args.search.now.partial c.args.pkg c.args.ordinal c.args.index _ c.index-facts-index.result c.facts-facts.ensures c.requires.unmet c.index-facts-index.is)
+    (sym c.number.ensures ∙ c.in-Some.is)
+
+pub push_dependency-requires-clause-used : goal.push_dependency-requires-clause-used
+push_dependency-requires-clause-used c = (
+  c.args.ordinal,
+  entry_contained c.args.task.now.registry.now.packages c.args.search.now.partial c.args.pkg c.args.ordinal c.args.index _ c.index-facts-index.result c.facts-facts.ensures c.requires.unmet c.index-facts-index.is,
+)
+
+pub act-requires-clause-within : goal.act-requires-clause-within
+act-requires-clause-within c = slice_get_within c.push_dependency.new.known.items c.in_ok-at.at c.in_ok-at.ensures.place.0 c.in_ok-at.ensures.place.1
+
+pub decide_on-requires-clause-decide : goal.decide_on-requires-clause-decide
+decide_on-requires-clause-decide c =
+    let packages = c.args.task.now.registry.now.packages in
+    let made = c.args.search.now.partial in
+    let unused = rw c.in-Neither.is at c.in_ok-acted.ensures.acts in
+    let used = entry_contained packages made c.args.pkg c.args.ordinal c.args.index _ c.index-facts-index.result c.facts-facts.ensures c.requires.unmet c.index-facts-index.is in
+    let unmet = entry_unmet packages made c.args.pkg c.args.ordinal c.args.index _ c.index-facts-index.result c.facts-facts.ensures c.requires.unmet c.index-facts-index.is in
+    let numbered = sym c.number.ensures ∙ c.in-Some.is in
+    dependency_decides c.args.task.now made c.act.new.search.partial c.push_dependency.new.known.items c.in_ok-at.at c.args.pkg c.args.ordinal c.in-Some.target _ c.assignments-made.ensures.lawful
+    (dependency_apart packages c.args.pkg c.args.ordinal c.in-Some.target _ c.packages-packages.ensures.reachable used numbered) c.requires.chosen used numbered unmet c.in_ok-at.ensures.place unused.0.0 unused.1

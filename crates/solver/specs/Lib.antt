@@ -1,0 +1,7 @@
+-- The definitions that contracts cite.
+pub mod Lines
+pub mod Searching
+pub mod Pushing
+pub mod Picking
+pub mod Answering
+pub mod Outcomes

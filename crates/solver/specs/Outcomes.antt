@@ -1,0 +1,45 @@
+-- Outcomes: a selection as it is told, or why there is none.
+use Rattle.std.specs.Prelude.{◌≡◌, ℕ, map, List, [], Option, None, Some, IsSorted, nat_eq}
+use Rattle.std.specs.List.{IsDistinct}
+use Rattle.std.specs.Map.{keys_of}
+use Rattle.versions.specs.Words.{Text}
+use Rattle.registry.specs.Registry.{Packages, Publication, publication_at}
+use Rattle.registry.specs.Requests.{Wanted}
+use Rattle.registry.specs.Selections.{Choices, Meets}
+use Rattle.derivations.specs.Derivations.{IsDerivation}
+use Rattle.walk.specs.Choosing.{choice_of}
+use Rattle.walk.specs.Names.{by_name, name_of}
+use Rattle.solver.specs.declared.solving.Outcome.{Outcome}
+use Rattle.solver.specs.declared.solving.Outcome.TheVariants as outcome
+
+abbrev pub version_or_none : Option Publication → Text
+version_or_none None = []
+version_or_none (Some publication) = publication.version
+
+-- a package and an ordinal, told by the package's name and the version's text
+abbrev pub told : Packages → ℕ × ℕ → Text × Text
+told packages chosen = (name_of packages chosen.0, version_or_none (publication_at packages chosen.0 chosen.1))
+
+-- the list tells the selection: each package once by its name and its version's text, in the order of the names' bytes
+pub record Tells (packages : Packages) (s : Choices) (list : List (Text × Text)) : Type 0 where
+  pub chosen : List (ℕ × ℕ)
+  pub selects : choice_of chosen ≡ s
+  pub once : IsDistinct nat_eq (keys_of chosen)
+  pub sorted : IsSorted (by_name packages) chosen
+  pub told : list ≡ map (told packages) chosen
+
+-- the list tells a selection that meets the request
+pub record TellsOne (packages : Packages) (wanted : Wanted) (list : List (Text × Text)) : Type 0 where
+  pub selection : Choices
+  pub meets : Meets packages wanted selection
+  pub tells : Tells packages selection list
+
+-- a selection that meets the request, or a derivation, so that none does
+abbrev pub IsLawful : Packages → Wanted → Outcome → Type 0
+IsLawful packages wanted (outcome.Selection list offered) = TellsOne packages wanted list.items
+IsLawful packages wanted (outcome.Refused derivation offered) = IsDerivation packages wanted derivation
+
+-- the outcome is this selection
+abbrev pub Answers : Packages → Choices → Outcome → Type 0
+Answers packages s (outcome.Selection list offered) = Tells packages s list.items
+Answers packages s (outcome.Refused derivation offered) = ⊥

@@ -1,0 +1,37 @@
+-- Facts as lines.
+use Rattle.std.specs.Prelude.{◌≡◌, ℕ, true, Contains, List, Some, slice_get}
+use Rattle.versions.specs.Words.{Text}
+use Rattle.terms.specs.Sets.{has}
+use Rattle.partial.specs.declared.assignment.Assignment.{Assignment}
+use Rattle.registry.specs.Registry.{Packages, meets_at, needs_of}
+use Rattle.derivations.specs.Facts.{Terms, dependency, need_terms}
+use Rattle.derivations.specs.declared.cutting.Known.{Known}
+use Rattle.solver.specs.declared.task.Task.{Task}
+use Rattle.solver.specs.Lines.{AtLine}
+use Rattle.solver.specs.Searching.{IsSearch}
+
+-- whatever was assigned, the new lines serve the search as the old ones do
+abbrev pub Extends : Task → List Known → List Known → Type 0
+Extends task old new = (made : List Assignment) → IsSearch task.registry.now.packages task.request.now made old → IsSearch task.registry.now.packages task.request.now made new
+
+-- the line at this place says this
+abbrev pub SaysAt : List Known → Terms → ℕ → Type 0
+SaysAt known terms at = AtLine known at (λ line. line.conclusion ≡ terms)
+
+-- the terms say what a dependency does: that of the package's versions which have it and of the target's which don't meet it not both are chosen
+pub record IsDependency (packages : Packages) (pkg : ℕ) (name need : Text) (target : ℕ) (terms : Terms) : Type 0 where
+  pub versions : List ℕ
+  pub within : List ℕ
+  pub is : terms ≡ dependency pkg versions target within
+  pub having : (k : ℕ) → Contains (needs_of packages pkg k) (name, need) → has versions k ≡ true
+  pub meeting : (k : ℕ) → has within k ≡ meets_at packages target k need
+
+-- the line at this place is for a dependency
+abbrev pub IsForDependency : Packages → List Known → ℕ → Text → Text → ℕ → ℕ → Type 0
+IsForDependency packages known pkg name need target at = AtLine known at (λ line. IsDependency packages pkg name need target line.conclusion)
+
+-- the line at this place is for the need with this index
+pub record IsForNeed (packages : Packages) (needs : List (Text × Text)) (known : List Known) (index at : ℕ) : Type 0 where
+  pub need : Text × Text
+  pub asked : slice_get needs index ≡ Some need
+  pub line : SaysAt known (need_terms packages need.0 need.1) at

@@ -1,0 +1,111 @@
+// The one function in which a search derives and goes back.
+//
+// Whatever hands lines to it, in whatever order: each use of a line lowers the rank of the partial
+// solution, or ends in a refusal, or changes nothing. So a search ends.
+
+ghost use Rattle.std.specs.Prelude.{◌≡◌, ◌<◌, length, IfErr, IfOk, OnOk};
+ghost use Rattle.partial.specs.Rank.{rank, FallsBack};
+ghost use Rattle.partial.specs.Satisfying.{AlmostSatisfied, Satisfied};
+ghost use Rattle.solver.specs.Lines.{AtLine};
+ghost use Rattle.solver.specs.Searching.{ActsBy, IsSearch, IsUnused, MayRefuse, Searches};
+
+use crate::conflict::{Resolution, resolve_conflict};
+use crate::lines::negation;
+use crate::task::Task;
+use derivations::Known;
+use partial::{Partial, Standing};
+use std::alloc::AllocError;
+use terms::Pkg;
+use versions::Refusal;
+
+/// A search: what is settled, the lines that it knows, and how many conflicts it met.
+#[derive(Drop)]
+pub(crate) struct Search {
+    pub partial: Partial,
+    pub known: Vec<Known>,
+    pub conflicts: u32,
+}
+
+/// What an attempt to go on did.
+#[derive(Clone, Copy)]
+pub(crate) enum Acted {
+    /// It derived or decided something of this package.
+    Derived(Pkg),
+    /// It met a conflict, went back, and derived something of this package by the line at this place.
+    WentBack(usize, Pkg),
+    /// It found by the line at this place that no selection meets the request.
+    Refused(usize),
+    /// Nothing.
+    Neither,
+}
+
+/// Derives the negation of the one term that is left of the line at a place (doc/solver.md, "Unit
+/// Propagation").
+fn derive_by(
+    task: &Task<'_>,
+    partial: &mut Partial,
+    known: &[Known],
+    at: usize,
+    pkg: Pkg,
+) -> Result<(), AllocError>
+    requires search { IsSearch task.now.registry.now.packages task.now.request.now partial.old known.now }
+    requires almost { AtLine known.now at (λ line. AlmostSatisfied partial.old line.conclusion pkg) }
+    ensures search { OnOk result (IsSearch task.now.registry.now.packages task.now.request.now partial.new known.now) }
+    ensures falls { OnOk result (rank partial.new < rank partial.old) }
+    ensures falls_back { OnOk result (FallsBack partial.old partial.new) }
+{
+    let term = negation(task.alloc, &known[at].conclusion, pkg)?;
+    partial.derive(pkg, term, at)?;
+    Ok(())
+}
+
+/// Counts one conflict more, unless the budget is spent.
+fn count_conflict(task: &Task<'_>, conflicts: &mut u32) -> Result<(), Refusal>
+    ensures { IfErr result (MayRefuse task.now.budget) }
+{
+    if task.budget == Some(*conflicts) {
+        return Err(Refusal::BudgetSpent);
+    }
+    *conflicts = conflicts.saturating_add(1);
+    Ok(())
+}
+
+/// Resolves a conflict, goes back, and derives what the line says that comes of it.
+fn meet_conflict(task: &Task<'_>, search: &mut Search, at: usize) -> Result<Acted, Refusal>
+    requires search { Searches task.now search.old }
+    requires satisfied { AtLine search.old.known.items at (λ line. Satisfied search.old.partial line.conclusion) }
+    ensures acts { IfOk result (ActsBy task.now search.old search.new ⊥) }
+    ensures only { IfErr result (MayRefuse task.now.budget) }
+{
+    count_conflict(task, &mut search.conflicts)?;
+    match resolve_conflict(task, &search.partial, &mut search.known, at)? {
+        Resolution::Refused(end) => Ok(Acted::Refused(end)),
+        Resolution::Back(line, level) => {
+            search.partial.back_to(level);
+            match search.partial.relation(&search.known[line].conclusion) {
+                Standing::Satisfied | Standing::Other => unreachable!(),
+                Standing::Almost(pkg) => {
+                    derive_by(task, &mut search.partial, &search.known, line, pkg)?;
+                    Ok(Acted::WentBack(line, pkg))
+                }
+            }
+        }
+    }
+}
+
+/// Uses the line at a place: it is a conflict, or derives something, or is of no use now.
+pub(crate) fn act(task: &Task<'_>, search: &mut Search, at: usize) -> Result<Acted, Refusal>
+    requires within { at < length search.old.known.items }
+    requires search { Searches task.now search.old }
+    ensures acts { IfOk result (ActsBy task.now search.old search.new (IsUnused search.old search.new at)) }
+    ensures only { IfErr result (MayRefuse task.now.budget) }
+{
+    match search.partial.relation(&search.known[at].conclusion) {
+        Standing::Other => Ok(Acted::Neither),
+        Standing::Almost(pkg) => {
+            derive_by(task, &mut search.partial, &search.known, at, pkg)?;
+            Ok(Acted::Derived(pkg))
+        }
+        Standing::Satisfied => Ok(meet_conflict(task, search, at)?),
+    }
+}

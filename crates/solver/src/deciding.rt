@@ -1,0 +1,308 @@
+// Decision making (doc/solver.md, "Decision Making").
+
+ghost use Rattle.std.specs.Prelude.{◌≡◌, ◌<◌, ℕ, true, false, not, Contains, Option, None, Some, length, IfErr, IfNone, IfOk, IfSome, IsSome, OnOk};
+ghost use Rattle.registry.specs.Highest.{IsHighest};
+ghost use Rattle.registry.specs.Registry.{is_published, needs_of, package_at, versions_or_none};
+ghost use Rattle.terms.specs.Terms.{is_in, true_of};
+ghost use Rattle.derivations.specs.Derivations.{NoneAllowed};
+ghost use Rattle.partial.specs.Assignments.{is_decided, says};
+ghost use Rattle.solver.specs.Picking.{is_choosable, AreBarred, IsToDecide, IsWithin, PicksBy};
+ghost use Rattle.solver.specs.Pushing.{Extends};
+ghost use Rattle.solver.specs.Searching.{ActsBy, MayRefuse, Searches};
+
+use crate::acting::{Acted, Search, act};
+use crate::agenda::Agenda;
+use crate::facts::{push_barred, push_dependency, version_count};
+use crate::propagating::use_from;
+use crate::task::Task;
+use derivations::Known;
+use partial::Partial;
+use terms::{Pkg, Term, VSet};
+use versions::{Name, Need, Published, Refusal};
+
+/// What may be decided of a package.
+#[derive(Drop)]
+pub(crate) enum Picked {
+    /// This version.
+    Version(u32),
+    /// Nothing: these are the versions that are left, and none is allowed.
+    Barred(VSet),
+}
+
+// ---- the version
+
+/// The version of a package that the lock names.
+fn locked_version<'a>(task: &Task<'a>, pkg: Pkg) -> Option<&'a Published> {
+    if pkg == 0 || pkg as usize > task.registry.packages() {
+        return None;
+    }
+    task.request.locked(task.registry.name(pkg))
+}
+
+/// The version that the lock names, if it is allowed and within a term.
+fn locked_within(task: &Task<'_>, pkg: Pkg, said: &Term) -> Option<u32>
+    ensures { IfSome result (IsWithin task.now pkg said.now) }
+{
+    let locked = locked_version(task, pkg)?;
+    let ordinal = task.registry.find(pkg, locked)?;
+    if is_choosable(task, pkg, said, ordinal) {
+        Some(ordinal)
+    } else {
+        None
+    }
+}
+
+/// Whether a version is allowed and within a term.
+fn is_choosable(task: &Task<'_>, pkg: Pkg, said: &Term, ordinal: u32) -> bool
+    ensures { result ≡ is_choosable task.now pkg said.now ordinal }
+{
+    said.allows(ordinal) && task.registry.allowed(task.request, pkg, ordinal)
+}
+
+/// The highest version that is allowed and within a term.
+fn highest_within(task: &Task<'_>, pkg: Pkg, said: &Term) -> Option<u32>
+    ensures some { IfSome result (IsHighest (λ k b. is_choosable task.now pkg said.now k ≡ b) (versions_or_none (package_at task.now.registry.now.packages pkg))) }
+    ensures none { IfNone result ((k : ℕ) → k < length (versions_or_none (package_at task.now.registry.now.packages pkg)) → is_choosable task.now pkg said.now k ≡ false) }
+{
+    task.registry
+        .highest_where(pkg, |ordinal| is_choosable(task, pkg, said, ordinal))
+}
+
+/// The highest version that is allowed and within a term, if one is.
+fn best_within(task: &Task<'_>, pkg: Pkg, said: &Term) -> Option<u32>
+    ensures some { IfSome result (IsWithin task.now pkg said.now) }
+    ensures none { IfNone result (AreBarred task.now pkg said.now) }
+{
+    highest_within(task, pkg, said)
+}
+
+/// The version to decide for: the lock's, else the highest that is allowed and within a term.
+fn version_within(task: &Task<'_>, pkg: Pkg, said: &Term) -> Option<u32>
+    ensures some { IfSome result (IsWithin task.now pkg said.now) }
+    ensures none { IfNone result (AreBarred task.now pkg said.now) }
+{
+    match locked_within(task, pkg, said) {
+        Some(ordinal) => Some(ordinal),
+        None => best_within(task, pkg, said),
+    }
+}
+
+/// What may be decided of a package that is selected.
+fn pick(task: &Task<'_>, partial: &Partial, pkg: Pkg) -> Result<Picked, Refusal>
+    requires { says partial.now pkg None ≡ false }
+    ensures picks { IfOk result (PicksBy task.now partial.now pkg) }
+    ensures only { IfErr result (λ e. e ≡ Refusal.NoMemory) }
+{
+    let Some(said) = partial.said(pkg) else {
+        unreachable!()
+    };
+    if let Some(ordinal) = version_within(task, pkg, said) {
+        return Ok(Picked::Version(ordinal));
+    }
+    match said {
+        Term::In(versions) => Ok(Picked::Barred(versions.copy(task.alloc)?)),
+        Term::NotIn(_versions) => unreachable!(),
+    }
+}
+
+// ---- facts of the version
+
+/// Puts a dependency of a version behind the lines, unless it is there.
+fn add_dependency(
+    task: &Task<'_>,
+    known: &mut Vec<Known>,
+    agenda: &mut Agenda,
+    pkg: Pkg,
+    ordinal: u32,
+    entry: &(Name, Need),
+) -> Result<(), Refusal>
+    requires { Contains (needs_of task.now.registry.now.packages pkg ordinal) entry.now }
+    ensures extends { OnOk result (Extends task.now known.old.items known.new.items) }
+    ensures only { IfErr result (λ e. e ≡ Refusal.NoMemory) }
+{
+    let Some(target) = task.registry.number(&entry.0) else {
+        return Ok(());
+    };
+    if target == pkg {
+        return Ok(());
+    }
+    if !agenda.is_new(pkg, target, &entry.1)? {
+        return Ok(());
+    }
+    let at = push_dependency(task, known, pkg, entry, target)?;
+    Ok(agenda.note(task.alloc, known, at)?)
+}
+
+/// Puts the dependencies of a version behind the lines, all of them before it is decided.
+fn add_dependencies(
+    task: &Task<'_>,
+    known: &mut Vec<Known>,
+    agenda: &mut Agenda,
+    pkg: Pkg,
+    ordinal: u32,
+) -> Result<(), Refusal>
+    requires { is_published task.now.registry.now.packages pkg ordinal ≡ true }
+    ensures extends { OnOk result (Extends task.now known.old.items known.new.items) }
+    ensures only { IfErr result (λ e. e ≡ Refusal.NoMemory) }
+{
+    let facts = task.registry.facts(pkg, ordinal);
+    for entry in facts.needs {
+        add_dependency(task, known, agenda, pkg, ordinal, entry)?;
+    }
+    Ok(())
+}
+
+// ---- decisions
+
+/// Uses that none of the versions that are left of a package is allowed.
+pub(crate) fn bar(
+    task: &Task<'_>,
+    search: &mut Search,
+    agenda: &mut Agenda,
+    pkg: Pkg,
+    versions: VSet,
+) -> Result<Acted, Refusal>
+    requires search { Searches task.now search.old }
+    requires numbered { IsSome (package_at task.now.registry.now.packages pkg) }
+    requires barred { NoneAllowed task.now.registry.now.packages task.now.request.now pkg versions }
+    requires left { (choice : Option ℕ) → says search.old.partial pkg choice ≡ true → is_in versions choice ≡ true }
+    ensures acts { IfOk result (ActsBy task.now search.old search.new ⊥) }
+    ensures only { IfErr result (MayRefuse task.now.budget) }
+{
+    let at = push_barred(task, &mut search.known, pkg, versions)?;
+    agenda.note(task.alloc, &search.known, at)?;
+    Ok(act(task, search, at)?)
+}
+
+/// Decides for a version, unless one of its dependencies can be used now (doc/solver.md, "Decision
+/// Making").
+fn decide_for(
+    task: &Task<'_>,
+    search: &mut Search,
+    agenda: &mut Agenda,
+    pkg: Pkg,
+    ordinal: u32,
+) -> Result<Acted, Refusal>
+    requires search { Searches task.now search.old }
+    requires published { is_published task.now.registry.now.packages pkg ordinal ≡ true }
+    requires undecided { is_decided search.old.partial pkg ≡ false }
+    requires within { says search.old.partial pkg (Some ordinal) ≡ true }
+    ensures acts { IfOk result (ActsBy task.now search.old search.new ⊥) }
+    ensures only { IfErr result (MayRefuse task.now.budget) }
+{
+    let before = search.known.as_slice().len();
+    add_dependencies(task, &mut search.known, agenda, pkg, ordinal)?;
+    match use_from(task, search, before)? {
+        Acted::Neither => {
+            search.partial.decide(pkg, ordinal)?;
+            Ok(Acted::Derived(pkg))
+        }
+        Acted::Derived(derived) => Ok(Acted::Derived(derived)),
+        Acted::WentBack(line, derived) => Ok(Acted::WentBack(line, derived)),
+        Acted::Refused(end) => Ok(Acted::Refused(end)),
+    }
+}
+
+/// Decides on a package, or learns why it can't.
+pub(crate) fn decide_on(
+    task: &Task<'_>,
+    search: &mut Search,
+    agenda: &mut Agenda,
+    pkg: Pkg,
+) -> Result<Acted, Refusal>
+    requires search { Searches task.now search.old }
+    requires decide { IsToDecide task.now search.old.partial pkg }
+    ensures acts { IfOk result (ActsBy task.now search.old search.new ⊥) }
+    ensures only { IfErr result (MayRefuse task.now.budget) }
+{
+    match pick(task, &search.partial, pkg)? {
+        Picked::Version(ordinal) => Ok(decide_for(task, search, agenda, pkg, ordinal)?),
+        Picked::Barred(versions) => Ok(bar(task, search, agenda, pkg, versions)?),
+    }
+}
+
+// ---- the package
+
+/// How many versions of a package are allowed and within what is said of it.
+fn count_choosable(task: &Task<'_>, partial: &Partial, pkg: Pkg) -> usize {
+    let Some(said) = partial.said(pkg) else {
+        return 0;
+    };
+    let mut count: usize = 0;
+    for ordinal in 0..version_count(task.registry, pkg) {
+        if is_choosable(task, pkg, said, ordinal) {
+            count = count.saturating_add(1);
+        }
+    }
+    count
+}
+
+/// Whether a package is numbered.
+fn is_package(task: &Task<'_>, pkg: Pkg) -> bool
+    ensures { result ≡ true → IsSome (package_at task.now.registry.now.packages pkg) }
+{
+    pkg >= 1 && pkg as usize <= task.registry.packages()
+}
+
+/// Whether a term says that its package is selected.
+fn is_positive(term: &Term) -> bool
+    ensures { result ≡ not (true_of term.now None) }
+{
+    match term {
+        Term::In(_) => true,
+        Term::NotIn(_) => false,
+    }
+}
+
+/// Whether what is settled of a package says that it is selected.
+fn is_needed(partial: &Partial, pkg: Pkg) -> bool
+    ensures { result ≡ true → says partial.now pkg None ≡ false }
+{
+    match partial.said(pkg) {
+        None => false,
+        Some(said) => is_positive(said),
+    }
+}
+
+/// Whether a package has no decision.
+fn is_open(partial: &Partial, pkg: Pkg) -> bool
+    ensures { result ≡ true → is_decided partial.now pkg ≡ false }
+{
+    partial.decision(pkg).is_none()
+}
+
+/// Whether a package is to be decided.
+fn is_to_decide(task: &Task<'_>, partial: &Partial, pkg: Pkg) -> bool
+    ensures { result ≡ true → IsToDecide task.now partial.now pkg }
+{
+    is_package(task, pkg) && is_open(partial, pkg) && is_needed(partial, pkg)
+}
+
+/// Whether a package is to be decided before the best one so far: it has fewer versions to choose
+/// from, or as many and the lower number.
+fn is_better(count: usize, pkg: Pkg, best: Option<(Pkg, usize)>) -> bool {
+    match best {
+        None => true,
+        Some((other, least)) => count < least || count == least && pkg < other,
+    }
+}
+
+/// The package to decide with the fewest versions to choose from, of several the one with the lowest
+/// number.
+pub(crate) fn choose_package(task: &Task<'_>, partial: &Partial) -> Option<Pkg>
+    ensures { IfSome result (IsToDecide task.now partial.now) }
+{
+    let mut best: Option<(Pkg, usize)> = None;
+    for pkg in partial.pending() {
+        if is_to_decide(task, partial, *pkg) {
+            let count = count_choosable(task, partial, *pkg);
+            if is_better(count, *pkg, best) {
+                best = Some((*pkg, count));
+            }
+        }
+    }
+    match best {
+        None => None,
+        Some((pkg, _)) => Some(pkg),
+    }
+}

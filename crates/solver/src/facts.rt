@@ -1,0 +1,156 @@
+// What the registry and the request say, as lines.
+
+ghost use Rattle.std.specs.Prelude.{◌≡◌, ◌≢◌, ◌<◌, ◌↔◌, ◌∷◌, [], ℕ, true, Contains, Some, length, IfErr, IfOk, IsSome, IsTrue, OnOk};
+ghost use Rattle.terms.specs.Sets.{has};
+ghost use Rattle.terms.specs.declared.term.Term.TheVariants.{In};
+ghost use Rattle.registry.specs.Registry.{meets_at, needs_of, number_of, package_at, versions_or_none};
+ghost use Rattle.derivations.specs.Derivations.{IsFact, NoneAllowed};
+ghost use Rattle.derivations.specs.Facts.{premise_terms, Stands};
+ghost use Rattle.solver.specs.Pushing.{Extends, IsDependency, IsForDependency, IsForNeed, SaysAt};
+
+use crate::task::Task;
+use derivations::{Cause, Known, Premise, Reason, need_incompat};
+use registry::Registry;
+use terms::{Incompat, Pkg, Term, VSet};
+use versions::{Name, Need, Refusal};
+
+/// Puts a fact behind the lines, and answers its place.
+fn push_fact(
+    task: &Task<'_>,
+    known: &mut Vec<Known>,
+    conclusion: Incompat,
+    cause: Cause,
+) -> Result<usize, Refusal>
+    requires { IsFact task.now.registry.now.packages task.now.request.now cause conclusion }
+    ensures extends { OnOk result (Extends task.now known.old.items known.new.items) }
+    ensures place { IfOk result (SaysAt known.new.items conclusion) }
+    ensures only { IfErr result (λ e. e ≡ Refusal.NoMemory) }
+{
+    let at = known.as_slice().len();
+    known.push(Known {
+        conclusion,
+        reason: Reason::Fact(cause),
+    })?;
+    Ok(at)
+}
+
+// ---- dependencies
+
+/// How many versions of a package are published.
+pub(crate) fn version_count(registry: &Registry, pkg: Pkg) -> u32
+    ensures { result ≡ length (versions_or_none (package_at registry.now.packages pkg)) }
+{
+    // That a registry has few versions a package is told with the count of its packages.
+    let _packages = registry.packages();
+    registry.versions(pkg) as u32
+}
+
+fn is_entry(entry: &(Name, Need), name: &Name, need: &Need) -> bool
+    ensures { IsTrue result ↔ ((entry.now.0 ≡ name.now) × (entry.now.1 ≡ need.now)) }
+{
+    entry.1.text() == need.text() && entry.0.text() == name.text()
+}
+
+/// Whether a name with this requirement is among the needs.
+fn has_entry(needs: &[(Name, Need)], name: &Name, need: &Need) -> bool
+    ensures { IsTrue result ↔ Contains needs.now (name.now, need.now) }
+{
+    for entry in needs {
+        if is_entry(entry, name, need) {
+            return true;
+        }
+    }
+    false
+}
+
+/// The versions of a package that depend on a name with this requirement: they share one line.
+fn versions_with(task: &Task<'_>, pkg: Pkg, name: &Name, need: &Need) -> Result<VSet, Refusal>
+    ensures exactly { IfOk result (λ set. (k : ℕ) → IsTrue (has set k) ↔ Contains (needs_of task.now.registry.now.packages pkg k) (name.now, need.now)) }
+    ensures only { IfErr result (λ e. e ≡ Refusal.NoMemory) }
+{
+    let mut set = VSet::new(task.alloc);
+    for ordinal in 0..version_count(task.registry, pkg) {
+        if has_entry(task.registry.facts(pkg, ordinal).needs, name, need) {
+            set.insert(ordinal)?;
+        }
+    }
+    Ok(set)
+}
+
+/// Puts what a premise says behind the lines.
+fn push_premise(task: &Task<'_>, known: &mut Vec<Known>, premise: Premise) -> Result<usize, Refusal>
+    requires { Stands task.now.registry.now.packages premise }
+    ensures extends { OnOk result (Extends task.now known.old.items known.new.items) }
+    ensures place { IfOk result (SaysAt known.new.items (premise_terms premise)) }
+    ensures only { IfErr result (λ e. e ≡ Refusal.NoMemory) }
+{
+    let Some(conclusion) = premise.incompat(task.alloc)? else {
+        unreachable!()
+    };
+    Ok(push_fact(task, known, conclusion, Cause::Premise(premise))?)
+}
+
+/// Puts a dependency behind the lines: the versions that have it need a version of the target that
+/// meets it. Where none does, they can't be chosen.
+pub(crate) fn push_dependency(
+    task: &Task<'_>,
+    known: &mut Vec<Known>,
+    pkg: Pkg,
+    entry: &(Name, Need),
+    target: Pkg,
+) -> Result<usize, Refusal>
+    requires apart { pkg ≢ target }
+    requires numbered { number_of task.now.registry.now.packages entry.now.0 ≡ Some target }
+    requires used { (k : ℕ) × Contains (needs_of task.now.registry.now.packages pkg k) entry.now }
+    ensures extends { OnOk result (Extends task.now known.old.items known.new.items) }
+    ensures place { IfOk result (IsForDependency task.now.registry.now.packages known.new.items pkg entry.now.0 entry.now.1 target) }
+    ensures only { IfErr result (λ e. e ≡ Refusal.NoMemory) }
+{
+    let versions = versions_with(task, pkg, &entry.0, &entry.1)?;
+    let within = task.registry.matching(target, &entry.1)?;
+    let premise = Premise {
+        package: pkg,
+        versions,
+        target,
+        need: entry.1.copy()?,
+        within,
+    };
+    Ok(push_premise(task, known, premise)?)
+}
+
+// ---- the request
+
+/// Puts the need with this index behind the lines.
+pub(crate) fn push_need(
+    task: &Task<'_>,
+    known: &mut Vec<Known>,
+    index: usize,
+) -> Result<usize, Refusal>
+    requires { index < length task.now.request.now.needs }
+    ensures extends { OnOk result (Extends task.now known.old.items known.new.items) }
+    ensures place { IfOk result (IsForNeed task.now.registry.now.packages task.now.request.now.needs known.new.items index) }
+    ensures only { IfErr result (λ e. e ≡ Refusal.NoMemory) }
+{
+    let entry = &task.request.needs()[index];
+    let conclusion = need_incompat(task.alloc, task.registry, &entry.0, &entry.1)?;
+    Ok(push_fact(task, known, conclusion, Cause::Need(index))?)
+}
+
+/// Puts behind the lines that none of these versions of a package is allowed.
+pub(crate) fn push_barred(
+    task: &Task<'_>,
+    known: &mut Vec<Known>,
+    pkg: Pkg,
+    versions: VSet,
+) -> Result<usize, Refusal>
+    requires numbered { IsSome (package_at task.now.registry.now.packages pkg) }
+    requires barred { NoneAllowed task.now.registry.now.packages task.now.request.now pkg versions }
+    ensures extends { OnOk result (Extends task.now known.old.items known.new.items) }
+    ensures place { IfOk result (SaysAt known.new.items ((pkg, In versions) ∷ [])) }
+    ensures only { IfErr result (λ e. e ≡ Refusal.NoMemory) }
+{
+    let term = Term::In(versions.copy(task.alloc)?);
+    let conclusion = Incompat::single(task.alloc, pkg, term)?;
+    let cause = Cause::NotAllowed(pkg, versions);
+    Ok(push_fact(task, known, conclusion, cause)?)
+}

@@ -1,0 +1,21 @@
+//! The search of a version solver, conflict-driven.
+//!
+//! The words and the rules are those of Dart pub's doc/solver.md.
+#![tactic(auto)]
+
+mod acting;
+mod agenda;
+mod conflict;
+mod deciding;
+mod facts;
+mod lines;
+mod meeting;
+mod propagating;
+mod search;
+mod solving;
+mod starting;
+mod task;
+#[cfg(test)]
+mod tests;
+
+pub use solving::{Outcome, solve};

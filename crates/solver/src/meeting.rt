@@ -1,0 +1,119 @@
+// What stands in the way of a selection, put back into the search.
+//
+// Each obstacle is a line that is satisfied, or almost satisfied, or whose target is to be decided; so
+// whatever propagation left out, the search goes on.
+
+ghost use Rattle.std.specs.Prelude.{◌≡◌, IfErr, IfOk};
+ghost use Rattle.partial.specs.Assignments.{decided};
+ghost use Rattle.registry.specs.Registry.{needs_of};
+ghost use Rattle.walk.specs.Walks.{IsChosen, IsForbidden, IsUnmetAt, ReachesBy};
+ghost use Rattle.solver.specs.Searching.{ActsBy, MayRefuse, Searches};
+
+use crate::acting::{Acted, Search, act};
+use crate::agenda::Agenda;
+use crate::deciding::{bar, decide_on};
+use crate::facts::{push_dependency, push_need};
+use crate::task::Task;
+use partial::Partial;
+use terms::{Pkg, VSet};
+use versions::Refusal;
+use walk::{Chooser, Reached, reach};
+
+/// Chooses what is decided.
+#[derive(Clone, Copy)]
+struct Decided<'a> {
+    partial: &'a Partial,
+}
+
+impl Chooser for Decided<'_> {
+    ghost chooses = { λ c. decided c.partial.now };
+
+    fn choose(&self, pkg: Pkg) -> Option<u32> {
+        self.partial.decision(pkg)
+    }
+}
+
+/// The walk by the decisions.
+pub(crate) fn walk_decided(task: &Task<'_>, partial: &Partial) -> Result<Reached, Refusal>
+    ensures reaches { IfOk result (ReachesBy task.now.registry.now.packages task.now.request.now (decided partial.now)) }
+    ensures only { IfErr result (λ e. e ≡ Refusal.NoMemory) }
+{
+    let chooser = Decided { partial };
+    Ok(reach(task.alloc, task.registry, task.request, &chooser)?)
+}
+
+/// Uses a need that the decisions don't meet.
+pub(crate) fn meet_need(
+    task: &Task<'_>,
+    search: &mut Search,
+    agenda: &mut Agenda,
+    index: usize,
+) -> Result<Acted, Refusal>
+    requires search { Searches task.now search.old }
+    requires unmet { IsUnmetAt task.now.registry.now.packages (decided search.old.partial) task.now.request.now.needs index }
+    ensures acts { IfOk result (ActsBy task.now search.old search.new ⊥) }
+    ensures only { IfErr result (MayRefuse task.now.budget) }
+{
+    let _made = search.partial.assignments();
+    let entry = &task.request.needs()[index];
+    let at = push_need(task, &mut search.known, index)?;
+    agenda.note(task.alloc, &search.known, at)?;
+    let acted = act(task, search, at)?;
+    match acted {
+        Acted::Neither => match task.registry.number(&entry.0) {
+            None => unreachable!(),
+            Some(target) => Ok(decide_on(task, search, agenda, target)?),
+        },
+        Acted::Derived(_) | Acted::WentBack(_, _) | Acted::Refused(_) => Ok(acted),
+    }
+}
+
+/// Uses a dependency of a decided version that the decisions don't meet.
+pub(crate) fn meet_dependency(
+    task: &Task<'_>,
+    search: &mut Search,
+    agenda: &mut Agenda,
+    pkg: Pkg,
+    ordinal: u32,
+    index: usize,
+) -> Result<Acted, Refusal>
+    requires search { Searches task.now search.old }
+    requires chosen { decided search.old.partial pkg ≡ Some ordinal }
+    requires unmet { IsUnmetAt task.now.registry.now.packages (decided search.old.partial) (needs_of task.now.registry.now.packages pkg ordinal) index }
+    ensures acts { IfOk result (ActsBy task.now search.old search.new ⊥) }
+    ensures only { IfErr result (MayRefuse task.now.budget) }
+{
+    // That names are numbered and no package needs itself is told with the count of packages.
+    let _packages = task.registry.packages();
+    let _made = search.partial.assignments();
+    let facts = task.registry.facts(pkg, ordinal);
+    let entry = &facts.needs[index];
+    let Some(target) = task.registry.number(&entry.0) else {
+        unreachable!()
+    };
+    let at = push_dependency(task, &mut search.known, pkg, entry, target)?;
+    agenda.note(task.alloc, &search.known, at)?;
+    let acted = act(task, search, at)?;
+    match acted {
+        Acted::Neither => Ok(decide_on(task, search, agenda, target)?),
+        Acted::Derived(_) | Acted::WentBack(_, _) | Acted::Refused(_) => Ok(acted),
+    }
+}
+
+/// Uses that a decided version is not allowed.
+pub(crate) fn exclude(
+    task: &Task<'_>,
+    search: &mut Search,
+    agenda: &mut Agenda,
+    pkg: Pkg,
+    ordinal: u32,
+) -> Result<Acted, Refusal>
+    requires search { Searches task.now search.old }
+    requires forbidden { IsForbidden task.now.registry.now.packages task.now.request.now (decided search.old.partial) pkg ordinal }
+    ensures acts { IfOk result (ActsBy task.now search.old search.new ⊥) }
+    ensures only { IfErr result (MayRefuse task.now.budget) }
+{
+    let _made = search.partial.assignments();
+    let versions = VSet::single(task.alloc, ordinal)?;
+    Ok(bar(task, search, agenda, pkg, versions)?)
+}

@@ -1,0 +1,67 @@
+// The start of a search: the root, and the needs of the request.
+
+ghost use Rattle.std.specs.Prelude.{◌≡◌, IfErr, IfOk, OnOk};
+ghost use Rattle.solver.specs.Lines.{root_terms};
+ghost use Rattle.solver.specs.Pushing.{Extends};
+ghost use Rattle.solver.specs.Searching.{Searches};
+
+use crate::acting::Search;
+use crate::agenda::Agenda;
+use crate::facts::push_need;
+use crate::task::{ROOT, Task};
+use derivations::{Cause, Known, Reason};
+use partial::Partial;
+use terms::{Incompat, Term, VSet};
+use versions::Refusal;
+
+/// That the root is chosen.
+fn root_line(task: &Task<'_>) -> Result<Known, Refusal>
+    ensures same { IfOk result (λ line. line ≡ record { conclusion = root_terms; reason = Reason.Fact Cause.Root }) }
+    ensures only { IfErr result (λ e. e ≡ Refusal.NoMemory) }
+{
+    let term = Term::NotIn(VSet::single(task.alloc, 0)?);
+    Ok(Known {
+        conclusion: Incompat::single(task.alloc, ROOT, term)?,
+        reason: Reason::Fact(Cause::Root),
+    })
+}
+
+/// The root alone: its fact, its derivation and its decision.
+fn begin(task: &Task<'_>) -> Result<Search, Refusal>
+    ensures search { IfOk result (Searches task.now) }
+    ensures only { IfErr result (λ e. e ≡ Refusal.NoMemory) }
+{
+    let mut known = Vec::new(task.alloc);
+    known.push(root_line(task)?)?;
+    let mut partial = Partial::new(task.alloc);
+    partial.derive(ROOT, Term::In(VSet::single(task.alloc, 0)?), 0)?;
+    partial.decide(ROOT, 0)?;
+    Ok(Search {
+        partial,
+        known,
+        conflicts: 0,
+    })
+}
+
+/// Puts all needs behind the lines. They stand at the root's level, whatever is decided later.
+fn add_needs(task: &Task<'_>, known: &mut Vec<Known>, agenda: &mut Agenda) -> Result<(), Refusal>
+    ensures extends { OnOk result (Extends task.now known.old.items known.new.items) }
+    ensures only { IfErr result (λ e. e ≡ Refusal.NoMemory) }
+{
+    for index in 0..task.request.needs().len() {
+        let at = push_need(task, known, index)?;
+        agenda.note(task.alloc, known, at)?;
+    }
+    Ok(())
+}
+
+/// A search that has met nothing but the request.
+pub(crate) fn start(task: &Task<'_>, agenda: &mut Agenda) -> Result<Search, Refusal>
+    ensures search { IfOk result (Searches task.now) }
+    ensures only { IfErr result (λ e. e ≡ Refusal.NoMemory) }
+{
+    let mut search = begin(task)?;
+    add_needs(task, &mut search.known, agenda)?;
+    agenda.changed.push(ROOT)?;
+    Ok(search)
+}

@@ -1,0 +1,17 @@
+// What is to be solved.
+
+use registry::{Registry, Request};
+use std::alloc::Global;
+use terms::Pkg;
+
+/// The package of the request itself, which has the one version 0.
+pub(crate) const ROOT: Pkg = 0;
+
+/// A request to a registry, and how many conflicts may be met, where there is a budget of them.
+#[derive(Clone, Copy)]
+pub(crate) struct Task<'a> {
+    pub alloc: Global,
+    pub registry: &'a Registry,
+    pub request: &'a Request,
+    pub budget: Option<u32>,
+}

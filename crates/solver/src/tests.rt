@@ -1,0 +1,242 @@
+//! Rows of registries and requests with what is answered.
+//!
+//! The helpers are small for the prover's sake: a proof grows with the values that a function
+//! holds, times its ways out, since each way out lets go of them all.
+
+use crate::*;
+use derivations::{Derivation, Store, check};
+use registry::{Command, Dependencies, Registry, Request};
+use std::alloc::Global;
+use versions::{Name, Need, Published, Refusal};
+
+/// Commands, needs, lines of a lock, and the answer.
+type Row = (&'static str, &'static str, &'static str, &'static str);
+
+/// Two versions of "foo", of which the higher one needs what depends on the lower one.
+const TURNED: &str = "foo 2.0.0 needs bar ^1.0.0 | bar 1.0.0 needs foo ^1.0.0 | foo 1.0.0";
+
+/// A conflict of two dependencies of "foo", which leaves a lower version of it.
+const PARTIAL: &str =
+    "foo 1.1.0 needs left ^1.0.0; right ^1.0.0 | left 1.0.0 needs shared >=1.0.0 | right 1.0.0 needs shared <2.0.0 | shared 1.0.0 needs target ^1.0.0 | shared 2.0.0 | foo 1.0.0 | target 1.0.0 | target 2.0.0";
+
+const LINEAR: &str =
+    "foo 1.0.0 needs bar ^2.0.0 | bar 2.0.0 needs baz ^3.0.0 | baz 1.0.0 | baz 3.0.0";
+
+const BRANCHED: &str =
+    "s 1.0.0 needs t ^2.0.0 | t 1.0.0 | t 2.0.0 | foo 1.0.0 needs s ^1.0.0 | foo 1.1.0 needs s >=1.0.0";
+
+const YANKED: &str = "a 1.0.0 | yank a 1.0.0";
+
+const ROWS: [Row; 16] = [
+    ("", "", "", ""),
+    ("a 1.0.0", "a ^1", "", "a 1.0.0"),
+    ("a 0.2.3 | a 0.2.9 | a 0.3.0", "a 0.2.3", "", "a 0.2.9"),
+    ("a 1.0.0-alpha", "a ^1.0.0", "", "refused"),
+    ("a 1.0.0-alpha", "a ^1.0.0-alpha", "", "a 1.0.0-alpha"),
+    (TURNED, "foo >=1.0.0", "", "foo 1.0.0"),
+    (
+        PARTIAL,
+        "foo ^1.0.0; target ^2.0.0",
+        "",
+        "foo 1.0.0; target 2.0.0",
+    ),
+    (LINEAR, "foo ^1.0.0; baz ^1.0.0", "", "refused"),
+    (BRANCHED, "foo ^1.0.0; t ^1.0.0", "", "refused"),
+    (
+        "a 1.0.0 needs b ^1.0.0 | b 1.0.0 needs a ^1.0.0",
+        "a ^1.0.0",
+        "",
+        "a 1.0.0; b 1.0.0",
+    ),
+    (YANKED, "a ^1", "", "refused"),
+    (YANKED, "a ^1", "a 1.0.0", "a 1.0.0"),
+    (
+        "a 1.0.0 | yank a 1.0.0 | unyank a 1.0.0",
+        "a ^1",
+        "",
+        "a 1.0.0",
+    ),
+    ("a 1.0.0 | a 1.1.0", "a ^1", "a 1.0.0", "a 1.0.0"),
+    ("a 1.0.0 | a 1.1.0", "a ^1", "", "a 1.1.0"),
+    ("", "zed *", "", "refused"),
+];
+
+// ---- requests
+
+fn named_need(alloc: Global, name: &str, need: &str) -> Result<(Name, Need), Refusal> {
+    Ok((Name::read(alloc, name)?, Need::read(alloc, need)?))
+}
+
+fn needs(alloc: Global, listed: &str) -> Result<Vec<(Name, Need)>, Refusal> {
+    let mut needs = Vec::new(alloc);
+    for need in listed.split("; ") {
+        if let Some((name, need)) = need.split_once(' ') {
+            needs.push(named_need(alloc, name, need)?)?;
+        }
+    }
+    Ok(needs)
+}
+
+fn named_version(alloc: Global, name: &str, version: &str) -> Result<(Name, Published), Refusal> {
+    Ok((Name::read(alloc, name)?, Published::read(alloc, version)?))
+}
+
+fn lock(alloc: Global, listed: &str) -> Result<Vec<(Name, Published)>, Refusal> {
+    let mut lines = Vec::new(alloc);
+    for line in listed.split("; ") {
+        if let Some((name, version)) = line.split_once(' ') {
+            lines.push(named_version(alloc, name, version)?)?;
+        }
+    }
+    Ok(lines)
+}
+
+fn request(alloc: Global, listed: &str, locked: &str) -> Result<Request, Refusal> {
+    let needs = needs(alloc, listed)?;
+    Request::new(alloc, needs, lock(alloc, locked)?)
+}
+
+// ---- registries
+
+fn dependencies(alloc: Global, listed: &str) -> Result<Dependencies, Refusal> {
+    Dependencies::new(alloc, needs(alloc, listed)?)
+}
+
+fn publication(alloc: Global, name: &str, version: &str, listed: &str) -> Result<Command, Refusal> {
+    let (name, version) = named_version(alloc, name, version)?;
+    Ok(Command::Publish(name, version, dependencies(alloc, listed)?))
+}
+
+/// The command that marks a version as yanked or not.
+fn mark(alloc: Global, name: &str, version: &str, yanked: bool) -> Result<Command, Refusal> {
+    let (name, version) = named_version(alloc, name, version)?;
+    if yanked {
+        Ok(Command::Yank(name, version))
+    } else {
+        Ok(Command::Unyank(name, version))
+    }
+}
+
+fn word(line: &str, index: usize) -> &str {
+    line.split(' ').nth(index).unwrap_or("")
+}
+
+/// The dependencies that a line tells, such as "b ^1; c *".
+fn needed(line: &str) -> &str {
+    line.split(" needs ").nth(1).unwrap_or("")
+}
+
+/// The command of a line: "yank a 1.0.0", "unyank a 1.0.0", "a 1.0.0" or "a 1.0.0 needs b ^1".
+fn command(alloc: Global, line: &str) -> Result<Command, Refusal> {
+    match word(line, 0) {
+        "yank" => mark(alloc, word(line, 1), word(line, 2), true),
+        "unyank" => mark(alloc, word(line, 1), word(line, 2), false),
+        name => publication(alloc, name, word(line, 1), needed(line)),
+    }
+}
+
+/// Carries a command out, or answers its refusal.
+fn submit(registry: &mut Registry, command: Command) -> Result<(), Refusal> {
+    registry.check(&command)?;
+    if registry.revision() == u64::MAX {
+        return Err(Refusal::JournalFull);
+    }
+    registry.apply(command)
+}
+
+fn carry_out(registry: &mut Registry, alloc: Global, line: &str) -> Result<(), Refusal> {
+    if line.is_empty() {
+        return Ok(());
+    }
+    submit(registry, command(alloc, line)?)
+}
+
+fn registry(alloc: Global, commands: &str) -> Result<Registry, Refusal> {
+    let mut registry = Registry::new(alloc);
+    for line in commands.split(" | ") {
+        carry_out(&mut registry, alloc, line)?;
+    }
+    Ok(registry)
+}
+
+// ---- answers
+
+/// Writes a version behind those that are told.
+fn tell(text: &mut String, name: &Name, version: &Published) -> Result<(), Refusal> {
+    if !text.is_empty() {
+        text.push_str("; ")?;
+    }
+    text.push_str(name.text())?;
+    text.push(' ')?;
+    text.push_str(version.text())?;
+    Ok(())
+}
+
+/// The versions of a selection, in its order.
+fn told(alloc: Global, list: &[(Name, Published)]) -> Result<String, Refusal> {
+    let mut text = String::new(alloc);
+    for (name, version) in list {
+        tell(&mut text, name, version)?;
+    }
+    Ok(text)
+}
+
+/// A refusal, or that its derivation shows nothing.
+fn refused(
+    alloc: Global,
+    registry: &Registry,
+    request: &Request,
+    derivation: &Derivation,
+) -> Result<String, Refusal> {
+    let shown = check(alloc, registry, request, derivation)?;
+    let word = if shown { "refused" } else { "not shown" };
+    Ok(String::from_str(alloc, word)?)
+}
+
+fn in_words(
+    alloc: Global,
+    registry: &Registry,
+    request: &Request,
+    outcome: &Outcome,
+) -> Result<String, Refusal> {
+    match outcome {
+        Outcome::Selection(list, _) => told(alloc, list),
+        Outcome::Refused(derivation, _) => refused(alloc, registry, request, derivation),
+    }
+}
+
+fn solved(alloc: Global, registry: &Registry, request: &Request) -> Result<Outcome, Refusal> {
+    let store = Store::new(alloc);
+    solve(alloc, registry, request, &store)
+}
+
+fn answered(alloc: Global, registry: &Registry, request: &Request) -> Result<String, Refusal> {
+    let outcome = solved(alloc, registry, request)?;
+    in_words(alloc, registry, request, &outcome)
+}
+
+/// What a registry answers to these needs under this lock.
+fn asked(
+    alloc: Global,
+    registry: &Registry,
+    listed: &str,
+    locked: &str,
+) -> Result<String, Refusal> {
+    let request = request(alloc, listed, locked)?;
+    answered(alloc, registry, &request)
+}
+
+fn answer(alloc: Global, row: Row) -> Result<String, Refusal> {
+    let (commands, listed, locked, _) = row;
+    let registry = registry(alloc, commands)?;
+    asked(alloc, &registry, listed, locked)
+}
+
+#[test]
+fn requests_are_answered(rt: HostRuntime) -> Result<(), Refusal> {
+    for row in ROWS {
+        let text = answer(rt.alloc(), row)?;
+        assert_eq!(rt; text.as_str(), row.3, "{} lock {}", row.1, row.2);
+    }
+    Ok(())
+}

@@ -1,0 +1,4 @@
+-- Lemmas.
+pub mod Lists
+pub mod Steps
+pub mod Preferring

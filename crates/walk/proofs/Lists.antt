@@ -1,0 +1,72 @@
+-- What a growing list of packages with their ordinals selects.
+use Rattle.std.proofs.Common.{◌≡◌, ◌<◌, ◌∙◌, ℕ, zero, suc, refl, sym, ap, arith, ◌⊎◌, List, [], ◌∷◌, ◌++◌, length, inl, inr, nat_eq, Contains}
+use Rattle.std.proofs.lemmas.Bool.{cases_Bool, eq-eqb, eqb-true}
+use Rattle.std.proofs.lemmas.List.{append_assoc}
+use Rattle.std.proofs.lemmas.Option.{slice_get_read, none-some, same_Some}
+use Rattle.std.specs.Prelude.{None, Some, slice_get}
+use Rattle.walk.specs.Choosing.{choice_of}
+use Rattle.walk.specs.Walks.{Grows}
+
+-- what is selected stays so where the list grows
+pub choice-left : (found more : List (ℕ × ℕ)) (p k : ℕ) → choice_of found p ≡ Some k → choice_of (found ++ more) p ≡ Some k
+choice-left [] more p k h = absurd (none-some k h)
+choice-left (e ∷ found) more p k h = elim (cases_Bool (nat_eq p e.0)) [
+  | inl t ↦ rw t (rw t at h)
+  | inr f ↦ rw f (choice-left found more p k (rw f at h))
+]
+
+-- a package that was not there has the version that comes last
+pub choice-push_here : (found : List (ℕ × ℕ)) (p k : ℕ) → choice_of found p ≡ None → choice_of (found ++ (p, k) ∷ []) p ≡ Some k
+choice-push_here [] p k h = rw (eq-eqb p p refl) refl
+choice-push_here (e ∷ found) p k h = elim (cases_Bool (nat_eq p e.0)) [
+  | inl t ↦ absurd (none-some e.1 (sym (rw t at h)))
+  | inr f ↦ rw f (choice-push_here found p k (rw f at h))
+]
+
+-- what is selected was so before, or comes last
+pub choice-push_cases : (found : List (ℕ × ℕ)) (q v p k : ℕ) → choice_of (found ++ (q, v) ∷ []) p ≡ Some k → (choice_of found p ≡ Some k) ⊎ ((q ≡ p) × (v ≡ k))
+choice-push_cases [] q v p k h = elim (cases_Bool (nat_eq p q)) [
+  | inl t ↦ inr (sym (eqb-true p q t), same_Some v k (rw t at h))
+  | inr f ↦ absurd (none-some k (rw f at h))
+]
+choice-push_cases (e ∷ found) q v p k h = elim (cases_Bool (nat_eq p e.0)) [
+  | inl t ↦ inl (rw t (rw t at h))
+  | inr f ↦ rw f (choice-push_cases found q v p k (rw f at h))
+]
+
+-- a choice is one of the entries
+pub choice-entry : (found : List (ℕ × ℕ)) (p k : ℕ) → choice_of found p ≡ Some k → (i : ℕ) × (slice_get found i ≡ Some (p, k))
+choice-entry [] p k h = absurd (none-some k h)
+choice-entry (e ∷ found) p k h = elim (cases_Bool (nat_eq p e.0)) [
+  | inl t ↦
+      let first : e.0 ≡ p = sym (eqb-true p e.0 t) in
+      let second : e.1 ≡ k = same_Some e.1 k (rw t at h) in
+      (0, ap Some (ap (λ x. (x, e.1)) first ∙ ap (λ y. (p, y)) second))
+  | inr f ↦ let rest = choice-entry found p k (rw f at h) in (suc rest.0, rest.1)
+]
+
+-- what was there stays at its place
+pub get-left : {A : Type 0} (xs more : List A) (i : ℕ) (x : A) → slice_get xs i ≡ Some x → slice_get (xs ++ more) i ≡ Some x
+get-left [] more i x h = absurd (none-some x h)
+get-left (y ∷ xs) more zero x h = h
+get-left (y ∷ xs) more (suc i) x h = get-left xs more i x h
+
+-- and what stands at an earlier place was there
+pub get-before : {A : Type 0} (xs more : List A) (i j : ℕ) (x y : A) → slice_get xs i ≡ Some y → j < i → slice_get (xs ++ more) j ≡ Some x → slice_get xs j ≡ Some x
+get-before [] more i j x y at lt h = absurd (none-some y at)
+get-before (z ∷ xs) more zero j x y at lt h = absurd (omega arith)
+get-before (z ∷ xs) more (suc i) zero x y at lt h = h
+get-before (z ∷ xs) more (suc i) (suc j) x y at lt h = get-before xs more i j x y at (omega arith) h
+
+-- what is among the elements stands at a place, and the other way round
+pub contains_at : {A : Type 0} (xs : List A) (x : A) → Contains xs x → (i : ℕ) × (slice_get xs i ≡ Some x)
+contains_at xs x h = (h.0, slice_get_read xs (length xs) h.0 x refl h.1 (sym h.2))
+
+pub get-contains : {A : Type 0} (xs : List A) (i : ℕ) (x : A) → slice_get xs i ≡ Some x → Contains xs x
+get-contains [] i x at = absurd (none-some x at)
+get-contains (y ∷ xs) zero x at = (0, omega arith, same_Some y x at)
+get-contains (y ∷ xs) (suc i) x at = let rest = get-contains xs i x at in (suc rest.0, omega (arith, rest.1), rest.2)
+
+-- where two lists grow one after the other, the first grows to the last
+pub grown-grown : (old found new : List (ℕ × ℕ)) → Grows old found → Grows found new → Grows old new
+grown-grown old found new g h = (g.0 ++ h.0, h.1 ∙ ap (λ xs. xs ++ h.0) g.1 ∙ append_assoc old g.0 h.0)

@@ -1,0 +1,210 @@
+-- The walk: what it keeps, that it ends in a selection that meets the request, and that an obstacle stands in the way of each.
+use Rattle.std.proofs.Common.{◌≡◌, ◌<◌, ◌≤◌, ◌+◌, ◌∙◌, ℕ, refl, sym, ap, subst, arith, true, false, true≢false, List, [], ◌∷◌, ◌++◌, length, inl, inr, nat_eq, Contains}
+use Rattle.std.proofs.lemmas.Bool.{cases_eq}
+use Rattle.std.proofs.lemmas.Option.{none-some, same_Some, slice_get_within}
+use Rattle.std.specs.Prelude.{Option, None, Some, is_some, slice_get}
+use Rattle.std.specs.List.{IsDistinct}
+use Rattle.std.specs.Map.{keys_of}
+use Rattle.versions.specs.Words.{Text}
+use Rattle.registry.specs.Registry.{Packages, Publication, is_published, needs_of, number_of, publication_at}
+use Rattle.registry.specs.Requests.{Wanted, is_allowed}
+use Rattle.registry.specs.Selections.{Choices, IsMet, IsReached, Meets, along, needed}
+use Rattle.registry.proofs.RequestLemmas.{is_allowed-unpublished}
+use Rattle.walk.specs.Choosing.{Follows, IsUnmet, choice_of}
+use Rattle.walk.specs.Walks.{AreMet, ComeFrom, ComesFrom, Grows, IsChecked, IsChosen, IsSelected, IsUnmetAt, IsWalk, NoneFollows}
+use Rattle.walk.proofs.Lists.{choice-entry, choice-left, choice-push_cases, contains_at, get-before, get-contains, get-left}
+
+-- a version that is allowed is published
+pub allowed-published : (packages : Packages) (wanted : Wanted) (p k : ℕ) → is_allowed packages wanted p k ≡ true → is_published packages p k ≡ true
+allowed-published packages wanted p k t = by (publication_at packages p k) refl
+  where
+    by : (o : Option Publication) → publication_at packages p k ≡ o → is_some o ≡ true
+    by None e = absurd (true≢false (sym t ∙ is_allowed-unpublished packages wanted p k e))
+    by (Some v) e = refl
+
+-- ---- what stays as the list grows
+
+pub met_grown : (packages : Packages) (old new : List (ℕ × ℕ)) (name need : Text) → Grows old new → IsMet packages (choice_of old) name need → IsMet packages (choice_of new) name need
+met_grown packages old new name need g m = record {
+  target = m.target;
+  ordinal = m.ordinal;
+  numbered = m.numbered;
+  selected = rw g.1 (choice-left old g.0 m.target m.ordinal m.selected);
+  meeting = m.meeting;
+}
+
+are_met_grown : (packages : Packages) (old new : List (ℕ × ℕ)) (needs : List (Text × Text)) → Grows old new → AreMet packages (choice_of old) needs → AreMet packages (choice_of new) needs
+are_met_grown packages old new needs g met name need among = met_grown packages old new name need g (met name need among)
+
+checked_grown : (packages : Packages) (wanted : Wanted) (old new : List (ℕ × ℕ)) (p k : ℕ) → Grows old new
+    → IsChecked packages wanted (choice_of old) p k → IsChecked packages wanted (choice_of new) p k
+checked_grown packages wanted old new p k g c = record { allowed = c.allowed; met = are_met_grown packages old new (needs_of packages p k) g c.met }
+
+-- ---- a step
+
+-- what is chosen is added
+pub follows_push : (chooses : Choices) (found : List (ℕ × ℕ)) (q v : ℕ) → Follows chooses (choice_of found) → chooses q ≡ Some v → Follows chooses (choice_of (found ++ (q, v) ∷ []))
+follows_push chooses found q v follows chosen p k h = elim (choice-push_cases found q v p k h) [
+  | inl before ↦ follows p k before
+  | inr same ↦ ap chooses (sym same.0) ∙ chosen ∙ ap Some same.1
+]
+
+pub comes_push : (packages : Packages) (name : Text) (found : List (ℕ × ℕ)) (q v : ℕ) → number_of packages name ≡ Some q
+    → ComesFrom packages name (choice_of found) (choice_of (found ++ (q, v) ∷ []))
+comes_push packages name found q v numbered p k h = elim (choice-push_cases found q v p k h) [
+  | inl before ↦ inl before
+  | inr same ↦ inr (numbered ∙ ap Some same.0)
+]
+
+-- what one need adds comes from the needs
+pub come_more : (packages : Packages) (needs : List (Text × Text)) (name need : Text) (old found new : Choices) → ComeFrom packages needs old found → ComesFrom packages name found new
+    → Contains needs (name, need) → ComeFrom packages needs old new
+come_more packages needs name need old found new come comes among p k h = elim (comes p k h) [
+  | inl before ↦ come p k before
+  | inr numbered ↦ inr (record { name = name; need = need; among = among; numbered = numbered })
+]
+
+pub met_more : (packages : Packages) (old new : List (ℕ × ℕ)) (needs : List (Text × Text)) (i : ℕ) (d : Text × Text) → Grows old new
+    → ((j : ℕ) (name need : Text) → j < i → slice_get needs j ≡ Some (name, need) → IsMet packages (choice_of old) name need)
+    → slice_get needs i ≡ Some d → IsMet packages (choice_of new) d.0 d.1
+    → (j : ℕ) (name need : Text) → j < i + 1 → slice_get needs j ≡ Some (name, need) → IsMet packages (choice_of new) name need
+met_more packages old new needs i d g before here met j name need below at = elim (cases_eq j i) [
+  | inl same ↦
+      let is : d ≡ (name, need) = same_Some d (name, need) (sym here ∙ ap (slice_get needs) (sym same) ∙ at) in
+      subst (λ (x : Text × Text). IsMet packages (choice_of new) x.0 x.1) is met
+  | inr apart ↦ met_grown packages old new name need g (before j name need (omega (arith, below, apart)) at)
+]
+
+-- each is met where the one at each place is
+pub met_all : (packages : Packages) (s : Choices) (needs : List (Text × Text)) (i : ℕ) → length needs ≤ i
+    → ((j : ℕ) (name need : Text) → j < i → slice_get needs j ≡ Some (name, need) → IsMet packages s name need) → AreMet packages s needs
+met_all packages s needs i all met name need among =
+    let at = contains_at needs (name, need) among in
+    met at.0 name need (let lt = slice_get_within needs at.0 (name, need) at.1 in omega (arith, lt, all)) at.1
+
+-- ---- the start, and a turn
+
+pub walk_start : (packages : Packages) (wanted : Wanted) (chooses : Choices) (old found : List (ℕ × ℕ)) → old ≡ []
+    → Follows chooses (choice_of found) → ComeFrom packages wanted.needs (choice_of old) (choice_of found) → AreMet packages (choice_of found) wanted.needs
+    → IsWalk packages wanted chooses found 0
+walk_start packages wanted chooses old found empty follows come met = record {
+  follows = follows;
+  reached = λ p k h. elim (come p k h) [
+    | inl before ↦ absurd (none-some k (rw empty at before))
+    | inr d ↦ needed p d.name d.need d.among d.numbered
+  ];
+  needs = met;
+  checked = λ j e lt at. absurd (omega arith);
+}
+
+pub walk_more : (packages : Packages) (wanted : Wanted) (chooses : Choices) (found new : List (ℕ × ℕ)) (i p v : ℕ)
+    → IsWalk packages wanted chooses found i → slice_get found i ≡ Some (p, v) → choice_of found p ≡ Some v → is_allowed packages wanted p v ≡ true
+    → Follows chooses (choice_of new) → Grows found new → ComeFrom packages (needs_of packages p v) (choice_of found) (choice_of new)
+    → AreMet packages (choice_of new) (needs_of packages p v) → IsWalk packages wanted chooses new (i + 1)
+walk_more packages wanted chooses found new i p v w at here allowed follows grown come met = record {
+  follows = follows;
+  reached = λ q k h. elim (come q k h) [
+    | inl before ↦ w.reached q k before
+    | inr d ↦ along p v q d.name d.need (w.reached p v here) (w.follows p v here) d.among d.numbered
+  ];
+  needs = are_met_grown packages found new wanted.needs grown w.needs;
+  checked = λ j e lt at_j. elim (cases_eq j i) [
+    | inl same ↦
+        let is : (p, v) ≡ e = same_Some (p, v) e (sym stays ∙ ap (slice_get new) (sym same) ∙ at_j) in
+        subst (λ (x : ℕ × ℕ). IsChecked packages wanted (choice_of new) x.0 x.1) is (record { allowed = allowed; met = met })
+    | inr apart ↦
+        let low : j < i = omega (arith, lt, apart) in
+        checked_grown packages wanted found new e.0 e.1 grown (w.checked j e low (get-before found grown.0 i j e (p, v) at low (rw grown.1 at at_j)))
+  ];
+}
+  where
+    stays : slice_get new i ≡ Some (p, v)
+    stays = rw grown.1 (get-left found grown.0 i (p, v) at)
+
+pub walk_chosen : (packages : Packages) (wanted : Wanted) (chooses : Choices) (found : List (ℕ × ℕ)) (i p v : ℕ) → IsWalk packages wanted chooses found i
+    → choice_of found p ≡ Some v → IsChosen packages wanted chooses p v
+walk_chosen packages wanted chooses found i p v w here = record { reached = w.reached p v here; chosen = w.follows p v here }
+
+-- ---- the end
+
+module _ (packages : Packages) (wanted : Wanted) (chooses : Choices) (found : List (ℕ × ℕ)) (i : ℕ) (w : IsWalk packages wanted chooses found i) (all : length found ≤ i) where
+  check : (p k : ℕ) → choice_of found p ≡ Some k → IsChecked packages wanted (choice_of found) p k
+  check p k chosen =
+      let entry = choice-entry found p k chosen in
+      let within = slice_get_within found entry.0 (p, k) entry.1 in
+      w.checked entry.0 (p, k) (omega (arith, within, all)) entry.1
+
+  -- what the choices reach is found, and reached by what is found
+  walked : (p : ℕ) → IsReached packages wanted.needs chooses p → ((k : ℕ) × (choice_of found p ≡ Some k)) × IsReached packages wanted.needs (choice_of found) p
+  walked _ (needed p name need among numbered) =
+      let m = w.needs name need among in
+      let same : m.target ≡ p = same_Some m.target p (sym m.numbered ∙ numbered) in
+      ((m.ordinal, subst (λ q. choice_of found q ≡ Some m.ordinal) same m.selected), needed p name need among numbered)
+  walked _ (along from k to name need r chosen among numbered) =
+      let before = walked from r in
+      let same : before.0.0 ≡ k = same_Some before.0.0 k (sym (w.follows from before.0.0 before.0.1) ∙ chosen) in
+      let here : choice_of found from ≡ Some k = before.0.1 ∙ ap Some same in
+      let m = (check from k here).met name need among in
+      let there : m.target ≡ to = same_Some m.target to (sym m.numbered ∙ numbered) in
+      ((m.ordinal, subst (λ q. choice_of found q ≡ Some m.ordinal) there m.selected), along from k to name need before.1 here among numbered)
+
+  pub walk_meets : IsDistinct nat_eq (keys_of found) → IsSelected packages wanted chooses found
+  walk_meets once = record {
+    meets = record {
+      selection = λ p k chosen. allowed-published packages wanted p k (check p k chosen).allowed;
+      closed = λ p k name need chosen among. (check p k chosen).met name need among;
+      allowed = λ p k chosen. (check p k chosen).allowed;
+      needs = w.needs;
+      reached = λ p k chosen. (walked p (w.reached p k chosen)).1;
+    };
+    follows = w.follows;
+    once = once;
+  }
+
+-- ---- what each selection has that follows the choices and meets the request
+
+module _ (packages : Packages) (wanted : Wanted) (chooses s : Choices) (follows : Follows chooses s) (meets : Meets packages wanted s) where
+  -- it selects each package that the choices reach
+  pub selected : (p : ℕ) → IsReached packages wanted.needs chooses p → (k : ℕ) × (s p ≡ Some k)
+  selected _ (needed p name need among numbered) =
+      let m = meets.needs name need among in
+      (m.ordinal, subst (λ q. s q ≡ Some m.ordinal) (same_Some m.target p (sym m.numbered ∙ numbered)) m.selected)
+  selected _ (along from k to name need r chosen among numbered) =
+      let before = selected from r in
+      let same : before.0 ≡ k = same_Some before.0 k (sym (follows from before.0 before.1) ∙ chosen) in
+      let m = meets.closed from k name need (before.1 ∙ ap Some same) among in
+      (m.ordinal, subst (λ q. s q ≡ Some m.ordinal) (same_Some m.target to (sym m.numbered ∙ numbered)) m.selected)
+
+  -- by the version that is chosen
+  pub selected_as : (p k : ℕ) → IsReached packages wanted.needs chooses p → chooses p ≡ Some k → s p ≡ Some k
+  selected_as p k r chosen = let x = selected p r in x.1 ∙ sym (follows p x.0 x.1) ∙ chosen
+
+  -- and what it reaches, the choices reach
+  pub reached_by_both : (p : ℕ) → IsReached packages wanted.needs s p → IsReached packages wanted.needs chooses p
+  reached_by_both _ (needed p name need among numbered) = needed p name need among numbered
+  reached_by_both _ (along from k to name need r chosen among numbered) = along from k to name need (reached_by_both from r) (follows from k chosen) among numbered
+
+-- ---- obstacles
+
+unmet_not : (packages : Packages) (chooses s : Choices) (name need : Text) → Follows chooses s → IsUnmet packages chooses name need → IsMet packages s name need → ⊥
+unmet_not packages chooses s name need follows unmet m =
+    true≢false (sym m.meeting ∙ unmet m.target m.ordinal m.numbered (follows m.target m.ordinal m.selected))
+
+-- a need of the request that is not met stands in the way of each
+pub need_stands : (packages : Packages) (wanted : Wanted) (chooses : Choices) (index : ℕ) → IsUnmetAt packages chooses wanted.needs index → NoneFollows packages wanted chooses
+need_stands packages wanted chooses index u s follows meets =
+    unmet_not packages chooses s u.name u.need follows u.unmet (meets.needs u.name u.need (get-contains wanted.needs index (u.name, u.need) u.at))
+
+-- and so does a dependency of a chosen version
+pub dependency_stands : (packages : Packages) (wanted : Wanted) (chooses : Choices) (p k index : ℕ) → IsChosen packages wanted chooses p k
+    → IsUnmetAt packages chooses (needs_of packages p k) index → NoneFollows packages wanted chooses
+dependency_stands packages wanted chooses p k index c u s follows meets =
+    let here = selected_as packages wanted chooses s follows meets p k c.reached c.chosen in
+    unmet_not packages chooses s u.name u.need follows u.unmet (meets.closed p k u.name u.need here (get-contains (needs_of packages p k) index (u.name, u.need) u.at))
+
+-- and a chosen version that is not allowed
+pub forbidden_stands : (packages : Packages) (wanted : Wanted) (chooses : Choices) (p k : ℕ) → IsChosen packages wanted chooses p k
+    → is_allowed packages wanted p k ≡ false → NoneFollows packages wanted chooses
+forbidden_stands packages wanted chooses p k c forbidden s follows meets =
+    let here = selected_as packages wanted chooses s follows meets p k c.reached c.chosen in
+    true≢false (sym (meets.allowed p k here) ∙ forbidden)

@@ -1,0 +1,5 @@
+-- The definitions that contracts cite.
+pub mod Choosing
+pub mod Walks
+pub mod Preferring
+pub mod Names

@@ -1,0 +1,102 @@
+-- What a walk answers, and what it keeps on its way.
+use Rattle.std.specs.Prelude.{◌≡◌, ◌<◌, ◌++◌, ◌⊎◌, ℕ, true, false, Contains, List, slice_get, Some, nat_eq}
+use Rattle.std.specs.List.{IsDistinct}
+use Rattle.std.specs.Map.{keys_of}
+use Rattle.versions.specs.Words.{Text}
+use Rattle.registry.specs.Registry.{Packages, needs_of, number_of}
+use Rattle.registry.specs.Requests.{Wanted, is_allowed}
+use Rattle.registry.specs.Selections.{Choices, IsMet, IsReached, Meets}
+use Rattle.walk.specs.Choosing.{Follows, IsUnmet, choice_of}
+use Rattle.walk.specs.declared.reached.Asker.{Asker}
+use Rattle.walk.specs.declared.reached.Asker.TheVariants as asker
+use Rattle.walk.specs.declared.reached.Reached.{Reached}
+use Rattle.walk.specs.declared.reached.Reached.TheVariants as reached
+
+-- ---- answers
+
+-- no selection that follows the choices meets the request
+abbrev pub NoneFollows : Packages → Wanted → Choices → Type 0
+NoneFollows packages wanted chooses = (s : Choices) → Follows chooses s → Meets packages wanted s → ⊥
+
+-- the chosen version of a package that is reached along the choices
+pub record IsChosen (packages : Packages) (wanted : Wanted) (chooses : Choices) (p k : ℕ) : Type 0 where
+  pub reached : IsReached packages wanted.needs chooses p
+  pub chosen : chooses p ≡ Some k
+
+-- who asks is the request, or a chosen version that is allowed
+abbrev pub IsAsking : Packages → Wanted → Choices → Asker → Type 0
+IsAsking packages wanted chooses asker.Request = Unit {0}
+IsAsking packages wanted chooses (asker.Version p k) = IsChosen packages wanted chooses p k × (is_allowed packages wanted p k ≡ true)
+
+-- what is asked: the needs of the request, or the dependencies of the version
+abbrev pub asked_by : Packages → Wanted → Asker → List (Text × Text)
+asked_by packages wanted asker.Request = wanted.needs
+asked_by packages wanted (asker.Version p k) = needs_of packages p k
+
+-- the line at this place is not met by the choices
+pub record IsUnmetAt (packages : Packages) (chooses : Choices) (needs : List (Text × Text)) (index : ℕ) : Type 0 where
+  pub name : Text
+  pub need : Text
+  pub at : slice_get needs index ≡ Some (name, need)
+  pub unmet : IsUnmet packages chooses name need
+
+-- who asks has at this place what is not met
+pub record IsObstacle (packages : Packages) (wanted : Wanted) (chooses : Choices) (asker : Asker) (index : ℕ) : Type 0 where
+  pub asks : IsAsking packages wanted chooses asker
+  pub place : IsUnmetAt packages chooses (asked_by packages wanted asker) index
+  pub none : NoneFollows packages wanted chooses
+
+-- the chosen version of a package that is reached is not allowed
+pub record IsForbidden (packages : Packages) (wanted : Wanted) (chooses : Choices) (p k : ℕ) : Type 0 where
+  pub chosen : IsChosen packages wanted chooses p k
+  pub forbidden : is_allowed packages wanted p k ≡ false
+  pub none : NoneFollows packages wanted chooses
+
+-- what the list selects meets the request and follows the choices, and each package stands once
+pub record IsSelected (packages : Packages) (wanted : Wanted) (chooses : Choices) (list : List (ℕ × ℕ)) : Type 0 where
+  pub meets : Meets packages wanted (choice_of list)
+  pub follows : Follows chooses (choice_of list)
+  pub once : IsDistinct nat_eq (keys_of list)
+
+-- a selection along the choices, or what stands in the way of each
+abbrev pub ReachesBy : Packages → Wanted → Choices → Reached → Type 0
+ReachesBy packages wanted chooses (reached.Selection list) = IsSelected packages wanted chooses list.items
+ReachesBy packages wanted chooses (reached.Unmet asker index) = IsObstacle packages wanted chooses asker index
+ReachesBy packages wanted chooses (reached.NotAllowed p k) = IsForbidden packages wanted chooses p k
+
+-- ---- on the way
+
+-- what was found stays at its place
+abbrev pub Grows : List (ℕ × ℕ) → List (ℕ × ℕ) → Type 0
+Grows old new = (more : List (ℕ × ℕ)) × (new ≡ old ++ more)
+
+-- each need is met
+abbrev pub AreMet : Packages → Choices → List (Text × Text) → Type 0
+AreMet packages s needs = (name need : Text) → Contains needs (name, need) → IsMet packages s name need
+
+-- each package is one of before, or the package of this name
+abbrev pub ComesFrom : Packages → Text → Choices → Choices → Type 0
+ComesFrom packages name old new = (p k : ℕ) → new p ≡ Some k → (old p ≡ Some k) ⊎ (number_of packages name ≡ Some p)
+
+-- the package of this number is named by one of the needs
+pub record IsNamed (packages : Packages) (needs : List (Text × Text)) (p : ℕ) : Type 0 where
+  pub name : Text
+  pub need : Text
+  pub among : Contains needs (name, need)
+  pub numbered : number_of packages name ≡ Some p
+
+-- each package is one of before, or one that the needs name
+abbrev pub ComeFrom : Packages → List (Text × Text) → Choices → Choices → Type 0
+ComeFrom packages needs old new = (p k : ℕ) → new p ≡ Some k → (old p ≡ Some k) ⊎ IsNamed packages needs p
+
+-- the version is allowed, and its dependencies are met
+pub record IsChecked (packages : Packages) (wanted : Wanted) (s : Choices) (p k : ℕ) : Type 0 where
+  pub allowed : is_allowed packages wanted p k ≡ true
+  pub met : AreMet packages s (needs_of packages p k)
+
+-- what was found is chosen and reached, the request's needs are met, and the first i that were found are checked
+pub record IsWalk (packages : Packages) (wanted : Wanted) (chooses : Choices) (found : List (ℕ × ℕ)) (i : ℕ) : Type 0 where
+  pub follows : Follows chooses (choice_of found)
+  pub reached : (p k : ℕ) → choice_of found p ≡ Some k → IsReached packages wanted.needs chooses p
+  pub needs : AreMet packages (choice_of found) wanted.needs
+  pub checked : (j : ℕ) (e : ℕ × ℕ) → j < i → slice_get found j ≡ Some e → IsChecked packages wanted (choice_of found) e.0 e.1

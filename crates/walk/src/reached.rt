@@ -1,0 +1,42 @@
+// What a walk answers.
+
+ghost use Rattle.std.specs.Prelude.{◌≡◌};
+ghost use Rattle.walk.specs.Walks.{asked_by};
+
+use crate::facts::facts_of;
+use registry::{Pkg, Registry, Request};
+use versions::{Name, Need};
+
+/// Who asks for packages: the request by its needs, or a version by its dependencies.
+#[derive(Clone, Copy, PartialEq, Eq, Debug)]
+pub enum Asker {
+    Request,
+    Version(Pkg, u32),
+}
+
+impl Asker {
+    /// What is asked, in order; nothing by a version that is not published.
+    pub fn needs<'a>(self, registry: &'a Registry, request: &'a Request) -> &'a [(Name, Need)]
+        ensures { result.now ≡ asked_by registry.now.packages request.now self }
+    {
+        match self {
+            Asker::Request => request.needs(),
+            Asker::Version(pkg, ordinal) => match facts_of(registry, pkg, ordinal) {
+                None => &[],
+                Some(facts) => facts.needs,
+            },
+        }
+    }
+}
+
+/// A selection, or the first thing that stands in its way.
+#[derive(Drop)]
+pub enum Reached {
+    /// Packages with the ordinals of their versions, each package once, in the order in which they
+    /// were found.
+    Selection(Vec<(Pkg, u32)>),
+    /// What is asked at this index has no package, no choice, or one that does not meet it.
+    Unmet(Asker, usize),
+    /// A chosen version is not allowed to the request.
+    NotAllowed(Pkg, u32),
+}

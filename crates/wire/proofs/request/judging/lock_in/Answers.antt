@@ -1,0 +1,19 @@
+use Rattle.std.proofs.Common.{ℕ, ◌∙◌, sym, ap}
+use Rattle.std.proofs.lemmas.Result.{err_from_is_err_and}
+use Rattle.std.specs.List.{slice_get}
+use Rattle.versions.specs.Words.{Text, is_version}
+use Rattle.versions.specs.declared.refusal.Refusal.TheVariants.{BadVersion}
+use Rattle.wire.proofs.JudgeLemmas.{refuses_by, given_by, fails_at, read_more}
+use Rattle.wire.proofs.request.judging.lock_in.Goals as goal
+
+pub returns-in_err-read-2 : goal.returns-in_err-read-2
+returns-in_err-read-2 c =
+    let p = err_from_is_err_and c.from_residual-in_err-read-2.result c.from_residual-in_err-read-2.ensures.1 in
+    rw (p.1, p.2) (refuses_by _ _ BadVersion _ _ c.in_err-read-2.ensures.gives (λ bad. rw (fails_at (λ (d : Text × Text). d.1) is_version c.args.lock.now _ _ c.at.ensures bad)))
+
+pub loop-name-preserved : goal.loop-name-preserved
+loop-name-preserved c =
+    let at = ap (λ (n : ℕ). slice_get c.args.lock.now n) (sym c.len-in-loop-name.ensures) ∙ c.at.ensures in
+    let read = given_by _ _ _ BadVersion c.in_ok-read-2.ensures.gives in
+    rw (c.in_ok-push.ensures.items, c.in_ok-push.ensures.len)
+    (read_more is_version c.args.lock.now _ _ c.loop-name.read.items _ c.in-Some.name _ _ c.loop-name.invariant c.in-Some.ensures.steps.0 at read.1 read.0)

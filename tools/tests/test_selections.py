@@ -1,0 +1,67 @@
+"""Random registries of a few packages: each answer to a resolve line against a plain search that
+tries everything."""
+import json
+import random
+import unittest
+
+from plain_search import Published
+from program import serve
+
+NAMES = ["a", "b", "c", "d"]
+VERSIONS = ["1.0.0", "1.1.0", "2.0.0", "2.0.0-rc.1", "0.3.1"]
+REQUIREMENTS = ["*", "^1.0.0", "^2.0.0", "=1.1.0", ">=1.1.0", "<2.0.0", ">=1.0.0, <2.0.0", "^2.0.0-rc.1", "~1.0.0",
+                "^0.3.0", ">2.0.0"]
+UNKNOWN = "zed"
+
+
+def commands(rng):
+    """Publications in random order, some of them yanked then."""
+    rows = [(name, version) for name in NAMES for version in rng.sample(VERSIONS, rng.choice([1, 2, 2, 3]))]
+    rng.shuffle(rows)
+    made = []
+    for name, version in rows:
+        targets = rng.sample([other for other in [*NAMES, UNKNOWN] if other != name], rng.choice([0, 0, 1, 1, 2]))
+        targets = [it for it in targets if it != UNKNOWN or rng.random() < 0.3]
+        needs = [[target, rng.choice(REQUIREMENTS)] for target in targets]
+        made.append({"op": "publish", "name": name, "version": version, "needs": needs})
+    made += [{"op": "yank", "name": name, "version": version} for name, version in rows if rng.random() < 0.15]
+    return made
+
+
+def resolving(rng):
+    needs = [[name, rng.choice(REQUIREMENTS)] for name in rng.sample(NAMES, rng.choice([1, 1, 2, 3]))]
+    made = {"op": "resolve", "needs": needs}
+    if rng.random() < 0.5:
+        made["lock"] = [[name, rng.choice([*VERSIONS, "9.9.9"])] for name in rng.sample([*NAMES, UNKNOWN], rng.choice([0, 1, 3]))]
+    return made
+
+
+class Selections(unittest.TestCase):
+    def check(self, registry, request, reply, told):
+        lawful = registry.answers(request)
+        if "selected" in reply:
+            self.assertIn(reply["selected"], lawful, told)
+        else:
+            self.assertEqual(reply.get("refused"), True, told)
+            self.assertEqual(lawful, [], told)
+
+    def test_random_registries(self):
+        met = refused = 0
+        for seed in range(120):
+            rng, registry = random.Random(seed), Published()
+            made, asked = commands(rng), [resolving(rng) for _ in range(25)]
+            for command in made:
+                registry.apply(command)
+            replies = serve([json.dumps(it) for it in [*made, *asked]])[len(made):]
+            self.assertEqual(len(replies), len(asked))
+            for request, text in zip(asked, replies):
+                reply = json.loads(text)
+                self.check(registry, request, reply, f"seed {seed}: {request} answered {text}")
+                met += "selected" in reply
+                refused += "refused" in reply
+        # both answers are common, so that both were tried
+        self.assertGreater(min(met, refused), 300)
+
+
+if __name__ == "__main__":
+    unittest.main()
