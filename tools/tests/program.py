@@ -22,11 +22,13 @@ def unyank(name, version):
     return json.dumps({"op": "unyank", "name": name, "version": version})
 
 
-def resolve(*needs, lock=None):
-    """A resolve line; needs are texts `name requirement`, the lock's lines texts `name version`."""
+def resolve(*needs, lock=None, budget=None):
+    """A resolve line; needs are texts `name requirement`, the lock's lines texts `name version`, the budget a number."""
     asked = {"op": "resolve", "needs": [need.split(" ", 1) for need in needs]}
     if lock is not None:
         asked["lock"] = [line.split(" ", 1) for line in lock]
+    if budget is not None:
+        asked["budget"] = budget
     return json.dumps(asked)
 
 

@@ -22,6 +22,8 @@ LINES = [
     publish("b", "1.0.1", ["d ^1.0.0", "a *"]),
     resolve("a >=1.0.0-alpha", lock=["b 1.0.0"]),
     resolve("b ^1.0.0"),
+    resolve("b ^1.0.0", budget=0),
+    resolve("a >=1.0.0-alpha", budget=0),
     publish("e", "1.1.0", ["d ^1.0.0"]),
     publish("e", "1.0.0", ["a >=1.0.0-alpha"]),
     resolve("e *"),
@@ -68,6 +70,9 @@ class Memory(unittest.TestCase):
     def answers(self, published, revision, request):
         """The lawful replies to a resolve line."""
         found = [json.dumps(selection, separators=(",", ":")) for selection in published.answers(request)]
+        if not found and request.get("budget") == 0:
+            # that there is no selection shows in a conflict at least
+            return [f'{{"error":22,"name":"BudgetSpent","revision":{revision}}}']
         if not found:
             return [f'{{"refused":true,"revision":{revision}}}']
         return [f'{{"revision":{revision},"selected":{selection}}}' for selection in found]

@@ -2,7 +2,7 @@
 import json
 import unittest
 
-from program import publish, resolve, serve, unyank, yank
+from program import LIST, publish, resolve, serve, unyank, yank
 
 
 def selected(revision, *pairs):
@@ -144,6 +144,55 @@ class Resolving(unittest.TestCase):
             lines.append(publish(f"n{k}", "1.1.0", ["gone ^1"]))
         names = sorted(f"n{k}" for k in range(count))
         self.check(lines, (resolve("n0 *"), selected(2 * count, *(f"{name} 1.0.0" for name in names))))
+
+    def test_forms_of_a_budget(self):
+        bad = error(19, "BadLine", 0)
+        for budget in ("-1", "-0", "4294967296", "18446744073709551616", "1.0", "0.0", "1e0", "0E0", "10e-1", "-1.0", "01", "+1",
+                       '"1"', "null", "true", "[1]", "{}", ""):
+            self.check([], ('{"op":"resolve","needs":[],"budget":%s}' % budget, bad),
+                       ('{"op":"resolve","needs":[["A","none"]],"lock":[],"budget":%s}' % budget, bad))
+        for line in ('{"op":"resolve","budget":1}', '{"op":"list","budget":1}', '{"op":"resolve","needs":[],"budget":1,"budget":1.0}',
+                     '{"op":"resolve","needs":[],"budget":1,"budgets":1}', '{"op":"resolve","needs":[],"lock":[],"budget":1,"explain":true}'):
+            self.check([], (line, bad))
+        for line in ('{"op":"resolve","needs":[],"budget":0}', '{"op":"resolve","needs":[],"budget":4294967295}',
+                     ' {"budget" : 7 , "lock":[],"needs":[],"op":"resolve"} ', '{"op":"resolve","needs":[],"budget":1.0,"budget":2}'):
+            self.check([], (line, selected(0)))
+        self.check([], (resolve("a ^x", budget=0), error(3, "BadRequirement", 0)),
+                   (resolve("a ^1", "a ^2", budget=0), error(4, "RepeatedDependency", 0)))
+
+    def test_a_budget_of_conflicts(self):
+        spent = error(22, "BudgetSpent", 0)
+        self.check([], (resolve("zed *", budget=0), spent), (resolve("zed *", budget=1), refused(0)),
+                   (resolve(budget=0), selected(0)), (resolve("zed *", budget=0), spent), (resolve("zed *"), refused(0)),
+                   (LIST, '{"packages":[],"revision":0}'))
+
+    def test_a_budget_where_an_older_version_is_had_after_a_conflict(self):
+        published = [publish("foo", "2.0.0", ["bar ^1.0.0"]), publish("bar", "1.0.0", ["foo ^1.0.0"]), publish("foo", "1.0.0")]
+        self.check(published, (resolve("foo >=1.0.0", budget=0), error(22, "BudgetSpent", 3)),
+                   (publish("zed", "1.0.0"), '{"ok":true,"revision":4}'))
+        self.check(published, (resolve("foo >=1.0.0", budget=1), selected(3, "foo 1.0.0")))
+
+    def test_a_lock_that_serves_spends_no_budget(self):
+        published = [publish("a", "1.0.0"), publish("a", "1.1.0")]
+        self.check(published, (resolve("a ^1", lock=["a 1.0.0"], budget=0), selected(2, "a 1.0.0")))
+        self.check(published, (resolve("a ^1", budget=0), selected(2, "a 1.1.0")))
+
+    def test_many_packages_beside_two_that_do_not_go_together(self):
+        names = [f"p{k}" for k in range(1, 61)]
+        published = [*(publish(name, "1.0.0") for name in names), publish("x", "0.9.0"), publish("x", "1.0.0", ["y *"]),
+                     publish("x", "1.1.0", ["y *"]), publish("y", "1.0.0", ["t ^2.0.0"]), publish("t", "1.0.0"), publish("t", "2.0.0")]
+        chosen = sorted([*(f"{name} 1.0.0" for name in names), "t 1.0.0", "x 0.9.0"])
+        self.check(published, (resolve(*(f"{name} *" for name in names), "x *", "t ^1.0.0"), selected(66, *chosen)))
+
+    def test_a_conflict_goes_back_over_many_decisions(self):
+        # The first conflict is on `y` and goes back to the first level, the second is on `x` and ends the search.
+        names = [f"p{k}" for k in range(1, 41)]
+        published = [*(publish(name, version) for name in names for version in ("1.0.0", "1.1.0")), publish("x", "1.0.0", ["y *"]),
+                     publish("x", "1.1.0", ["y *"]), publish("y", "1.0.0", ["t ^2.0.0"]), publish("t", "1.0.0"), publish("t", "2.0.0")]
+        needs = [*(f"{name} *" for name in names), "x *", "t ^1.0.0"]
+        for budget, reply in ((None, refused(85)), (2, refused(85)), (1, error(22, "BudgetSpent", 85)), (0, error(22, "BudgetSpent", 85)),
+                              (4_294_967_295, refused(85))):
+            self.check(published, (resolve(*needs, budget=budget), reply))
 
     def test_a_reply_of_a_long_selection_is_json(self):
         reply = serve([publish("a", "1.0.0-x.7+build.1"), resolve("a ^1.0.0-x")])[1]

@@ -9,3 +9,5 @@ pub mod Judging
 pub mod LastLine
 pub mod Sound
 pub mod Ends
+pub mod Offered
+pub mod Clearing

@@ -1,5 +1,5 @@
 -- The lines of a search: facts, and what follows from lines before.
-use Rattle.std.specs.Prelude.{◌≡◌, ◌<◌, ◌⊎◌, ℕ, suc, ◌||◌, length, Bool, true, false, List, [], Some, nat_eq, slice_get}
+use Rattle.std.specs.Prelude.{◌≡◌, ◌<◌, ◌⊎◌, ℕ, suc, ◌||◌, length, Bool, true, false, List, [], Some, nat_eq, slice_get, Contains}
 use Rattle.std.proofs.Common.{get_or}
 use Rattle.terms.specs.Incompats.{Follows, has_term}
 use Rattle.registry.specs.Registry.{Packages}
@@ -101,6 +101,15 @@ pub record IsLineFor (known : List Known) (numbers : List ℕ) (m : ℕ) (line :
   pub pivot : line.pivot ≡ ready.pivot
   pub first : line.causes.0 ≡ cited ready.one.reason (get_or numbers ready.i 0)
   pub second : line.causes.1 ≡ cited ready.two.reason (get_or numbers ready.j 0)
+
+-- a zero for each line
+pub record AreClear (known : List Known) (numbers : List ℕ) : Type 0 where
+  pub lengths : length numbers ≡ length known
+  pub zeros : (k : ℕ) → get_or numbers k 0 ≡ 0
+
+-- each that has a number stands at one of these places
+abbrev pub AreNumberedAt : List ℕ → List ℕ → Type 0
+AreNumberedAt numbers places = (k : ℕ) → (get_or numbers k 0 ≡ 0) ⊎ Contains places k
 
 -- the line at this place is no fact
 pub record IsResolvedAt (known : List Known) (place : ℕ) : Type 0 where

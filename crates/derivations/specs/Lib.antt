@@ -4,5 +4,6 @@ pub mod Derivations
 pub mod Causes
 pub mod Learning
 pub mod Known
+pub mod Offering
 pub mod Laws
 pub mod Stored

@@ -1,10 +1,10 @@
 // The lines of a search, cut down to a derivation.
 
-ghost use Rattle.std.specs.Prelude.{◌≡◌, ◌<◌, ◌↔◌, ℕ, length, slice_index, IfErr, IfOk, IfSome, IfNone, IsTrue};
+ghost use Rattle.std.specs.Prelude.{◌≡◌, ◌≢◌, ◌<◌, ◌↔◌, ℕ, length, slice_index, IfErr, IfOk, IfSome, IfNone, IsTrue};
 ghost use Rattle.registry.specs.Registry.{Packages};
 ghost use Rattle.registry.specs.Requests.{Wanted};
 ghost use Rattle.derivations.specs.Derivations.{IsDerivation};
-ghost use Rattle.derivations.specs.Known.{cited, is_open, AreCited, AreLawful, AreOrdered, EndsAt, IsCauseOf, IsEndLine, IsLineFor, IsOpen, IsReady, IsResolved, IsResolvedAt, ShowsLine};
+ghost use Rattle.derivations.specs.Known.{cited, is_open, AreCited, AreClear, AreLawful, AreNumberedAt, AreOrdered, EndsAt, IsCauseOf, IsEndLine, IsLineFor, IsOpen, IsReady, IsResolved, IsResolvedAt, ShowsLine};
 
 use crate::derivation::Derivation;
 use crate::facts::Cause;
@@ -103,28 +103,63 @@ fn line_for(alloc: Global, known: &[Known], numbers: &[usize], at: usize) -> Res
 }
 
 /// A list of so many zeros.
-fn zeros(alloc: Global, count: usize) -> Result<Vec<usize>, AllocError>
+pub fn zeros(alloc: Global, count: usize) -> Result<Vec<usize>, AllocError>
     ensures length { IfOk result (λ list. length list.items ≡ count) }
     ensures zeros { IfOk result (λ list. (k : ℕ) → slice_index list.items k ≡ 0) }
 {
-    let mut list = Vec::new(alloc);
+    let mut list = Vec::with_capacity(alloc, count)?;
     'fill: while list.len() < count {
         list.push(0)?;
     }
     Ok(list)
 }
 
-/// The lines that the one at a place rests on, with itself as the last: from facts, each written
-/// once and before the lines that cite it. Linear in the lines of the search, without recursion.
-pub fn lines_of(alloc: Global, known: &[Known], place: usize) -> Result<Vec<Line>, Refusal>
+/// Takes away the number at a place.
+fn clear_at(numbers: &mut Vec<usize>, place: usize)
+    ensures length { length numbers.new.items ≡ length numbers.old.items }
+    ensures here { slice_index numbers.new.items place ≡ 0 }
+    ensures others { (k : ℕ) → k ≢ place → slice_index numbers.new.items k ≡ slice_index numbers.old.items k }
+{
+    if place < numbers.len() {
+        numbers[place] = 0;
+    }
+}
+
+/// Takes away the numbers, which stand at these places.
+fn cleared(numbers: Vec<usize>, places: &[usize]) -> Vec<usize>
+    requires { AreNumberedAt numbers.items places.now }
+    ensures length { length result.items ≡ length numbers.items }
+    ensures zeros { (k : ℕ) → slice_index result.items k ≡ 0 }
+{
+    let mut list = numbers;
+    let mut left = places;
+    'clear: while let [place, rest @ ..] = left {
+        clear_at(&mut list, *place);
+        left = rest;
+    }
+    list
+}
+
+/// The lines that the one at a place rests on, with the numbers of the search's lines, and the places
+/// that have one.
+fn numbered_lines(
+    alloc: Global,
+    known: &[Known],
+    zeros: Vec<usize>,
+    place: usize,
+) -> Result<(Vec<Line>, Vec<usize>, Vec<usize>), Refusal>
     requires ordered { AreOrdered known.now }
     requires resolved { IsResolvedAt known.now place }
-    ensures shows { IfOk result (λ lines. ShowsLine known.now place lines.items) }
+    requires clear { AreClear known.now zeros.items }
+    ensures shows { IfOk result (λ made. ShowsLine known.now place made.0.items) }
+    ensures length { IfOk result (λ made. length made.1.items ≡ length known.now) }
+    ensures numbered { IfOk result (λ made. AreNumberedAt made.1.items made.2.items) }
     ensures only { IfErr result (λ e. e ≡ Refusal.NoMemory) }
 {
-    let mut numbers = zeros(alloc, known.len())?;
+    let mut numbers = zeros;
     let mut lines = Vec::new(alloc);
     let mut users: Vec<usize> = Vec::new(alloc);
+    let mut written: Vec<usize> = Vec::new(alloc);
     let mut at = place;
     'walk: loop {
         match open_cause(known, &numbers, at) {
@@ -136,8 +171,9 @@ pub fn lines_of(alloc: Global, known: &[Known], place: usize) -> Result<Vec<Line
                 let line = line_for(alloc, known, &numbers, at)?;
                 lines.push(line)?;
                 numbers[at] = lines.as_slice().len();
+                written.push(at)?;
                 match users.pop() {
-                    None => return Ok(lines),
+                    None => return Ok((lines, numbers, written)),
                     Some(user) => at = user,
                 }
             }
@@ -145,7 +181,40 @@ pub fn lines_of(alloc: Global, known: &[Known], place: usize) -> Result<Vec<Line
     }
 }
 
-fn is_resolved(line: &Known) -> bool
+/// As [`lines_of`], with a zero for each line of the search, which are handed back: so it costs no
+/// more than what it writes.
+pub fn lines_by(
+    alloc: Global,
+    known: &[Known],
+    zeros: Vec<usize>,
+    place: usize,
+) -> Result<(Vec<Line>, Vec<usize>), Refusal>
+    requires ordered { AreOrdered known.now }
+    requires resolved { IsResolvedAt known.now place }
+    requires clear { AreClear known.now zeros.items }
+    ensures shows { IfOk result (λ made. ShowsLine known.now place made.0.items) }
+    ensures clear { IfOk result (λ made. AreClear known.now made.1.items) }
+    ensures only { IfErr result (λ e. e ≡ Refusal.NoMemory) }
+{
+    let (lines, numbers, written) = numbered_lines(alloc, known, zeros, place)?;
+    Ok((lines, cleared(numbers, &written)))
+}
+
+/// The lines that the one at a place rests on, with itself as the last: from facts, each written
+/// once and before the lines that cite it. Linear in the lines of the search, without recursion.
+pub fn lines_of(alloc: Global, known: &[Known], place: usize) -> Result<Vec<Line>, Refusal>
+    requires ordered { AreOrdered known.now }
+    requires resolved { IsResolvedAt known.now place }
+    ensures shows { IfOk result (λ lines. ShowsLine known.now place lines.items) }
+    ensures only { IfErr result (λ e. e ≡ Refusal.NoMemory) }
+{
+    let numbers = zeros(alloc, known.len())?;
+    let (lines, _, _) = numbered_lines(alloc, known, numbers, place)?;
+    Ok(lines)
+}
+
+/// Whether the line follows from others.
+pub fn is_resolved(line: &Known) -> bool
     ensures { IsTrue result ↔ IsResolved line.now.reason }
 {
     match line.reason {

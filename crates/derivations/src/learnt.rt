@@ -63,6 +63,16 @@ impl Learnt {
         Ok(Learnt { lines, targets })
     }
 
+    /// What these lines show, which a caller knows to follow from premises and earlier lines.
+    pub(crate) fn of_derived(alloc: Global, lines: Vec<Line>) -> Result<Learnt, Refusal>
+        requires { IsLearnt lines.items }
+        ensures same { IfOk result (λ learnt. learnt ≡ lines.items) }
+        ensures only { IfErr result (λ e. e ≡ Refusal.NoMemory) }
+    {
+        let targets = targets_in(alloc, &lines)?;
+        Ok(Learnt { lines, targets })
+    }
+
     /// The lines.
     pub fn lines(&self) -> &[Line]
         ensures same { result.now ≡ self.now }

@@ -12,6 +12,7 @@ mod following;
 mod laws;
 mod learnt;
 mod line;
+mod offering;
 mod standing;
 mod store;
 #[cfg(test)]
@@ -27,4 +28,5 @@ pub use laws::{
 };
 pub use learnt::{LINE_LIMIT, Learnt};
 pub use line::Line;
+pub use offering::offers;
 pub use store::Store;

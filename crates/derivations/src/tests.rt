@@ -3,6 +3,7 @@ ghost use Rattle.std.specs.Prelude.{◌≡◌, ◌↔◌, [], IsTrue};
 ghost use Rattle.std.specs.Bool.{OnTrue};
 ghost use Rattle.derivations.specs.Known.{AreOrdered, EndsAt, IsBefore, IsResolved};
 
+use crate::offering::is_resolved_at;
 use crate::*;
 use registry::{Command, Dependencies, Registry, Request};
 use std::alloc::Global;
@@ -551,5 +552,59 @@ fn a_refusal_is_cut_to_what_it_rests_on(rt: HostRuntime) -> Result<(), Refusal> 
     assert_eq!(rt; lines[1].pivot, 2);
     assert!(rt; matches!(lines[1].causes.0, Cause::Line(1)));
     assert!(rt; matches!(lines[1].causes.1, Cause::NotAllowed(2, _)));
+    Ok(())
+}
+
+/// The lines of a search, of which the fourth and the sixth follow from premises alone, and the last
+/// does not.
+const OFFERING: [&str; 7] = [
+    "1 in 0; 2 out 0 | premise 1 0 2 * 0",
+    "2 in 0; 3 out 0 | premise 2 0 3 * 0",
+    "3 in 0; 4 out 0 | premise 3 0 4 * 0",
+    "1 in 0; 3 out 0 | resolved 0 1 2",
+    "4 in 0 | barred 4 0",
+    "1 in 0; 4 out 0 | resolved 3 2 3",
+    "1 in 0 | resolved 5 4 4",
+];
+
+/// The number of lines of what may be learnt of the line at a place, or 0.
+fn learnt_at(alloc: Global, known: &[Known], place: usize) -> Result<usize, Refusal>
+    requires { AreOrdered known.now }
+{
+    if !is_resolved_at(known, place) {
+        return Ok(0);
+    }
+    match Learnt::new(alloc, lines_of(alloc, known, place)?) {
+        Ok(learnt) => Ok(learnt.lines().len()),
+        Err(Refusal::NoMemory) => Err(Refusal::NoMemory),
+        Err(_) => Ok(0),
+    }
+}
+
+/// As [`learnt_at`], of the line at each place.
+fn learnt_of(alloc: Global, known: &[Known], places: &[usize]) -> Result<Vec<usize>, Refusal>
+    requires { AreOrdered known.now }
+{
+    let mut counts = Vec::new(alloc);
+    for place in places {
+        counts.push(learnt_at(alloc, known, *place)?)?;
+    }
+    Ok(counts)
+}
+
+/// As [`learnt_of`], of the lines of that search.
+fn learnt_of_search(alloc: Global, places: &[usize]) -> Result<Vec<usize>, Refusal> {
+    let known = searched(alloc, &OFFERING)?;
+    if !are_ordered(&known) {
+        return Err(Refusal::BadLine);
+    }
+    learnt_of(alloc, &known, places)
+}
+
+// `offers` takes no lines but a search's own, so it is tested with the search.
+#[test]
+fn what_rests_on_premises_alone_may_be_learnt(rt: HostRuntime) -> Result<(), Refusal> {
+    let counts = learnt_of_search(rt.alloc(), &[5, 6, 0, 4, 3, 7])?;
+    assert_eq!(rt; counts.as_slice(), [2, 0, 0, 0, 1, 0].as_slice());
     Ok(())
 }

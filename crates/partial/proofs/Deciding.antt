@@ -41,7 +41,7 @@ decided-push made a p = decided-append made (a ∷ []) p ∙ ap (option_or (deci
 is_decided-push : (made : List Assignment) (a : Assignment) (p : ℕ) → is_decided (made ++ a ∷ []) p ≡ (is_decided made p || is_some (if nat_eq a.pkg p then decided_by a.why else None))
 is_decided-push made a p = ap is_some (decided-push made a p) ∙ some_or (decided made p) (if nat_eq a.pkg p then decided_by a.why else None)
 
-pub is_decided-cons : (a : Assignment) (made : List Assignment) (p : ℕ) → is_decided (a ∷ made) p ≡ (is_some (if nat_eq a.pkg p then decided_by a.why else None) || is_decided made p)
+is_decided-cons : (a : Assignment) (made : List Assignment) (p : ℕ) → is_decided (a ∷ made) p ≡ (is_some (if nat_eq a.pkg p then decided_by a.why else None) || is_decided made p)
 is_decided-cons a made p = some_or (if nat_eq a.pkg p then decided_by a.why else None) (decided made p)
 
 -- a decision decides its package

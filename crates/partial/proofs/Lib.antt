@@ -4,12 +4,11 @@ pub mod Says
 pub mod Rank
 pub mod Deciding
 pub mod Places
-pub mod Order
 pub mod Noting
 pub mod TermsSeen
 pub mod Reaching
 pub mod Satisfiers
-pub mod Pending
+pub mod StillOpen
 pub mod Choices
 pub mod Falling
 pub mod Back

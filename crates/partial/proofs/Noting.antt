@@ -1,35 +1,25 @@
 -- An assignment is added to what is noted, or taken away.
-use Rattle.std.proofs.Common.{get_or, add-one, ◌≡◌, ◌<◌, ◌≤◌, ◌+◌, ◌-◌, ◌∙◌, ℕ, zero, suc, refl, sym, ap, subst, arith, true, false, true≢false, List, [], ◌∷◌, ◌++◌, length, take, inl, inr, nat_eq, if◌then◌else◌, length-append}
+use Rattle.std.proofs.Common.{get_or, add-one, ◌≡◌, ◌<◌, ◌+◌, ◌∙◌, ℕ, zero, suc, refl, sym, ap, subst, arith, true, false, true≢false, List, [], ◌∷◌, ◌++◌, length, take, inl, inr, nat_eq, length-append}
 use Rattle.std.proofs.lemmas.Bool.{cases_Bool, eqb-true, eq-eqb}
 use Rattle.std.proofs.lemmas.List.{take_more}
 use Rattle.std.proofs.lemmas.Option.{none-some, same_Some, slice_get_within, slice_get_read, get_or_from_slice_get}
-use Rattle.std.specs.Prelude.{Option, None, Some, Result, Ok, Err, IsOk, OnErr, is_some}
+use Rattle.std.specs.Prelude.{Option, None, Some, is_some, slice_get}
 use Rattle.std.specs.Option.{option_flatten, option_or, option_to_list}
-use Rattle.std.specs.Map.{keys_of, lookup}
 use Rattle.partial.specs.declared.assignment.Assignment.{Assignment}
 use Rattle.partial.specs.declared.ledger.Note.{Note}
 use Rattle.partial.specs.declared.assignment.Why.{Why}
 use Rattle.partial.specs.declared.assignment.Why.TheVariants.{Decided, Derived}
 use Rattle.terms.specs.Terms.{true_of}
-use Rattle.partial.specs.Assignments.{says, one_if, is_decision, is_decided, decided, decided_by, decisions}
-use Rattle.partial.specs.Ledger.{last_place, through, decided_packages, IsNote, IsNoted, IsPlaceOn}
+use Rattle.partial.specs.Assignments.{says, is_decided, decided, decided_by}
+use Rattle.partial.specs.Ledger.{last_place, through, IsNote, IsNoted, IsPlaceOn}
 use Rattle.partial.proofs.Lists.{get-cases, get-front, get-last, take-front, take-whole}
-use Rattle.partial.proofs.Says.{decisions-append}
 use Rattle.partial.proofs.Deciding.{decided-push}
 use Rattle.partial.proofs.Places.{last_place-push, last_on_package, decided-last}
-use Rattle.terms.specs.Sets.{has}
-use Rattle.partial.proofs.Order.{decided_packages-push, has-decided_packages, length-decided_packages, shorter-front}
 
--- how many decisions there are with one assignment more
-pub decisions-push : (made : List Assignment) (a : Assignment) → decisions (made ++ a ∷ []) ≡ decisions made + one_if (is_decision a)
-decisions-push made a = omega (arith, decisions-append made (a ∷ []))
-
-module _ (made : List Assignment) (notes : List Note) (a : Assignment) (note : Note) (heads heads' : ℕ → Option (Option ℕ)) (order order' : List ℕ)
+module _ (made : List Assignment) (notes : List Note) (a : Assignment) (note : Note) (heads heads' : ℕ → Option (Option ℕ))
     (other : (p : ℕ) → nat_eq a.pkg p ≡ false → heads' p ≡ heads p) where
-  pub noted-add : IsNoted made notes heads order → IsNote made a note → heads' a.pkg ≡ Some (Some (length made))
-      → take (decisions made + one_if (is_decision a)) order' ≡ take (decisions made) order ++ (if is_decision a then a.pkg ∷ [] else [])
-      → IsNoted (made ++ a ∷ []) (notes ++ note ∷ []) heads' order'
-  noted-add m new own front = record {
+  pub noted-add : IsNoted made notes heads → IsNote made a note → heads' a.pkg ≡ Some (Some (length made)) → IsNoted (made ++ a ∷ []) (notes ++ note ∷ []) heads'
+  noted-add m new own = record {
     lengths = length-append notes (note ∷ []) ∙ ap (λ n. n + 1) m.lengths ∙ sym (length-append made (a ∷ []));
     each = λ i b n at_made at_notes. elim (get-cases made a b i at_made) [
       | inl here ↦
@@ -44,11 +34,10 @@ module _ (made : List Assignment) (notes : List Note) (a : Assignment) (note : N
       | inl e ↦ ap option_flatten (ap heads' (sym (eqb-true a.pkg p e)) ∙ own) ∙ sym (last_place-push made a p ∙ rw e refl)
       | inr f ↦ ap option_flatten (other p f) ∙ m.last p ∙ sym (last_place-push made a p ∙ rw f refl)
     ];
-    first = ap (λ d. take d order') (decisions-push made a) ∙ front ∙ ap (λ ps. ps ++ (if is_decision a then a.pkg ∷ [] else [])) m.first ∙ sym (decided_packages-push made a);
   }
 
-  pub noted-undo : IsNoted (made ++ a ∷ []) (notes ++ note ∷ []) heads order → heads' a.pkg ≡ Some note.earlier → order' ≡ order → IsNoted made notes heads' order'
-  noted-undo m own same_order =
+  pub noted-undo : IsNoted (made ++ a ∷ []) (notes ++ note ∷ []) heads → heads' a.pkg ≡ Some note.earlier → IsNoted made notes heads'
+  noted-undo m own =
       let n : length notes ≡ length made = omega (arith, m.lengths, length-append notes (note ∷ []), length-append made (a ∷ [])) in
       let here : IsNote (take (length made) (made ++ a ∷ [])) a note = m.each (length made) a note (get-last made a (length made) refl) (get-last notes note (length made) (sym n)) in
       let was : note.earlier ≡ last_place made a.pkg = here.earlier ∙ ap (λ before. last_place before a.pkg) (take-whole made a (length made) refl) in
@@ -65,31 +54,20 @@ module _ (made : List Assignment) (notes : List Note) (a : Assignment) (note : N
               ap option_flatten (ap heads' (sym same) ∙ own) ∙ was ∙ ap (last_place made) same
           | inr f ↦ ap option_flatten (other p f) ∙ m.last p ∙ last_place-push made a p ∙ rw f refl
         ];
-        first = ap (take (decisions made)) same_order
-            ∙ shorter-front (decisions made) (decisions (made ++ a ∷ [])) order (decided_packages made) (if is_decision a then a.pkg ∷ [] else []) (m.first ∙ decided_packages-push made a) (length-decided_packages made) (omega (arith, decisions-push made a));
       }
 
   -- the package of the last assignment has an entry
-  pub undo-there : IsNoted (made ++ a ∷ []) (notes ++ note ∷ []) heads order → option_flatten (heads a.pkg) ≡ Some (length made)
+  pub undo-there : IsNoted (made ++ a ∷ []) (notes ++ note ∷ []) heads → option_flatten (heads a.pkg) ≡ Some (length made)
   undo-there m = m.last a.pkg ∙ last_place-push made a a.pkg ∙ rw (eq-eqb a.pkg a.pkg refl) refl
 
--- as many packages come first as there are decisions
-pub decided-within : (made : List Assignment) (notes : List Note) (heads : ℕ → Option (Option ℕ)) (order : List ℕ) → IsNoted made notes heads order → decisions made ≤ length order
-decided-within made notes heads order m = by_length (decisions made) order (ap length m.first ∙ length-decided_packages made)
-  where
-    by_length : (d : ℕ) (ks : List ℕ) → length (take d ks) ≡ d → d ≤ length ks
-    by_length zero ks e = omega arith
-    by_length (suc d) [] e = absurd (omega (arith, e))
-    by_length (suc d) (k ∷ ks) e = let more = by_length d ks (omega (arith, e)) in omega (arith, more)
-
--- the same lists of items and entries are noted alike
-pub noted-same : (made made' : List Assignment) (notes notes' : List Note) (es es' : List (ℕ × Option ℕ)) → made' ≡ made → notes' ≡ notes → es' ≡ es
-    → IsNoted made notes (λ p. lookup (nat_eq p) es) (keys_of es) → IsNoted made' notes' (λ p. lookup (nat_eq p) es') (keys_of es')
-noted-same made made' notes notes' es es' e f g m = rw (e, f, g) m
+-- what gives the same last places is noted alike
+pub noted-same : (made made' : List Assignment) (notes notes' : List Note) (heads heads' : ℕ → Option (Option ℕ)) → made' ≡ made → notes' ≡ notes
+    → ((p : ℕ) → option_flatten (heads' p) ≡ option_flatten (heads p)) → IsNoted made notes heads → IsNoted made' notes' heads'
+noted-same made made' notes notes' heads heads' e f same m = rw (e, f) (record { lengths = m.lengths; each = m.each; last = λ p. same p ∙ m.last p })
 
 -- ---- what a look at a note tells
 
-module _ (made : List Assignment) (notes : List Note) (heads : ℕ → Option (Option ℕ)) (order : List ℕ) (m : IsNoted made notes heads order)
+module _ (made : List Assignment) (notes : List Note) (heads : ℕ → Option (Option ℕ)) (m : IsNoted made notes heads)
     (i : ℕ) (note : Note) (read : note ≡ get_or notes i note) (p : ℕ) (on : IsPlaceOn made p (Some i)) where
   lt : i < length made
   lt = slice_get_within made i on.0 on.1
@@ -136,43 +114,40 @@ decided-kept made p k why last d is is_last at =
     or_none None = refl
     or_none (Some j) = refl
 
--- a package that is not decided is not in front
-pub not_in_front : (made : List Assignment) (notes : List Note) (heads : ℕ → Option (Option ℕ)) (order : List ℕ) (p d : ℕ) → IsNoted made notes heads order → d ≡ decisions made → is_decided made p ≡ false
-    → has (take d order) p ≡ false
-not_in_front made notes heads order p d m is off = ap (λ n. has (take n order) p) is ∙ ap (λ ps. has ps p) m.first ∙ has-decided_packages made p ∙ off
-
 -- ---- the steps of the functions, over plain variables
 
-pub added : (made made' : List Assignment) (notes notes' : List Note) (heads heads' : ℕ → Option (Option ℕ)) (order order' : List ℕ) (a : Assignment) (note : Note) (place : ℕ)
-    → made' ≡ made ++ a ∷ [] → notes' ≡ notes ++ note ∷ [] → IsNoted made notes heads order → IsNote made a note → a.level ≡ decisions made + one_if (is_decision a)
-    → place ≡ length made → heads' a.pkg ≡ Some (Some place) → ((p : ℕ) → nat_eq a.pkg p ≡ false → heads' p ≡ heads p)
-    → take a.level order' ≡ take (a.level - one_if (is_decision a)) order ++ (if is_decision a then a.pkg ∷ [] else []) → IsNoted made' notes' heads' order'
-added made made' notes notes' heads heads' order order' a note place is_made is_notes m new level at own other front =
-    let below : a.level - one_if (is_decision a) ≡ decisions made = omega (arith, level) in
-    rw (is_made, is_notes) (noted-add made notes a note heads heads' order order' other m new (own ∙ ap (λ n. Some (Some n)) at)
-    (ap (λ n. take n order') (sym level) ∙ front ∙ ap (λ n. take n order ++ (if is_decision a then a.pkg ∷ [] else [])) below))
+pub added : (made made' : List Assignment) (notes notes' : List Note) (heads heads' : ℕ → Option (Option ℕ)) (a : Assignment) (note : Note) (place : ℕ)
+    → made' ≡ made ++ a ∷ [] → notes' ≡ notes ++ note ∷ [] → IsNoted made notes heads → IsNote made a note
+    → place ≡ length made → heads' a.pkg ≡ Some (Some place) → ((p : ℕ) → nat_eq a.pkg p ≡ false → heads' p ≡ heads p) → IsNoted made' notes' heads'
+added made made' notes notes' heads heads' a note place is_made is_notes m new at own other =
+    rw (is_made, is_notes) (noted-add made notes a note heads heads' other m new (own ∙ ap (λ n. Some (Some n)) at))
 
-pub insert_ok : {T E : Type 0} (r : Result T E) (x : Option (Option ℕ)) (i : ℕ) → OnErr r (x ≡ None) → option_flatten x ≡ Some i → IsOk r
-insert_ok (Ok v) x i h some = refl
-insert_ok (Err e) x i h some = absurd (none-some i (sym (ap option_flatten h) ∙ some))
+pub some-within : {X : Type 0} (xs : List X) (i : ℕ) → is_some (slice_get xs i) ≡ true → i < length xs
+some-within [] i e = absurd (true≢false (sym e))
+some-within (x ∷ xs) zero e = omega arith
+some-within (x ∷ xs) (suc i) e = omega (arith, some-within xs i e)
 
-pub has_entry : (x : Option (Option ℕ)) (i : ℕ) → option_flatten x ≡ Some i → is_some x ≡ true
+has_entry : (x : Option (Option ℕ)) (i : ℕ) → option_flatten x ≡ Some i → is_some x ≡ true
 has_entry None i e = absurd (none-some i e)
 has_entry (Some o) i e = refl
 
-module _ (made made' : List Assignment) (notes notes' : List Note) (heads : ℕ → Option (Option ℕ)) (order : List ℕ) (o : Option Assignment) (q : Option Note) (a : Assignment) (note : Note)
-    (is_made : made ≡ made' ++ option_to_list o) (is_a : o ≡ Some a) (is_notes : notes ≡ notes' ++ option_to_list q) (is_note : q ≡ Some note) (m : IsNoted made notes heads order) where
-  pub whole_made : made ≡ made' ++ a ∷ []
+module _ (made made' : List Assignment) (notes notes' : List Note) (heads : ℕ → Option (Option ℕ)) (o : Option Assignment) (q : Option Note) (a : Assignment) (note : Note)
+    (is_made : made ≡ made' ++ option_to_list o) (is_a : o ≡ Some a) (is_notes : notes ≡ notes' ++ option_to_list q) (is_note : q ≡ Some note) (m : IsNoted made notes heads) where
+  whole_made : made ≡ made' ++ a ∷ []
   whole_made = is_made ∙ ap (λ x. made' ++ option_to_list x) is_a
 
   whole_notes : notes ≡ notes' ++ note ∷ []
   whole_notes = is_notes ∙ ap (λ x. notes' ++ option_to_list x) is_note
 
-  whole : IsNoted (made' ++ a ∷ []) (notes' ++ note ∷ []) heads order
+  whole : IsNoted (made' ++ a ∷ []) (notes' ++ note ∷ []) heads
   whole = rw (← whole_made, ← whole_notes) m
 
-  pub undone-there : option_flatten (heads a.pkg) ≡ Some (length made')
-  undone-there = undo-there made' notes' a note heads heads order order (λ p f. refl) whole
+  undone-there : option_flatten (heads a.pkg) ≡ Some (length made')
+  undone-there = undo-there made' notes' a note heads heads (λ p f. refl) whole
 
-  pub undone : (heads' : ℕ → Option (Option ℕ)) (order' : List ℕ) → heads' a.pkg ≡ Some note.earlier → ((p : ℕ) → nat_eq a.pkg p ≡ false → heads' p ≡ heads p) → order' ≡ order → IsNoted made' notes' heads' order'
-  undone heads' order' own other same = noted-undo made' notes' a note heads heads' order order' other whole own same
+  -- the package is among the heads
+  pub undone-entry : is_some (heads a.pkg) ≡ true
+  undone-entry = has_entry (heads a.pkg) (length made') undone-there
+
+  pub undone : (heads' : ℕ → Option (Option ℕ)) → heads' a.pkg ≡ Some note.earlier → ((p : ℕ) → nat_eq a.pkg p ≡ false → heads' p ≡ heads p) → IsNoted made' notes' heads'
+  undone heads' own other = noted-undo made' notes' a note heads heads' other whole own

@@ -89,3 +89,6 @@ decided-up_to made p o d is h = h p (subst (IsPlaceOn made p) (sym is) (last_on_
 -- a package without assignments
 pub says-nothing : (made : List Assignment) (p : ℕ) (c : Option ℕ) → last_place made p ≡ None → says made p c ≡ true
 says-nothing made p c e = says-last made p c ∙ ap (λ o. says (take (through o) made) p c) e
+
+pub decides-nothing : (made : List Assignment) (p : ℕ) → last_place made p ≡ None → decided made p ≡ None
+decides-nothing made p e = decided-last made p ∙ ap (λ o. decided (take (through o) made) p) e

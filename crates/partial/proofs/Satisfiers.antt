@@ -21,13 +21,13 @@ use Rattle.partial.proofs.Reaching.{next, says-shorter, walk_ends, walk_on, Leas
 
 -- ---- a step of the walk along one package
 
-module _ (made : List Assignment) (notes : List Note) (heads : ℕ → Option (Option ℕ)) (order : List ℕ) (m : IsNoted made notes heads order) (p : ℕ) (t : Term)
+module _ (made : List Assignment) (notes : List Note) (heads : ℕ → Option (Option ℕ)) (m : IsNoted made notes heads) (p : ℕ) (t : Term)
     (place : Option ℕ) (on : IsPlaceOn made p place) (at : ℕ) (is : place ≡ Some at) (note : Note) (read : note ≡ get_or notes at note) where
   here : IsPlaceOn made p (Some at)
   here = rw is at on
 
   before_is : note.earlier ≡ last_place (take at made) p
-  before_is = note-earlier made notes heads order m at note read p here
+  before_is = note-earlier made notes heads m at note read p here
 
   kept : (through note.earlier ≤ at) × IsPlaceOn made p note.earlier
   kept = IsPlaceOn-taken at made p note.earlier (subst (IsPlaceOn (take at made) p) (sym before_is) (last_on_package (take at made) p))
@@ -55,7 +55,7 @@ and_split : (u v : Bool) → (u && v) ≡ true → (u ≡ true) × (v ≡ true)
 and_split true v h = (refl, h)
 and_split false v h = absurd (true≢false (sym h))
 
-module _ (made : List Assignment) (notes : List Note) (heads : ℕ → Option (Option ℕ)) (order : List ℕ) (m : IsNoted made notes heads order)
+module _ (made : List Assignment) (notes : List Note) (heads : ℕ → Option (Option ℕ)) (m : IsNoted made notes heads)
     (terms : List (ℕ × Term)) (lawful : IsIncompat terms) (count own others index : ℕ) (r : IsReach made terms count own others) (is_index : index ≡ count - 1)
     (a : Assignment) (read_a : a ≡ get_or made index a) (x : ℕ × Term) (read_x : x ≡ get_or terms own x) (note : Note) (read_n : note ≡ get_or notes index note) where
   count_is : suc index ≡ count
@@ -83,7 +83,7 @@ module _ (made : List Assignment) (notes : List Note) (heads : ℕ → Option (O
   on = (a, a_at, a_on)
 
   earlier : note.earlier ≡ last_place (take index made) x.0
-  earlier = note-earlier made notes heads order m index note read_n x.0 on
+  earlier = note-earlier made notes heads m index note read_n x.0 on
 
   taken : (through note.earlier ≤ index) × IsPlaceOn made x.0 note.earlier
   taken = IsPlaceOn-taken index made x.0 note.earlier (subst (IsPlaceOn (take index made) x.0) (sym earlier) (last_on_package (take index made) x.0))

@@ -1,14 +1,11 @@
 // The assignments, kept in order and by package.
 
-ghost use Rattle.std.specs.Prelude.{◌≡◌, ◌≤◌, ◌<◌, ◌+◌, ◌-◌, ◌++◌, ◌∷◌, ℕ, [], Option, false, true, is_some, nat_eq, take, length, if◌then◌else◌, OnErr, OnOk};
-ghost use Rattle.indexmap.specs.IndexMap.{get, index_map_len, keys, spare};
-ghost use Rattle.terms.specs.Sets.{has};
+ghost use Rattle.std.specs.Prelude.{◌≡◌, ◌≤◌, ◌<◌, ◌++◌, ◌∷◌, ℕ, [], None, Option, Some, false, true, nat_eq, slice_get, take, length, OnErr, OnOk};
 ghost use Rattle.terms.specs.Terms.{true_of};
-ghost use Rattle.partial.specs.Assignments.{decided, decided_by, decisions, is_decided, is_decision, one_if, says, upto, LevelsFrom};
-ghost use Rattle.partial.specs.Ledger.{last_place, through, HasRoom, IsLedger, IsPlaceOn};
+ghost use Rattle.partial.specs.Assignments.{decided, decisions, is_decided, is_decision, says, upto, LevelsFrom};
+ghost use Rattle.partial.specs.Ledger.{last_place, through, AreFew, AreSameHeads, HasRoom, IsLedger, IsPlaceOn};
 
 use crate::assignment::{Assignment, Why};
-use indexmap::IndexMap;
 use std::alloc::{AllocError, Global};
 use terms::{Pkg, Term, VSet};
 
@@ -25,13 +22,13 @@ pub(crate) struct Note {
 
 /// The assignments in order, a note beside each, and for each package the place of its last one.
 ///
-/// The packages that are decided come first in `heads`, in the order of their decisions, so that the
-/// others can be found without a look at these. A package whose assignments were all taken away stays.
+/// The heads stand by the numbers of the packages, up to the highest that an assignment was ever on: a
+/// look at one costs a step, and there are at most as many as packages are numbered.
 #[derive(Drop)]
 pub(crate) struct Ledger {
     pub(crate) made: Vec<Assignment>,
     pub(crate) notes: Vec<Note>,
-    pub(crate) heads: IndexMap<Pkg, Option<usize>>,
+    pub(crate) heads: Vec<Option<usize>>,
     /// What is said of a package without assignments: that any choice will do.
     pub(crate) any: Term,
 }
@@ -43,7 +40,7 @@ pub(crate) fn empty(alloc: Global) -> Ledger
     Ledger {
         made: Vec::new(alloc),
         notes: Vec::new(alloc),
-        heads: IndexMap::new(alloc),
+        heads: Vec::new(alloc),
         any: Term::NotIn(VSet::new(alloc)),
     }
 }
@@ -53,7 +50,7 @@ pub(crate) fn last_on(ledger: &Ledger, pkg: Pkg) -> Option<usize>
     requires { IsLedger ledger.now }
     ensures { result ≡ last_place ledger.now.made.items pkg }
 {
-    match ledger.heads.get(&pkg) {
+    match ledger.heads.as_slice().get(pkg as usize) {
         None => None,
         Some(last) => *last,
     }
@@ -110,85 +107,95 @@ pub(crate) fn level_of(made: &[Assignment]) -> usize
     }
 }
 
-/// Makes a place the last one of a package. A decision puts the package behind those decided before
-/// it, of which there are `level - 1`.
-fn enter(heads: &mut IndexMap<Pkg, Option<usize>>, pkg: Pkg, place: usize, level: usize, why: Why)
-    requires room { 0 < spare heads.old }
-    requires opened { one_if (is_some (decided_by why)) ≤ level }
-    requires within { level ≤ index_map_len heads.old + one_if (is_some (decided_by why)) }
-    requires new { is_some (decided_by why) ≡ true → has (take (level - 1) (keys heads.old)) pkg ≡ false }
-    ensures own { get nat_eq heads.new pkg ≡ Some (Some place) }
-    ensures other { (q : ℕ) → nat_eq pkg q ≡ false → get nat_eq heads.new q ≡ get nat_eq heads.old q }
-    ensures order { take level (keys heads.new) ≡ take (level - one_if (is_some (decided_by why))) (keys heads.old) ++ (if is_some (decided_by why) then pkg ∷ [] else []) }
+/// Makes the heads reach a package. The new ones have no place.
+fn reach(heads: &mut Vec<Option<usize>>, pkg: Pkg) -> Result<(), AllocError>
+    ensures same { AreSameHeads heads.old.items heads.new.items }
+    ensures few { AreFew heads.old.items → AreFew heads.new.items }
+    ensures reached { OnOk result (pkg < length heads.new.items) }
 {
-    let (index, _) = heads.insert_full(pkg, Some(place)).unwrap();
-    if let Why::Decided(_) = why {
-        heads.swap_indices(index, level - 1);
+    'heads: while heads.len() <= pkg as usize {
+        heads.push(None)?;
     }
-}
-
-/// Makes room for one assignment more.
-fn make_room(
-    made: &mut Vec<Assignment>,
-    notes: &mut Vec<Note>,
-    heads: &mut IndexMap<Pkg, Option<usize>>,
-) -> Result<(), AllocError>
-    ensures made { made.new.items ≡ made.old.items }
-    ensures notes { notes.new.items ≡ notes.old.items }
-    ensures heads { heads.new.entries ≡ heads.old.entries }
-    ensures room { OnOk result (HasRoom made.new notes.new heads.new) }
-{
-    made.reserve(1)?;
-    notes.reserve(1)?;
-    heads.reserve(1)?;
     Ok(())
 }
 
-/// Adds an assignment where there is room, given the place of the one before it on its package and
-/// what they say with it.
-fn put(ledger: &mut Ledger, a: Assignment, earlier: Option<usize>, said: Term)
+/// Makes a place the last one of a package, or tells that it has none.
+fn enter(heads: &mut Vec<Option<usize>>, pkg: Pkg, place: Option<usize>)
+    requires { pkg < length heads.old.items }
+    ensures own { slice_get heads.new.items pkg ≡ Some place }
+    ensures other { (q : ℕ) → nat_eq pkg q ≡ false → slice_get heads.new.items q ≡ slice_get heads.old.items q }
+    ensures len { length heads.new.items ≡ length heads.old.items }
+{
+    heads[pkg as usize] = place;
+}
+
+/// Makes room for one assignment more, on this package.
+fn make_room(
+    made: &mut Vec<Assignment>,
+    notes: &mut Vec<Note>,
+    heads: &mut Vec<Option<usize>>,
+    pkg: Pkg,
+) -> Result<(), AllocError>
+    ensures made { made.new.items ≡ made.old.items }
+    ensures notes { notes.new.items ≡ notes.old.items }
+    ensures heads { AreSameHeads heads.old.items heads.new.items }
+    ensures few { AreFew heads.old.items → AreFew heads.new.items }
+    ensures room { OnOk result (HasRoom made.new notes.new heads.new.items pkg) }
+{
+    made.reserve(1)?;
+    notes.reserve(1)?;
+    reach(heads, pkg)?;
+    Ok(())
+}
+
+/// Adds an assignment where there is room, given the place of the last one on its package and what is
+/// said of it then.
+fn put(ledger: &mut Ledger, a: Assignment, last: Option<usize>, said: Term)
     requires kept { IsLedger ledger.old }
-    requires room { HasRoom ledger.old.made ledger.old.notes ledger.old.heads }
-    requires earlier { earlier ≡ last_place ledger.old.made.items a.pkg }
+    requires room { HasRoom ledger.old.made ledger.old.notes ledger.old.heads.items a.pkg }
+    requires last { last ≡ last_place ledger.old.made.items a.pkg }
     requires said { (choice : Option ℕ) → true_of said choice ≡ says (ledger.old.made.items ++ a ∷ []) a.pkg choice }
-    requires level { a.level ≡ decisions ledger.old.made.items + one_if (is_decision a) }
     requires once { is_decision a ≡ true → is_decided ledger.old.made.items a.pkg ≡ false }
     ensures kept { IsLedger ledger.new }
     ensures made { ledger.new.made.items ≡ ledger.old.made.items ++ a ∷ [] }
 {
     let decided = match a.why {
         Why::Decided(ordinal) => Some(ordinal),
-        Why::Derived(_) => decided_at(ledger, earlier),
+        Why::Derived(_) => decided_at(ledger, last),
     };
     let place = ledger.made.len();
-    enter(&mut ledger.heads, a.pkg, place, a.level, a.why);
+    enter(&mut ledger.heads, a.pkg, Some(place));
     let note = Note {
         said,
         decided,
-        earlier,
+        earlier: last,
     };
     ledger.notes.push(note).unwrap();
     ledger.made.push(a).unwrap();
 }
 
-/// Adds an assignment, given the place of the one before it on its package and what they say with it.
+/// Adds an assignment, given the place of the last one on its package and what is said of it then.
 pub(crate) fn add(
     ledger: &mut Ledger,
     a: Assignment,
-    earlier: Option<usize>,
+    last: Option<usize>,
     said: Term,
 ) -> Result<(), AllocError>
     requires kept { IsLedger ledger.old }
-    requires earlier { earlier ≡ last_place ledger.old.made.items a.pkg }
+    requires last { last ≡ last_place ledger.old.made.items a.pkg }
     requires said { (choice : Option ℕ) → true_of said choice ≡ says (ledger.old.made.items ++ a ∷ []) a.pkg choice }
-    requires level { a.level ≡ decisions ledger.old.made.items + one_if (is_decision a) }
     requires once { is_decision a ≡ true → is_decided ledger.old.made.items a.pkg ≡ false }
     ensures kept { IsLedger ledger.new }
     ensures ok { OnOk result (ledger.new.made.items ≡ ledger.old.made.items ++ a ∷ []) }
     ensures err { OnErr result (ledger.new.made.items ≡ ledger.old.made.items) }
 {
-    make_room(&mut ledger.made, &mut ledger.notes, &mut ledger.heads)?;
-    put(ledger, a, earlier, said);
+    make_room(
+        &mut ledger.made,
+        &mut ledger.notes,
+        &mut ledger.heads,
+        a.pkg,
+    )?;
+    put(ledger, a, last, said);
     Ok(())
 }
 
@@ -201,7 +208,7 @@ fn undo(ledger: &mut Ledger)
 {
     let a = ledger.made.pop().unwrap();
     let note = ledger.notes.pop().unwrap();
-    let _last = ledger.heads.insert(a.pkg, note.earlier).unwrap();
+    enter(&mut ledger.heads, a.pkg, note.earlier);
 }
 
 /// Takes the assignments above a level away, from the last one on.

@@ -19,7 +19,7 @@ pub use laws::{
     beginnings_leave_choices, levels_count_decisions, one_standing, package_by_package,
     undecided_is_selected,
 };
-pub use solution::Partial;
+pub use solution::{Partial, Settled};
 pub use standing::Standing;
 
 #[cfg(test)]

@@ -1,7 +1,6 @@
 // The partial solution.
 
-ghost use Rattle.std.specs.Prelude.{◌≡◌, ◌+◌, ◌<◌, ◌++◌, ◌∷◌, ℕ, [], Option, None, Some, false, true, length, nat_eq, take, IfNone, IfOk, IfSome, OnErr, OnOk};
-ghost use Rattle.std.specs.List.{IsDistinct};
+ghost use Rattle.std.specs.Prelude.{◌≡◌, ◌+◌, ◌<◌, ◌++◌, ◌∷◌, ℕ, [], Option, None, Some, false, true, length, take, IfNone, IfOk, IfSome, OnErr, OnOk};
 ghost use Rattle.std.specs.List.Sorted.{IsStrictlyIncreasing};
 ghost use Rattle.terms.specs.Sets.{has};
 ghost use Rattle.terms.specs.Terms.{true_of};
@@ -10,10 +9,12 @@ ghost use Rattle.partial.specs.Rank.{rank, FallsBack, TakesAway};
 ghost use Rattle.partial.specs.Satisfying.{CanGoBack, IsSatisfier, Satisfied, Stands};
 
 use crate::assignment::{Assignment, Why};
-use crate::ledger::{Ledger, add, decided_on, empty, go_back, last_on, level_of, said_at};
+use crate::ledger::{
+    Ledger, add, decided_at, decided_on, empty, go_back, last_on, level_of, said_at,
+};
 use crate::satisfier::satisfier_of;
 use crate::standing::{Standing, standing_of};
-use crate::undecided::{pending_in, undecided_in};
+use crate::undecided::undecided_in;
 use std::alloc::{AllocError, Global};
 use std::marker::Model;
 use terms::{Incompat, Pkg, Term, VSet};
@@ -37,6 +38,15 @@ impl Model for Partial {
     ghost view = { λ p. p.ledger.made.items };
 
     ghost invariant = { λ p. IsPartial p.ledger.made.items × IsLedger p.ledger };
+}
+
+/// What is settled of a package that assignments are on.
+#[derive(Clone, Copy)]
+pub struct Settled<'a> {
+    /// What they say together.
+    pub said: &'a Term,
+    /// The ordinal that they decide.
+    pub decision: Option<u32>,
 }
 
 /// That an ordinal is chosen.
@@ -85,6 +95,26 @@ impl Partial {
         }
     }
 
+    /// What is settled of a package, by one look, none where there is no assignment on it.
+    pub fn settled(&self, pkg: Pkg) -> Option<Settled<'_>>
+        ensures said { IfSome result (λ settled. (choice : Option ℕ) → true_of settled.said.now choice ≡ says self.now pkg choice) }
+        ensures decision { IfSome result (λ settled. settled.decision ≡ decided self.now pkg) }
+        ensures only { IfSome result (λ settled. IfSome settled.decision (λ ordinal. (choice : Option ℕ) → says self.now pkg choice ≡ true → choice ≡ Some ordinal)) }
+        ensures none { IfNone result ((choice : Option ℕ) → says self.now pkg choice ≡ true) }
+        ensures undecided { IfNone result (decided self.now pkg ≡ None) }
+        ensures lawful { IsPartial self.now }
+    {
+        let last = last_on(&self.ledger, pkg);
+        match last {
+            None => None,
+            Some(_) => {
+                let said = said_at(&self.ledger, last);
+                let decision = decided_at(&self.ledger, last);
+                Some(Settled { said, decision })
+            }
+        }
+    }
+
     /// The ordinal that is decided of a package.
     pub fn decision(&self, pkg: Pkg) -> Option<u32>
         ensures exactly { result ≡ decided self.now pkg }
@@ -94,19 +124,8 @@ impl Partial {
         decided_on(&self.ledger, pkg)
     }
 
-    /// The packages that an assignment was on and that have no decision, each once and in no order:
-    /// the undecided ones are among them. It costs nothing.
-    pub fn pending(&self) -> &[Pkg]
-        ensures undecided { (pkg : ℕ) → is_undecided self.now pkg ≡ true → has result.now pkg ≡ true }
-        ensures open { (pkg : ℕ) → has result.now pkg ≡ true → is_decided self.now pkg ≡ false }
-        ensures once { IsDistinct nat_eq result.now }
-        ensures lawful { IsPartial self.now }
-    {
-        pending_in(&self.ledger)
-    }
-
-    /// The packages with a positive derivation and no decision, in rising order. It looks at the
-    /// pending ones alone.
+    /// The packages with a positive derivation and no decision, in rising order. It looks at each number
+    /// up to the highest that an assignment was ever on.
     pub fn undecided(&self) -> Result<Vec<Pkg>, AllocError>
         ensures exactly { IfOk result (λ found. (pkg : ℕ) → has found.items pkg ≡ is_undecided self.now pkg) }
         ensures rising { IfOk result (λ found. IsStrictlyIncreasing found.items) }
@@ -145,15 +164,15 @@ impl Partial {
         ensures err { OnErr result (self.new ≡ self.old) }
     {
         let level = self.level();
-        let earlier = last_on(&self.ledger, pkg);
-        let said = said_at(&self.ledger, earlier).and(self.alloc, &term)?;
+        let last = last_on(&self.ledger, pkg);
+        let said = said_at(&self.ledger, last).and(self.alloc, &term)?;
         let derivation = Assignment {
             pkg,
             term,
             level,
             why: Why::Derived(cause),
         };
-        add(&mut self.ledger, derivation, earlier, said)?;
+        add(&mut self.ledger, derivation, last, said)?;
         Ok(())
     }
 
@@ -168,14 +187,14 @@ impl Partial {
         let level = self.level() + 1;
         let term = only(self.alloc, ordinal)?;
         let said = only(self.alloc, ordinal)?;
-        let earlier = last_on(&self.ledger, pkg);
+        let last = last_on(&self.ledger, pkg);
         let decision = Assignment {
             pkg,
             term,
             level,
             why: Why::Decided(ordinal),
         };
-        add(&mut self.ledger, decision, earlier, said)?;
+        add(&mut self.ledger, decision, last, said)?;
         Ok(())
     }
 

@@ -158,6 +158,14 @@ fn are_undecided(partial: &Partial, packages: &[Pkg]) -> Result<bool, Fail> {
     Ok(undecided.as_slice() == packages)
 }
 
+/// Whether a package has assignments that leave an ordinal and decide so much.
+fn is_settled(partial: &Partial, pkg: Pkg, left: u32, decision: Option<u32>) -> bool {
+    match partial.settled(pkg) {
+        None => false,
+        Some(settled) => settled.said.allows(left) && settled.decision == decision,
+    }
+}
+
 /// The root is selected and decided, then foo within two versions, of which the later is decided,
 /// then bar within one.
 fn three_packages(rt: &HostRuntime) -> Result<Partial, Fail> {
@@ -343,7 +351,6 @@ fn packages_are_undecided_again(rt: HostRuntime) -> Result<(), Fail> {
     decide(&mut partial, 4, 64)?;
     decide(&mut partial, 65535, 0)?;
     assert!(rt; are_undecided(&partial, &[1, 9])?);
-    assert_eq!(rt; partial.pending().len(), 3);
     partial.back_to(1);
     assert!(rt; are_undecided(&partial, &[1, 9, 65535])?);
     partial.back_to(0);
@@ -369,11 +376,24 @@ fn what_was_said_comes_back(rt: HostRuntime) -> Result<(), Fail> {
 }
 
 #[test]
+fn what_is_settled_of_packages(rt: HostRuntime) -> Result<(), Fail> {
+    let mut partial = three_packages(&rt)?;
+    assert!(rt; is_settled(&partial, FOO, 1, Some(1)));
+    assert!(rt; is_settled(&partial, BAR, 0, None));
+    assert!(rt; partial.settled(BAZ).is_none());
+    partial.back_to(1);
+    assert!(rt; is_settled(&partial, FOO, 0, None));
+    assert!(rt; partial.settled(BAR).is_none());
+    Ok(())
+}
+
+#[test]
 fn nothing_is_assigned_at_first(rt: HostRuntime) -> Result<(), Fail> {
     let partial = Partial::new(rt.alloc());
     assert_eq!(rt; partial.assignments().len(), 0);
     assert_eq!(rt; partial.level(), 0);
     assert!(rt; partial.said(FOO).is_none());
+    assert!(rt; partial.settled(FOO).is_none());
     assert_eq!(rt; partial.undecided()?.len(), 0);
     Ok(())
 }

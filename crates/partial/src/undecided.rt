@@ -1,69 +1,50 @@
 // The packages that are still to be decided.
 
-ghost use Rattle.std.specs.Prelude.{◌≡◌, ◌≤◌, ℕ, None, drop, length, filter, nat_eq, not, IfOk};
+ghost use Rattle.std.specs.Prelude.{◌≡◌, ℕ, None, not, IfOk};
 ghost use Rattle.std.specs.List.Sorted.{IsStrictlyIncreasing};
-ghost use Rattle.std.specs.List.{IsDistinct};
-ghost use Rattle.indexmap.specs.IndexMap.{keys};
 ghost use Rattle.terms.specs.Sets.{has};
-ghost use Rattle.partial.specs.Assignments.{decisions, is_undecided, says, LevelsFrom};
+ghost use Rattle.terms.specs.Terms.{true_of};
+ghost use Rattle.partial.specs.Assignments.{is_undecided};
 ghost use Rattle.partial.specs.Ledger.{IsLedger};
 
-use crate::ledger::{Ledger, level_of, said_on};
+use crate::ledger::{Ledger, decided_at, last_on, said_at};
 use std::alloc::{AllocError, Global};
 use terms::{Pkg, Term};
 
-/// How many packages are decided, which come first.
-fn decided_count(ledger: &Ledger) -> usize
-    requires kept { IsLedger ledger.now }
-    requires levels { LevelsFrom 0 ledger.now.made.items }
-    ensures is { result ≡ decisions ledger.now.made.items }
-    ensures within { result ≤ length (keys ledger.now.heads) }
+/// Whether a term says that its package is selected.
+fn is_positive(term: &Term) -> bool
+    ensures { result ≡ not (true_of term.now None) }
 {
-    level_of(&ledger.made)
-}
-
-/// The packages behind those that are decided.
-pub(crate) fn pending_in(ledger: &Ledger) -> &[Pkg]
-    requires kept { IsLedger ledger.now }
-    requires levels { LevelsFrom 0 ledger.now.made.items }
-    ensures same { result.now ≡ drop (decisions ledger.now.made.items) (keys ledger.now.heads) }
-    ensures once { IsDistinct nat_eq (keys ledger.now.heads) }
-{
-    let packages = ledger.heads.keys().as_slice();
-    &packages[decided_count(ledger)..]
-}
-
-/// Whether the assignments say that a package is selected.
-fn is_needed(ledger: &Ledger, pkg: Pkg) -> bool
-    requires { IsLedger ledger.now }
-    ensures { result ≡ not (says ledger.now.made.items pkg None) }
-{
-    match said_on(ledger, pkg) {
+    match term {
         Term::In(_) => true,
         Term::NotIn(_) => false,
     }
 }
 
-/// Those of the packages that the assignments say are selected.
-fn needed_among(alloc: Global, ledger: &Ledger, packages: &[Pkg]) -> Result<Vec<Pkg>, AllocError>
+/// Whether a package is to be decided, by one look at it.
+fn is_undecided(ledger: &Ledger, pkg: Pkg) -> bool
     requires { IsLedger ledger.now }
-    ensures { IfOk result (λ needed. needed.items ≡ filter (λ pkg. not (says ledger.now.made.items pkg None)) packages.now) }
+    ensures { result ≡ is_undecided ledger.now.made.items pkg }
 {
-    packages
-        .iter()
-        .copied()
-        .filter(|pkg| is_needed(ledger, *pkg))
-        .collect(alloc)
+    let last = last_on(ledger, pkg);
+    match decided_at(ledger, last) {
+        Some(_) => false,
+        None => is_positive(said_at(ledger, last)),
+    }
 }
 
 /// The packages to decide, in rising order.
 pub(crate) fn undecided_in(alloc: Global, ledger: &Ledger) -> Result<Vec<Pkg>, AllocError>
-    requires kept { IsLedger ledger.now }
-    requires levels { LevelsFrom 0 ledger.now.made.items }
+    requires { IsLedger ledger.now }
     ensures exactly { IfOk result (λ found. (pkg : ℕ) → has found.items pkg ≡ is_undecided ledger.now.made.items pkg) }
     ensures rising { IfOk result (λ found. IsStrictlyIncreasing found.items) }
 {
-    let mut found = needed_among(alloc, ledger, pending_in(ledger))?;
-    found.sort_unstable();
+    let mut found = Vec::new(alloc);
+    'heads: for index in 0..ledger.heads.len() {
+        let pkg = index as Pkg;
+        if is_undecided(ledger, pkg) {
+            found.push(pkg)?;
+        }
+    }
     Ok(found)
 }

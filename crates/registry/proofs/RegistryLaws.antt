@@ -1,19 +1,20 @@
 -- What a caller may use of a registry that commands made: facts by number, ordinal and name.
 use Rattle.std.proofs.Common.{◌≡◌, ◌<◌, ◌≤◌, ◌∙◌, inl, inr, ℕ, zero, suc, ◌+◌, List, [], ◌∷◌, length, refl, sym, ap, subst, arith, true, false, true≢false, ◌&&◌, map, get_or, if◌then◌else◌, nat_lt, rules, Bool}
-use Rattle.std.specs.Prelude.{All, Contains, Option, Some, None, slice_get}
-use Rattle.std.specs.Option.{option_and_then}
+use Rattle.std.specs.Prelude.{All, Contains, Option, Some, None, is_some, slice_get}
+use Rattle.std.specs.Option.{option_and_then, option_map}
 use Rattle.std.specs.List.{AllByRecursion, IsDistinct, list_all}
 use Rattle.std.specs.Str.{bytes_eq}
 use Rattle.std.specs.Cmp.Lexicographic.{nat_list_eq_equiv}
 use Rattle.std.proofs.lemmas.Bool.{cases_Bool}
-use Rattle.std.proofs.lemmas.Option.{get_or_from_slice_get, slice_get_within}
+use Rattle.std.proofs.lemmas.Option.{get_or_from_slice_get, none-some, same_Some, slice_get_within}
 use Rattle.std.proofs.lemmas.Map.Keys.{IsDistinct-head, IsDistinct-tail, apart_from_distinct}
 use Rattle.std.proofs.Math.ListN.{get_or-map}
 use Rattle.versions.specs.Words.{Text, same_precedence}
 use Rattle.versions.proofs.PrecedenceLemmas.{same_precedence-symm}
 use Rattle.registry.specs.Lawful.{IsPackage, IsPublication, IsRegistry}
-use Rattle.registry.specs.Registry.{Package, Packages, Publication, is_known, is_named, number_from, number_of, package_at, publication_at, versions_or_none}
-use Rattle.registry.proofs.PackageLemmas.{length-mapped}
+use Rattle.registry.specs.Publications.{PublicationList, packages_in}
+use Rattle.registry.specs.Registry.{Package, Packages, Publication, is_known, is_named, is_published, needs_of, needs_or_none, number_from, number_of, package_at, publication_at, versions_or_none}
+use Rattle.registry.proofs.PackageLemmas.{length-mapped, name-at}
 
 -- what holds of each element holds of the one at a place
 all-at : {A : Type 0} (P : A → Type 0) (xs : List A) (i : ℕ) (x : A) → All P xs → slice_get xs i ≡ Some x → P x
@@ -67,6 +68,19 @@ pub number_of-known : (packages : Packages) (name : Text) → is_known packages 
 unfolding number_of
 number_of-known packages name t = number_from-known 1 packages name t
 
+-- a name that stands at a place has the number after it
+pub number-stands : (names : List Text) (lists : List PublicationList) (i : ℕ) (name : Text) → length names ≡ length lists → IsRegistry (packages_in names lists) → slice_get names i ≡ Some name
+    → number_of (packages_in names lists) name ≡ Some (i + 1)
+unfolding package_at
+number-stands names lists i name paired lawful at = by (slice_get (packages_in names lists) i) refl
+  where
+    by : (o : Option Package) → slice_get (packages_in names lists) i ≡ o → number_of (packages_in names lists) name ≡ Some (i + 1)
+    by None e = absurd (none-some name (sym (ap (λ o. option_map (λ (p : Package). p.name) o) e) ∙ name-at names lists i paired ∙ at))
+    by (Some pack) e =
+        let named : pack.name ≡ name = same_Some pack.name name (sym (ap (λ o. option_map (λ (p : Package). p.name) o) e) ∙ name-at names lists i paired ∙ at) in
+        let place : suc i ≡ i + 1 = omega arith in
+        ap (number_of (packages_in names lists)) (sym named) ∙ number_of-name (packages_in names lists) (suc i) pack lawful e ∙ ap (λ n. Some n) place
+
 few-versions : (packages : Packages) (p : ℕ) (o : Option Package) → package_at packages p ≡ o → IsRegistry packages → length (versions_or_none o) ≤ 1024
 few-versions packages p None e lawful = omega arith
 few-versions packages p (Some pack) e lawful = (package-lawful packages p pack lawful e).few
@@ -107,6 +121,24 @@ pub number_of-need : (packages : Packages) (p k : ℕ) (v : Publication) (d : Te
 number_of-need packages p k v d lawful e among =
     let found = publication-lawful packages p k v lawful e in
     number_of-known packages d.0 (list_all-at (λ (n : Text × Text). is_known packages n.0) v.needs among.0 d d found.2.numbered among.1 among.2)
+
+-- a version that needs something is published
+pub published-needing : (packages : Packages) (p k i : ℕ) → i < length (needs_of packages p k) → is_published packages p k ≡ true
+published-needing packages p k i lt = by (publication_at packages p k) lt
+  where
+    by : (o : Option Publication) → i < length (needs_or_none o) → is_some o ≡ true
+    by None h = absurd (omega arith)
+    by (Some v) h = refl
+
+-- each need of a version has a name with a number
+pub number_of-needed : (packages : Packages) (p k i : ℕ) (d : Text × Text) → IsRegistry packages → slice_get (needs_of packages p k) i ≡ Some d → (q : ℕ) × (number_of packages d.0 ≡ Some q)
+number_of-needed packages p k i d lawful at = by (publication_at packages p k) refl
+  where
+    by : (o : Option Publication) → publication_at packages p k ≡ o → (q : ℕ) × (number_of packages d.0 ≡ Some q)
+    by None e = absurd (none-some d (sym (ap (λ o. slice_get (needs_or_none o) i) e) ∙ at))
+    by (Some v) e =
+        let here : slice_get v.needs i ≡ Some d = sym (ap (λ o. slice_get (needs_or_none o) i) e) ∙ at in
+        number_of-need packages p k v d lawful e (i, slice_get_within v.needs i d here, get_or_from_slice_get v.needs i d d here)
 
 versions-apart : (versions : List Publication) (i j : ℕ) (u v : Publication) → IsDistinct same_precedence (map (λ (w : Publication). w.version) versions)
     → slice_get versions i ≡ Some u → slice_get versions j ≡ Some v → i < j → same_precedence u.version v.version ≡ false

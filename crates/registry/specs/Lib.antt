@@ -8,6 +8,7 @@ pub mod Rooms
 pub mod Lawful
 pub mod Publications
 pub mod Highest
+pub mod Dependencies
 pub mod Requests
 pub mod Selections
 pub mod Preference

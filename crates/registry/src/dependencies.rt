@@ -4,6 +4,7 @@ ghost use Rattle.std.specs.Prelude.{◌≡◌, IfErr, IfOk};
 ghost use Rattle.registry.specs.Needs.{has_name, repeats_name};
 
 use crate::by_name::{places_by_name, repeats};
+use crate::listed::{Listed, Place};
 use std::alloc::Global;
 use std::marker::Model;
 use std::sync::Arc;
@@ -17,7 +18,7 @@ const FEW: usize = 8;
 /// Copies share the list. Whether a name comes twice is found once, when the list is made.
 #[derive(Drop)]
 pub struct Dependencies {
-    needs: Arc<Vec<(Name, Need)>, Global>,
+    listed: Arc<Listed, Global>,
     repeats: bool,
 }
 
@@ -28,9 +29,9 @@ impl Model for Dependencies {
 
     ghost Value = { List (List ℕ × List ℕ) };
 
-    ghost view = { λ d. (arc_value d.needs).items };
+    ghost view = { λ d. arc_value d.listed };
 
-    ghost invariant = { λ d. d.repeats ≡ repeats_name (arc_value d.needs).items };
+    ghost invariant = { λ d. d.repeats ≡ repeats_name (arc_value d.listed) };
 }
 
 impl Dependencies {
@@ -41,7 +42,7 @@ impl Dependencies {
     {
         let repeats = repeats_name(alloc, &needs)?;
         Ok(Dependencies {
-            needs: Arc::new(alloc, needs)?,
+            listed: Arc::new(alloc, Listed::new(alloc, needs))?,
             repeats,
         })
     }
@@ -50,7 +51,12 @@ impl Dependencies {
     pub fn needs(&self) -> &[(Name, Need)]
         ensures { result.now ≡ self.now }
     {
-        self.needs.as_slice()
+        self.listed.needs()
+    }
+
+    /// Where a registry may keep the name and the requirement at an index.
+    pub(crate) fn place(&self, index: usize) -> Place {
+        self.listed.place(index)
     }
 
     /// Whether a name comes twice; takes no time.
@@ -60,18 +66,18 @@ impl Dependencies {
         self.repeats
     }
 
-    /// The same list, kept in these handles of equal texts.
+    /// The same list, kept in these handles of equal texts, with their places.
     pub(crate) fn with_handles(
         &self,
         alloc: Global,
-        needs: Vec<(Name, Need)>,
+        listed: Listed,
     ) -> Result<Dependencies, Refusal>
-        requires { needs.items ≡ self.now }
+        requires { listed ≡ self.now }
         ensures same { IfOk result (λ dependencies. dependencies ≡ self.now) }
         ensures only { IfErr result (λ e. e ≡ Refusal.NoMemory) }
     {
         Ok(Dependencies {
-            needs: Arc::new(alloc, needs)?,
+            listed: Arc::new(alloc, listed)?,
             repeats: self.repeats,
         })
     }
@@ -82,7 +88,7 @@ impl Dependencies {
         ensures only { IfErr result (λ e. e ≡ Refusal.NoMemory) }
     {
         Ok(Dependencies {
-            needs: Arc::try_clone(&self.needs)?,
+            listed: Arc::try_clone(&self.listed)?,
             repeats: self.repeats,
         })
     }

@@ -5,6 +5,7 @@ mod by_name;
 mod commands;
 mod dependencies;
 mod growing;
+mod listed;
 mod publications;
 mod ready;
 mod registry;

@@ -99,6 +99,14 @@ impl Publications {
         self.releases.matching(need)
     }
 
+    /// As [`Publications::matching`], of a requirement that may be named at this place: where it is, no
+    /// look-up is made.
+    pub fn matching_at(&self, need: &Need, place: usize) -> Result<Matching<'_>, AllocError>
+        ensures { IfOk result (λ set. (k : ℕ) → has (ordinals_of set) k ≡ publication_meets (slice_get self.now.publications k) need.now) }
+    {
+        self.releases.matching_at(need, place)
+    }
+
     /// The one of highest precedence in a set.
     pub fn highest(&self, set: &VSet) -> Option<u32>
         ensures some { IfSome result (IsHighest (λ k b. has set.now k ≡ b) self.now.publications) }
@@ -116,15 +124,15 @@ impl Publications {
         self.releases.highest_where(passes)
     }
 
-    /// The equal requirement whose matching set is kept, where there is one.
-    pub fn named(&self, need: &Need) -> Option<&Need>
-        ensures { IfSome result (λ kept. kept.now ≡ need.now) }
+    /// The equal requirement whose matching set is kept, where there is one, and its place.
+    pub fn named(&self, need: &Need) -> Option<(usize, &Need)>
+        ensures { IfSome result (λ kept. kept.1.now ≡ need.now) }
     {
         self.releases.named(need)
     }
 
-    /// Keeps the matching set of a requirement from now on.
-    pub fn name_need(&mut self, need: &Need) -> Result<(), AllocError>
+    /// Keeps the matching set of a requirement from now on, and answers the requirement's place.
+    pub fn name_need(&mut self, need: &Need) -> Result<usize, AllocError>
         ensures { self.new.publications ≡ self.old.publications }
     {
         self.releases.name_need(need)

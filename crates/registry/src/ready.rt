@@ -9,6 +9,7 @@ ghost use Rattle.registry.specs.Publications.{lists_of, rooms_of};
 ghost use Rattle.registry.specs.Rooms.{names_in, publication_for, room_where, unknown_names, AreEmpty, IsReady};
 
 use crate::dependencies::Dependencies;
+use crate::listed::{Listed, Place};
 use crate::publications::Publications;
 use indexmap::IndexSet;
 use std::alloc::Global;
@@ -86,8 +87,9 @@ fn new_package(alloc: Global, need: &(Name, Need)) -> Result<(Name, Publications
 /// What the needs of a publication come to.
 #[derive(Drop)]
 struct Named {
-    /// The same needs, in texts that the registry keeps already where it has equal ones.
-    needs: Vec<(Name, Need)>,
+    /// The same needs, in texts that the registry keeps already where it has equal ones, with the
+    /// places of these texts once the publication is entered.
+    needs: Listed,
     /// The names that are new, each with its list of publications.
     added: Vec<(Name, Publications)>,
 }
@@ -110,55 +112,69 @@ fn copied(need: &(Name, Need)) -> Result<(Name, Need), Refusal>
     Ok((need.0.copy()?, need.1.copy()?))
 }
 
-/// Names a requirement on a package, and answers the equal one that the package keeps, with the name.
-fn kept(list: &mut Publications, name: &Name, need: &Need) -> Result<(Name, Need), Refusal>
+/// Names a requirement on a package, and answers the equal one that the package keeps, with the name,
+/// and the requirement's place.
+fn kept(list: &mut Publications, name: &Name, need: &Need) -> Result<((Name, Need), usize), Refusal>
     ensures publications { list.new.publications ≡ list.old.publications }
-    ensures same { IfOk result (λ kept. kept ≡ (name.now, need.now)) }
+    ensures same { IfOk result (λ kept. kept.0 ≡ (name.now, need.now)) }
     ensures err { IfErr result (λ e. e ≡ Refusal.NoMemory) }
 {
-    let need = kept_need(list, need)?;
-    Ok((name.copy()?, need))
+    let (need, place) = kept_need(list, need)?;
+    Ok(((name.copy()?, need), place))
 }
 
-/// Names a requirement on a package, and answers the equal one that the package keeps.
-fn kept_need(list: &mut Publications, need: &Need) -> Result<Need, Refusal>
+/// Names a requirement on a package, and answers the equal one that the package keeps, and its place.
+fn kept_need(list: &mut Publications, need: &Need) -> Result<(Need, usize), Refusal>
     ensures publications { list.new.publications ≡ list.old.publications }
-    ensures same { IfOk result (λ kept. kept ≡ need.now) }
+    ensures same { IfOk result (λ kept. kept.0 ≡ need.now) }
     ensures err { IfErr result (λ e. e ≡ Refusal.NoMemory) }
 {
-    if let Some(kept) = list.named(need) {
-        return kept.copy();
+    if let Some((place, kept)) = list.named(need) {
+        return Ok((kept.copy()?, place));
     }
-    list.name_need(need)?;
-    need.copy()
+    let place = list.name_need(need)?;
+    Ok((need.copy()?, place))
 }
 
-/// Names the requirements on the packages that they are on.
+/// The place that is next for a name, once the package's own has one.
+fn next_place(names: &IndexSet<Name>, own: Option<usize>) -> usize {
+    match own {
+        None => names.len() + 1,
+        Some(_) => names.len(),
+    }
+}
+
+/// Names the requirements on the packages that they are on. The names that are new come in from a
+/// place on, in order.
 fn name_needs(
     alloc: Global,
     names: &IndexSet<Name>,
     lists: &mut Vec<Publications>,
     needs: &[(Name, Need)],
+    next: usize,
 ) -> Result<Named, Refusal>
     requires paired { length names.now.keys ≡ length lists.old.items }
     ensures lists { lists_of lists.new.items ≡ lists_of lists.old.items }
     ensures length { length lists.new.items ≡ length lists.old.items }
-    ensures same { IfOk result (λ named. named.needs.items ≡ needs.now) }
+    ensures same { IfOk result (λ named. named.needs ≡ needs.now) }
     ensures named { IfOk result (λ named. names_in named.added.items ≡ unknown_names (λ name. list_any (bytes_eq name) names.now.keys) needs.now) }
     ensures empty { IfOk result (λ named. AreEmpty named.added.items) }
     ensures err { IfErr result (λ e. e ≡ Refusal.NoMemory) }
 {
-    let mut same = Vec::with_capacity(alloc, needs.len())?;
+    let mut same = Listed::with_capacity(alloc, needs.len())?;
     let mut added = Vec::new(alloc);
     for need in needs {
         match kept_in(names, &need.0) {
             Some((index, name)) => {
                 let list = &mut lists[index];
-                same.push(kept(list, name, &need.1)?)?;
+                let (shared, place) = kept(list, name, &need.1)?;
+                same.push(shared, Place::new(index, place))?;
             }
             None => {
+                // The first requirement that is named on a package has the place 0.
+                let place = Place::new(next.saturating_add(added.len()), 0);
                 added.push(new_package(alloc, need)?)?;
-                same.push(copied(need)?)?;
+                same.push(copied(need)?, place)?;
             }
         }
     }
@@ -217,10 +233,11 @@ pub fn make_ready(
     ensures publication { IfOk result (λ ready. publication_for (Some ready) ≡ Some (name.now, needs.now)) }
     ensures err { IfErr result (λ e. e ≡ Refusal.NoMemory) }
 {
-    let named = name_needs(alloc, names, lists, needs.needs())?;
+    let (place, name) = kept_name(names, name)?;
+    let next = next_place(names, place);
+    let named = name_needs(alloc, names, lists, needs.needs(), next)?;
     let needs = needs.with_handles(alloc, named.needs)?;
     let added = named.added;
-    let (place, name) = kept_name(names, name)?;
     let mut own = Publications::new(alloc);
     names.reserve(added.len() + 1)?;
     lists.reserve(added.len() + 1)?;

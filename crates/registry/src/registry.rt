@@ -5,11 +5,12 @@ ghost use Rattle.std.specs.Option.{option_copied, option_map};
 ghost use Rattle.releases.specs.Matching.{ordinals_of};
 ghost use Rattle.terms.specs.Sets.{has, IsAscending};
 ghost use Rattle.registry.specs.Commands.{change_of};
+ghost use Rattle.registry.specs.Dependencies.{IsDependency};
 ghost use Rattle.registry.specs.Highest.{IsHighest};
 ghost use Rattle.registry.specs.Lawful.{IsRegistry};
 ghost use Rattle.registry.specs.Needs.{has_name, repeats_name};
 ghost use Rattle.registry.specs.Publications.{publications_in};
-ghost use Rattle.registry.specs.Registry.{equals_at, has_version, is_published, meets_at, number_of, package_at, publication_at, versions_of, versions_or_none};
+ghost use Rattle.registry.specs.Registry.{equals_at, has_version, is_published, meets_at, needs_of, number_of, package_at, publication_at, versions_of, versions_or_none};
 ghost use Rattle.registry.specs.Requests.{is_allowed};
 ghost use Rattle.registry.specs.Rooms.{HasRoomFor};
 ghost use Rattle.registry.specs.Step as step;
@@ -190,6 +191,30 @@ impl Registry {
         }
     }
 
+    /// The package that a version names at an index of its dependencies, and the ordinals of those of
+    /// the package's versions that meet the requirement: what [`Registry::number`] and
+    /// [`Registry::matching_set`] answer of them, without the look-ups by their texts. It costs a
+    /// comparison of each text with the one that is kept.
+    pub fn dependency(
+        &self,
+        pkg: Pkg,
+        ordinal: u32,
+        index: usize,
+    ) -> Result<(Pkg, Matching<'_>), Refusal>
+        requires { index < length (needs_of self.now.packages pkg ordinal) }
+        ensures dependency { IfOk result (λ found. IsDependency self.now.packages pkg ordinal index found.0 (ordinals_of found.1)) }
+        ensures only { IfErr result (λ e. e ≡ Refusal.NoMemory) }
+    {
+        let listed = self.dependencies(pkg, ordinal);
+        let entry = &listed.needs()[index];
+        let place = listed.place(index);
+        let Some(target) = self.number_at(&entry.0, place.name()) else {
+            unreachable!()
+        };
+        let matching = self.matching_at(target, &entry.1, place.need())?;
+        Ok((target, matching))
+    }
+
     /// The ordinal of the version of a package with equal precedence. The cost grows with the
     /// logarithm of the number of its versions.
     pub fn find(&self, pkg: Pkg, version: &Published) -> Option<u32>
@@ -287,6 +312,39 @@ impl Registry {
         }
         self.revision += 1;
         Ok(())
+    }
+
+    /// What a version depends on.
+    fn dependencies(&self, pkg: Pkg, ordinal: u32) -> &Dependencies
+        requires { IsTrue (is_published self.now.packages pkg ordinal) }
+        ensures needs { result.now ≡ needs_of self.now.packages pkg ordinal }
+        ensures reachable { IsRegistry self.now.packages }
+    {
+        let list = &self.lists[pkg as usize - 1];
+        list.at(ordinal).1
+    }
+
+    /// As [`Registry::number`], of a name that may stand at this place: where it does, no look-up is
+    /// made.
+    fn number_at(&self, name: &Name, place: usize) -> Option<Pkg>
+        ensures { result ≡ number_of self.now.packages name.now }
+    {
+        match self.names.get_index(place) {
+            Some(kept) if *kept == *name => Some(place as u32 + 1),
+            _ => self.number(name),
+        }
+    }
+
+    /// As [`Registry::matching_set`], of a requirement that may be named at this place: where it is, no
+    /// look-up is made.
+    fn matching_at(&self, pkg: Pkg, need: &Need, place: usize) -> Result<Matching<'_>, Refusal>
+        ensures members { IfOk result (λ set. (k : ℕ) → has (ordinals_of set) k ≡ meets_at self.now.packages pkg k need.now) }
+        ensures only { IfErr result (λ e. e ≡ Refusal.NoMemory) }
+    {
+        match self.publications_at(pkg) {
+            None => Ok(Matching::Computed(GrowingSet::new(self.alloc))),
+            Some(publications) => Ok(publications.matching_at(need, place)?),
+        }
     }
 
     /// The publications of the package of this number.

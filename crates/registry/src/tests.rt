@@ -215,30 +215,42 @@ fn facts_of<'a>(rt: &impl Abort, registry: &'a Registry, pkg: Pkg, ordinal: u32)
     registry.facts(pkg, ordinal)
 }
 
-#[test]
-fn the_lowest_refusal_is_given(rt: HostRuntime) -> Result<(), Refusal> {
-    let registry = told(&rt, rt.alloc(), &REFUSED)?;
+fn the_lowest_refusal_is_given_in(rt: &impl Abort, registry: &Registry) -> Result<(), Refusal> {
     assert_eq!(rt; registry.packages(), 1);
     assert_eq!(rt; registry.revision(), 2);
     Ok(())
 }
 
 #[test]
-fn a_version_is_published_once(rt: HostRuntime) -> Result<(), Refusal> {
-    let registry = told(&rt, rt.alloc(), &REPEATED)?;
+fn the_lowest_refusal_is_given(rt: HostRuntime) -> Result<(), Refusal> {
+    let registry = told(&rt, rt.alloc(), &REFUSED)?;
+    the_lowest_refusal_is_given_in(&rt, &registry)
+}
+
+fn a_version_is_published_once_in(rt: &impl Abort, registry: &Registry) -> Result<(), Refusal> {
     assert_eq!(rt; registry.revision(), 3);
     assert_eq!(rt; registry.versions(1), 2);
     Ok(())
 }
 
 #[test]
+fn a_version_is_published_once(rt: HostRuntime) -> Result<(), Refusal> {
+    let registry = told(&rt, rt.alloc(), &REPEATED)?;
+    a_version_is_published_once_in(&rt, &registry)
+}
+
+fn yanks_go_by_equal_precedence_in(rt: &impl Abort, registry: &Registry) -> Result<(), Refusal> {
+    assert_eq!(rt; registry.revision(), 5);
+    assert!(rt; !facts_of(rt, registry, 1, 0).yanked);
+    assert!(rt; facts_of(rt, registry, 1, 1).yanked);
+    assert_eq!(rt; facts_of(rt, registry, 1, 0).version.text(), "1.0.0+x");
+    Ok(())
+}
+
+#[test]
 fn yanks_go_by_equal_precedence(rt: HostRuntime) -> Result<(), Refusal> {
     let registry = told(&rt, rt.alloc(), &YANKED)?;
-    assert_eq!(rt; registry.revision(), 5);
-    assert!(rt; !facts_of(&rt, &registry, 1, 0).yanked);
-    assert!(rt; facts_of(&rt, &registry, 1, 1).yanked);
-    assert_eq!(rt; facts_of(&rt, &registry, 1, 0).version.text(), "1.0.0+x");
-    Ok(())
+    yanks_go_by_equal_precedence_in(&rt, &registry)
 }
 
 /// The package has this number, this name and so many versions.
@@ -250,15 +262,23 @@ fn numbered(rt: &impl Abort, registry: &Registry, pkg: Pkg, name: &Name, count: 
     assert!(rt; registry.name(pkg) == name, "{pkg}");
 }
 
+fn names_are_numbered_by_first_mention_in(
+    rt: &impl Abort,
+    alloc: Global,
+    registry: &Registry,
+) -> Result<(), Refusal> {
+    for (pkg, name, count) in [(1, "b", 1), (2, "c", 0), (3, "a", 1), (4, "d", 0)] {
+        numbered(rt, registry, pkg, &Name::read(alloc, name)?, count);
+    }
+    assert_eq!(rt; registry.packages(), 4);
+    assert_eq!(rt; number_of(registry, alloc, "e")?, None);
+    Ok(())
+}
+
 #[test]
 fn names_are_numbered_by_first_mention(rt: HostRuntime) -> Result<(), Refusal> {
     let registry = told(&rt, rt.alloc(), &MENTIONED)?;
-    for (pkg, name, count) in [(1, "b", 1), (2, "c", 0), (3, "a", 1), (4, "d", 0)] {
-        numbered(&rt, &registry, pkg, &Name::read(rt.alloc(), name)?, count);
-    }
-    assert_eq!(rt; registry.packages(), 4);
-    assert_eq!(rt; number_of(&registry, rt.alloc(), "e")?, None);
-    Ok(())
+    names_are_numbered_by_first_mention_in(&rt, rt.alloc(), &registry)
 }
 
 /// The names and the requirements of these needs, in their order.
@@ -270,20 +290,29 @@ fn texts<'a>(alloc: Global, needs: &'a [(Name, Need)]) -> Result<Vec<(&'a str, &
     Ok(texts)
 }
 
-#[test]
-fn facts_are_what_was_published(rt: HostRuntime) -> Result<(), Refusal> {
-    let registry = told(&rt, rt.alloc(), &MENTIONED)?;
-    let facts = facts_of(&rt, &registry, 3, 0);
+fn facts_are_what_was_published_in(
+    rt: &impl Abort,
+    alloc: Global,
+    registry: &Registry,
+) -> Result<(), Refusal> {
+    let facts = facts_of(rt, registry, 3, 0);
     assert_eq!(rt; facts.version.text(), "0.1.0");
     assert!(rt; !facts.yanked);
-    let needs = texts(rt.alloc(), facts.needs)?;
+    let needs = texts(alloc, facts.needs)?;
     assert!(rt; needs.as_slice() == [("d", "=2.0.0"), ("c", ">1, <2")].as_slice());
     Ok(())
 }
 
 #[test]
-fn no_version_is_published_of_other_numbers(rt: HostRuntime) -> Result<(), Refusal> {
+fn facts_are_what_was_published(rt: HostRuntime) -> Result<(), Refusal> {
     let registry = told(&rt, rt.alloc(), &MENTIONED)?;
+    facts_are_what_was_published_in(&rt, rt.alloc(), &registry)
+}
+
+fn no_version_is_published_of_other_numbers_in(
+    rt: &impl Abort,
+    registry: &Registry,
+) -> Result<(), Refusal> {
     for pkg in [0, 5, u32::MAX] {
         assert_eq!(rt; registry.versions(pkg), 0);
     }
@@ -291,10 +320,18 @@ fn no_version_is_published_of_other_numbers(rt: HostRuntime) -> Result<(), Refus
 }
 
 #[test]
-fn a_version_has_at_most_64_dependencies(rt: HostRuntime) -> Result<(), Refusal> {
-    let mut registry = Registry::new(rt.alloc());
+fn no_version_is_published_of_other_numbers(rt: HostRuntime) -> Result<(), Refusal> {
+    let registry = told(&rt, rt.alloc(), &MENTIONED)?;
+    no_version_is_published_of_other_numbers_in(&rt, &registry)
+}
+
+fn a_version_has_at_most_64_dependencies_in(
+    rt: &impl Abort,
+    alloc: Global,
+    registry: &mut Registry,
+) -> Result<(), Refusal> {
     for (name, count, want) in [("a", 65, 6), ("n64", 65, 5), ("b", 64, 0), ("b", 65, 6)] {
-        let number = first_of_many(&mut registry, rt.alloc(), name, 'n', 0, count)?;
+        let number = first_of_many(registry, alloc, name, 'n', 0, count)?;
         assert_eq!(rt; number, want, "{name}");
     }
     assert_eq!(rt; registry.packages(), 65);
@@ -302,13 +339,27 @@ fn a_version_has_at_most_64_dependencies(rt: HostRuntime) -> Result<(), Refusal>
 }
 
 #[test]
+fn a_version_has_at_most_64_dependencies(rt: HostRuntime) -> Result<(), Refusal> {
+    let mut registry = Registry::new(rt.alloc());
+    a_version_has_at_most_64_dependencies_in(&rt, rt.alloc(), &mut registry)
+}
+
+fn long_lists_of_dependencies_are_refused_in(
+    rt: &impl Abort,
+    alloc: Global,
+    registry: &mut Registry,
+) -> Result<(), Refusal> {
+    let distinct = first_of_many(registry, alloc, "a", 'n', 0, 75_000)?;
+    assert_eq!(rt; distinct, 6);
+    let twice = repeated(alloc, 75_000, "^1")?;
+    assert_eq!(rt; first(registry, alloc, "a", twice)?, 4);
+    Ok(())
+}
+
+#[test]
 fn long_lists_of_dependencies_are_refused(rt: HostRuntime) -> Result<(), Refusal> {
     let mut registry = Registry::new(rt.alloc());
-    let distinct = first_of_many(&mut registry, rt.alloc(), "a", 'n', 0, 75_000)?;
-    assert_eq!(rt; distinct, 6);
-    let twice = repeated(rt.alloc(), 75_000, "^1")?;
-    assert_eq!(rt; first(&mut registry, rt.alloc(), "a", twice)?, 4);
-    Ok(())
+    long_lists_of_dependencies_are_refused_in(&rt, rt.alloc(), &mut registry)
 }
 
 /// So many names, each once, repeat none.
@@ -336,21 +387,29 @@ fn repeats_are_found_in_short_and_long_lists(rt: HostRuntime) -> Result<(), Refu
     Ok(())
 }
 
-#[test]
-fn a_package_has_at_most_1024_versions(rt: HostRuntime) -> Result<(), Refusal> {
-    let mut registry = Registry::new(rt.alloc());
+fn a_package_has_at_most_1024_versions_in(
+    rt: &impl Abort,
+    alloc: Global,
+    registry: &mut Registry,
+) -> Result<(), Refusal> {
     for number in 0..=1024 {
         let want = if number < 1024 { 0 } else { 8 };
         assert_eq!(rt;
-            publish_patch(&mut registry, rt.alloc(), number)?,
+            publish_patch(registry, alloc, number)?,
             want,
             "0.0.{number}"
         );
     }
-    let again = submit_on_a(&mut registry, rt.alloc(), Op::Publish, "0.0.1023+x")?;
+    let again = submit_on_a(registry, alloc, Op::Publish, "0.0.1023+x")?;
     assert_eq!(rt; again, 7);
     assert_eq!(rt; registry.versions(1), 1024);
     Ok(())
+}
+
+#[test]
+fn a_package_has_at_most_1024_versions(rt: HostRuntime) -> Result<(), Refusal> {
+    let mut registry = Registry::new(rt.alloc());
+    a_package_has_at_most_1024_versions_in(&rt, rt.alloc(), &mut registry)
 }
 
 /// Publishes the name before "n" and `numbered`, which needs this many names from there on.
@@ -374,9 +433,11 @@ fn crowd(alloc: Global, packages: usize) -> Result<Registry, Refusal> {
     Ok(registry)
 }
 
-#[test]
-fn at_most_65535_names_are_numbered(rt: HostRuntime) -> Result<(), Refusal> {
-    let mut registry = crowd(rt.alloc(), 65_530)?;
+fn at_most_65535_names_are_numbered_in(
+    rt: &impl Abort,
+    alloc: Global,
+    registry: &mut Registry,
+) -> Result<(), Refusal> {
     // Names that are new and how many of them, the answer, and how many names are numbered then.
     let rows = [
         ("a", 'm', 0, 5, 9, 65_530),
@@ -386,11 +447,17 @@ fn at_most_65535_names_are_numbered(rt: HostRuntime) -> Result<(), Refusal> {
         ("m1", 'n', 0, 64, 0, 65_535),
     ];
     for (name, letter, from, count, want, packages) in rows {
-        let number = first_of_many(&mut registry, rt.alloc(), name, letter, from, count)?;
+        let number = first_of_many(registry, alloc, name, letter, from, count)?;
         assert_eq!(rt; number, want, "{name}");
         assert_eq!(rt; registry.packages(), packages, "{name}");
     }
     Ok(())
+}
+
+#[test]
+fn at_most_65535_names_are_numbered(rt: HostRuntime) -> Result<(), Refusal> {
+    let mut registry = crowd(rt.alloc(), 65_530)?;
+    at_most_65535_names_are_numbered_in(&rt, rt.alloc(), &mut registry)
 }
 
 /// Makes room for a publication that is accepted.
@@ -421,17 +488,25 @@ fn number_of(registry: &Registry, alloc: Global, name: &str) -> Result<Option<Pk
     Ok(registry.number(&name))
 }
 
+fn room_serves_an_equal_command_alone_in(
+    rt: &impl Abort,
+    alloc: Global,
+    registry: &mut Registry,
+) -> Result<(), Refusal> {
+    make_room(registry, alloc, "a", "b ^1; c *")?;
+    // Another command comes between, and numbers other names.
+    assert_eq!(rt; publish(registry, alloc, "d", "c *; e *")?, 0);
+    assert_eq!(rt; publish(registry, alloc, "a", "b ^1; c *")?, 0);
+    for (pkg, name) in [(1, "d"), (2, "c"), (3, "e"), (4, "a"), (5, "b")] {
+        assert_eq!(rt; number_of(registry, alloc, name)?, Some(pkg));
+    }
+    Ok(())
+}
+
 #[test]
 fn room_serves_an_equal_command_alone(rt: HostRuntime) -> Result<(), Refusal> {
     let mut registry = Registry::new(rt.alloc());
-    make_room(&mut registry, rt.alloc(), "a", "b ^1; c *")?;
-    // Another command comes between, and numbers other names.
-    assert_eq!(rt; publish(&mut registry, rt.alloc(), "d", "c *; e *")?, 0);
-    assert_eq!(rt; publish(&mut registry, rt.alloc(), "a", "b ^1; c *")?, 0);
-    for (pkg, name) in [(1, "d"), (2, "c"), (3, "e"), (4, "a"), (5, "b")] {
-        assert_eq!(rt; number_of(&registry, rt.alloc(), name)?, Some(pkg));
-    }
-    Ok(())
+    room_serves_an_equal_command_alone_in(&rt, rt.alloc(), &mut registry)
 }
 
 /// Whether an equal command is answered: a publication of version 1.0.0 with so many needs.
@@ -451,12 +526,20 @@ fn shares(
     }
 }
 
+fn an_equal_command_is_shared_with_room_or_without_in(
+    rt: &impl Abort,
+    alloc: Global,
+    registry: &mut Registry,
+) -> Result<(), Refusal> {
+    make_room(registry, alloc, "a", "b ^1; c *")?;
+    assert!(rt; shares(registry, alloc, "a", "b ^1; c *", 2)?);
+    assert!(rt; shares(registry, alloc, "a", "b ^1", 1)?);
+    assert!(rt; shares(registry, alloc, "d", "", 0)?);
+    Ok(())
+}
+
 #[test]
 fn an_equal_command_is_shared_with_room_or_without(rt: HostRuntime) -> Result<(), Refusal> {
     let mut registry = Registry::new(rt.alloc());
-    make_room(&mut registry, rt.alloc(), "a", "b ^1; c *")?;
-    assert!(rt; shares(&registry, rt.alloc(), "a", "b ^1; c *", 2)?);
-    assert!(rt; shares(&registry, rt.alloc(), "a", "b ^1", 1)?);
-    assert!(rt; shares(&registry, rt.alloc(), "d", "", 0)?);
-    Ok(())
+    an_equal_command_is_shared_with_room_or_without_in(&rt, rt.alloc(), &mut registry)
 }

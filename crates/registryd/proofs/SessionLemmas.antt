@@ -1,5 +1,5 @@
 -- Lawful replies to one line.
-use Rattle.std.proofs.Common.{◌≡◌, ◌⊎◌, ℕ, ◌<◌, ◌≤◌, true, false, List, [], ◌∷◌, length, refl, sym, subst, ◌∙◌, inl, inr, rules, Result, Ok, Err, MatchResult, nat_le}
+use Rattle.std.proofs.Common.{◌≡◌, ◌⊎◌, ℕ, ◌<◌, ◌≤◌, true, false, List, [], ◌∷◌, length, refl, sym, subst, ◌∙◌, inl, inr, rules, Option, Result, Ok, Err, MatchResult, nat_le}
 use Rattle.versions.specs.Refusals.{Refuses}
 use Rattle.versions.specs.declared.refusal.Refusal.{Refusal}
 use Rattle.versions.specs.declared.refusal.Refusal.TheVariants.{BadName, BadVersion, BadRequirement, RepeatedDependency, SelfDependency, TooManyDependencies, AlreadyPublished, TooManyVersions, TooManyPackages, JournalFull, NoSuchVersion, AlreadyYanked, NotYanked, Stale, Known, StoreFull, Stray, NoMemory, BadLine, TooLong, NotADerivation, BudgetSpent}
@@ -75,9 +75,9 @@ pub lawful_listed : (old : List Change) (line : List ℕ) (rows : List Row) → 
 lawful_listed old line rows short said is = as_asked old line _ old _ (asked-short line short ∙ said) ((rows, is, refl), refl)
 
 -- a request that was answered, or for which no memory was there
-pub lawful_resolved : (old : List Change) (line : List ℕ) (wanted : Wanted) (reply : Reply) → length line ≤ line_limit → request_of line ≡ Ok (resolve wanted)
-    → IsRefused NoMemory old reply old ⊎ Answers old (resolve wanted) reply old → IsLawful old line reply old
-lawful_resolved old line wanted reply short said answered = elim answered [
+pub lawful_resolved : (old : List Change) (line : List ℕ) (wanted : Wanted) (budget : Option ℕ) (reply : Reply) → length line ≤ line_limit → request_of line ≡ Ok (resolve wanted budget)
+    → IsRefused NoMemory old reply old ⊎ Answers old (resolve wanted budget) reply old → IsLawful old line reply old
+lawful_resolved old line wanted budget reply short said answered = elim answered [
   | inl memory ↦ inl memory
   | inr answers ↦ as_asked old line reply old _ (asked-short line short ∙ said) answers
 ]

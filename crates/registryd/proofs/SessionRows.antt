@@ -3,9 +3,10 @@ use Rattle.std.proofs.Common.{◌≡◌, ◌∙◌, ◌||◌, ℕ, Bool, refl, s
 use Rattle.std.proofs.lemmas.Bool.{cases_Bool, eqb-true}
 use Rattle.std.proofs.lemmas.Option.{none-some, same_Some}
 use Rattle.std.specs.List.{IsDistinct}
-use Rattle.std.specs.Prelude.{Option, Some, Contains}
+use Rattle.std.specs.Prelude.{Option, None, Some, Contains}
 use Rattle.versions.proofs.OnLiterals.{semver_on_literals}
 use Rattle.versions.specs.Words.{Text, meets, parts_of_text, precedence, same_precedence}
+use Rattle.versions.specs.declared.refusal.Refusal.TheVariants.{BudgetSpent}
 use Rattle.registry.specs.Registry.{Packages, needs_of, number_of, package_at, publication_at}
 use Rattle.registry.specs.Requests.{Wanted, is_allowed}
 use Rattle.registry.specs.Selections.{Choices, IsMet, IsReached, Meets, needed}
@@ -17,17 +18,17 @@ use Rattle.terms.specs.Incompats.{joined, true_at}
 use Rattle.terms.specs.Terms.{is_in}
 use Rattle.terms.specs.declared.term.Term.TheVariants.{In, NotIn}
 use Rattle.derivations.proofs.Soundness.{NoSelection-IsDerivation}
-use Rattle.derivations.specs.Derivations.{FollowsOn, IsDerivation, IsDerivedBy, Yields}
+use Rattle.derivations.specs.Derivations.{FollowsOn, IsDerivation, IsDerivedBy, NoSelection, Yields}
 use Rattle.derivations.specs.Facts.{need_terms}
 use Rattle.derivations.specs.declared.facts.Cause.TheVariants.{Need, Root}
 use Rattle.derivations.specs.declared.line.Line.{Line}
 use Rattle.walk.specs.Choosing.{choice_of}
 use Rattle.solver.specs.Outcomes.{Tells}
-use Rattle.wire.specs.Replies.{Reply, no_selection, selected}
+use Rattle.wire.specs.Replies.{Reply, no_selection, refused, selected}
 use Rattle.wire.specs.Shapes.{resolve}
-use Rattle.registryd.specs.Outcomes.{IsAnswer, IsRefuted}
+use Rattle.registryd.specs.Outcomes.{IsAnswer, IsRefuted, NonePreferred}
 use Rattle.registryd.specs.Replay.{at}
-use Rattle.registryd.specs.Session.{Answers, TellsNone}
+use Rattle.registryd.specs.Session.{Answers, TellsNone, TellsSpent}
 
 -- ---- `a` 1.0.0 is published, and `a` with `^1` is asked for
 
@@ -128,10 +129,10 @@ a-tells = record {
   told = refl;
 }
 
--- the reply that lists `a` 1.0.0 is lawful
-listed-a : Answers one (resolve needs_a) (record { revision = 1; body = selected a_selected }) one
+-- the reply that lists `a` 1.0.0 is lawful, under every budget and without one
+listed-a : (budget : Option ℕ) → Answers one (resolve needs_a budget) (record { revision = 1; body = selected a_selected }) one
 unfolding one
-listed-a =
+listed-a budget =
     let answer : IsAnswer a_alone needs_a a_selected = record {
       lawful = record { selection = first; meets = first-meets; tells = a-tells };
       preferred = λ s is meets. subst (λ (x : Choices). Tells a_alone x a_selected) (λ i p. preferred-once a_alone needs_a first s first-preferred is p i) a-tells;
@@ -141,6 +142,12 @@ listed-a =
 -- and no reply that none meets the request is
 told-none : (reply : Reply) → TellsNone one needs_a reply → ⊥
 told-none reply told = told.0.none first (subst (λ packages. Meets packages needs_a first) (sym at-one) first-meets)
+
+-- nor one that a budget is spent
+told-spent : (budget : Option ℕ) (reply : Reply) → TellsSpent one needs_a budget reply → ⊥
+told-spent None reply told = told
+told-spent (Some budget) reply told =
+    told.0 first (subst (λ packages. IsPreferredSelection packages needs_a first) (sym at-one) first-preferred) (subst (λ packages. Meets packages needs_a first) (sym at-one) first-meets)
 
 -- ---- nothing is published, and `zed` is asked for
 
@@ -187,12 +194,19 @@ zed-derivation =
     } in
     record { derived = (derived, tt); conclusion = []; last = refl; ended = inl refl }
 
-refused-zed : Answers [] (resolve needs_zed) (record { revision = 0; body = no_selection }) []
-refused-zed = (
-  inr (
-    subst (λ packages. IsRefuted packages needs_zed) (sym at-none)
-        (record { lines = end ∷ []; derivation = zed-derivation; none = NoSelection-IsDerivation [] needs_zed (end ∷ []) zed-derivation }),
-    refl,
-  ),
+zed-none : NoSelection [] needs_zed
+zed-none = NoSelection-IsDerivation [] needs_zed (end ∷ []) zed-derivation
+
+refused-zed : (budget : Option ℕ) → Answers [] (resolve needs_zed budget) (record { revision = 0; body = no_selection }) []
+refused-zed budget = (
+  inr (inl (subst (λ packages. IsRefuted packages needs_zed) (sym at-none) (record { lines = end ∷ []; derivation = zed-derivation; none = zed-none }), refl)),
   refl,
 )
+
+-- under a budget it may be told that this is spent
+spent-zed : Answers [] (resolve needs_zed (Some 0)) (record { revision = 0; body = refused BudgetSpent }) []
+spent-zed = (inr (inr (subst (λ packages. NonePreferred packages needs_zed) (sym at-none) (λ s is meets. zed-none s meets), refl)), refl)
+
+-- and without one it may not
+unspent-zed : (reply : Reply) → TellsSpent [] needs_zed None reply → ⊥
+unspent-zed reply told = told

@@ -3,7 +3,7 @@ use Rattle.std.specs.Prelude.{◌≡◌, ◌⊎◌, ◌≤◌, ℕ, List, [], �
 use Rattle.std.specs.Io.KnownBytes.{Appends, Consumes, IsAtEnd}
 use Rattle.versions.specs.Refusals.{Refuses, number_of}
 use Rattle.versions.specs.declared.refusal.Refusal.{Refusal}
-use Rattle.versions.specs.declared.refusal.Refusal.TheVariants.{BadLine, JournalFull, NoMemory}
+use Rattle.versions.specs.declared.refusal.Refusal.TheVariants.{BadLine, BudgetSpent, JournalFull, NoMemory}
 use Rattle.versions.specs.Words.{Text}
 use Rattle.registry.specs.Requests.{Wanted}
 use Rattle.registry.specs.Step.{Change, refusal_of}
@@ -14,7 +14,7 @@ use Rattle.wire.specs.Shapes.{Request, command, listing, resolve}
 use Rattle.wire.specs.Requests.{request_of}
 use Rattle.wire.specs.Replies.{Body, Reply, accepted, refused, listed, no_selection, replies_text, selected}
 use Rattle.wire.specs.Listings.{IsListing, Row}
-use Rattle.registryd.specs.Outcomes.{IsAnswer, IsRefuted}
+use Rattle.registryd.specs.Outcomes.{IsAnswer, IsRefuted, NonePreferred}
 use Rattle.registryd.specs.Replay.{at, most_commands}
 
 -- the lower one of a command's refusal and `JournalFull`
@@ -59,12 +59,17 @@ TellsSelection changes wanted reply = (list : List (Text × Text)) × IsAnswer (
 abbrev pub TellsNone : List Change → Wanted → Reply → Type 0
 TellsNone changes wanted reply = IsRefuted (at changes) wanted × (reply ≡ reply_after changes no_selection)
 
+-- The reply tells that the budget of the line is spent. So is no line told that has none, and none whose preferred selection meets what is wanted.
+abbrev pub TellsSpent : List Change → Wanted → Option ℕ → Reply → Type 0
+TellsSpent changes wanted None reply = ⊥
+TellsSpent changes wanted (Some budget) reply = NonePreferred (at changes) wanted × (reply ≡ reply_after changes (refused BudgetSpent))
+
 -- A request may be answered so, and leaves these commands.
 abbrev pub Answers : List Change → Request → Reply → List Change → Type 0
 Answers old (command change) reply new = MatchResult (with_command old change)
     (λ changes. (reply ≡ reply_after changes accepted) × (new ≡ changes))
     (λ refusal. IsRefused refusal old reply new)
-Answers old (resolve wanted) reply new = (TellsSelection old wanted reply ⊎ TellsNone old wanted reply) × (new ≡ old)
+Answers old (resolve wanted budget) reply new = (TellsSelection old wanted reply ⊎ (TellsNone old wanted reply ⊎ TellsSpent old wanted budget reply)) × (new ≡ old)
 Answers old listing reply new = ((rows : List Row) × IsListing (at old) rows × (reply ≡ reply_after old (listed rows))) × (new ≡ old)
 
 -- A line may be answered so: for want of memory, or as what it asks is.

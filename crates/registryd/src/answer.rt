@@ -1,18 +1,22 @@
 //! The reply to one line.
-ghost use Rattle.std.specs.Prelude.{◌≡◌, ◌⊎◌, ℕ, ◌≤◌, List, [], length};
+ghost use Rattle.std.specs.Prelude.{◌≡◌, ◌⊎◌, ℕ, ◌≤◌, List, [], length, IfErr, IfOk};
 ghost use Rattle.versions.specs.declared.refusal.Refusal.TheVariants.{NoMemory};
+ghost use Rattle.registry.specs.Preference.{IsPreferredSelection};
+ghost use Rattle.registry.specs.Selections.{Choices, Meets};
+ghost use Rattle.solver.specs.Outcomes as outcomes;
 ghost use Rattle.lines.specs.Texts.{Puts};
 ghost use Rattle.lines.specs.Unread.{IsFound, line_limit};
 ghost use Rattle.wire.specs.Replied.{body_of};
 ghost use Rattle.wire.specs.Replies.{Reply, reply_text};
 ghost use Rattle.wire.specs.Shapes.{resolve};
+ghost use Rattle.registryd.specs.Outcomes.{MayStop};
 ghost use Rattle.registryd.specs.Session.{Answers, IsLawful, IsRefused};
 
 use crate::served::Served;
 use derivations::Store;
 use lines::{LineBuffer, Next, Outbox};
-use registry::Request;
-use solver::{Outcome, solve};
+use registry::{Registry, Request};
+use solver::{Outcome, solve, solve_within};
 use std::alloc::Global;
 use std::io;
 use std::io::Write;
@@ -62,7 +66,9 @@ fn reply_to<W: Write>(
             Ok(()) => put_reply(outbox, writer, served.revision(), Body::Accepted),
             Err(e) => put_reply(outbox, writer, served.revision(), Body::Refusal(e)),
         },
-        Ok(Asked::Resolve(request)) => reply_to_request(alloc, served, outbox, writer, &request),
+        Ok(Asked::Resolve { request, budget }) => {
+            reply_to_request(alloc, served, outbox, writer, &request, budget)
+        }
         Ok(Asked::Listing) => match Listing::new(alloc, served.registry()) {
             Ok(listing) => put_reply(outbox, writer, served.revision(), Body::Listing(listing)),
             Err(e) => put_reply(outbox, writer, served.revision(), Body::Refusal(e)),
@@ -78,19 +84,38 @@ fn reply_to_request<W: Write>(
     outbox: &mut Outbox,
     writer: &mut W,
     request: &Request,
+    budget: Option<u32>,
 ) -> io::Result<()>
     ensures { (reply : Reply)
-        × (IsRefused NoMemory served.now reply served.now ⊎ Answers served.now (resolve request.now) reply served.now)
+        × (IsRefused NoMemory served.now reply served.now ⊎ Answers served.now (resolve request.now budget) reply served.now)
         × Puts (W.contents writer.old) (W.contents writer.new) outbox.old outbox.new result (reply_text reply) }
 {
-    let store = Store::new(alloc);
     let revision = served.revision();
-    match solve(alloc, served.registry(), request, &store) {
+    match answer_of(alloc, served.registry(), request, budget) {
         Ok(Outcome::Selection(list, _)) => {
             put_reply(outbox, writer, revision, Body::Selection(list.as_slice()))
         }
         Ok(Outcome::Refused(_, _)) => put_reply(outbox, writer, revision, Body::NoSelection),
         Err(e) => put_reply(outbox, writer, revision, Body::Refusal(e)),
+    }
+}
+
+// What the solver answers to a request, under its budget where it has one.
+fn answer_of(
+    alloc: Global,
+    registry: &Registry,
+    request: &Request,
+    budget: Option<u32>,
+) -> Result<Outcome, Refusal>
+    ensures lawful { IfOk result (outcomes.IsLawful registry.now.packages request.now) }
+    ensures preferred { (s : Choices) → IsPreferredSelection registry.now.packages request.now s → Meets registry.now.packages request.now s
+        → IfOk result (outcomes.Answers registry.now.packages s) }
+    ensures only { IfErr result (MayStop registry.now.packages request.now budget) }
+{
+    let store = Store::new(alloc);
+    match budget {
+        Some(budget) => Ok(solve_within(alloc, registry, request, &store, budget)?),
+        None => Ok(solve(alloc, registry, request, &store)?),
     }
 }
 

@@ -1,11 +1,11 @@
 -- Matching sets: computed afresh, and kept up at a publication.
 use Rattle.std.proofs.Common.{◌≡◌, ◌∙◌, ◌<◌, ◌≤◌, ◌+◌, ◌++◌, ◌∷◌, [], ℕ, List, length, get_or, set, arith, ap, subst, sym, inl, inr, true, false, ◌||◌, ◌&&◌, ◌≢◌, length-append, get_or-set_same, get_or-set_other}
-use Rattle.std.specs.Prelude.{nat_eq, nat_lt, position, Some}
+use Rattle.std.specs.Prelude.{nat_eq, nat_lt, position, slice_get, Some}
 use Rattle.std.specs.Str.{bytes_eq}
 use Rattle.std.proofs.lemmas.List.Quantifiers.{position-Some}
 use Rattle.versions.specs.NameLaws.{same_name}
 use Rattle.std.proofs.lemmas.Bool.{cases_lt}
-use Rattle.std.proofs.lemmas.Option.{slice_get-get_or, slice_get_past}
+use Rattle.std.proofs.lemmas.Option.{get_or_from_slice_get, slice_get-get_or, slice_get_past, slice_get_within}
 use Rattle.std.proofs.lemmas.List.{get_or-map, get_or_append_left, get_or_default, length-map, length-set}
 use Rattle.std.proofs.Math.Bool.{and-false, and-true, or-false, or-true}
 use Rattle.std.proofs.Math.Seq.{get_or-append_seam}
@@ -188,3 +188,13 @@ known-matching versions needs sets need i set m at is =
     let P : Text → Type 0 = λ t. IsMatching versions t (get_or sets i set).ordinals in
     let Q : Growing → Type 0 = λ s. IsMatching versions need s.ordinals in
     subst Q (sym is) (subst P (sym named) (m.exact i [] set p.0))
+
+-- and so is the set at a place where the requirement stands
+pub placed-matching : (versions needs : List Text) (sets : List Growing) (need : Text) (i : ℕ) (set : Growing) → AreMatching versions needs sets
+    → slice_get needs i ≡ Some need → set ≡ get_or sets i set → IsMatching versions need set.ordinals
+placed-matching versions needs sets need i set m at is =
+    let within = slice_get_within needs i need at in
+    let named : get_or needs i [] ≡ need = get_or_from_slice_get needs i need [] at in
+    let P : Text → Type 0 = λ t. IsMatching versions t (get_or sets i set).ordinals in
+    let Q : Growing → Type 0 = λ s. IsMatching versions need s.ordinals in
+    subst Q (sym is) (subst P named (m.exact i [] set within))

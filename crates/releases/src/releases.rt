@@ -108,6 +108,18 @@ impl Releases {
         }
     }
 
+    /// As [`Releases::matching`], of a requirement that may be named at this place. Where it is, no
+    /// look-up is made: it costs a comparison of two texts, and takes no memory.
+    pub fn matching_at(&self, need: &Need, place: usize) -> Result<Matching<'_>, AllocError>
+        ensures members { IfOk result (λ m. (k : ℕ) → has (ordinals_of m) k ≡ meets_at (versions_of self.now.releases) need.now k) }
+        ensures known { is_named self.now.needs need.now ≡ true → IsOk result }
+    {
+        match self.needs.get_index(place) {
+            Some(named) if *named == *need => Ok(Matching::Known(&self.sets[place])),
+            _ => self.matching(need),
+        }
+    }
+
     /// The release of highest precedence in a set. No versions are compared: it costs a look for each
     /// release of higher precedence, and for the one that is found.
     pub fn highest(&self, set: &VSet) -> Option<u32>
@@ -163,34 +175,39 @@ impl Releases {
             .unwrap();
     }
 
-    /// The equal requirement whose matching set is kept, so that equal ones can share its text.
-    pub fn named(&self, need: &Need) -> Option<&Need>
-        ensures same { IfSome result (λ kept. kept.now ≡ need.now) }
+    /// The equal requirement whose matching set is kept, so that equal ones can share its text, and its
+    /// place, for [`Releases::matching_at`]. A requirement stays at its place.
+    pub fn named(&self, need: &Need) -> Option<(usize, &Need)>
+        ensures same { IfSome result (λ kept. kept.1.now ≡ need.now) }
         ensures there { is_some result ≡ is_named self.now.needs need.now }
+        ensures place { IfSome result (λ kept. slice_get self.now.needs kept.0 ≡ Some need.now) }
     {
-        self.needs.get(need)
+        self.needs.get_full(need)
     }
 
     /// Names a requirement on the package: its matching set is kept from now on. It costs one test a
     /// release where the requirement is new, else a look-up. No answer but the speed of
     /// [`Releases::matching`] shows it, so it can be called ahead of the publication that names it.
-    pub fn name_need(&mut self, need: &Need) -> Result<(), AllocError>
+    /// Answers the place of the requirement.
+    pub fn name_need(&mut self, need: &Need) -> Result<usize, AllocError>
         ensures releases { self.new.releases ≡ self.old.releases }
         ensures ok { OnOk result (self.new.needs ≡ with_need self.old.needs need.now) }
         ensures unchanged { OnErr result (self.new.needs ≡ self.old.needs) }
+        ensures place { IfOk result (λ place. slice_get self.new.needs place ≡ Some need.now) }
         ensures succeeds { is_named self.old.needs need.now ≡ true → IsOk result }
     {
-        if self.needs.contains(need) {
-            return Ok(());
+        if let Some(place) = self.needs.get_index_of(need) {
+            return Ok(place);
         }
         let set = computed(self.alloc, &self.releases, need)?;
         self.sets.reserve(1)?;
         let Ok(named) = need.copy() else {
             return Err(AllocError);
         };
+        let place = self.needs.len();
         self.needs.insert(named)?;
         self.sets.push(set).unwrap();
-        Ok(())
+        Ok(place)
     }
 
     /// Yanks a release. Takes no memory.

@@ -136,7 +136,7 @@ fn a_named_requirement_is_kept_up(rt: HostRuntime) -> Result<(), Fail> {
 
 fn is_named(releases: &Releases, need: &Need) -> bool {
     match releases.named(need) {
-        Some(kept) => kept.text() == need.text(),
+        Some((_, kept)) => kept.text() == need.text(),
         None => false,
     }
 }

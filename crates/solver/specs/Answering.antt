@@ -16,7 +16,8 @@ use Rattle.solver.specs.declared.search.Turned.TheVariants as turned
 use Rattle.derivations.specs.declared.cutting.Known.{Known}
 use Rattle.solver.specs.declared.search.Ended.{Ended}
 use Rattle.solver.specs.declared.search.Ended.TheVariants as ended
-use Rattle.solver.specs.Searching.{ActsBy, Refuses}
+use Rattle.solver.specs.Lines.{AreLines}
+use Rattle.solver.specs.Searching.{ActsBy, Refuses, Searches}
 
 -- the terms but the one on the target are satisfied, and that one is true of none, and of what is decided of the target
 pub record IsBlame (made : List Assignment) (terms : Terms) (target : ℕ) : Type 0 where
@@ -29,12 +30,12 @@ pub record IsAnswer (task : Task) (list : List (ℕ × ℕ)) : Type 0 where
   pub meets : Meets task.registry.now.packages task.request.now (choice_of list)
   pub once : IsDistinct nat_eq (keys_of list)
 
--- the search went on or was refused, or ended with a selection
+-- the search went on or was refused, or ended with a selection and is still one
 abbrev pub TurnsBy : Task → Search → Search → Turned → Type 0
 TurnsBy task old new (turned.Acted a) = ActsBy task old new ⊥ a
-TurnsBy task old new (turned.Selected list) = IsAnswer task list.items
+TurnsBy task old new (turned.Selected list) = Searches task new × IsAnswer task list.items
 
--- a selection that meets the request, or the place of a line that shows that none does
+-- a selection that meets the request, with lawful lines, or the place of a line that shows that none does
 abbrev pub EndsBy : Task → List Known → Ended → Type 0
-EndsBy task known (ended.Selected list) = IsAnswer task list.items
+EndsBy task known (ended.Selected list) = AreLines task.registry.now.packages task.request.now known × IsAnswer task list.items
 EndsBy task known (ended.Refused end) = Refuses task known end

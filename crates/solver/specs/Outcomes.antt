@@ -1,5 +1,5 @@
 -- Outcomes: a selection as it is told, or why there is none.
-use Rattle.std.specs.Prelude.{◌≡◌, ℕ, map, List, [], Option, None, Some, IsSorted, nat_eq}
+use Rattle.std.specs.Prelude.{◌≡◌, ℕ, map, All, List, [], Option, None, Some, IsSorted, nat_eq}
 use Rattle.std.specs.List.{IsDistinct}
 use Rattle.std.specs.Map.{keys_of}
 use Rattle.versions.specs.Words.{Text}
@@ -7,6 +7,7 @@ use Rattle.registry.specs.Registry.{Packages, Publication, publication_at}
 use Rattle.registry.specs.Requests.{Wanted}
 use Rattle.registry.specs.Selections.{Choices, Meets}
 use Rattle.derivations.specs.Derivations.{IsDerivation}
+use Rattle.derivations.specs.Learning.{AllStand}
 use Rattle.walk.specs.Choosing.{choice_of}
 use Rattle.walk.specs.Names.{by_name, name_of}
 use Rattle.solver.specs.declared.solving.Outcome.{Outcome}
@@ -34,10 +35,10 @@ pub record TellsOne (packages : Packages) (wanted : Wanted) (list : List (Text �
   pub meets : Meets packages wanted selection
   pub tells : Tells packages selection list
 
--- a selection that meets the request, or a derivation, so that none does
+-- a selection that meets the request, or a derivation, so that none does; what is offered to be learnt stands
 abbrev pub IsLawful : Packages → Wanted → Outcome → Type 0
-IsLawful packages wanted (outcome.Selection list offered) = TellsOne packages wanted list.items
-IsLawful packages wanted (outcome.Refused derivation offered) = IsDerivation packages wanted derivation
+IsLawful packages wanted (outcome.Selection list offered) = TellsOne packages wanted list.items × All (AllStand packages) offered.items
+IsLawful packages wanted (outcome.Refused derivation offered) = IsDerivation packages wanted derivation × All (AllStand packages) offered.items
 
 -- the outcome is this selection
 abbrev pub Answers : Packages → Choices → Outcome → Type 0

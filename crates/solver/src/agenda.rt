@@ -7,76 +7,143 @@ ghost use Rattle.std.specs.Prelude.{◌≡◌, IfErr};
 ghost use Rattle.versions.specs.declared.refusal.Refusal.TheVariants.{NoMemory};
 
 use crate::acting::Acted;
+use crate::queue::Queue;
+use crate::spent::Spent;
+use crate::spots::Spots;
+use crate::task::{ROOM, Task};
 use derivations::Known;
-use indexmap::{IndexMap, IndexSet};
+use indexmap::IndexMap;
+use partial::Partial;
 use std::alloc::Global;
-use terms::Pkg;
-use versions::{Need, Refusal};
-
-/// A dependency of versions of a package: the package, its target and the requirement.
-type Dependency = (Pkg, Pkg, Need);
+use terms::{Pkg, Term};
+use versions::Refusal;
 
 /// Which lines name a package, which packages changed, and which dependencies are known.
 #[derive(Drop)]
 pub(crate) struct Agenda {
-    /// The places of the lines that name a package.
-    pub lines: IndexMap<Pkg, Vec<usize>>,
+    /// What is kept of each package.
+    spots: Spots,
     /// The packages of which something was settled since their lines were looked at.
     pub changed: Vec<Pkg>,
-    /// The dependencies that stand among the lines.
-    known: IndexSet<Dependency>,
+    /// The lines that are looked at now, by their places.
+    pub ripe: Vec<usize>,
+    /// The versions of a package whose dependency on another one stands among the lines, by the numbers
+    /// of both: a version has at most one.
+    covered: IndexMap<(Pkg, Pkg), Term>,
     /// The places of the lines that conflicts led to.
     pub learnt: Vec<usize>,
-}
-
-/// Puts a place behind those of a package.
-fn put_place(
-    alloc: Global,
-    lines: &mut IndexMap<Pkg, Vec<usize>>,
-    pkg: Pkg,
-    at: usize,
-) -> Result<(), Refusal>
-    ensures { IfErr result (λ e. e ≡ NoMemory) }
-{
-    if let Some(places) = lines.get_mut(&pkg) {
-        places.push(at)?;
-        return Ok(());
-    }
-    let mut places = Vec::new(alloc);
-    places.push(at)?;
-    lines.insert(pkg, places)?;
-    Ok(())
+    /// The packages that are to be decided.
+    queue: Queue,
+    /// The lines by which something was derived since a package was last looked at, by their places.
+    pub used: Vec<usize>,
+    /// Lines that are not looked at until the search goes back.
+    spent: Spent,
 }
 
 impl Agenda {
-    pub fn new(alloc: Global) -> Agenda {
-        Agenda {
-            lines: IndexMap::new(alloc),
-            changed: Vec::new(alloc),
-            known: IndexSet::new(alloc),
+    pub fn new(alloc: Global) -> Result<Agenda, Refusal>
+        ensures { IfErr result (λ e. e ≡ NoMemory) }
+    {
+        Ok(Agenda {
+            spots: Spots::new(alloc)?,
+            changed: Vec::with_capacity(alloc, ROOM)?,
+            ripe: Vec::with_capacity(alloc, ROOM)?,
+            covered: IndexMap::with_capacity(alloc, ROOM)?,
             learnt: Vec::new(alloc),
-        }
+            queue: Queue::new(alloc)?,
+            used: Vec::new(alloc),
+            spent: Spent::new(alloc),
+        })
     }
 
     /// Notes the line at a place with each package that it names.
     pub fn note(&mut self, alloc: Global, known: &[Known], at: usize) -> Result<(), Refusal>
         ensures { IfErr result (λ e. e ≡ NoMemory) }
     {
-        if at >= known.len() {
-            return Ok(());
+        self.spots.note(alloc, known, at)
+    }
+
+    /// Whether the dependency of a version on another package is not among the lines.
+    pub fn is_new(&self, pkg: Pkg, ordinal: u32, target: Pkg) -> bool {
+        match self.covered.get(&(pkg, target)) {
+            None => true,
+            Some(versions) => !versions.allows(ordinal),
         }
-        for entry in known[at].conclusion.terms() {
-            put_place(alloc, &mut self.lines, entry.0, at)?;
+    }
+
+    /// Notes the line at a place, which is for a dependency of versions of a package on another one.
+    pub fn note_dependency(
+        &mut self,
+        alloc: Global,
+        known: &[Known],
+        at: usize,
+        pkg: Pkg,
+        target: Pkg,
+    ) -> Result<(), Refusal>
+        ensures { IfErr result (λ e. e ≡ NoMemory) }
+    {
+        self.note(alloc, known, at)?;
+        if at < known.len() {
+            if let Some(versions) = known[at].conclusion.term_on(pkg) {
+                self.cover(alloc, (pkg, target), versions)?;
+            }
         }
         Ok(())
     }
 
-    /// Whether a dependency is not among the lines; it is taken to be from now on.
-    pub fn is_new(&mut self, pkg: Pkg, target: Pkg, need: &Need) -> Result<bool, Refusal>
+    /// Notes that the dependencies of these versions on a package stand among the lines.
+    fn cover(&mut self, alloc: Global, at: (Pkg, Pkg), versions: &Term) -> Result<(), Refusal>
         ensures { IfErr result (λ e. e ≡ NoMemory) }
     {
-        let added = self.known.insert((pkg, target, need.copy()?))?;
-        Ok(added)
+        match self.covered.get_mut(&at) {
+            Some(before) => *before = before.or(alloc, versions)?,
+            None => {
+                self.covered.insert(at, versions.copy(alloc)?)?;
+            }
+        }
+        Ok(())
+    }
+
+    /// Whether the dependencies of a version are not all among the lines; they are taken to be from now
+    /// on.
+    pub fn enters(&mut self, pkg: Pkg, ordinal: u32) -> Result<bool, Refusal>
+        ensures { IfErr result (λ e. e ≡ NoMemory) }
+    {
+        self.spots.enters(pkg, ordinal)
+    }
+
+    /// Looks at a package of which something was settled: puts it into the queue, if it is to be
+    /// decided, and gathers the lines from which something may follow now.
+    pub fn look(&mut self, task: &Task<'_>, partial: &Partial, pkg: Pkg) -> Result<(), Refusal>
+        ensures changed { self.new.changed.items ≡ self.old.changed.items }
+        ensures only { IfErr result (λ e. e ≡ NoMemory) }
+    {
+        self.ripe.clear();
+        self.put_by(partial.level())?;
+        self.queue.offer(task, &mut self.spots, partial, pkg)?;
+        match partial.said(pkg) {
+            None => Ok(()),
+            Some(said) => self.spots.gather(pkg, said, &self.spent, &mut self.ripe),
+        }
+    }
+
+    /// Puts the lines by that were used at this level.
+    fn put_by(&mut self, level: usize) -> Result<(), Refusal>
+        ensures changed { self.new.changed.items ≡ self.old.changed.items }
+        ensures only { IfErr result (λ e. e ≡ NoMemory) }
+    {
+        for at in self.used.as_slice() {
+            self.spent.add(*at, level)?;
+        }
+        self.used.clear();
+        Ok(())
+    }
+
+    /// The package that is to be decided next.
+    pub fn next(&mut self, task: &Task<'_>, partial: &Partial) -> Result<Option<Pkg>, Refusal>
+        ensures { IfErr result (λ e. e ≡ NoMemory) }
+    {
+        self.queue.next(task, &mut self.spots, partial)
     }
 
     /// Notes what changed by an attempt to go on, before which there were so many lines. After a
@@ -84,7 +151,8 @@ impl Agenda {
     /// Propagation").
     pub fn follow(
         &mut self,
-        alloc: Global,
+        task: &Task<'_>,
+        partial: &Partial,
         known: &[Known],
         before: usize,
         acted: Acted,
@@ -96,9 +164,13 @@ impl Agenda {
             Acted::WentBack(at, pkg) => {
                 self.changed.clear();
                 self.changed.push(pkg)?;
+                self.queue.go_back(task, &mut self.spots, partial)?;
+                self.used.clear();
+                self.spent.go_back(partial.level())?;
+                self.spent.add(at, partial.level())?;
                 if at >= before {
                     self.learnt.push(at)?;
-                    self.note(alloc, known, at)?;
+                    self.note(task.alloc, known, at)?;
                 }
             }
             Acted::Refused(_) | Acted::Neither => {}

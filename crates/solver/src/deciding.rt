@@ -12,7 +12,7 @@ ghost use Rattle.solver.specs.Searching.{ActsBy, MayRefuse, Searches};
 
 use crate::acting::{Acted, Search, act};
 use crate::agenda::Agenda;
-use crate::facts::{push_barred, push_dependency, version_count};
+use crate::facts::{push_barred, push_dependency};
 use crate::propagating::use_from;
 use crate::task::Task;
 use derivations::Known;
@@ -77,7 +77,7 @@ fn best_within(task: &Task<'_>, pkg: Pkg, said: &Term) -> Option<u32>
 }
 
 /// The version to decide for: the lock's, else the highest that is allowed and within a term.
-fn version_within(task: &Task<'_>, pkg: Pkg, said: &Term) -> Option<u32>
+pub(crate) fn version_within(task: &Task<'_>, pkg: Pkg, said: &Term) -> Option<u32>
     ensures some { IfSome result (IsWithin task.now pkg said.now) }
     ensures none { IfNone result (AreBarred task.now pkg said.now) }
 {
@@ -126,14 +126,32 @@ fn add_dependency(
     if target == pkg {
         return Ok(());
     }
-    if !agenda.is_new(pkg, target, &entry.1)? {
+    if !agenda.is_new(pkg, ordinal, target) {
         return Ok(());
     }
     let at = push_dependency(task, known, pkg, entry, target)?;
-    Ok(agenda.note(task.alloc, known, at)?)
+    Ok(agenda.note_dependency(task.alloc, known, at, pkg, target)?)
 }
 
-/// Puts the dependencies of a version behind the lines, all of them before it is decided.
+/// Puts the dependencies of a version behind the lines, all of them before it is first decided.
+fn enter(
+    task: &Task<'_>,
+    known: &mut Vec<Known>,
+    agenda: &mut Agenda,
+    pkg: Pkg,
+    ordinal: u32,
+) -> Result<(), Refusal>
+    requires { is_published task.now.registry.now.packages pkg ordinal ≡ true }
+    ensures extends { OnOk result (Extends task.now known.old.items known.new.items) }
+    ensures only { IfErr result (λ e. e ≡ Refusal.NoMemory) }
+{
+    if !agenda.enters(pkg, ordinal)? {
+        return Ok(());
+    }
+    Ok(add_dependencies(task, known, agenda, pkg, ordinal)?)
+}
+
+/// Puts the dependencies of a version behind the lines that are not there.
 fn add_dependencies(
     task: &Task<'_>,
     known: &mut Vec<Known>,
@@ -174,8 +192,8 @@ pub(crate) fn bar(
     Ok(act(task, search, at)?)
 }
 
-/// Decides for a version, unless one of its dependencies can be used now (doc/solver.md, "Decision
-/// Making").
+/// Decides for a version, unless one of its dependencies would be satisfied then, which is used instead
+/// (doc/solver.md, "Decision Making").
 fn decide_for(
     task: &Task<'_>,
     search: &mut Search,
@@ -191,8 +209,8 @@ fn decide_for(
     ensures only { IfErr result (MayRefuse task.now.budget) }
 {
     let before = search.known.as_slice().len();
-    add_dependencies(task, &mut search.known, agenda, pkg, ordinal)?;
-    match use_from(task, search, before)? {
+    enter(task, &mut search.known, agenda, pkg, ordinal)?;
+    match use_from(task, search, pkg, before)? {
         Acted::Neither => {
             search.partial.decide(pkg, ordinal)?;
             Ok(Acted::Derived(pkg))
@@ -223,20 +241,6 @@ pub(crate) fn decide_on(
 
 // ---- the package
 
-/// How many versions of a package are allowed and within what is said of it.
-fn count_choosable(task: &Task<'_>, partial: &Partial, pkg: Pkg) -> usize {
-    let Some(said) = partial.said(pkg) else {
-        return 0;
-    };
-    let mut count: usize = 0;
-    for ordinal in 0..version_count(task.registry, pkg) {
-        if is_choosable(task, pkg, said, ordinal) {
-            count = count.saturating_add(1);
-        }
-    }
-    count
-}
-
 /// Whether a package is numbered.
 fn is_package(task: &Task<'_>, pkg: Pkg) -> bool
     ensures { result ≡ true → IsSome (package_at task.now.registry.now.packages pkg) }
@@ -254,55 +258,43 @@ fn is_positive(term: &Term) -> bool
     }
 }
 
-/// Whether what is settled of a package says that it is selected.
-fn is_needed(partial: &Partial, pkg: Pkg) -> bool
-    ensures { result ≡ true → says partial.now pkg None ≡ false }
-{
-    match partial.said(pkg) {
-        None => false,
-        Some(said) => is_positive(said),
-    }
-}
-
-/// Whether a package has no decision.
+/// Whether a package is selected and has no decision, by one look at what is settled of it.
 fn is_open(partial: &Partial, pkg: Pkg) -> bool
-    ensures { result ≡ true → is_decided partial.now pkg ≡ false }
+    ensures undecided { result ≡ true → is_decided partial.now pkg ≡ false }
+    ensures needed { result ≡ true → says partial.now pkg None ≡ false }
 {
-    partial.decision(pkg).is_none()
+    match partial.settled(pkg) {
+        None => false,
+        Some(settled) => match settled.decision {
+            Some(_) => false,
+            None => is_positive(settled.said),
+        },
+    }
 }
 
 /// Whether a package is to be decided.
 fn is_to_decide(task: &Task<'_>, partial: &Partial, pkg: Pkg) -> bool
     ensures { result ≡ true → IsToDecide task.now partial.now pkg }
 {
-    is_package(task, pkg) && is_open(partial, pkg) && is_needed(partial, pkg)
-}
-
-/// Whether a package is to be decided before the best one so far: it has fewer versions to choose
-/// from, or as many and the lower number.
-fn is_better(count: usize, pkg: Pkg, best: Option<(Pkg, usize)>) -> bool {
-    match best {
-        None => true,
-        Some((other, least)) => count < least || count == least && pkg < other,
-    }
+    is_package(task, pkg) && is_open(partial, pkg)
 }
 
 /// The package to decide with the fewest versions to choose from, of several the one with the lowest
 /// number.
-pub(crate) fn choose_package(task: &Task<'_>, partial: &Partial) -> Option<Pkg>
-    ensures { IfSome result (IsToDecide task.now partial.now) }
+pub(crate) fn choose_package(
+    task: &Task<'_>,
+    partial: &Partial,
+    agenda: &mut Agenda,
+) -> Result<Option<Pkg>, Refusal>
+    ensures chosen { IfOk result (λ chosen. IfSome chosen (IsToDecide task.now partial.now)) }
+    ensures only { IfErr result (λ e. e ≡ Refusal.NoMemory) }
 {
-    let mut best: Option<(Pkg, usize)> = None;
-    for pkg in partial.pending() {
-        if is_to_decide(task, partial, *pkg) {
-            let count = count_choosable(task, partial, *pkg);
-            if is_better(count, *pkg, best) {
-                best = Some((*pkg, count));
-            }
-        }
-    }
-    match best {
-        None => None,
-        Some((pkg, _)) => Some(pkg),
+    let Some(pkg) = agenda.next(task, partial)? else {
+        return Ok(None);
+    };
+    if is_to_decide(task, partial, pkg) {
+        Ok(Some(pkg))
+    } else {
+        Ok(None)
     }
 }

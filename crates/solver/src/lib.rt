@@ -8,14 +8,18 @@ mod agenda;
 mod conflict;
 mod deciding;
 mod facts;
+mod greedy;
 mod lines;
 mod meeting;
 mod propagating;
+mod queue;
 mod search;
 mod solving;
+mod spent;
+mod spots;
 mod starting;
 mod task;
 #[cfg(test)]
 mod tests;
 
-pub use solving::{Outcome, solve};
+pub use solving::{Outcome, solve, solve_within};

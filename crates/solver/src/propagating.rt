@@ -1,20 +1,23 @@
 // Unit propagation (doc/solver.md, "Unit Propagation").
 
-ghost use Rattle.std.specs.Prelude.{◌≡◌, Ok, IfErr, IfOk};
+ghost use Rattle.std.specs.Prelude.{◌≡◌, ◌<◌, Ok, length, IfErr, IfOk};
 ghost use Rattle.solver.specs.Searching.{ActsBy, IsUnchanged, MayRefuse, Searches};
 
 use crate::acting::{Acted, Search, act};
 use crate::agenda::Agenda;
 use crate::task::Task;
+use partial::Standing;
 use terms::Pkg;
 use versions::Refusal;
 
 /// Uses the lines at these places, newest first, up to the first conflict. Answers the last
-/// derivation, if there was one.
+/// derivation, if there was one; the packages of those before it are changed. The lines by which
+/// something was derived are used.
 fn use_places(
     task: &Task<'_>,
     search: &mut Search,
     changed: &mut Vec<Pkg>,
+    used: &mut Vec<usize>,
     places: &[usize],
 ) -> Result<Acted, Refusal>
     requires { Searches task.now search.old }
@@ -29,7 +32,10 @@ fn use_places(
             match act(task, search, at)? {
                 Acted::Neither => {}
                 Acted::Derived(pkg) => {
-                    changed.push(pkg)?;
+                    used.push(at)?;
+                    if let Some(before) = last {
+                        changed.push(before)?;
+                    }
                     last = Some(pkg);
                 }
                 Acted::WentBack(line, pkg) => return Ok(Acted::WentBack(line, pkg)),
@@ -40,24 +46,6 @@ fn use_places(
     match last {
         None => Ok(Acted::Neither),
         Some(pkg) => Ok(Acted::Derived(pkg)),
-    }
-}
-
-/// Uses the lines that name a package.
-fn use_lines_on(
-    task: &Task<'_>,
-    search: &mut Search,
-    agenda: &mut Agenda,
-    pkg: Pkg,
-) -> Result<Acted, Refusal>
-    requires { Searches task.now search.old }
-    ensures acts { IfOk result (ActsBy task.now search.old search.new (IsUnchanged search.old search.new)) }
-    ensures left { result ≡ Ok Acted.Neither → agenda.new.changed.items ≡ agenda.old.changed.items }
-    ensures only { IfErr result (MayRefuse task.now.budget) }
-{
-    match agenda.lines.get(&pkg) {
-        None => Ok(Acted::Neither),
-        Some(places) => Ok(use_places(task, search, &mut agenda.changed, places)?),
     }
 }
 
@@ -75,7 +63,14 @@ pub(crate) fn propagate(
         let Some(pkg) = agenda.changed.pop() else {
             return Ok(Acted::Neither);
         };
-        match use_lines_on(task, search, agenda, pkg)? {
+        agenda.look(task, &search.partial, pkg)?;
+        match use_places(
+            task,
+            search,
+            &mut agenda.changed,
+            &mut agenda.used,
+            &agenda.ripe,
+        )? {
             Acted::Neither => {}
             Acted::Derived(derived) => return Ok(Acted::Derived(derived)),
             Acted::WentBack(line, derived) => return Ok(Acted::WentBack(line, derived)),
@@ -84,19 +79,32 @@ pub(crate) fn propagate(
     }
 }
 
-/// Uses the lines from a place on, up to the first that moves the search.
-pub(crate) fn use_from(task: &Task<'_>, search: &mut Search, from: usize) -> Result<Acted, Refusal>
+/// Uses the first line from a place on that a decision for a package would satisfy.
+pub(crate) fn use_from(
+    task: &Task<'_>,
+    search: &mut Search,
+    pkg: Pkg,
+    from: usize,
+) -> Result<Acted, Refusal>
     requires { Searches task.now search.old }
     ensures acts { IfOk result (ActsBy task.now search.old search.new (IsUnchanged search.old search.new)) }
     ensures only { IfErr result (MayRefuse task.now.budget) }
 {
     for at in from..search.known.as_slice().len() {
-        match act(task, search, at)? {
-            Acted::Neither => {}
-            Acted::Derived(pkg) => return Ok(Acted::Derived(pkg)),
-            Acted::WentBack(line, pkg) => return Ok(Acted::WentBack(line, pkg)),
-            Acted::Refused(end) => return Ok(Acted::Refused(end)),
+        if is_in_the_way(search, pkg, at) {
+            return Ok(act(task, search, at)?);
         }
     }
     Ok(Acted::Neither)
+}
+
+/// Whether a line is satisfied, or is once a version of a package is decided that it forbids.
+fn is_in_the_way(search: &Search, pkg: Pkg, at: usize) -> bool
+    requires { at < length search.now.known.items }
+{
+    match search.partial.relation(&search.known[at].conclusion) {
+        Standing::Satisfied => true,
+        Standing::Almost(left) => left == pkg,
+        Standing::Other => false,
+    }
 }

@@ -57,7 +57,7 @@ fn turn(task: &Task<'_>, search: &mut Search, agenda: &mut Agenda) -> Result<Tur
     ensures only { IfErr result (MayRefuse task.now.budget) }
 {
     match propagate(task, search, agenda)? {
-        Acted::Neither => match choose_package(task, &search.partial) {
+        Acted::Neither => match choose_package(task, &search.partial, agenda)? {
             Some(pkg) => Ok(Turned::Acted(decide_on(task, search, agenda, pkg)?)),
             None => Ok(finish(task, search, agenda)?),
         },
@@ -83,7 +83,13 @@ pub(crate) fn run(
         match turn(task, search, agenda)? {
             Turned::Selected(list) => return Ok(Ended::Selected(list)),
             Turned::Acted(Acted::Refused(end)) => return Ok(Ended::Refused(end)),
-            Turned::Acted(acted) => agenda.follow(task.alloc, &search.known, before, acted)?,
+            Turned::Acted(acted) => agenda.follow(
+                task,
+                &search.partial,
+                &search.known,
+                before,
+                acted,
+            )?,
         }
     }
 }

@@ -1,20 +1,22 @@
 // What a request is answered.
 
-ghost use Rattle.std.specs.Prelude.{◌≡◌, map, nat_eq, true, IfErr, IfOk};
+ghost use Rattle.std.specs.Prelude.{◌≡◌, ◌⊎◌, map, nat_eq, true, IfErr, IfOk};
 ghost use Rattle.std.specs.List.{IsDistinct};
 ghost use Rattle.std.specs.Map.{keys_of};
 ghost use Rattle.registry.specs.Preference.{IsPreferredSelection};
 ghost use Rattle.registry.specs.Registry.{is_published};
 ghost use Rattle.registry.specs.Selections.{Choices, IsSelection, Meets};
 ghost use Rattle.walk.specs.Choosing.{choice_of};
+ghost use Rattle.solver.specs.Answering.{EndsBy};
 ghost use Rattle.solver.specs.Outcomes.{told, Answers, IsLawful, Tells};
 ghost use Rattle.solver.specs.Searching.{MayRefuse};
 
 use crate::agenda::Agenda;
+use crate::greedy::search_greedily;
 use crate::search::{Ended, run};
 use crate::starting::start;
 use crate::task::Task;
-use derivations::{Derivation, Learnt, Store, cut};
+use derivations::{Derivation, Known, Learnt, Store, cut, offers};
 use registry::{Registry, Request};
 use std::alloc::Global;
 use terms::Pkg;
@@ -77,30 +79,77 @@ fn tell(
     Ok(named_all(alloc, registry, &list)?)
 }
 
-/// Searches for an answer.
+/// What a search that ended answers, with what it offers of the lines that conflicts led to.
+fn outcome_of(
+    task: &Task<'_>,
+    ended: Ended,
+    known: &[Known],
+    learnt: &[usize],
+) -> Result<Outcome, Refusal>
+    requires { EndsBy task.now known.now ended }
+    ensures lawful { IfOk result (IsLawful task.now.registry.now.packages task.now.request.now) }
+    ensures only { IfErr result (MayRefuse task.now.budget) }
+{
+    match ended {
+        Ended::Selected(list) => {
+            let pairs = tell(task.alloc, task.registry, list)?;
+            let offered = offers(task.alloc, known, learnt)?;
+            Ok(Outcome::Selection(pairs, offered))
+        }
+        Ended::Refused(end) => {
+            let derivation = cut(task.alloc, known, end)?;
+            let offered = offers(task.alloc, known, learnt)?;
+            Ok(Outcome::Refused(derivation, offered))
+        }
+    }
+}
+
+/// Searches for an answer, with going back. What conflicts led to is offered to be learnt.
+fn search_fully(task: &Task<'_>) -> Result<Outcome, Refusal>
+    ensures lawful { IfOk result (IsLawful task.now.registry.now.packages task.now.request.now) }
+    ensures only { IfErr result (MayRefuse task.now.budget) }
+{
+    let mut agenda = Agenda::new(task.alloc)?;
+    let mut search = start(task, &mut agenda)?;
+    let ended = run(task, &mut search, &mut agenda)?;
+    outcome_of(task, ended, &search.known, &agenda.learnt)
+}
+
+/// Answers a task by a search, first by the one that does not go back.
 fn search_for(task: &Task<'_>) -> Result<Outcome, Refusal>
     ensures lawful { IfOk result (IsLawful task.now.registry.now.packages task.now.request.now) }
     ensures only { IfErr result (MayRefuse task.now.budget) }
 {
-    let mut agenda = Agenda::new(task.alloc);
-    let mut search = start(task, &mut agenda)?;
-    match run(task, &mut search, &mut agenda)? {
-        Ended::Selected(list) => {
+    match search_greedily(task)? {
+        Some(list) => {
             let pairs = tell(task.alloc, task.registry, list)?;
             Ok(Outcome::Selection(pairs, Vec::new(task.alloc)))
         }
-        Ended::Refused(end) => {
-            let derivation = cut(task.alloc, &search.known, end)?;
-            Ok(Outcome::Refused(derivation, Vec::new(task.alloc)))
+        None => Ok(search_fully(task)?),
+    }
+}
+
+/// Answers a task: by the preferred selection where it serves, else by a search.
+fn answer(task: &Task<'_>) -> Result<Outcome, Refusal>
+    ensures lawful { IfOk result (IsLawful task.now.registry.now.packages task.now.request.now) }
+    ensures preferred { (s : Choices) → IsPreferredSelection task.now.registry.now.packages task.now.request.now s → Meets task.now.registry.now.packages task.now.request.now s → IfOk result (Answers task.now.registry.now.packages s) }
+    ensures unspent { (s : Choices) → IsPreferredSelection task.now.registry.now.packages task.now.request.now s → Meets task.now.registry.now.packages task.now.request.now s → IfErr result (λ e. e ≡ Refusal.NoMemory) }
+    ensures only { IfErr result (MayRefuse task.now.budget) }
+{
+    match reach_preferred(task.alloc, task.registry, task.request)? {
+        Reached::Selection(list) => {
+            let pairs = tell(task.alloc, task.registry, list)?;
+            Ok(Outcome::Selection(pairs, Vec::new(task.alloc)))
         }
+        Reached::Unmet(_, _) | Reached::NotAllowed(_, _) => Ok(search_for(task)?),
     }
 }
 
 /// Answers a request: a selection that meets it, or the derivation that none does. Where the
 /// preferred selection exists and meets the request, it is the answer, and nothing is searched.
 ///
-/// Nothing is taken from the store yet, and nothing is offered to be learnt: the second part of an
-/// outcome is an empty list.
+/// Nothing is taken from the store yet. What is offered to be learnt, the second part of an outcome,
+/// is what conflicts led to of a search that goes back, where it rests on premises alone.
 pub fn solve(
     alloc: Global,
     registry: &Registry,
@@ -111,19 +160,33 @@ pub fn solve(
     ensures preferred { (s : Choices) → IsPreferredSelection registry.now.packages request.now s → Meets registry.now.packages request.now s → IfOk result (Answers registry.now.packages s) }
     ensures only { IfErr result (λ e. e ≡ Refusal.NoMemory) }
 {
-    match reach_preferred(alloc, registry, request)? {
-        Reached::Selection(list) => {
-            let pairs = tell(alloc, registry, list)?;
-            Ok(Outcome::Selection(pairs, Vec::new(alloc)))
-        }
-        Reached::Unmet(_, _) | Reached::NotAllowed(_, _) => {
-            let task = Task {
-                alloc,
-                registry,
-                request,
-                budget: None,
-            };
-            Ok(search_for(&task)?)
-        }
-    }
+    answer(&Task {
+        alloc,
+        registry,
+        request,
+        budget: None,
+    })
+}
+
+/// As [`solve`], with at most so many conflicts: at the next one the answer is 22, and nothing is
+/// offered. Under every budget, 0 included, the preferred selection is the answer where it exists and
+/// meets the request.
+pub fn solve_within(
+    alloc: Global,
+    registry: &Registry,
+    request: &Request,
+    _store: &Store,
+    budget: u32,
+) -> Result<Outcome, Refusal>
+    ensures lawful { IfOk result (IsLawful registry.now.packages request.now) }
+    ensures preferred { (s : Choices) → IsPreferredSelection registry.now.packages request.now s → Meets registry.now.packages request.now s → IfOk result (Answers registry.now.packages s) }
+    ensures unspent { (s : Choices) → IsPreferredSelection registry.now.packages request.now s → Meets registry.now.packages request.now s → IfErr result (λ e. e ≡ Refusal.NoMemory) }
+    ensures only { IfErr result (λ e. (e ≡ Refusal.NoMemory) ⊎ (e ≡ Refusal.BudgetSpent)) }
+{
+    answer(&Task {
+        alloc,
+        registry,
+        request,
+        budget: Some(budget),
+    })
 }

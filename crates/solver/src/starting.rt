@@ -8,7 +8,7 @@ ghost use Rattle.solver.specs.Searching.{Searches};
 use crate::acting::Search;
 use crate::agenda::Agenda;
 use crate::facts::push_need;
-use crate::task::{ROOT, Task};
+use crate::task::{ROOM, ROOT, Task};
 use derivations::{Cause, Known, Reason};
 use partial::Partial;
 use terms::{Incompat, Term, VSet};
@@ -31,7 +31,7 @@ fn begin(task: &Task<'_>) -> Result<Search, Refusal>
     ensures search { IfOk result (Searches task.now) }
     ensures only { IfErr result (λ e. e ≡ Refusal.NoMemory) }
 {
-    let mut known = Vec::new(task.alloc);
+    let mut known = Vec::with_capacity(task.alloc, ROOM)?;
     known.push(root_line(task)?)?;
     let mut partial = Partial::new(task.alloc);
     partial.derive(ROOT, Term::In(VSet::single(task.alloc, 0)?), 0)?;

@@ -7,6 +7,10 @@ use terms::Pkg;
 /// The package of the request itself, which has the one version 0.
 pub(crate) const ROOT: Pkg = 0;
 
+/// For how many packages and lines room is made before a search, so that a small one need not move its
+/// lists again and again while they grow.
+pub(crate) const ROOM: usize = 128;
+
 /// A request to a registry, and how many conflicts may be met, where there is a budget of them.
 #[derive(Clone, Copy)]
 pub(crate) struct Task<'a> {

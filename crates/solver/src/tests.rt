@@ -4,9 +4,10 @@
 //! holds, times its ways out, since each way out lets go of them all.
 
 use crate::*;
-use derivations::{Derivation, Store, check};
+use derivations::{Derivation, Learnt, Store, check};
 use registry::{Command, Dependencies, Registry, Request};
 use std::alloc::Global;
+use terms::{Incompat, Pkg, Term};
 use versions::{Name, Need, Published, Refusal};
 
 /// Commands, needs, lines of a lock, and the answer.
@@ -238,5 +239,59 @@ fn requests_are_answered(rt: HostRuntime) -> Result<(), Refusal> {
         let text = answer(rt.alloc(), row)?;
         assert_eq!(rt; text.as_str(), row.3, "{} lock {}", row.1, row.2);
     }
+    Ok(())
+}
+
+// ---- what is offered
+
+/// What an outcome offers to be learnt.
+fn offered(outcome: &Outcome) -> &[Learnt] {
+    match outcome {
+        Outcome::Selection(_, offered) => offered,
+        Outcome::Refused(_, offered) => offered,
+    }
+}
+
+fn is_only(term: &Term, ordinal: u32) -> bool {
+    match term {
+        Term::In(set) => set.len() == 1 && set.has(ordinal),
+        Term::NotIn(_) => false,
+    }
+}
+
+/// Whether an incompatibility says nothing but that one version of a package can't be chosen.
+fn bars(incompat: &Incompat, pkg: Pkg, ordinal: u32) -> bool {
+    match incompat.terms() {
+        [only] => only.0 == pkg && is_only(&only.1, ordinal),
+        _ => false,
+    }
+}
+
+/// Whether nothing is offered but that one version of a package can't be chosen.
+fn offers_that_alone(outcome: &Outcome, pkg: Pkg, ordinal: u32) -> bool {
+    match offered(outcome) {
+        [only] => bars(only.conclusion(), pkg, ordinal),
+        _ => false,
+    }
+}
+
+/// What is answered to these needs without a lock.
+fn outcome_of(alloc: Global, commands: &str, listed: &str) -> Result<Outcome, Refusal> {
+    let registry = registry(alloc, commands)?;
+    let request = request(alloc, listed, "")?;
+    solved(alloc, &registry, &request)
+}
+
+#[test]
+fn what_conflicts_led_to_is_offered(rt: HostRuntime) -> Result<(), Refusal> {
+    let outcome = outcome_of(rt.alloc(), TURNED, "foo >=1.0.0")?;
+    assert!(rt; offers_that_alone(&outcome, 1, 0));
+    Ok(())
+}
+
+#[test]
+fn what_needs_led_to_is_not_offered(rt: HostRuntime) -> Result<(), Refusal> {
+    let outcome = outcome_of(rt.alloc(), "", "zed *")?;
+    assert!(rt; offered(&outcome).is_empty());
     Ok(())
 }

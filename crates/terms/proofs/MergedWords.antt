@@ -5,7 +5,7 @@ use Rattle.std.specs.Int.{bit_not, trailing_zeros, w64}
 use Rattle.std.specs.Int.Bits.{and_zero_l, and_zero_r}
 use Rattle.std.proofs.lemmas.Bool.{cases_Bool, eqb-true}
 use Rattle.std.proofs.lemmas.List.{append-nil}
-use Rattle.terms.specs.Merges.{behind, front_bits, is_over, keeps, kept_bits, least_number}
+use Rattle.terms.specs.Merges.{IsOnlyWord, behind, front_bits, is_over, keeps, kept_bits, least_number, pushed}
 use Rattle.terms.specs.Sets.{has, IsAscending}
 use Rattle.terms.specs.Words.{AreWords, NumbersBelow, WordsFrom, bits_of, has_bit, is_bit, ordinals_of}
 use lib.Count.{ones}
@@ -82,15 +82,8 @@ pub record IsMerging (r : Rule) (first second kept left right : List Word) : Typ
 pub begin : (r : Rule) (first second : List Word) → AreWords first → AreWords second → IsMerging r first second [] first second
 begin r first second f s = record { low = 0; words = tt; ends = tt; on_left = f; on_right = s; bits = λ n. omega arith }
 
--- the list with a word at its end, unless the word is zero
-abbrev pub pushed : List Word → ℕ → ℕ → List Word
-pushed kept number bits = if nat_eq bits 0 then kept else kept ++ record { number = number; bits = bits } ∷ []
-
 pushed-zero : (kept : List Word) (number bits : ℕ) → bits ≡ 0 → pushed kept number bits ≡ kept
 pushed-zero kept number bits e = ap (λ b. pushed kept number b) e
-
-pushed-some : (kept : List Word) (number bits : ℕ) → (bits ≡ 0 → ⊥) → pushed kept number bits ≡ kept ++ record { number = number; bits = bits } ∷ []
-pushed-some kept number bits h = rw (differ bits 0 h) refl
 
 positive : (bits : ℕ) → nat_eq bits 0 ≡ false → 0 < bits
 positive zero e = absurd (true≢false e)
@@ -190,11 +183,8 @@ module _ (r : Rule) (first second kept left right : List Word) (m : IsMerging r 
     (number on_left on_right bits : ℕ) (kept' left' right' : List Word)
     (is_least : number ≡ least_number left right) (is_on_left : on_left ≡ front_bits left number) (is_on_right : on_right ≡ front_bits right number) (is_bits : bits ≡ kept_bits r on_left on_right)
     (is_left : left' ≡ behind left number) (is_right : right' ≡ behind right number) where
-  turn : kept' ≡ pushed kept number bits → IsMerging r first second kept' left' right'
+  pub turn : kept' ≡ pushed kept number bits → IsMerging r first second kept' left' right'
   turn is_kept = rw (is_kept, is_left, is_right, said r left right number on_left on_right bits is_least is_on_left is_on_right is_bits, is_least) (step r first second kept left right m some)
-
-  pub turn_kept : (bits ≡ 0 → ⊥) → kept' ≡ kept ++ record { number = number; bits = bits } ∷ [] → IsMerging r first second kept' left' right'
-  turn_kept h is_kept = turn (is_kept ∙ sym (pushed-some kept number bits h))
 
   pub turn_left_out : bits ≡ 0 → kept' ≡ kept → IsMerging r first second kept' left' right'
   turn_left_out e is_kept = turn (is_kept ∙ sym (pushed-zero kept number bits e))
@@ -348,3 +338,63 @@ pub counting-end : (r : Rule) (first second left right : List Word) (total : ℕ
 counting-end r first second left right total f s m over set ascending h =
     m.is_total ∙ ap length (same_members 0 (ordinals_of m.kept) set (IsAscending-ordinals_of m.kept m.merging.words) ascending
     (λ k. merged r first second m.kept left right f s m.merging over k ∙ sym (h k)))
+
+-- ---- one word each
+
+over-nil : (r : Rule) → is_over r [] [] ≡ true
+over-nil rule.Both = refl
+over-nil rule.Either = refl
+over-nil rule.FirstOnly = refl
+
+front-only : (number bits : ℕ) → bits ≡ front_bits (record { number = number; bits = bits } ∷ []) number
+front-only number bits = rw (nat_eq-itself number) refl
+
+behind-only : (number bits : ℕ) → [] ≡ behind (record { number = number; bits = bits } ∷ []) number
+behind-only number bits = rw (nat_eq-itself number) refl
+
+-- one turn of the loop takes both words
+module _ (r : Rule) (first second : List Word) (word : Word) (f : AreWords first) (s : AreWords second) (w : IsOnlyWord r first second word) where
+  is_least : word.number ≡ least_number first second
+  is_least =
+      let same : word.number ≡ min word.number word.number = omega arith in
+      same ∙ ap (λ l. least_number l (record { number = word.number; bits = w.1 } ∷ [])) (sym w.2) ∙ ap (λ l. least_number first l) (sym w.3)
+
+  on_left : w.0 ≡ front_bits first word.number
+  on_left = front-only word.number w.0 ∙ ap (λ l. front_bits l word.number) (sym w.2)
+
+  on_right : w.1 ≡ front_bits second word.number
+  on_right = front-only word.number w.1 ∙ ap (λ l. front_bits l word.number) (sym w.3)
+
+  none_left : [] ≡ behind first word.number
+  none_left = behind-only word.number w.0 ∙ ap (λ l. behind l word.number) (sym w.2)
+
+  none_right : [] ≡ behind second word.number
+  none_right = behind-only word.number w.1 ∙ ap (λ l. behind l word.number) (sym w.3)
+
+  some : 0 < length first + length second
+  some = omega (arith, ap length w.2)
+
+  only-merging : (kept : List Word) → kept ≡ pushed [] word.number word.bits → IsMerging r first second kept [] []
+  only-merging kept is_kept =
+      turn r first second [] first second (begin r first second f s) some word.number w.0 w.1 word.bits kept [] [] is_least on_left on_right w.4 none_left none_right is_kept
+
+  pub only-words : (kept : List Word) → kept ≡ pushed [] word.number word.bits → AreWords kept
+  only-words kept is_kept = let m = only-merging kept is_kept in m.words
+
+  pub only-kept : (kept : List Word) → kept ≡ pushed [] word.number word.bits → (k : ℕ) → has (ordinals_of kept) k ≡ keeps r (has (ordinals_of first) k) (has (ordinals_of second) k)
+  only-kept kept is_kept = merged r first second kept [] [] f s (only-merging kept is_kept) (over-nil r)
+
+  pub only-none : word.bits ≡ 0 → (k : ℕ) → keeps r (has (ordinals_of first) k) (has (ordinals_of second) k) ≡ false
+  only-none e = none-kept r first second [] [] f s (only-merging [] (sym (pushed-zero [] word.number word.bits e))) (over-nil r)
+
+  pub only-fits : (word.bits ≡ 0 → ⊥) → word.number * 64 + trailing_zeros w64 word.bits < 2 ^ 32
+  only-fits = first-fits r first second first second f s (begin r first second f s) some word.number w.0 w.1 word.bits is_least on_left on_right w.4
+
+  pub only-first : (word.bits ≡ 0 → ⊥) → keeps r (has (ordinals_of first) (word.number * 64 + trailing_zeros w64 word.bits)) (has (ordinals_of second) (word.number * 64 + trailing_zeros w64 word.bits)) ≡ true
+  only-first = first-kept r first second first second f s (begin r first second f s) some word.number w.0 w.1 word.bits is_least on_left on_right w.4
+
+  pub only-counted : (set : List ℕ) → IsAscending set → ((k : ℕ) → has set k ≡ keeps r (has (ordinals_of first) k) (has (ordinals_of second) k)) → count_ones word.bits ≡ length set
+  only-counted =
+      let counted = counting-turn r first second first second 0 (counting-begin r first second f s) some word.number w.0 w.1 word.bits is_least on_left on_right w.4 [] [] none_left none_right in
+      let plain : 0 + count_ones word.bits ≡ count_ones word.bits = omega arith in
+      counting-end r first second [] [] (count_ones word.bits) f s (subst (λ n. IsCountingKept r first second [] [] n) plain counted) (over-nil r)

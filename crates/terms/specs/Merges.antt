@@ -1,5 +1,5 @@
 -- Two lists of words that are read side by side.
-use Rattle.std.specs.Prelude.{◌≡◌, ◌||◌, ◌&&◌, ◌==◌, ℕ, Bool, not, List, [], ◌∷◌, length, nat_eq, min, if◌then◌else◌, bit_and, bit_or}
+use Rattle.std.specs.Prelude.{◌≡◌, ◌||◌, ◌&&◌, ◌==◌, ℕ, Bool, not, List, [], ◌∷◌, ◌++◌, length, nat_eq, min, if◌then◌else◌, bit_and, bit_or}
 use Rattle.std.specs.Int.{bit_not, w64}
 use Rattle.terms.specs.Sets.{has}
 use Rattle.terms.specs.declared.words.Word.{Word}
@@ -27,6 +27,15 @@ abbrev pub kept_bits : Rule → ℕ → ℕ → ℕ
 kept_bits rule.Both a b = bit_and a b
 kept_bits rule.Either a b = bit_or a b
 kept_bits rule.FirstOnly a b = bit_and a (bit_not w64 b)
+
+-- each list is one word, both have one number, and this is what the rule keeps of them, which may be zero
+abbrev pub IsOnlyWord : Rule → List Word → List Word → Word → Type 0
+IsOnlyWord r first second word =
+    (a : ℕ) × (b : ℕ) × (first ≡ record { number = word.number; bits = a } ∷ []) × (second ≡ record { number = word.number; bits = b } ∷ []) × (word.bits ≡ kept_bits r a b)
+
+-- the list with a word at its end, unless the word is zero
+abbrev pub pushed : List Word → ℕ → ℕ → List Word
+pushed kept number bits = if nat_eq bits 0 then kept else kept ++ record { number = number; bits = bits } ∷ []
 
 -- whether nothing is left to keep, as the ends of the lists tell
 abbrev pub is_over : Rule → List Word → List Word → Bool

@@ -4,7 +4,8 @@ ghost use Rattle.std.specs.Prelude.{◌≡◌, ◌<◌, ◌≤◌, ◌+◌, [], 
 ghost use Rattle.terms.specs.Sets.{has, AddsOrdinal, IsAscending};
 
 use crate::sets::VSet;
-use crate::words::{Word, has_ordinal, insert_ordinal};
+use crate::words::{Words, has_ordinal, insert_ordinal};
+use smallvec::SmallVec;
 use std::alloc::{AllocError, Global};
 use std::marker::Model;
 
@@ -12,11 +13,12 @@ use std::marker::Model;
 /// that it comes in without memory.
 #[derive(Drop)]
 pub struct GrowingSet {
-    words: Vec<Word>,
+    words: Words,
 }
 
 impl Model for GrowingSet {
-    ghost use Rattle.std.specs.Prelude.{◌-◌, vec_capacity, vec_len};
+    ghost use Rattle.smallvec.specs.SmallVec.{small_vec_len};
+    ghost use Rattle.std.specs.Prelude.{◌-◌};
     ghost use Rattle.terms.specs.Growing.{Growing};
     ghost use Rattle.terms.specs.Words.{AreWords, ordinals_of};
 
@@ -24,7 +26,7 @@ impl Model for GrowingSet {
 
     ghost view = { λ s. record {
       ordinals = ordinals_of s.words.items;
-      room = vec_capacity s.words - vec_len s.words;
+      room = s.words.capacity - small_vec_len s.words;
     } };
 
     ghost invariant = { λ s. AreWords s.words.items };
@@ -36,7 +38,7 @@ impl GrowingSet {
         ensures { result.ordinals ≡ [] }
     {
         GrowingSet {
-            words: Vec::new(alloc),
+            words: SmallVec::new(alloc),
         }
     }
 

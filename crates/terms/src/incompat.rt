@@ -51,7 +51,7 @@ impl Incompat {
     pub fn single(alloc: Global, pkg: Pkg, term: Term) -> Result<Incompat, AllocError>
         ensures { IfOk result (λ incompat. incompat ≡ unless_always pkg term) }
     {
-        let mut terms = Vec::new(alloc);
+        let mut terms = Vec::with_capacity(alloc, 1)?;
         push_unless_always(&mut terms, pkg, term)?;
         Ok(Incompat { terms })
     }
@@ -127,7 +127,7 @@ impl Incompat {
         ensures { IfOk result (λ incompat.
             incompat ≡ unless_always low first ++ unless_always high second) }
     {
-        let mut terms = Vec::new(alloc);
+        let mut terms = Vec::with_capacity(alloc, 2)?;
         push_unless_always(&mut terms, low, first)?;
         push_unless_always(&mut terms, high, second)?;
         Ok(Incompat { terms })

@@ -1,12 +1,13 @@
 // Two sets read side by side, word by word.
 
-ghost use Rattle.std.specs.Prelude.{◌≡◌, ℕ, [], length, List, IfNone, IfOk, IfSome, true};
-ghost use Rattle.terms.specs.Merges.{keeps, IsKept};
+ghost use Rattle.std.specs.Prelude.{◌≡◌, ℕ, [], length, List, IfNone, IfOk, IfSome, OnOk, true};
+ghost use Rattle.terms.specs.Merges.{keeps, pushed, IsKept, IsOnlyWord};
 ghost use Rattle.terms.specs.Merges as spec;
 ghost use Rattle.terms.specs.Sets.{has, IsAscending};
 ghost use Rattle.terms.specs.Words.{AreWords, ordinals_of};
 
-use crate::words::{WORD_BITS, Word};
+use crate::words::{WORD_BITS, Word, Words};
+use smallvec::SmallVec;
 use std::alloc::{AllocError, Global};
 
 /// Which ordinals of two sets are kept.
@@ -70,28 +71,54 @@ fn behind(words: &[Word], number: u32) -> &[Word]
     }
 }
 
+/// What the rule keeps of two sets that have one word each, with the same number, as most sets do.
+/// It may be zero.
+fn only_word(rule: Rule, first: &[Word], second: &[Word]) -> Option<Word>
+    ensures { IfSome result (IsOnlyWord rule first.now second.now) }
+{
+    match (first, second) {
+        ([a], [b]) if a.number == b.number => Some(Word {
+            number: a.number,
+            bits: kept_bits(rule, a.bits, b.bits),
+        }),
+        _ => None,
+    }
+}
+
+/// Puts a word at the end, unless it is zero.
+fn push_word(words: &mut Words, word: Word) -> Result<(), AllocError>
+    ensures { OnOk result (words.new.items ≡ pushed words.old.items word.number word.bits) }
+{
+    if word.bits != 0 {
+        words.push(word)?;
+    }
+    Ok(())
+}
+
 /// The words of what the rule keeps of two sets.
 pub(crate) fn combined(
     alloc: Global,
     rule: Rule,
     first: &[Word],
     second: &[Word],
-) -> Result<Vec<Word>, AllocError>
+) -> Result<Words, AllocError>
     requires first { AreWords first.now }
     requires second { AreWords second.now }
     ensures words { IfOk result (λ words. AreWords words.items) }
     ensures kept { IfOk result (λ words.
         IsKept rule (ordinals_of first.now) (ordinals_of second.now) (ordinals_of words.items)) }
 {
-    let mut kept = Vec::new(alloc);
+    let mut kept = SmallVec::new(alloc);
+    if let Some(word) = only_word(rule, first, second) {
+        push_word(&mut kept, word)?;
+        return Ok(kept);
+    }
     let mut left = first;
     let mut right = second;
     'merge: while !is_over(rule, left, right) {
         let number = least_number(left, right);
         let bits = kept_bits(rule, front_bits(left, number), front_bits(right, number));
-        if bits != 0 {
-            kept.push(Word { number, bits })?;
-        }
+        push_word(&mut kept, Word { number, bits })?;
         left = behind(left, number);
         right = behind(right, number);
     }
@@ -106,6 +133,12 @@ pub(crate) fn first_kept(rule: Rule, first: &[Word], second: &[Word]) -> Option<
     ensures some { IfSome result (λ k.
         keeps rule (has (ordinals_of first.now) k) (has (ordinals_of second.now) k) ≡ true) }
 {
+    if let Some(word) = only_word(rule, first, second) {
+        if word.bits == 0 {
+            return None;
+        }
+        return Some(word.number * WORD_BITS + word.bits.trailing_zeros());
+    }
     let mut left = first;
     let mut right = second;
     'merge: while !is_over(rule, left, right) {
@@ -127,6 +160,9 @@ pub(crate) fn count_kept(rule: Rule, first: &[Word], second: &[Word]) -> usize
     ensures { (set : List ℕ) → IsAscending set
         → IsKept rule (ordinals_of first.now) (ordinals_of second.now) set → result ≡ length set }
 {
+    if let Some(word) = only_word(rule, first, second) {
+        return word.bits.count_ones() as usize;
+    }
     let mut total = 0;
     let mut left = first;
     let mut right = second;

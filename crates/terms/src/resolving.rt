@@ -116,7 +116,9 @@ fn resolved(
     ensures follows { IfOk result (λ terms. Follows terms.items first.now second.now pivot) }
     ensures ascending { IfOk result (λ terms. AreTerms terms.items) }
 {
-    let mut kept = Vec::new(alloc);
+    // The pivot is mostly lost, once from each.
+    let room = (first.len() + second.len()).saturating_sub(2);
+    let mut kept = Vec::with_capacity(alloc, room)?;
     let mut left = first;
     let mut right = second;
     'merge: while left.len() > 0 || right.len() > 0 {

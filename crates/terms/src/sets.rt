@@ -7,14 +7,15 @@ ghost use Rattle.terms.specs.Words.{AreWords, ordinals_of};
 
 use crate::merging::{Rule, combined, count_kept, first_kept};
 use crate::ordinals::{Ordinals, ordinals_in};
-use crate::words::{Word, are_same, count, has_ordinal, insert_ordinal, words_of};
+use crate::words::{Word, Words, are_same, copied, count, has_ordinal, insert_ordinal, words_of};
+use smallvec::SmallVec;
 use std::alloc::{AllocError, Global};
 use std::marker::Model;
 
 /// A finite set of ordinals, stored as the words that have one, in order.
 #[derive(Drop)]
 pub struct VSet {
-    words: Vec<Word>,
+    words: Words,
 }
 
 impl Model for VSet {
@@ -34,7 +35,7 @@ impl VSet {
         ensures { result ≡ [] }
     {
         VSet {
-            words: Vec::new(alloc),
+            words: SmallVec::new(alloc),
         }
     }
 
@@ -152,7 +153,7 @@ impl VSet {
         let _words = &self.words;
     }
 
-    fn from_words(words: Vec<Word>) -> VSet
+    fn from_words(words: Words) -> VSet
         requires { AreWords words.items }
         ensures same { result ≡ ordinals_of words.items }
         ensures ascending { IsAscending result }
@@ -166,7 +167,7 @@ impl VSet {
         ensures same { IfOk result (λ set. set ≡ ordinals_of words.now) }
         ensures ascending { IfOk result IsAscending }
     {
-        Ok(VSet::from_words(Vec::from_slice(alloc, words)?))
+        Ok(VSet::from_words(copied(alloc, words)?))
     }
 
     /// What the rule keeps of two sets.

@@ -1,10 +1,12 @@
 // The words of a set: where one stands, and how an ordinal comes in.
 
-ghost use Rattle.std.specs.Prelude.{◌≡◌, ◌↔◌, ◌<◌, ◌≤◌, ◌+◌, ◌*◌, ◌/◌, ◌%◌, ◌^◌, length, vec_capacity, vec_len, IfOk, IsOk, IsTrue, OnErr, OnOk};
+ghost use Rattle.std.specs.Prelude.{◌≡◌, ◌↔◌, ◌<◌, ◌≤◌, ◌+◌, ◌*◌, ◌/◌, ◌%◌, ◌^◌, length, IfOk, IsOk, IsTrue, OnErr, OnOk};
+ghost use Rattle.smallvec.specs.SmallVec.{small_vec_len};
 ghost use Rattle.terms.specs.Sets.{has, AddsOrdinal, HasExactly};
 ghost use Rattle.terms.specs.Words.{AreWords, IsPlace, ordinals_of};
 ghost use Rattle.terms.specs.Words as spec;
 
+use smallvec::SmallVec;
 use std::alloc::{AllocError, Global};
 use std::cmp::Ordering;
 
@@ -12,11 +14,14 @@ use std::cmp::Ordering;
 pub(crate) const WORD_BITS: u32 = 64;
 
 /// Neighbouring ordinals: bit i stands for the ordinal WORD_BITS * number + i.
-#[derive(Clone, Copy, PartialEq, Eq)]
+#[derive(Clone, Copy, PartialEq, Eq, Default)]
 pub struct Word {
     pub number: u32,
     pub bits: u64,
 }
+
+/// The words of a set. Most sets have at most one, which lies in the value and takes no memory.
+pub type Words = SmallVec<Word, 1>;
 
 /// The word that has one ordinal.
 fn word_of(ordinal: u32) -> Word
@@ -67,15 +72,15 @@ pub(crate) fn has_ordinal(words: &[Word], ordinal: u32) -> bool
 
 /// Puts an ordinal in. It costs one step where no ordinal of a higher word is there, and takes
 /// memory only where no ordinal of its word is.
-pub(crate) fn insert_ordinal(words: &mut Vec<Word>, ordinal: u32) -> Result<(), AllocError>
+pub(crate) fn insert_ordinal(words: &mut Words, ordinal: u32) -> Result<(), AllocError>
     requires { AreWords words.old.items }
     ensures words { AreWords words.new.items }
     ensures added { OnOk result
         (AddsOrdinal (ordinals_of words.old.items) (ordinals_of words.new.items) ordinal) }
     ensures unchanged { OnErr result (words.new.items ≡ words.old.items) }
-    ensures room { vec_capacity words.old ≤ vec_capacity words.new }
-    ensures grown { vec_len words.new ≤ vec_len words.old + 1 }
-    ensures succeeds { vec_len words.old < vec_capacity words.old → IsOk result }
+    ensures room { words.old.capacity ≤ words.new.capacity }
+    ensures grown { small_vec_len words.new ≤ small_vec_len words.old + 1 }
+    ensures succeeds { small_vec_len words.old < words.old.capacity → IsOk result }
 {
     let word = word_of(ordinal);
     match place_of(words, word.number) {
@@ -86,15 +91,26 @@ pub(crate) fn insert_ordinal(words: &mut Vec<Word>, ordinal: u32) -> Result<(), 
 }
 
 /// The words of these ordinals. It is linear in ascending ones.
-pub(crate) fn words_of(alloc: Global, ordinals: &[u32]) -> Result<Vec<Word>, AllocError>
+pub(crate) fn words_of(alloc: Global, ordinals: &[u32]) -> Result<Words, AllocError>
     ensures words { IfOk result (λ words. AreWords words.items) }
     ensures members { IfOk result (λ words. HasExactly (ordinals_of words.items) ordinals.now) }
 {
-    let mut words = Vec::new(alloc);
+    let mut words = SmallVec::new(alloc);
     for ordinal in ordinals {
         insert_ordinal(&mut words, *ordinal)?;
     }
     Ok(words)
+}
+
+/// A copy of the words, without memory where there is at most one.
+pub(crate) fn copied(alloc: Global, words: &[Word]) -> Result<Words, AllocError>
+    ensures { IfOk result (λ copy. copy.items ≡ words.now) }
+{
+    match words {
+        [] => Ok(SmallVec::new(alloc)),
+        [only] => Ok(SmallVec::from_buf(alloc, [*only])),
+        _ => SmallVec::from_slice(alloc, words),
+    }
 }
 
 /// How many ordinals the words have.

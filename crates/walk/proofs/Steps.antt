@@ -1,17 +1,17 @@
 -- The walk: what it keeps, that it ends in a selection that meets the request, and that an obstacle stands in the way of each.
-use Rattle.std.proofs.Common.{◌≡◌, ◌<◌, ◌≤◌, ◌+◌, ◌∙◌, ℕ, refl, sym, ap, subst, arith, true, false, true≢false, List, [], ◌∷◌, ◌++◌, length, inl, inr, nat_eq, Contains}
+use Rattle.std.proofs.Common.{◌≡◌, ◌<◌, ◌≤◌, ◌+◌, ◌∙◌, ℕ, refl, sym, ap, subst, arith, true, false, true≢false, List, [], ◌∷◌, ◌++◌, length, inl, inr, nat_eq}
 use Rattle.std.proofs.lemmas.Bool.{cases_eq}
 use Rattle.std.proofs.lemmas.Option.{none-some, same_Some, slice_get_within}
 use Rattle.std.specs.Prelude.{Option, None, Some, is_some, slice_get}
 use Rattle.std.specs.List.{IsDistinct}
 use Rattle.std.specs.Map.{keys_of}
 use Rattle.versions.specs.Words.{Text}
-use Rattle.registry.specs.Registry.{Packages, Publication, is_published, needs_of, number_of, publication_at}
+use Rattle.registry.specs.Registry.{Packages, Publication, is_published, meets_at, needs_of, number_of, publication_at}
 use Rattle.registry.specs.Requests.{Wanted, is_allowed}
 use Rattle.registry.specs.Selections.{Choices, IsMet, IsReached, Meets, along, needed}
 use Rattle.registry.proofs.RequestLemmas.{is_allowed-unpublished}
 use Rattle.walk.specs.Choosing.{Follows, IsUnmet, choice_of}
-use Rattle.walk.specs.Walks.{AreMet, ComeFrom, ComesFrom, Grows, IsChecked, IsChosen, IsSelected, IsUnmetAt, IsWalk, NoneFollows}
+use Rattle.walk.specs.Walks.{AreMet, ComeFrom, Grows, IsChecked, IsChosen, IsMetAt, IsSelected, IsUnmetAt, IsWalk, NoneFollows}
 use Rattle.walk.proofs.Lists.{choice-entry, choice-left, choice-push_cases, contains_at, get-before, get-contains, get-left}
 
 -- a version that is allowed is published
@@ -49,38 +49,58 @@ follows_push chooses found q v follows chosen p k h = elim (choice-push_cases fo
   | inr same ↦ ap chooses (sym same.0) ∙ chosen ∙ ap Some same.1
 ]
 
-pub comes_push : (packages : Packages) (name : Text) (found : List (ℕ × ℕ)) (q v : ℕ) → number_of packages name ≡ Some q
-    → ComesFrom packages name (choice_of found) (choice_of (found ++ (q, v) ∷ []))
-comes_push packages name found q v numbered p k h = elim (choice-push_cases found q v p k h) [
-  | inl before ↦ inl before
-  | inr same ↦ inr (numbered ∙ ap Some same.0)
-]
+-- ---- a need at a place
 
--- what one need adds comes from the needs
-pub come_more : (packages : Packages) (needs : List (Text × Text)) (name need : Text) (old found new : Choices) → ComeFrom packages needs old found → ComesFrom packages name found new
-    → Contains needs (name, need) → ComeFrom packages needs old new
-come_more packages needs name need old found new come comes among p k h = elim (comes p k h) [
+module _ (packages : Packages) (needs : List (Text × Text)) (index : ℕ) (name need : Text) (at : slice_get needs index ≡ Some (name, need)) where
+  -- it is met where its package has a version that meets it
+  pub line_met : (target k : ℕ) (s : Choices) → number_of packages name ≡ Some target → s target ≡ Some k → meets_at packages target k need ≡ true → IsMetAt packages s needs index
+  line_met target k s numbered chosen meeting other another here =
+      let is : (name, need) ≡ (other, another) = same_Some (name, need) (other, another) (sym at ∙ here) in
+      let one : IsMet packages s name need = record { target = target; ordinal = k; numbered = numbered; selected = chosen; meeting = meeting } in
+      subst (λ (d : Text × Text). IsMet packages s d.0 d.1) is one
+
+  -- it is not where what is chosen does not meet it
+  pub line_unmet : (target : ℕ) (chooses : Choices) → number_of packages name ≡ Some target
+      → ((k : ℕ) → chooses target ≡ Some k → meets_at packages target k need ≡ false) → IsUnmetAt packages chooses needs index
+  line_unmet target chooses numbered fails = record {
+    name = name;
+    need = need;
+    at = at;
+    unmet = λ other k numbered' chosen.
+        let is : other ≡ target = same_Some other target (sym numbered' ∙ numbered) in
+        ap (λ q. meets_at packages q k need) is ∙ fails k (sym (ap chooses is) ∙ chosen);
+  }
+
+  -- nor where its package has no number
+  pub line_unnumbered : (chooses : Choices) → number_of packages name ≡ None → IsUnmetAt packages chooses needs index
+  line_unnumbered chooses none = record {
+    name = name;
+    need = need;
+    at = at;
+    unmet = λ other k numbered chosen. absurd (none-some other (sym none ∙ numbered));
+  }
+
+-- what one need adds after the others comes from the needs
+pub come_more : (packages : Packages) (needs : List (Text × Text)) (old found new : Choices) → ComeFrom packages needs old found → ComeFrom packages needs found new → ComeFrom packages needs old new
+come_more packages needs old found new come more p k h = elim (more p k h) [
   | inl before ↦ come p k before
-  | inr numbered ↦ inr (record { name = name; need = need; among = among; numbered = numbered })
+  | inr named ↦ inr named
 ]
 
-pub met_more : (packages : Packages) (old new : List (ℕ × ℕ)) (needs : List (Text × Text)) (i : ℕ) (d : Text × Text) → Grows old new
-    → ((j : ℕ) (name need : Text) → j < i → slice_get needs j ≡ Some (name, need) → IsMet packages (choice_of old) name need)
-    → slice_get needs i ≡ Some d → IsMet packages (choice_of new) d.0 d.1
-    → (j : ℕ) (name need : Text) → j < i + 1 → slice_get needs j ≡ Some (name, need) → IsMet packages (choice_of new) name need
-met_more packages old new needs i d g before here met j name need below at = elim (cases_eq j i) [
-  | inl same ↦
-      let is : d ≡ (name, need) = same_Some d (name, need) (sym here ∙ ap (slice_get needs) (sym same) ∙ at) in
-      subst (λ (x : Text × Text). IsMet packages (choice_of new) x.0 x.1) is met
-  | inr apart ↦ met_grown packages old new name need g (before j name need (omega (arith, below, apart)) at)
+pub met_more : (packages : Packages) (old new : List (ℕ × ℕ)) (needs : List (Text × Text)) (i : ℕ) → Grows old new
+    → ((j : ℕ) → j < i → IsMetAt packages (choice_of old) needs j) → IsMetAt packages (choice_of new) needs i
+    → (j : ℕ) → j < i + 1 → IsMetAt packages (choice_of new) needs j
+met_more packages old new needs i g before met j below = elim (cases_eq j i) [
+  | inl same ↦ let P : ℕ → Type 0 = λ n. IsMetAt packages (choice_of new) needs n in subst P (sym same) met
+  | inr apart ↦ λ name need at. met_grown packages old new name need g (before j (omega (arith, below, apart)) name need at)
 ]
 
 -- each is met where the one at each place is
 pub met_all : (packages : Packages) (s : Choices) (needs : List (Text × Text)) (i : ℕ) → length needs ≤ i
-    → ((j : ℕ) (name need : Text) → j < i → slice_get needs j ≡ Some (name, need) → IsMet packages s name need) → AreMet packages s needs
+    → ((j : ℕ) → j < i → IsMetAt packages s needs j) → AreMet packages s needs
 met_all packages s needs i all met name need among =
     let at = contains_at needs (name, need) among in
-    met at.0 name need (let lt = slice_get_within needs at.0 (name, need) at.1 in omega (arith, lt, all)) at.1
+    met at.0 (let lt = slice_get_within needs at.0 (name, need) at.1 in omega (arith, lt, all)) name need at.1
 
 -- ---- the start, and a turn
 

@@ -74,9 +74,13 @@ Grows old new = (more : List (ℕ × ℕ)) × (new ≡ old ++ more)
 abbrev pub AreMet : Packages → Choices → List (Text × Text) → Type 0
 AreMet packages s needs = (name need : Text) → Contains needs (name, need) → IsMet packages s name need
 
--- each package is one of before, or the package of this name
-abbrev pub ComesFrom : Packages → Text → Choices → Choices → Type 0
-ComesFrom packages name old new = (p k : ℕ) → new p ≡ Some k → (old p ≡ Some k) ⊎ (number_of packages name ≡ Some p)
+-- the need at this place, if there is one, is met
+abbrev pub IsMetAt : Packages → Choices → List (Text × Text) → ℕ → Type 0
+IsMetAt packages s needs index = (name need : Text) → slice_get needs index ≡ Some (name, need) → IsMet packages s name need
+
+-- each package is one of before, or the package of this number
+abbrev pub ComesAs : ℕ → Choices → Choices → Type 0
+ComesAs target old new = (p k : ℕ) → new p ≡ Some k → (old p ≡ Some k) ⊎ (target ≡ p)
 
 -- the package of this number is named by one of the needs
 pub record IsNamed (packages : Packages) (needs : List (Text × Text)) (p : ℕ) : Type 0 where

@@ -1,13 +1,12 @@
 // The walk.
 
-ghost use Rattle.std.specs.Prelude.{◌≡◌, ◌<◌, length, nat_eq, slice_get, Some, IfNone, IfOk, IfSome, OnOk};
+ghost use Rattle.std.specs.Prelude.{◌≡◌, ◌<◌, ℕ, true, false, length, nat_eq, slice_get, Some, IfNone, IfOk, IfSome, OnOk};
 ghost use Rattle.std.specs.Bool.{OnFalse, OnTrue};
 ghost use Rattle.std.specs.List.{IsDistinct};
 ghost use Rattle.std.specs.Map.{keys_of};
-ghost use Rattle.registry.specs.Registry.{meets_at};
-ghost use Rattle.registry.specs.Selections.{IsMet};
-ghost use Rattle.walk.specs.Choosing.{choice_of, Follows, IsUnmet};
-ghost use Rattle.walk.specs.Walks.{AreMet, ComeFrom, ComesFrom, Grows, IsUnmetAt, ReachesBy};
+ghost use Rattle.registry.specs.Registry.{meets_at, needs_of};
+ghost use Rattle.walk.specs.Choosing.{choice_of, Follows};
+ghost use Rattle.walk.specs.Walks.{asked_by, AreMet, ComeFrom, ComesAs, Grows, IsMetAt, IsUnmetAt, ReachesBy};
 
 use crate::chooser::Chooser;
 use crate::facts::facts_of;
@@ -15,7 +14,7 @@ use crate::reached::{Asker, Reached};
 use indexmap::IndexMap;
 use registry::{Pkg, Registry, Request};
 use std::alloc::{AllocError, Global};
-use versions::{Name, Need};
+use versions::Need;
 
 /// Whether a version of a package is published and meets a requirement.
 fn meets(registry: &Registry, pkg: Pkg, ordinal: u32, need: &Need) -> bool
@@ -27,54 +26,127 @@ fn meets(registry: &Registry, pkg: Pkg, ordinal: u32, need: &Need) -> bool
     }
 }
 
-/// Adds the chosen version of the package of this name, unless the package is found already.
-/// Answers whether the version meets the requirement; one that does not is not added.
-fn follow<C: Chooser>(
-    registry: &Registry,
+/// Adds the chosen version of a package, unless the package is found already. Answers whether the
+/// version passes a test of its ordinal; one that does not is not added.
+fn follow_to<C: Chooser, F: Fn(u32) -> bool>(
     chooser: &C,
-    name: &Name,
-    need: &Need,
+    target: Pkg,
+    passes: F,
     found: &mut IndexMap<Pkg, u32>,
 ) -> Result<bool, AllocError>
-    requires { Follows (C.chooses chooser.now) (choice_of found.old.entries) }
+    requires callable { F.IsAlwaysCallable passes }
+    requires follows { Follows (C.chooses chooser.now) (choice_of found.old.entries) }
     ensures follows { OnOk result (Follows (C.chooses chooser.now) (choice_of found.new.entries)) }
     ensures grown { OnOk result (Grows found.old.entries found.new.entries) }
-    ensures comes { OnOk result (ComesFrom registry.now.packages name.now (choice_of found.old.entries) (choice_of found.new.entries)) }
-    ensures met { IfOk result (λ met. OnTrue met (IsMet registry.now.packages (choice_of found.new.entries) name.now need.now)) }
-    ensures unmet { IfOk result (λ met. OnFalse met (IsUnmet registry.now.packages (C.chooses chooser.now) name.now need.now)) }
+    ensures comes { OnOk result (ComesAs target (choice_of found.old.entries) (choice_of found.new.entries)) }
+    ensures passed { IfOk result (λ met. OnTrue met ((k : ℕ) × (choice_of found.new.entries target ≡ Some k) × F.post passes k true)) }
+    ensures failed { IfOk result (λ met. OnFalse met ((k : ℕ) → C.chooses chooser.now target ≡ Some k → F.post passes k false)) }
 {
-    let Some(target) = registry.number(name) else {
-        return Ok(false);
-    };
     if let Some(ordinal) = found.get(&target).copied() {
-        return Ok(meets(registry, target, ordinal, need));
+        return Ok(passes(ordinal));
     }
     let Some(ordinal) = chooser.choose(target) else {
         return Ok(false);
     };
-    if !meets(registry, target, ordinal, need) {
+    if !passes(ordinal) {
         return Ok(false);
     }
     found.insert(target, ordinal)?;
     Ok(true)
 }
 
-/// Follows needs in order, up to the first that is not met, whose index is answered.
-fn follow_all<C: Chooser>(
+/// Follows the need of the request at an index, as [`follow_at`].
+fn follow_need<C: Chooser>(
+    registry: &Registry,
+    request: &Request,
+    chooser: &C,
+    index: usize,
+    found: &mut IndexMap<Pkg, u32>,
+) -> Result<bool, AllocError>
+    requires within { index < length request.now.needs }
+    requires follows { Follows (C.chooses chooser.now) (choice_of found.old.entries) }
+    ensures follows { OnOk result (Follows (C.chooses chooser.now) (choice_of found.new.entries)) }
+    ensures grown { OnOk result (Grows found.old.entries found.new.entries) }
+    ensures come { OnOk result (ComeFrom registry.now.packages request.now.needs (choice_of found.old.entries) (choice_of found.new.entries)) }
+    ensures met { IfOk result (λ met. OnTrue met (IsMetAt registry.now.packages (choice_of found.new.entries) request.now.needs index)) }
+    ensures unmet { IfOk result (λ met. OnFalse met (IsUnmetAt registry.now.packages (C.chooses chooser.now) request.now.needs index)) }
+{
+    let line = &request.needs()[index];
+    let Some(target) = registry.number(&line.0) else {
+        return Ok(false);
+    };
+    let meets_need = |ordinal| meets(registry, target, ordinal, &line.1);
+    Ok(follow_to(chooser, target, meets_need, found)?)
+}
+
+/// Follows the dependency of a version at an index, as [`follow_at`].
+fn follow_dependency<C: Chooser>(
     registry: &Registry,
     chooser: &C,
-    needs: &[(Name, Need)],
+    pkg: Pkg,
+    ordinal: u32,
+    index: usize,
+    found: &mut IndexMap<Pkg, u32>,
+) -> Result<bool, AllocError>
+    requires within { index < length (needs_of registry.now.packages pkg ordinal) }
+    requires follows { Follows (C.chooses chooser.now) (choice_of found.old.entries) }
+    ensures follows { OnOk result (Follows (C.chooses chooser.now) (choice_of found.new.entries)) }
+    ensures grown { OnOk result (Grows found.old.entries found.new.entries) }
+    ensures come { OnOk result (ComeFrom registry.now.packages (needs_of registry.now.packages pkg ordinal) (choice_of found.old.entries) (choice_of found.new.entries)) }
+    ensures met { IfOk result (λ met. OnTrue met (IsMetAt registry.now.packages (choice_of found.new.entries) (needs_of registry.now.packages pkg ordinal) index)) }
+    ensures unmet { IfOk result (λ met. OnFalse met (IsUnmetAt registry.now.packages (C.chooses chooser.now) (needs_of registry.now.packages pkg ordinal) index)) }
+{
+    let Ok((target, matching)) = registry.dependency(pkg, ordinal, index) else {
+        return Err(AllocError);
+    };
+    let meets_need = |ordinal| matching.has(ordinal);
+    Ok(follow_to(chooser, target, meets_need, found)?)
+}
+
+/// Adds the chosen version of the package that is asked for at an index, unless the package is found
+/// already. Answers whether the version meets what is asked; one that does not is not added.
+fn follow_at<C: Chooser>(
+    registry: &Registry,
+    request: &Request,
+    chooser: &C,
+    asker: Asker,
+    index: usize,
+    found: &mut IndexMap<Pkg, u32>,
+) -> Result<bool, AllocError>
+    requires within { index < length (asked_by registry.now.packages request.now asker) }
+    requires follows { Follows (C.chooses chooser.now) (choice_of found.old.entries) }
+    ensures follows { OnOk result (Follows (C.chooses chooser.now) (choice_of found.new.entries)) }
+    ensures grown { OnOk result (Grows found.old.entries found.new.entries) }
+    ensures come { OnOk result (ComeFrom registry.now.packages (asked_by registry.now.packages request.now asker) (choice_of found.old.entries) (choice_of found.new.entries)) }
+    ensures met { IfOk result (λ met. OnTrue met (IsMetAt registry.now.packages (choice_of found.new.entries) (asked_by registry.now.packages request.now asker) index)) }
+    ensures unmet { IfOk result (λ met. OnFalse met (IsUnmetAt registry.now.packages (C.chooses chooser.now) (asked_by registry.now.packages request.now asker) index)) }
+{
+    match asker {
+        Asker::Request => Ok(follow_need(registry, request, chooser, index, found)?),
+        Asker::Version(pkg, ordinal) => Ok(follow_dependency(
+            registry, chooser, pkg, ordinal, index, found,
+        )?),
+    }
+}
+
+/// Follows what is asked in order, up to the first that is not met, whose index is answered.
+fn follow_all<C: Chooser>(
+    registry: &Registry,
+    request: &Request,
+    chooser: &C,
+    asker: Asker,
     found: &mut IndexMap<Pkg, u32>,
 ) -> Result<Option<usize>, AllocError>
     requires { Follows (C.chooses chooser.now) (choice_of found.old.entries) }
     ensures follows { OnOk result (Follows (C.chooses chooser.now) (choice_of found.new.entries)) }
     ensures grown { OnOk result (Grows found.old.entries found.new.entries) }
-    ensures come { OnOk result (ComeFrom registry.now.packages needs.now (choice_of found.old.entries) (choice_of found.new.entries)) }
-    ensures met { IfOk result (λ at. IfNone at (AreMet registry.now.packages (choice_of found.new.entries) needs.now)) }
-    ensures unmet { IfOk result (λ at. IfSome at (IsUnmetAt registry.now.packages (C.chooses chooser.now) needs.now)) }
+    ensures come { OnOk result (ComeFrom registry.now.packages (asked_by registry.now.packages request.now asker) (choice_of found.old.entries) (choice_of found.new.entries)) }
+    ensures met { IfOk result (λ at. IfNone at (AreMet registry.now.packages (choice_of found.new.entries) (asked_by registry.now.packages request.now asker))) }
+    ensures unmet { IfOk result (λ at. IfSome at (IsUnmetAt registry.now.packages (C.chooses chooser.now) (asked_by registry.now.packages request.now asker))) }
 {
-    for (index, line) in needs.iter().enumerate() {
-        if !follow(registry, chooser, &line.0, &line.1, found)? {
+    let count = asker.needs(registry, request).len();
+    for index in 0..count {
+        if !follow_at(registry, request, chooser, asker, index, found)? {
             return Ok(Some(index));
         }
     }
@@ -85,7 +157,8 @@ fn follow_all<C: Chooser>(
 ///
 /// The chooser is asked once for each package that is reached. The cost is linear in the needs and
 /// dependencies that are looked at, whatever the size of the registry: each costs a look-up of its
-/// name, one of its package among those found, and one test of the version against the requirement.
+/// package among those found. A need costs a look-up of its name and one test of the version against
+/// the requirement besides; the package of a dependency and its matching set are kept with it.
 pub fn reach<C: Chooser>(
     alloc: Global,
     registry: &Registry,
@@ -95,7 +168,7 @@ pub fn reach<C: Chooser>(
     ensures { IfOk result (ReachesBy registry.now.packages request.now (C.chooses chooser.now)) }
 {
     let mut found = IndexMap::new(alloc);
-    if let Some(index) = follow_all(registry, chooser, request.needs(), &mut found)? {
+    if let Some(index) = follow_all(registry, request, chooser, Asker::Request, &mut found)? {
         return Ok(Reached::Unmet(Asker::Request, index));
     }
     let mut next = 0;
@@ -104,9 +177,9 @@ pub fn reach<C: Chooser>(
         if !registry.allowed(request, pkg, ordinal) {
             return Ok(Reached::NotAllowed(pkg, ordinal));
         }
-        let facts = registry.facts(pkg, ordinal);
-        if let Some(index) = follow_all(registry, chooser, facts.needs, &mut found)? {
-            return Ok(Reached::Unmet(Asker::Version(pkg, ordinal), index));
+        let asker = Asker::Version(pkg, ordinal);
+        if let Some(index) = follow_all(registry, request, chooser, asker, &mut found)? {
+            return Ok(Reached::Unmet(asker, index));
         }
         next += 1;
     }

@@ -119,14 +119,14 @@ misnamed_lock needs lock bad = rw (list_all-append, bad) (either (list_all is_na
     either false = refl
 
 -- what a request is refused for, its line is
-refuses_line : (wanted : Wanted) (refusal : Option Refusal) (e : Refusal) → Refuses e (kept.unless_refused refusal wanted) → Refuses e (unless_refused refusal (resolve wanted))
-refuses_line wanted None e refuses = refuses_none _ e wanted _ refuses
-refuses_line wanted (Some bad) e refuses = refuses_alike _ _ bad e refuses
+refuses_line : (wanted : Wanted) (budget : Option ℕ) (refusal : Option Refusal) (e : Refusal) → Refuses e (kept.unless_refused refusal wanted) → Refuses e (unless_refused refusal (resolve wanted budget))
+refuses_line wanted budget None e refuses = refuses_none _ e wanted _ refuses
+refuses_line wanted budget (Some bad) e refuses = refuses_alike _ _ bad e refuses
 
 -- what a request is made of, its line asks
-asks_line : (wanted made : Wanted) (refusal : Option Refusal) → kept.unless_refused refusal wanted ≡ Ok made → unless_refused refusal (resolve wanted) ≡ Ok (resolve made)
-asks_line wanted made None is = let same : wanted ≡ made = cc in ap (λ (w : Wanted). Ok (resolve w)) same
-asks_line wanted made (Some bad) is = absurd (cc)
+asks_line : (wanted made : Wanted) (budget : Option ℕ) (refusal : Option Refusal) → kept.unless_refused refusal wanted ≡ Ok made → unless_refused refusal (resolve wanted budget) ≡ Ok (resolve made budget)
+asks_line wanted made budget None is = let same : wanted ≡ made = cc in ap (λ (w : Wanted). Ok (resolve w budget)) same
+asks_line wanted made budget (Some bad) is = absurd (cc)
 
 -- what needs and a lock ask for
 abbrev pub wanted_of : List (Text × Text) → List (Text × Text) → Wanted
@@ -139,20 +139,21 @@ pub record AreTexts (needs lock : List (Text × Text)) : Type 0 where
   pub required : list_all is_requirement (requirements_of needs) ≡ true
 
 -- then the line is judged as its request is
-judged_texts : (needs lock : List (Text × Text)) → AreTexts needs lock → judged (resolve (wanted_of needs lock)) ≡ unless_refused (request_refusal (wanted_of needs lock)) (resolve (wanted_of needs lock))
-judged_texts needs lock texts = rw (texts.named, texts.versioned, texts.required) refl
+judged_texts : (needs lock : List (Text × Text)) (budget : Option ℕ) → AreTexts needs lock
+    → judged (resolve (wanted_of needs lock) budget) ≡ unless_refused (request_refusal (wanted_of needs lock)) (resolve (wanted_of needs lock) budget)
+judged_texts needs lock budget texts = rw (texts.named, texts.versioned, texts.required) refl
 
-module _ (needs lock kept_needs kept_lock : List (Text × Text)) (texts : AreTexts needs lock) (same_needs : kept_needs ≡ needs) (same_lock : kept_lock ≡ lock) where
+module _ (needs lock kept_needs kept_lock : List (Text × Text)) (budget : Option ℕ) (texts : AreTexts needs lock) (same_needs : kept_needs ≡ needs) (same_lock : kept_lock ≡ lock) where
   -- the request, of what was read of these texts, is refused
-  pub refuses_judged : (e : Refusal) → Refuses e (kept.request_in kept_needs kept_lock) → Refuses e (judged (resolve (wanted_of needs lock)))
+  pub refuses_judged : (e : Refusal) → Refuses e (kept.request_in kept_needs kept_lock) → Refuses e (judged (resolve (wanted_of needs lock) budget))
   refuses_judged e refuses =
       let of_needs : Refuses e (kept.request_in needs kept_lock) = subst (λ (l : List (Text × Text)). Refuses e (kept.request_in l kept_lock)) same_needs refuses in
       let of_both : Refuses e (kept.request_in needs lock) = subst (λ (l : List (Text × Text)). Refuses e (kept.request_in needs l)) same_lock of_needs in
-      subst (λ (said : Result Request Refusal). Refuses e said) (sym (judged_texts needs lock texts)) (refuses_line (wanted_of needs lock) (request_refusal (wanted_of needs lock)) e of_both)
+      subst (λ (said : Result Request Refusal). Refuses e said) (sym (judged_texts needs lock budget texts)) (refuses_line (wanted_of needs lock) budget (request_refusal (wanted_of needs lock)) e of_both)
 
   -- or it is made
-  pub asks_judged : (made : Wanted) → kept.request_in kept_needs kept_lock ≡ Ok made → judged (resolve (wanted_of needs lock)) ≡ Ok (resolve made)
+  pub asks_judged : (made : Wanted) → kept.request_in kept_needs kept_lock ≡ Ok made → judged (resolve (wanted_of needs lock) budget) ≡ Ok (resolve made budget)
   asks_judged made is =
       let of_needs : kept.request_in needs kept_lock ≡ Ok made = subst (λ (l : List (Text × Text)). kept.request_in l kept_lock ≡ Ok made) same_needs is in
       let of_both : kept.request_in needs lock ≡ Ok made = subst (λ (l : List (Text × Text)). kept.request_in needs l ≡ Ok made) same_lock of_needs in
-      judged_texts needs lock texts ∙ asks_line (wanted_of needs lock) made (request_refusal (wanted_of needs lock)) of_both
+      judged_texts needs lock budget texts ∙ asks_line (wanted_of needs lock) made budget (request_refusal (wanted_of needs lock)) of_both

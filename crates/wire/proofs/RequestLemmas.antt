@@ -1,6 +1,5 @@
 -- Lines that ask nothing, and arrays that are no pairs.
-use Rattle.std.proofs.Common.{◌≡◌, ◌≢◌, ℕ, List, Bool, true, false, refl, Option, None, Some, Err, length, ◌==◌, option_map, rules}
-use Rattle.std.specs.Option.{option_and_then}
+use Rattle.std.proofs.Common.{◌≡◌, ◌≢◌, ℕ, ◌+◌, List, Bool, true, false, refl, Option, None, Some, Err, length, ◌==◌, codes, rules}
 use Rattle.std.specs.Str.{IsUtf8, is_utf8}
 use Rattle.std.proofs.lemmas.Str.{IsUtf8-from_is_utf8, is_utf8-from_IsUtf8}
 use Rattle.serde_json.specs.Data.{Data}
@@ -10,7 +9,7 @@ use Rattle.serde_json.proofs.Views.{items_len-items_view}
 use Rattle.serde_json.specs.declared.value.Value.{Value}
 use Rattle.versions.specs.declared.refusal.Refusal.TheVariants.{BadLine}
 use Rattle.versions.specs.Words.{Text}
-use Rattle.wire.specs.Shapes.{pair_of_items, resolve}
+use Rattle.wire.specs.Shapes.{budget_in, has_member, lock_in, member_count, pair_of_items, pairs_at, resolution_in, resolve}
 use Rattle.wire.specs.Requests.{request_in, request_of}
 
 bad_by : (line : List ℕ) (b : Bool) → is_utf8 line ≡ b → (IsUtf8 line → read line ≡ None) → request_of line ≡ Err BadLine
@@ -31,8 +30,9 @@ pub request_of-read : (line : List ℕ) (d : Data) → IsUtf8 line → read line
 unfolding request_of
 request_of-read line d text is = rw (is_utf8-from_IsUtf8 line text, is) refl
 
--- where a lock and needs are found, they are asked
-pub resolution_of : (found_lock found_needs : Option (List (Text × Text))) (lock needs : List (Text × Text)) → Some lock ≡ found_lock → Some needs ≡ found_needs
-    → Some (resolve (record { needs = needs; lock = lock }))
-    ≡ option_and_then (λ (l : List (Text × Text)). option_map (λ (n : List (Text × Text)). resolve (record { needs = n; lock = l })) found_needs) found_lock
-resolution_of found_lock found_needs lock needs locked needed = rw (← locked, ← needed) refl
+-- where the members are counted, and a lock, a budget and needs are found, they are asked
+pub resolution_of : (d : Data) (lock needs : List (Text × Text)) (budget : Option ℕ) → member_count d ≡ 2 + has_member (codes "lock") d + has_member (codes "budget") d
+    → Some lock ≡ lock_in d → Some budget ≡ budget_in d → Some needs ≡ pairs_at (codes "needs") d → Some (resolve (record { needs = needs; lock = lock }) budget) ≡ resolution_in d
+resolution_of d lock needs budget counted locked limited needed =
+    let same : (member_count d == 2 + has_member (codes "lock") d + has_member (codes "budget") d) ≡ true = search rules in
+    rw (same, ← locked, ← limited, ← needed) refl

@@ -9,7 +9,7 @@ use Rattle.wire.specs.declared.request.shape.Shape.TheVariants as shape
 
 abbrev pub asked_of : Asked → Request
 asked_of (asked.Command c) = command (change_of c)
-asked_of (asked.Resolve wanted) = resolve wanted
+asked_of (asked.Resolve wanted budget) = resolve wanted budget
 asked_of asked.Listing = listing
 
 -- a shape, by the texts in the line
@@ -17,5 +17,5 @@ abbrev pub texts_of : Shape → Request
 texts_of (shape.Publish name version needs) = command (Publish name.now version.now needs)
 texts_of (shape.Yank name version) = command (Yank name.now version.now)
 texts_of (shape.Unyank name version) = command (Unyank name.now version.now)
-texts_of (shape.Resolve needs lock) = resolve (record { needs = needs; lock = lock })
+texts_of (shape.Resolve needs lock budget) = resolve (record { needs = needs; lock = lock }) budget
 texts_of shape.Listing = listing

@@ -25,7 +25,7 @@ abbrev pub names_in : Request → List Text
 names_in (command (Publish name version needs)) = name ∷ names_of needs
 names_in (command (Yank name version)) = name ∷ []
 names_in (command (Unyank name version)) = name ∷ []
-names_in (resolve wanted) = names_of wanted.needs ++ names_of wanted.lock
+names_in (resolve wanted budget) = names_of wanted.needs ++ names_of wanted.lock
 names_in listing = []
 
 -- all versions of a request
@@ -33,7 +33,7 @@ abbrev pub versions_in : Request → List Text
 versions_in (command (Publish name version needs)) = version ∷ []
 versions_in (command (Yank name version)) = version ∷ []
 versions_in (command (Unyank name version)) = version ∷ []
-versions_in (resolve wanted) = locked_versions wanted.lock
+versions_in (resolve wanted budget) = locked_versions wanted.lock
 versions_in listing = []
 
 -- all requirements of a request
@@ -41,7 +41,7 @@ abbrev pub requirements_in : Request → List Text
 requirements_in (command (Publish name version needs)) = requirements_of needs
 requirements_in (command (Yank name version)) = []
 requirements_in (command (Unyank name version)) = []
-requirements_in (resolve wanted) = requirements_of wanted.needs
+requirements_in (resolve wanted budget) = requirements_of wanted.needs
 requirements_in listing = []
 
 -- what was tested, where the test holds, or else the refusal
@@ -55,7 +55,7 @@ unless_refused (Some refusal) request = Err refusal
 -- What a resolve line names twice, and how much it asks, is judged with it; of a command that is the registry's to judge.
 abbrev pub counted : Request → Result Request Refusal
 counted (command change) = Ok (command change)
-counted (resolve wanted) = unless_refused (request_refusal wanted) (resolve wanted)
+counted (resolve wanted budget) = unless_refused (request_refusal wanted) (resolve wanted budget)
 counted listing = Ok listing
 
 -- the request, or its lowest refusal: names come before versions, versions before requirements, and these before repeats and numbers

@@ -26,8 +26,12 @@ use versions::Refusal;
 pub enum Asked {
     /// That the registry be changed.
     Command(Command),
-    /// Which versions meet these needs under this lock.
-    Resolve(Request),
+    /// Which versions meet these needs under this lock, met with no more than this many conflicts where there is a
+    /// budget of them.
+    Resolve {
+        request: Request,
+        budget: Option<u32>,
+    },
     /// What is published.
     Listing,
 }

@@ -20,9 +20,11 @@ fn found(
     Ok(registry.find(pkg, &version))
 }
 
-#[test]
-fn a_version_is_found_by_equal_precedence(rt: HostRuntime) -> Result<(), Refusal> {
-    let registry = told(&rt, rt.alloc(), &FOUND)?;
+fn a_version_is_found_by_equal_precedence_in(
+    rt: &impl Abort,
+    alloc: Global,
+    registry: &Registry,
+) -> Result<(), Refusal> {
     let rows = [
         (1, "2.0.0", Some(0)),
         (1, "1.0.0+y", Some(1)),
@@ -33,11 +35,13 @@ fn a_version_is_found_by_equal_precedence(rt: HostRuntime) -> Result<(), Refusal
         (0, "1.0.0", None),
     ];
     for (pkg, version, ordinal) in rows {
-        assert_eq!(rt;
-            found(&registry, rt.alloc(), pkg, version)?,
-            ordinal,
-            "{version}"
-        );
+        assert_eq!(rt; found(registry, alloc, pkg, version)?, ordinal, "{version}");
     }
     Ok(())
+}
+
+#[test]
+fn a_version_is_found_by_equal_precedence(rt: HostRuntime) -> Result<(), Refusal> {
+    let registry = told(&rt, rt.alloc(), &FOUND)?;
+    a_version_is_found_by_equal_precedence_in(&rt, rt.alloc(), &registry)
 }

@@ -69,9 +69,11 @@ const NAMED: [Row; 7] = [
     (Op::Publish, "a", "2.0.0", "", 0),
 ];
 
-#[test]
-fn named_requirements_are_kept_up(rt: HostRuntime) -> Result<(), Refusal> {
-    let registry = told(&rt, rt.alloc(), &NAMED)?;
+fn named_requirements_are_kept_up_in(
+    rt: &impl Abort,
+    alloc: Global,
+    registry: &Registry,
+) -> Result<(), Refusal> {
     let rows: [Matched; 6] = [
         ("^1", true, &[0, 2]),
         (">=2.0.0-alpha", true, &[1, 3]),
@@ -80,8 +82,47 @@ fn named_requirements_are_kept_up(rt: HostRuntime) -> Result<(), Refusal> {
         ("*", false, &[0, 2, 3]),
         ("=3.0.0", false, &[]),
     ];
-    matched(&rt, rt.alloc(), &registry, 2, &rows)?;
-    matched(&rt, rt.alloc(), &registry, 3, &[("*", true, &[])])
+    matched(rt, alloc, registry, 2, &rows)?;
+    matched(rt, alloc, registry, 3, &[("*", true, &[])])
+}
+
+#[test]
+fn named_requirements_are_kept_up(rt: HostRuntime) -> Result<(), Refusal> {
+    let registry = told(&rt, rt.alloc(), &NAMED)?;
+    named_requirements_are_kept_up_in(&rt, rt.alloc(), &registry)
+}
+
+/// An ordinal of package 1, an index of its dependencies, the package that is named there, and the
+/// ordinals of those of its versions that meet the requirement.
+type Depending = (u32, usize, Pkg, &'static [u32]);
+
+/// Whether a dependency is as the row says, and its matching set is one that is kept.
+fn depends(rt: &impl Abort, registry: &Registry, row: &Depending) -> Result<bool, Refusal> {
+    let (ordinal, index, named, ordinals) = row;
+    assert!(rt; (*ordinal as usize) < registry.versions(1));
+    let facts = registry.facts(1, *ordinal);
+    assert!(rt; *index < facts.needs.len());
+    let (target, set) = registry.dependency(1, *ordinal, *index)?;
+    Ok(target == *named && is_kept(&set) && has_exactly(&set, ordinals))
+}
+
+fn dependencies_are_read_by_number_in(rt: &impl Abort, registry: &Registry) -> Result<(), Refusal> {
+    let rows: [Depending; 4] = [
+        (0, 0, 2, &[0, 2]),
+        (0, 1, 3, &[]),
+        (1, 0, 2, &[1, 3]),
+        (1, 1, 3, &[]),
+    ];
+    for row in rows {
+        assert!(rt; depends(rt, registry, &row)?);
+    }
+    Ok(())
+}
+
+#[test]
+fn dependencies_are_read_by_number(rt: HostRuntime) -> Result<(), Refusal> {
+    let registry = told(&rt, rt.alloc(), &NAMED)?;
+    dependencies_are_read_by_number_in(&rt, &registry)
 }
 
 /// The matching set of a package that is copied.
@@ -96,15 +137,23 @@ fn has_no_highest(alloc: Global, registry: &Registry, pkg: Pkg) -> Result<bool, 
     Ok(registry.highest(pkg, &all).is_none())
 }
 
-#[test]
-fn no_version_of_other_numbers_matches(rt: HostRuntime) -> Result<(), Refusal> {
-    let registry = told(&rt, rt.alloc(), &NAMED)?;
+fn no_version_of_other_numbers_matches_in(
+    rt: &impl Abort,
+    alloc: Global,
+    registry: &Registry,
+) -> Result<(), Refusal> {
     for pkg in [0, 4, u32::MAX] {
-        matched(&rt, rt.alloc(), &registry, pkg, &[("*", false, &[])])?;
-        assert!(rt; has_no_highest(rt.alloc(), &registry, pkg)?);
+        matched(rt, alloc, registry, pkg, &[("*", false, &[])])?;
+        assert!(rt; has_no_highest(alloc, registry, pkg)?);
         assert!(rt; registry.highest_where(pkg, |_| true).is_none());
     }
     Ok(())
+}
+
+#[test]
+fn no_version_of_other_numbers_matches(rt: HostRuntime) -> Result<(), Refusal> {
+    let registry = told(&rt, rt.alloc(), &NAMED)?;
+    no_version_of_other_numbers_matches_in(&rt, rt.alloc(), &registry)
 }
 
 /// Makes room for a publication of `b` that never comes.
@@ -115,14 +164,22 @@ fn reserve_in_vain(alloc: Global, registry: &mut Registry) -> Result<(), Refusal
 }
 
 /// A requirement that was named ahead of a publication that never came is kept up all the same.
+fn a_reservation_changes_no_answer_in(
+    rt: &impl Abort,
+    alloc: Global,
+    registry: &mut Registry,
+) -> Result<(), Refusal> {
+    reserve_in_vain(alloc, registry)?;
+    assert_eq!(rt; registry.packages(), 3);
+    let another = submit_on_a(registry, alloc, Op::Publish, "1.6.0")?;
+    assert_eq!(rt; another, 0);
+    matched(rt, alloc, registry, 2, &[("<2", true, &[0, 2, 4])])
+}
+
 #[test]
 fn a_reservation_changes_no_answer(rt: HostRuntime) -> Result<(), Refusal> {
     let mut registry = told(&rt, rt.alloc(), &NAMED)?;
-    reserve_in_vain(rt.alloc(), &mut registry)?;
-    assert_eq!(rt; registry.packages(), 3);
-    let another = submit_on_a(&mut registry, rt.alloc(), Op::Publish, "1.6.0")?;
-    assert_eq!(rt; another, 0);
-    matched(&rt, rt.alloc(), &registry, 2, &[("<2", true, &[0, 2, 4])])
+    a_reservation_changes_no_answer_in(&rt, rt.alloc(), &mut registry)
 }
 
 fn highest_of(alloc: Global, registry: &Registry, text: &str) -> Result<Option<u32>, Refusal> {
@@ -130,20 +187,28 @@ fn highest_of(alloc: Global, registry: &Registry, text: &str) -> Result<Option<u
     Ok(registry.highest(2, &set))
 }
 
-#[test]
-fn the_highest_goes_by_precedence(rt: HostRuntime) -> Result<(), Refusal> {
-    let registry = told(&rt, rt.alloc(), &NAMED)?;
+fn the_highest_goes_by_precedence_in(
+    rt: &impl Abort,
+    alloc: Global,
+    registry: &Registry,
+) -> Result<(), Refusal> {
     for (text, wanted) in [
         ("^1", Some(2)),
         ("*", Some(3)),
         ("=1.0.0", Some(0)),
         (">2", None),
     ] {
-        let highest = highest_of(rt.alloc(), &registry, text)?;
+        let highest = highest_of(alloc, registry, text)?;
         assert!(rt; highest == wanted, "{text}");
     }
     assert!(rt; registry.highest_where(2, |ordinal| ordinal < 2) == Some(1));
     Ok(())
+}
+
+#[test]
+fn the_highest_goes_by_precedence(rt: HostRuntime) -> Result<(), Refusal> {
+    let registry = told(&rt, rt.alloc(), &NAMED)?;
+    the_highest_goes_by_precedence_in(&rt, rt.alloc(), &registry)
 }
 
 /// The patch numbers below 1,024 in steps, each once: 1,023 takes them falling, 389 mixed.

@@ -303,12 +303,20 @@ fn allowed(
     Ok(registry.allowed(&request, pkg, ordinal))
 }
 
-#[test]
-fn a_yanked_version_is_allowed_by_a_lock_alone(rt: HostRuntime) -> Result<(), Refusal> {
-    let registry = told(&rt, rt.alloc(), &YANKED)?;
+fn a_yanked_version_is_allowed_by_a_lock_alone_in(
+    rt: &impl Abort,
+    alloc: Global,
+    registry: &Registry,
+) -> Result<(), Refusal> {
     for (locked, pkg, ordinal, want) in ALLOWED {
-        let is_allowed = allowed(rt.alloc(), &registry, locked, pkg, ordinal)?;
+        let is_allowed = allowed(alloc, registry, locked, pkg, ordinal)?;
         assert_eq!(rt; is_allowed, want, "{pkg} {ordinal} lock {locked}");
     }
     Ok(())
+}
+
+#[test]
+fn a_yanked_version_is_allowed_by_a_lock_alone(rt: HostRuntime) -> Result<(), Refusal> {
+    let registry = told(&rt, rt.alloc(), &YANKED)?;
+    a_yanked_version_is_allowed_by_a_lock_alone_in(&rt, rt.alloc(), &registry)
 }

@@ -325,11 +325,27 @@ const FAULTS: Session = &[
         "{\"error\":19,\"name\":\"BadLine\",\"revision\":0}",
     ),
     (
-        "{\"op\":\"resolve\",\"needs\":[],\"budget\":0}",
+        "{\"op\":\"resolve\",\"needs\":[],\"budget\":-1}",
         "{\"error\":19,\"name\":\"BadLine\",\"revision\":0}",
     ),
     (
         "{\"op\":\"resolve\",\"needs\":[]}",
+        "{\"revision\":0,\"selected\":[]}",
+    ),
+];
+
+/// A budget is spent by one conflict more than it has.
+const BUDGETS: Session = &[
+    (
+        "{\"op\":\"resolve\",\"needs\":[[\"zed\",\"*\"]],\"budget\":0}",
+        "{\"error\":22,\"name\":\"BudgetSpent\",\"revision\":0}",
+    ),
+    (
+        "{\"op\":\"resolve\",\"needs\":[[\"zed\",\"*\"]],\"budget\":1}",
+        "{\"refused\":true,\"revision\":0}",
+    ),
+    (
+        "{\"op\":\"resolve\",\"needs\":[],\"budget\":0}",
         "{\"revision\":0,\"selected\":[]}",
     ),
 ];
@@ -351,6 +367,7 @@ fn answers_requests(rt: HostRuntime) -> Result<(), Fail> {
         UNKNOWN,
         YANKED_HIGHEST,
         FAULTS,
+        BUDGETS,
     ] {
         assert_session(&rt, rt.alloc(), session)?;
     }

@@ -110,7 +110,9 @@ fn text_of(alloc: Global, revision: u64, body: Body<'_>) -> Result<Vec<u8>, Fail
 /// The line of the selection that the lock of a resolve line names.
 fn selected(alloc: Global, revision: u64, line: &str) -> Result<Vec<u8>, Fail> {
     match read_request(alloc, line.as_bytes())? {
-        Asked::Resolve(request) => text_of(alloc, revision, Body::Selection(request.lock())),
+        Asked::Resolve { request, budget: _ } => {
+            text_of(alloc, revision, Body::Selection(request.lock()))
+        }
         _ => Err(Fail::from(Refusal::BadLine)),
     }
 }

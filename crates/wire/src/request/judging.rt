@@ -31,7 +31,7 @@ pub fn judge(alloc: Global, shape: &Shape<'_>) -> Result<Asked, Refusal>
             let (name, version) = marking(alloc, *name, *version)?;
             Ok(Asked::Command(Command::Unyank(name, version)))
         }
-        Shape::Resolve(needs, lock) => resolution(alloc, needs, lock),
+        Shape::Resolve(needs, lock, budget) => resolution(alloc, needs, lock, *budget),
         Shape::Listing => Ok(Asked::Listing),
     }
 }
@@ -58,14 +58,20 @@ fn marking(alloc: Global, name: &str, version: &str) -> Result<(Name, Published)
     Ok((Name::read(alloc, name)?, Published::read(alloc, version)?))
 }
 
-fn resolution(alloc: Global, needs: &Pairs<'_>, lock: &Pairs<'_>) -> Result<Asked, Refusal>
-    ensures { Gives asked_of result (judged (resolve (record { needs = needs.now; lock = lock.now }))) }
+fn resolution(
+    alloc: Global,
+    needs: &Pairs<'_>,
+    lock: &Pairs<'_>,
+    budget: Option<u32>,
+) -> Result<Asked, Refusal>
+    ensures { Gives asked_of result (judged (resolve (record { needs = needs.now; lock = lock.now }) budget)) }
 {
     let needed = names_in(alloc, needs)?;
     let locked = names_in(alloc, lock)?;
     let lock = lock_in(alloc, locked, lock)?;
     let needs = needs_in(alloc, needed, needs)?;
-    Ok(Asked::Resolve(Request::new(alloc, needs, lock)?))
+    let request = Request::new(alloc, needs, lock)?;
+    Ok(Asked::Resolve { request, budget })
 }
 
 /// The names of these needs or lock lines.

@@ -1,7 +1,7 @@
 //! The shapes of request lines.
 ghost use Rattle.std.specs.Prelude.{◌≡◌, option_map};
 ghost use Rattle.serde_json.specs.View.{view};
-ghost use Rattle.wire.specs.Shapes.{text_at, pairs_at, member_count, shape_of, publication_in, marking_in, lock_in, resolution_in};
+ghost use Rattle.wire.specs.Shapes.{budget_in, conflicts_of, has_member, lock_in, marking_in, member_count, pairs_at, publication_in, resolution_in, shape_of, text_at};
 ghost use Rattle.wire.specs.Asked.{texts_of};
 ghost use Rattle.registry.specs.Step.{Yank, Unyank};
 
@@ -14,8 +14,8 @@ pub enum Shape<'v> {
     Publish(&'v str, &'v str, Pairs<'v>),
     Yank(&'v str, &'v str),
     Unyank(&'v str, &'v str),
-    /// The needs and the lock.
-    Resolve(Pairs<'v>, Pairs<'v>),
+    /// The needs, the lock and the budget.
+    Resolve(Pairs<'v>, Pairs<'v>, Option<u32>),
     Listing,
 }
 
@@ -64,20 +64,54 @@ fn marking_in(value: &Value) -> Option<(&str, &str)>
 fn resolution_in(value: &Value) -> Option<Shape<'_>>
     ensures { option_map texts_of result ≡ resolution_in (view value.now) }
 {
+    let optional = has_member(value, "lock") + has_member(value, "budget");
+    if member_count(value) != 2 + optional {
+        return None;
+    }
     let lock = lock_in(value)?;
+    let budget = budget_in(value)?;
     let needs = pairs_at(value, "needs")?;
-    Some(Shape::Resolve(needs, lock))
+    Some(Shape::Resolve(needs, lock, budget))
 }
 
 /// The lock of a resolve line, which may be left out.
 fn lock_in(value: &Value) -> Option<Pairs<'_>>
     ensures { result ≡ lock_in (view value.now) }
 {
-    match member_count(value) {
-        2 => Some(Pairs::none()),
-        3 => pairs_at(value, "lock"),
-        _ => None,
+    match value.get("lock") {
+        Some(lock) => Pairs::of(lock),
+        None => Some(Pairs::none()),
     }
+}
+
+/// The budget of a resolve line, which may be left out.
+fn budget_in(value: &Value) -> Option<Option<u32>>
+    ensures { result ≡ budget_in (view value.now) }
+{
+    match value.get("budget") {
+        Some(budget) => Some(Some(conflicts_of(budget)?)),
+        None => Some(None),
+    }
+}
+
+/// The number of conflicts that a value is: a whole number of 32 bits, written without a fraction and without an
+/// exponent.
+fn conflicts_of(value: &Value) -> Option<u32>
+    ensures { result ≡ conflicts_of (view value.now) }
+{
+    let conflicts = value.as_u64()?;
+    if conflicts <= u32::MAX as u64 {
+        Some(conflicts as u32)
+    } else {
+        None
+    }
+}
+
+/// 1 for a member that an object has, and else 0.
+fn has_member(value: &Value, name: &str) -> usize
+    ensures { result ≡ has_member name.now (view value.now) }
+{
+    if value.get(name).is_some() { 1 } else { 0 }
 }
 
 /// How many members an object has.

@@ -4,6 +4,7 @@ use registry::Dependencies;
 use std::test::Fail;
 use versions::{Name, Published};
 
+mod budgets;
 mod resolutions;
 
 /// Lines that are not of their form.

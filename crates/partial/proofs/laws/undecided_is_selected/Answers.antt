@@ -1,4 +1,4 @@
-use Rattle.partial.proofs.Pending.{undecided-selected}
+use Rattle.partial.proofs.StillOpen.{undecided-selected}
 use Rattle.partial.proofs.laws.undecided_is_selected.Goals as goal
 
 pub returns : goal.returns

@@ -1,6 +1,5 @@
-use Rattle.std.proofs.Common.{◌∙◌, ◌-◌, ap, max, nat_eq, refl, sym, take}
+use Rattle.std.proofs.Common.{◌∙◌, ◌-◌, ap, max, refl, sym, take, slice_get}
 use Rattle.std.proofs.lemmas.List.{length-take-le}
-use Rattle.indexmap.specs.IndexMap.{get, keys}
 use Rattle.partial.specs.Assignments.{decisions}
 use Rattle.partial.proofs.Says.{LevelsFrom-take}
 use Rattle.partial.proofs.Satisfiers.{alone_on, alone_holds, before_within, found}
@@ -10,21 +9,21 @@ pub shortest_on-alone-requires-clause-on : goal.shortest_on-alone-requires-claus
 shortest_on-alone-requires-clause-on c =
     let l = c.args.ledger.now in
     let r = c.reach_of-reach.result in
-    alone_on l.made.items l.notes.items (λ p. get nat_eq l.heads p) (keys l.heads) c.requires.kept.0 c.args.terms.now c.requires.lawful r.count r.own r.others (r.count - 1) c.reach_of-reach.ensures refl
+    alone_on l.made.items l.notes.items (λ p. slice_get l.heads.items p) c.requires.kept.0 c.args.terms.now c.requires.lawful r.count r.own r.others (r.count - 1) c.reach_of-reach.ensures refl
     c.index.result.now c.index.ensures c.index-terms-reach.result c.index-terms-reach.is c.index-2.result.now c.index-2.ensures
 
 pub shortest_on-alone-requires-clause-holds : goal.shortest_on-alone-requires-clause-holds
 shortest_on-alone-requires-clause-holds c =
     let l = c.args.ledger.now in
     let r = c.reach_of-reach.result in
-    alone_holds l.made.items l.notes.items (λ p. get nat_eq l.heads p) (keys l.heads) c.requires.kept.0 c.args.terms.now c.requires.lawful r.count r.own r.others (r.count - 1) c.reach_of-reach.ensures refl
+    alone_holds l.made.items l.notes.items (λ p. slice_get l.heads.items p) c.requires.kept.0 c.args.terms.now c.requires.lawful r.count r.own r.others (r.count - 1) c.reach_of-reach.ensures refl
     c.index.result.now c.index.ensures c.index-terms-reach.result c.index-terms-reach.is c.index-2.result.now c.index-2.ensures c.in_ok-rest_of.field-0 c.in_ok-rest_of.ensures
 
 pub slice_bounds-level_of-end : goal.slice_bounds-level_of-end
 slice_bounds-level_of-end c =
     let l = c.args.ledger.now in
     let r = c.reach_of-reach.result in
-    let within = before_within l.made.items l.notes.items (λ p. get nat_eq l.heads p) (keys l.heads) c.requires.kept.0 c.args.terms.now c.requires.lawful r.count r.own r.others (r.count - 1) c.reach_of-reach.ensures refl
+    let within = before_within l.made.items l.notes.items (λ p. slice_get l.heads.items p) c.requires.kept.0 c.args.terms.now c.requires.lawful r.count r.own r.others (r.count - 1) c.reach_of-reach.ensures refl
     c.index.result.now c.index.ensures c.index-terms-reach.result c.index-terms-reach.is c.index-2.result.now c.index-2.ensures
     c.shortest_on-alone.result c.max-before.result c.shortest_on-alone.ensures.within c.max-before.ensures in
     sym (length-take-le c.max-before.result c.deref.result.now (rw c.deref.ensures.value within))
@@ -36,7 +35,7 @@ pub returns : goal.returns
 returns c =
     let l = c.args.ledger.now in
     let r = c.reach_of-reach.result in
-    found l.made.items l.notes.items (λ p. get nat_eq l.heads p) (keys l.heads) c.requires.kept.0 c.args.terms.now c.requires.lawful r.count r.own r.others (r.count - 1) c.reach_of-reach.ensures refl
+    found l.made.items l.notes.items (λ p. slice_get l.heads.items p) c.requires.kept.0 c.args.terms.now c.requires.lawful r.count r.own r.others (r.count - 1) c.reach_of-reach.ensures refl
     c.index.result.now c.index.ensures c.index-terms-reach.result c.index-terms-reach.is c.index-2.result.now c.index-2.ensures c.in_ok-rest_of.field-0 c.in_ok-rest_of.ensures
     c.shortest_on-alone.result c.max-before.result c.max.result c.shortest_on-alone.ensures.shortest c.shortest_on-alone.ensures.within c.max-before.ensures
     (c.max.ensures ∙ ap (λ d. max d 1) (c.level_of-level.ensures ∙ ap (λ xs. decisions (take c.max-before.result xs)) c.deref.ensures.value))

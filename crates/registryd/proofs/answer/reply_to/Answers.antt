@@ -21,7 +21,7 @@ pub returns-in-Ok-Resolve : goal.returns-in-Ok-Resolve
 returns-in-Ok-Resolve g c =
     let said = rw c.in-Ok-Resolve.field-0-is at c.in-Ok-Resolve.ensures in
     let replied = c.reply_to_request.ensures in
-    (replied.0, lawful_resolved _ _ _ _ c.requires said replied.1, replied.2)
+    (replied.0, lawful_resolved _ _ _ _ _ c.requires said replied.1, replied.2)
 
 pub returns-in-Ok-new : goal.returns-in-Ok-new
 returns-in-Ok-new g c =

@@ -1,10 +1,13 @@
 use Rattle.std.proofs.Common.{◌≡◌, false, true}
-use Rattle.terms.proofs.MergedWords.{counting-begin, counting-end, counting-fits, counting-turn, some-left}
+use Rattle.terms.proofs.MergedWords.{counting-begin, counting-end, counting-fits, counting-turn, only-counted, some-left}
 use Rattle.terms.specs.Merges.{is_over}
 use Rattle.terms.proofs.merging.count_kept.Goals as goal
 
 pub merge-init : goal.merge-init
 merge-init c = counting-begin c.args.rule c.args.first.now c.args.second.now c.requires.first c.requires.second
+
+pub returns-in-Some : goal.returns-in-Some
+returns-in-Some c = only-counted c.args.rule c.args.first.now c.args.second.now c.in-Some.word c.requires.first c.requires.second c.in-Some.ensures
 
 pub overflow_add-total : goal.overflow_add-total
 overflow_add-total c =

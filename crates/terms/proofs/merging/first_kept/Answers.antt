@@ -1,7 +1,15 @@
 use Rattle.std.proofs.Common.{◌≡◌, [], false, true, refl, sym}
-use Rattle.terms.proofs.MergedWords.{begin, first-kept, none-kept, some-left, turn_left_out}
+use Rattle.terms.proofs.MergedWords.{begin, first-kept, none-kept, only-first, only-none, some-left, turn_left_out}
 use Rattle.terms.specs.Merges.{is_over}
 use Rattle.terms.proofs.merging.first_kept.Goals as goal
+
+pub returns-then-word-eq0-clause-none : goal.returns-then-word-eq0-clause-none
+returns-then-word-eq0-clause-none c k =
+    sym (only-none c.args.rule c.args.first.now c.args.second.now c.in-Some.word c.requires.first c.requires.second c.in-Some.ensures c.if-word-eq0.true k)
+
+pub returns-in-Some-clause-some : goal.returns-in-Some-clause-some
+returns-in-Some-clause-some c =
+    only-first c.args.rule c.args.first.now c.args.second.now c.in-Some.word c.requires.first c.requires.second c.in-Some.ensures c.if-word-eq0.false
 
 pub merge-init : goal.merge-init
 merge-init c = begin c.args.rule c.args.first.now c.args.second.now c.requires.first c.requires.second

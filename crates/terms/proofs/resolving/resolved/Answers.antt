@@ -7,12 +7,12 @@ pub merge-preserved : goal.merge-preserved
 merge-preserved c =
     let some : 0 < length c.merge.left.now + length c.merge.right.now =
     elim c.if-left-gt0.branch [ then-left-gt0 w ↦ omega arith | else-left-gt0+then-right-gt0 w ↦ omega arith ] in
-    let kept : c.match-branch-2.kept.items ≡ pushed c.merge.kept.items c.least_package-pkg.result c.in_ok-term.field-0 =
-    elim c.match-branch-2.branch [
+    let kept : c.match-branch-3.kept.items ≡ pushed c.merge.kept.items c.least_package-pkg.result c.in_ok-term.field-0 =
+    elim c.match-branch-3.branch [
       | in-None w ↦ rw w.in-None.is (ap (λ v. v.items) w.kept-is)
       | in-Some+in_ok-push-in-Some w ↦ ap (λ v. v.items) w.kept-is ∙ w.in_ok-push-in-Some.ensures.items ∙ ap (λ o. pushed c.merge.kept.items c.least_package-pkg.result o) (sym w.in-Some.is)
     ] in
     turn c.args.pivot c.args.first.now c.args.second.now c.merge.kept.items c.merge.left.now c.merge.right.now c.merge.invariant some
-    c.least_package-pkg.result (nat_eq c.least_package-pkg.result c.args.pivot) _ _ c.in_ok-term.field-0 c.match-branch-2.kept.items c.behind_package-left.result.now c.behind_package-right.result.now
+    c.least_package-pkg.result (nat_eq c.least_package-pkg.result c.args.pivot) _ _ c.in_ok-term.field-0 c.match-branch-3.kept.items c.behind_package-left.result.now c.behind_package-right.result.now
     c.least_package-pkg.ensures refl c.front_term-on_left.ensures c.front_term-on_right.ensures c.in_ok-term.ensures.exact c.in_ok-term.ensures.kept c.in_ok-term.ensures.ascending
     kept c.behind_package-left.ensures c.behind_package-right.ensures

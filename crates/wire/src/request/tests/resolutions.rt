@@ -7,7 +7,7 @@ use std::test::Fail;
 use versions::Refusal;
 
 /// Resolve lines that are not of their form.
-const BAD_LINES: [&str; 21] = [
+const BAD_LINES: [&str; 20] = [
     // The needs are missing, or are not pairs.
     "{\"op\":\"resolve\"}",
     "{\"op\":\"resolve\",\"lock\":[]}",
@@ -24,12 +24,11 @@ const BAD_LINES: [&str; 21] = [
     "{\"op\":\"resolve\",\"needs\":[],\"lock\":[[\"a\",\"1.0.0\",false]]}",
     // Of a lock that comes twice the last counts.
     "{\"op\":\"resolve\",\"needs\":[],\"lock\":[],\"lock\":1}",
-    // Another member. Stages to come read two of them.
+    // Another member. A stage to come reads one of them.
     "{\"op\":\"resolve\",\"needs\":[],\"locks\":[]}",
     "{\"op\":\"resolve\",\"needs\":[],\"explain\":true}",
-    "{\"op\":\"resolve\",\"needs\":[],\"budget\":0}",
     "{\"op\":\"resolve\",\"needs\":[],\"lock\":[],\"explain\":false}",
-    "{\"op\":\"resolve\",\"needs\":[],\"lock\":[],\"budget\":0}",
+    "{\"op\":\"resolve\",\"needs\":[],\"lock\":[],\"budget\":0,\"explain\":false}",
     "{\"op\":\"resolve\",\"needs\":[],\"lock\":[],\"name\":\"a\"}",
     "{\"op\":\"list\",\"needs\":[]}",
     // Nothing else is judged of such a line.
@@ -100,7 +99,7 @@ fn the_lowest_refusal_of_a_resolve_line_is_told(rt: HostRuntime) {
 /// The request that a line asks.
 fn request_of(alloc: Global, line: &str) -> Result<Request, Fail> {
     match read_request(alloc, line.as_bytes())? {
-        Asked::Resolve(request) => Ok(request),
+        Asked::Resolve { request, budget: _ } => Ok(request),
         _ => Err(Fail::from(Refusal::BadLine)),
     }
 }

@@ -30,15 +30,15 @@ returns-in_err-needs c =
     let lock = given_by _ _ _ BadVersion c.in_ok-lock.ensures in
     rw (p.1, p.2) (refuses_by _ _ BadRequirement _ _ c.in_err-needs.ensures (λ bad. rw (named, lock.0, bad)))
 
-pub returns-in_err-new : goal.returns-in_err-new
-returns-in_err-new c =
-    let p = err_from_is_err_and c.from_residual-in_err-new.result c.from_residual-in_err-new.ensures.1 in
+pub returns-in_err-request : goal.returns-in_err-request
+returns-in_err-request c =
+    let p = err_from_is_err_and c.from_residual-in_err-request.result c.from_residual-in_err-request.ensures.1 in
     let needed = given_by _ _ _ BadName c.in_ok-needed.ensures in
     let locked = given_by _ _ _ BadName c.in_ok-locked.ensures in
     let lock = given_by _ _ _ BadVersion c.in_ok-lock.ensures in
     let needs = given_by _ _ _ BadRequirement c.in_ok-needs.ensures in
-    rw (p.1, p.2) (refuses_judged c.args.needs.now c.args.lock.now _ _
-    (record { named = both_named c.args.needs.now c.args.lock.now needed.0 locked.0; versioned = lock.0; required = needs.0 }) needs.1 lock.1 _ c.in_err-new.ensures)
+    rw (p.1, p.2) (refuses_judged c.args.needs.now c.args.lock.now _ _ _
+    (record { named = both_named c.args.needs.now c.args.lock.now needed.0 locked.0; versioned = lock.0; required = needs.0 }) needs.1 lock.1 _ c.in_err-request.ensures)
 
 pub returns : goal.returns
 returns c =
@@ -46,5 +46,5 @@ returns c =
     let locked = given_by _ _ _ BadName c.in_ok-locked.ensures in
     let lock = given_by _ _ _ BadVersion c.in_ok-lock.ensures in
     let needs = given_by _ _ _ BadRequirement c.in_ok-needs.ensures in
-    asks_judged c.args.needs.now c.args.lock.now _ _
-    (record { named = both_named c.args.needs.now c.args.lock.now needed.0 locked.0; versioned = lock.0; required = needs.0 }) needs.1 lock.1 _ c.in_ok-new.ensures
+    asks_judged c.args.needs.now c.args.lock.now _ _ _
+    (record { named = both_named c.args.needs.now c.args.lock.now needed.0 locked.0; versioned = lock.0; required = needs.0 }) needs.1 lock.1 _ c.in_ok-request.ensures

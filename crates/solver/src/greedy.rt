@@ -1,0 +1,265 @@
+// A greedy search, tried before the one that goes back.
+//
+// It decides in the same order, and keeps of each package the versions that its dependents leave, but
+// no lines. A version whose dependencies don't fit beside what is decided is passed over for the next
+// one of its package; where none is left, it gives up. What it decides is validated by the walk, so no
+// proof rests on it.
+
+ghost use Rattle.std.specs.Prelude.{◌≡◌, IfErr, IfOk, IfSome};
+ghost use Rattle.walk.specs.Choosing.{choice_of};
+ghost use Rattle.solver.specs.Answering.{IsAnswer};
+
+use crate::deciding::version_within;
+use crate::task::Task;
+use indexmap::IndexMap;
+use registry::Matching;
+use std::cmp::Reverse;
+use std::collections::BinaryHeap;
+use terms::{Pkg, Term, VSet};
+use versions::Refusal;
+use walk::{Asker, Chooser, Reached, reach};
+
+/// How many versions may be looked at, for each package of the registry, before it gives up.
+const PATIENCE: usize = 4;
+
+/// What is left of the packages that are needed, and what is decided of them.
+#[derive(Drop)]
+struct Greedy {
+    /// The allowed versions that meet each requirement so far.
+    left: IndexMap<Pkg, Term>,
+    decided: IndexMap<Pkg, u32>,
+    /// Packages by the number of their versions that were left; some of it is out of date.
+    queue: BinaryHeap<Reverse<(usize, Pkg)>>,
+    /// What the dependencies of the version at hand leave of their packages.
+    beside: Vec<(Pkg, Term)>,
+}
+
+/// Chooses what is decided.
+#[derive(Clone, Copy)]
+struct Decisions<'a> {
+    decided: &'a IndexMap<Pkg, u32>,
+}
+
+impl Chooser for Decisions<'_> {
+    ghost chooses = { λ c. choice_of c.decided.now.entries };
+
+    fn choose(&self, pkg: Pkg) -> Option<u32> {
+        self.decided.get(&pkg).copied()
+    }
+}
+
+/// The versions of a set that are allowed.
+fn allowed_of(task: &Task<'_>, pkg: Pkg, versions: VSet) -> Result<VSet, Refusal>
+    ensures { IfErr result (λ e. e ≡ Refusal.NoMemory) }
+{
+    if versions.iter().all(|ordinal| task.registry.allowed(task.request, pkg, ordinal)) {
+        return Ok(versions);
+    }
+    let mut allowed = VSet::new(task.alloc);
+    for ordinal in versions.iter() {
+        if task.registry.allowed(task.request, pkg, ordinal) {
+            allowed.insert(ordinal)?;
+        }
+    }
+    Ok(allowed)
+}
+
+/// How many versions a term leaves.
+fn count_of(left: &Term) -> usize {
+    match left {
+        Term::In(versions) => versions.len(),
+        Term::NotIn(_) => 0,
+    }
+}
+
+impl Greedy {
+    fn new(task: &Task<'_>) -> Greedy {
+        Greedy {
+            left: IndexMap::new(task.alloc),
+            decided: IndexMap::new(task.alloc),
+            queue: BinaryHeap::new(task.alloc),
+            beside: Vec::new(task.alloc),
+        }
+    }
+
+    /// What a requirement leaves of an undecided package.
+    fn left_beside(
+        &self,
+        task: &Task<'_>,
+        pkg: Pkg,
+        matching: &Matching<'_>,
+    ) -> Result<Term, Refusal>
+        ensures { IfErr result (λ e. e ≡ Refusal.NoMemory) }
+    {
+        let matching = matching.set(task.alloc)?;
+        match self.left.get(&pkg) {
+            Some(left) => Ok(left.and(task.alloc, &Term::In(matching))?),
+            None => Ok(Term::In(allowed_of(task, pkg, matching)?)),
+        }
+    }
+
+    /// Notes what a requirement leaves of a package, given the versions that meet it. Answers whether
+    /// some version meets it beside the others.
+    fn meet(&mut self, task: &Task<'_>, pkg: Pkg, matching: &Matching<'_>) -> Result<bool, Refusal>
+        ensures { IfErr result (λ e. e ≡ Refusal.NoMemory) }
+    {
+        if let Some(ordinal) = self.decided.get(&pkg).copied() {
+            return Ok(matching.has(ordinal));
+        }
+        let left = self.left_beside(task, pkg, matching)?;
+        if count_of(&left) == 0 {
+            return Ok(false);
+        }
+        self.beside.push((pkg, left))?;
+        Ok(true)
+    }
+
+    /// Notes what the request's needs leave, up to the first that nothing meets.
+    fn meet_needs(&mut self, task: &Task<'_>) -> Result<bool, Refusal>
+        ensures { IfErr result (λ e. e ≡ Refusal.NoMemory) }
+    {
+        self.beside.clear();
+        for (name, need) in task.request.needs() {
+            let Some(pkg) = task.registry.number(name) else {
+                return Ok(false);
+            };
+            let matching = task.registry.matching_set(pkg, need)?;
+            if !self.meet(task, pkg, &matching)? {
+                return Ok(false);
+            }
+        }
+        Ok(true)
+    }
+
+    /// Notes what a version's dependencies leave, up to the first that nothing meets.
+    fn meet_dependencies(
+        &mut self,
+        task: &Task<'_>,
+        pkg: Pkg,
+        ordinal: u32,
+    ) -> Result<bool, Refusal>
+        ensures { IfErr result (λ e. e ≡ Refusal.NoMemory) }
+    {
+        self.beside.clear();
+        let count = Asker::Version(pkg, ordinal)
+            .needs(task.registry, task.request)
+            .len();
+        for index in 0..count {
+            let (target, matching) = task.registry.dependency(pkg, ordinal, index)?;
+            if !self.meet(task, target, &matching)? {
+                return Ok(false);
+            }
+        }
+        Ok(true)
+    }
+
+    /// Keeps what is left of a package, and puts it into the queue.
+    fn keep(&mut self, pkg: Pkg, left: Term) -> Result<(), Refusal>
+        ensures { IfErr result (λ e. e ≡ Refusal.NoMemory) }
+    {
+        self.queue.push(Reverse((count_of(&left), pkg)))?;
+        self.left.insert(pkg, left)?;
+        Ok(())
+    }
+
+    /// Keeps what was noted.
+    fn keep_all(&mut self) -> Result<(), Refusal>
+        ensures { IfErr result (λ e. e ≡ Refusal.NoMemory) }
+    {
+        for _ in 0..self.beside.len() {
+            if let Some((pkg, left)) = self.beside.pop() {
+                self.keep(pkg, left)?;
+            }
+        }
+        Ok(())
+    }
+
+    /// Rules out a version of a package. Answers whether others are left.
+    fn pass_over(&mut self, task: &Task<'_>, pkg: Pkg, ordinal: u32) -> Result<bool, Refusal>
+        ensures { IfErr result (λ e. e ≡ Refusal.NoMemory) }
+    {
+        let Some(left) = self.left.get(&pkg) else {
+            return Ok(false);
+        };
+        let others = left.and(task.alloc, &Term::NotIn(VSet::single(task.alloc, ordinal)?))?;
+        if count_of(&others) == 0 {
+            return Ok(false);
+        }
+        self.keep(pkg, others)?;
+        Ok(true)
+    }
+
+    /// Whether an entry of the queue is of an undecided package and up to date.
+    fn is_next(&self, count: usize, pkg: Pkg) -> bool {
+        match self.left.get(&pkg) {
+            None => false,
+            Some(left) => count_of(left) == count && !self.decided.contains_key(&pkg),
+        }
+    }
+
+    /// The undecided package with the fewest versions left, of several the one with the lowest number.
+    fn next(&mut self) -> Option<Pkg> {
+        'queue: while let Some(Reverse((count, pkg))) = self.queue.pop() {
+            if self.is_next(count, pkg) {
+                return Some(pkg);
+            }
+        }
+        None
+    }
+
+    /// Decides on a package, or passes a version of it over. Answers whether some version can be met
+    /// beside what is decided.
+    fn decide(&mut self, task: &Task<'_>, pkg: Pkg) -> Result<bool, Refusal>
+        ensures { IfErr result (λ e. e ≡ Refusal.NoMemory) }
+    {
+        let Some(left) = self.left.get(&pkg) else {
+            return Ok(false);
+        };
+        let Some(ordinal) = version_within(task, pkg, left) else {
+            return Ok(false);
+        };
+        if !self.meet_dependencies(task, pkg, ordinal)? {
+            return Ok(self.pass_over(task, pkg, ordinal)?);
+        }
+        self.decided.insert(pkg, ordinal)?;
+        self.keep_all()?;
+        Ok(true)
+    }
+
+    /// Decides on all packages that are needed. Answers whether each could be met.
+    fn decide_all(&mut self, task: &Task<'_>) -> Result<bool, Refusal>
+        ensures { IfErr result (λ e. e ≡ Refusal.NoMemory) }
+    {
+        if !self.meet_needs(task)? {
+            return Ok(false);
+        }
+        self.keep_all()?;
+        for _ in 0..task.registry.packages().saturating_mul(PATIENCE) {
+            let Some(pkg) = self.next() else {
+                return Ok(true);
+            };
+            if !self.decide(task, pkg)? {
+                return Ok(false);
+            }
+        }
+        Ok(false)
+    }
+}
+
+/// A selection that is found without going back, if there is one.
+pub(crate) fn search_greedily(task: &Task<'_>) -> Result<Option<Vec<(Pkg, u32)>>, Refusal>
+    ensures meets { IfOk result (λ found. IfSome found (λ list. IsAnswer task.now list.items)) }
+    ensures only { IfErr result (λ e. e ≡ Refusal.NoMemory) }
+{
+    let mut greedy = Greedy::new(task);
+    if !greedy.decide_all(task)? {
+        return Ok(None);
+    }
+    let chooser = Decisions {
+        decided: &greedy.decided,
+    };
+    match reach(task.alloc, task.registry, task.request, &chooser)? {
+        Reached::Selection(list) => Ok(Some(list)),
+        Reached::Unmet(_, _) | Reached::NotAllowed(_, _) => Ok(None),
+    }
+}

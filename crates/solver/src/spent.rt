@@ -1,0 +1,65 @@
+// Lines that nothing follows from until the search goes back.
+//
+// No proof rests on it: it chooses which lines are looked at.
+
+ghost use Rattle.std.specs.Prelude.{◌≡◌, IfErr};
+ghost use Rattle.versions.specs.declared.refusal.Refusal.TheVariants.{NoMemory};
+
+use std::alloc::Global;
+use versions::Refusal;
+
+/// Lines by which something was derived. As long as it stands, their term on its package is
+/// contradicted.
+#[derive(Drop)]
+pub(crate) struct Spent {
+    /// By place of the line, up to the highest that was ever spent.
+    is_spent: Vec<bool>,
+    /// The places of the lines that are spent, each with the level of what it derived, in order.
+    order: Vec<(usize, usize)>,
+}
+
+fn mark(lines: &mut [bool], at: usize, is_spent: bool) {
+    if let Some(here) = lines.get_mut(at) {
+        *here = is_spent;
+    }
+}
+
+impl Spent {
+    pub fn new(alloc: Global) -> Spent {
+        Spent {
+            is_spent: Vec::new(alloc),
+            order: Vec::new(alloc),
+        }
+    }
+
+    /// Whether the line at a place is spent.
+    pub fn has(&self, at: usize) -> bool {
+        self.is_spent.as_slice().get(at).copied() == Some(true)
+    }
+
+    /// Notes that something was derived at a level by the line at a place.
+    pub fn add(&mut self, at: usize, level: usize) -> Result<(), Refusal>
+        ensures { IfErr result (λ e. e ≡ NoMemory) }
+    {
+        for _ in self.is_spent.len()..at.saturating_add(1) {
+            self.is_spent.push(false)?;
+        }
+        mark(&mut self.is_spent, at, true);
+        self.order.push((at, level))?;
+        Ok(())
+    }
+
+    /// Takes back what was noted above a level.
+    pub fn go_back(&mut self, level: usize) -> Result<(), Refusal>
+        ensures { IfErr result (λ e. e ≡ NoMemory) }
+    {
+        'order: while let Some((at, made)) = self.order.pop() {
+            if made <= level {
+                self.order.push((at, made))?;
+                return Ok(());
+            }
+            mark(&mut self.is_spent, at, false);
+        }
+        Ok(())
+    }
+}
