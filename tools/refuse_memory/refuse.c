@@ -4,10 +4,12 @@
 #define _GNU_SOURCE
 #include <dlfcn.h>
 #include <errno.h>
+#include <stdatomic.h>
 #include <stdlib.h>
 #include <unistd.h>
 
-static long count;
+/* Threads count together, so that one request alone has the number. */
+static atomic_long count;
 static long refused = -1;
 
 static int is_refused(void) {
@@ -15,7 +17,7 @@ static int is_refused(void) {
         const char *number = getenv("REFUSE_REQUEST");
         refused = number ? atol(number) : 0;
     }
-    if (++count != refused)
+    if (atomic_fetch_add(&count, 1) + 1 != refused)
         return 0;
     const char *tell = getenv("REFUSE_TELL");
     if (tell && write(atoi(tell), "x", 1) < 0)

@@ -35,6 +35,11 @@ def resolve(*needs, lock=None, budget=None):
 LIST = '{"op":"list"}'
 
 
+def journal_line(line):
+    """The line that a publish, yank or unyank line has in a journal's file."""
+    return json.dumps(json.loads(line), sort_keys=True, separators=(",", ":"))
+
+
 def run(words, given=b"", **more):
     """Runs the program on these bytes and answers what it left."""
     more.setdefault("stdout", subprocess.PIPE)

@@ -1,5 +1,6 @@
-"""Each request for memory of a small session is refused in turn: a reply may then
-be 18, and changes in no other way, and nothing is lost."""
+"""Each request for memory of a small session, and of small races, is refused in turn: a reply may
+then be 18, and changes in no other way, and nothing is lost."""
+import copy
 import json
 import os
 import subprocess
@@ -7,7 +8,7 @@ import tempfile
 import unittest
 
 from plain_search import Published
-from program import LIST, PROGRAM, SERVE, TOP, publish, resolve, unyank, yank
+from program import LIST, PROGRAM, SERVE, TOP, journal_line, publish, resolve, unyank, yank
 from reference import Registry
 
 LINES = [
@@ -30,46 +31,39 @@ LINES = [
     publish("A", "1"),
     LIST,
 ]
+# Two files that ask for the same, in other orders.
+RIVALS = [
+    [publish("a", "1.0.0"), yank("a", "1.0.0"), publish("b", "1.0.0", ["a ^1.0.0"]), resolve("b *"), LIST],
+    [publish("b", "1.0.0"), publish("a", "1.0.0"), unyank("a", "1.0.0"), resolve("b *"), yank("a", "1.0.0")],
+]
+# Where a race misses memory: before the first line, at a line, or behind the last.
+BEFORE, AT_A_LINE, BEHIND = range(3)
 REQUIREMENTS = ["^1.0.0", ">=1.0.0, <2.0.0-rc.1", "*", ">=1.0.0-alpha"]
 
 
-class Memory(unittest.TestCase):
-    def build(self, folder):
-        library = os.path.join(folder, "refuse.so")
-        source = os.path.join(TOP, "tools", "refuse_memory", "refuse.c")
-        subprocess.run(["cc", "-O1", "-shared", "-fPIC", "-o", library, source], check=True)
-        return library
+class Model:
+    """What was accepted, by the two plain models together."""
 
-    def session(self, library, number):
-        """Runs the session with one request refused; answers what it left, and whether it came to that request."""
-        told, tell = os.pipe()
-        env = {**os.environ, "LD_PRELOAD": library, "REFUSE_REQUEST": str(number), "REFUSE_TELL": str(tell)}
-        done = subprocess.run([PROGRAM, *SERVE], input="".join(line + "\n" for line in LINES).encode(), env=env,
-                              pass_fds=[tell], stdout=subprocess.PIPE, stderr=subprocess.PIPE, timeout=60)
-        os.close(tell)
-        came = os.read(told, 1) != b""
-        os.close(told)
-        return done, came
+    def __init__(self):
+        self.registry, self.published = Registry(), Published()
 
-    def follow(self, replies, number):
-        """Checks the replies by the rules, and answers how many are 18."""
-        registry, published, short = Registry(), Published(), 0
-        self.assertEqual(len(replies), len(LINES), number)
-        for line, reply in zip(LINES, replies):
-            request = json.loads(line)
-            if reply == registry.refused(18):
-                short += 1
-            elif request["op"] == "resolve":
-                self.assertIn(reply, self.answers(published, registry.revision, request), (number, line))
-            else:
-                self.assertEqual(reply, registry.answer(request, REQUIREMENTS), (number, line))
-                if reply.startswith('{"ok"'):
-                    published.apply(request)
-        return short
+    def short(self):
+        """The reply to any line where memory is refused."""
+        return self.registry.refused(18)
 
-    def answers(self, published, revision, request):
-        """The lawful replies to a resolve line."""
-        found = [json.dumps(selection, separators=(",", ":")) for selection in published.answers(request)]
+    def answers(self, line):
+        """The other lawful replies to a line, whose command is carried out where it is accepted."""
+        request = json.loads(line)
+        if request["op"] == "resolve":
+            return self.selections(request)
+        reply = self.registry.answer(request, REQUIREMENTS)
+        if reply.startswith('{"ok"'):
+            self.published.apply(request)
+        return [reply]
+
+    def selections(self, request):
+        revision = self.registry.revision
+        found = [json.dumps(selection, separators=(",", ":")) for selection in self.published.answers(request)]
         if not found and request.get("budget") == 0:
             # that there is no selection shows in a conflict at least
             return [f'{{"error":22,"name":"BudgetSpent","revision":{revision}}}']
@@ -77,26 +71,150 @@ class Memory(unittest.TestCase):
             return [f'{{"refused":true,"revision":{revision}}}']
         return [f'{{"revision":{revision},"selected":{selection}}}' for selection in found]
 
-    def test_each_request_refused(self):
-        with tempfile.TemporaryDirectory() as folder:
-            library = self.build(folder)
-            early = refused = 0
-            for number in range(1, 5000):
-                done, came = self.session(library, number)
-                if not came:
-                    break
-                if done.returncode:
-                    # before the first line there is nothing to answer
-                    self.assertEqual((done.returncode, done.stdout, done.stderr), (1, b"", b"registryd: no memory\n"), number)
-                    early += 1
+
+class Memory(unittest.TestCase):
+    @classmethod
+    def setUpClass(cls):
+        folder = tempfile.TemporaryDirectory()
+        cls.addClassCleanup(folder.cleanup)
+        cls.folder, cls.library = folder.name, os.path.join(folder.name, "refuse.so")
+        source = os.path.join(TOP, "tools", "refuse_memory", "refuse.c")
+        subprocess.run(["cc", "-O1", "-shared", "-fPIC", "-o", cls.library, source], check=True)
+
+    def refuse_each(self, words, given=""):
+        """Runs the program with each request refused in turn, up to ten runs in a row that don't come to their request,
+        since of threads some runs make more; answers the number, what the run left, and whether it came to it."""
+        number = behind = 0
+        while behind < 10:
+            number += 1
+            self.assertLess(number, 5000)
+            done, came = self.refuse(words, given, number)
+            behind = 0 if came else behind + 1
+            yield number, done, came
+
+    def refuse(self, words, given, number):
+        told, tell = os.pipe()
+        env = {**os.environ, "LD_PRELOAD": self.library, "REFUSE_REQUEST": str(number), "REFUSE_TELL": str(tell)}
+        done = subprocess.run([PROGRAM, *words], input=given.encode(), env=env, pass_fds=[tell],
+                              stdout=subprocess.PIPE, stderr=subprocess.PIPE, timeout=60)
+        os.close(tell)
+        came = os.read(told, 1) != b""
+        os.close(told)
+        return done, came
+
+    def follow(self, replies, number):
+        """Checks a session's replies by the rules, and answers how many are 18."""
+        model, short = Model(), 0
+        self.assertEqual(len(replies), len(LINES), number)
+        for line, reply in zip(LINES, replies):
+            if reply == model.short():
+                short += 1
+            else:
+                self.assertIn(reply, model.answers(line), (number, line))
+        return short
+
+    def test_each_request_of_a_session(self):
+        early = refused = 0
+        for number, done, came in self.refuse_each(SERVE, "".join(line + "\n" for line in LINES)):
+            if done.returncode:
+                # before the first line there is nothing to answer
+                self.assertEqual((done.returncode, done.stdout, done.stderr), (1, b"", b"registryd: no memory\n"), number)
+                early += 1
+            else:
+                self.assertEqual(done.stderr, b"", number)
+                short = self.follow(done.stdout.decode().split("\n")[:-1], number)
+                self.assertLessEqual(short, came, number)
+                refused += short
+        self.assertGreater(early, 2)
+        self.assertGreater(refused, 20)
+        print(f"({number - 10} requests refused in turn: {early} before the first line, {refused} answered 18) ", end="")
+
+    def models_of(self, files, replies, number):
+        """The journal that replies tell, and what is accepted after each beginning of it."""
+        entries = {}
+        for asked, told in zip(files, replies):
+            self.assertEqual(len(told), len(asked), number)
+            for line, reply in zip(asked, map(json.loads, told)):
+                if "ok" in reply:
+                    self.assertNotIn(reply["place"], entries, number)
+                    entries[reply["place"]] = line
+        self.assertEqual(sorted(entries), list(range(1, len(entries) + 1)), number)
+        journal, models = [entries[place] for place in sorted(entries)], [Model()]
+        for line in journal:
+            models.append(copy.deepcopy(models[-1]))
+            models[-1].answers(line)
+        return journal, models
+
+    def follow_race(self, files, printed, number):
+        """Checks a race's replies by the rules, each by the journal that all of them tell. Answers all that is to be
+        printed with these replies, and the seats and lines that were answered 18."""
+        lines, replies, short = printed.split("\n"), [], []
+        for asked in files:
+            replies.append(lines[:len(asked)])
+            lines = lines[len(asked):]
+        journal, models = self.models_of(files, replies, number)
+        for seat, (asked, told) in enumerate(zip(files, replies), 1):
+            seen = 0
+            for line, reply in zip(asked, told):
+                place, is_own = json.loads(reply)["place"], '"ok"' in reply
+                # nothing that was seen is lost, and a seat's own command comes after it
+                self.assertLessEqual(seen + is_own, place, (number, line))
+                seen, model = place, copy.deepcopy(models[place - is_own])
+                if reply == stamped(model.short(), place, seat):
+                    short.append((seat, line))
                 else:
-                    self.assertEqual(done.stderr, b"", number)
-                    refused += self.follow(done.stdout.decode().split("\n")[:-1], number) > 0
-            self.assertFalse(came)
-            self.assertEqual(self.follow(done.stdout.decode().split("\n")[:-1], number), 0)
-            self.assertGreater(early, 2)
-            self.assertGreater(refused, 20)
-            print(f"({number - 1} requests refused in turn: {early} before the first line, {refused} answered 18) ", end="")
+                    self.assertIn(reply, [stamped(it, place, seat) for it in model.answers(line)], (number, line))
+        told = [reply for told in replies for reply in told]
+        whole = [*told, "registry-journal 1", *map(journal_line, journal), f"end {len(journal)}", ""]
+        return "\n".join(whole), short
+
+    def refuse_each_of_a_race(self, *files):
+        """Refuses each request of a race of these files in turn. Answers where the request of each run was missed, and
+        the seats and lines that were answered 18."""
+        words = ["race"]
+        for number, lines in enumerate(files):
+            words.append(os.path.join(self.folder, str(number)))
+            with open(words[-1], "w") as out:
+                out.writelines(line + "\n" for line in lines)
+        missed, all_short = [], []
+        for number, done, came in self.refuse_each(words):
+            printed, short = done.stdout.decode(), []
+            if printed or done.returncode == 0:
+                whole, short = self.follow_race(files, printed, number)
+            # one request is refused, so one line at most, or the end, shows it
+            self.assertLessEqual(len(short) + (done.returncode != 0), came, number)
+            if done.returncode == 0:
+                self.assertEqual((printed, done.stderr), (whole, b""), number)
+                missed += [AT_A_LINE] * len(short)
+            elif done.stderr == b"registryd: no memory\n":
+                self.assertEqual((done.returncode, printed), (1, ""), number)
+                missed.append(BEFORE)
+            else:
+                self.assertEqual((done.returncode, done.stderr), (1, b"registryd: output failed\n"), number)
+                self.assertTrue(not printed or whole.startswith(printed), number)
+                missed.append(BEHIND)
+            all_short += short
+        counts = [missed.count(where) for where in (BEFORE, AT_A_LINE, BEHIND)]
+        self.assertGreater(min(counts), 2)
+        print("({} requests refused in turn: {} before the first line, {} answered 18, {} behind the last) "
+              .format(number - 10, *counts), end="")
+        return missed, all_short
+
+    def test_each_request_of_a_race_of_one_file(self):
+        missed, short = self.refuse_each_of_a_race(LINES)
+        # one thread makes its requests in one order
+        self.assertEqual(missed, sorted(missed))
+        self.assertEqual({line for _, line in short}, set(LINES))
+
+    def test_each_request_of_a_race_of_two_files(self):
+        # which seat makes a request varies, so each run is judged by the journal that it printed
+        _, short = self.refuse_each_of_a_race(*RIVALS)
+        self.assertEqual({seat for seat, _ in short}, {1, 2})
+
+
+def stamped(reply, place, seat):
+    """The reply as a seat of a race gives it, at this place."""
+    return json.dumps({**json.loads(reply), "place": place, "seat": seat}, sort_keys=True, separators=(",", ":"))
 
 
 if __name__ == "__main__":

@@ -1,7 +1,8 @@
 -- The lines of a text, one after another.
-use Rattle.std.proofs.Common.{◌≡◌, ◌≢◌, ℕ, ◌<◌, List, [], ◌∷◌, ◌++◌, ◌==◌, length, refl, ap, subst, ◌∙◌, sym, Bool, false, true, flat_map, arith, rules}
+use Rattle.std.proofs.Common.{◌≡◌, ◌≢◌, ℕ, ◌<◌, List, [], ◌∷◌, ◌++◌, ◌==◌, ◌+◌, ◌-◌, length, take, drop, refl, ap, subst, ◌∙◌, sym, Bool, false, true, flat_map, arith, rules}
 use Rattle.std.specs.Prelude.{MatchBool}
-use Rattle.std.proofs.lemmas.List.{append_assoc}
+use Rattle.std.proofs.lemmas.List.{append_assoc, take_all, take_rest, take-append-drop}
+use Rattle.std.proofs.Math.Seq.{drop-length}
 use Rattle.lines.specs.Unread.{Unread, StandsFor, line_limit}
 use Rattle.std.specs.List.{AllByRecursion}
 use Rattle.std.proofs.lemmas.List.Elements.{recursion_from_All}
@@ -26,6 +27,20 @@ lines_of-last_by b (c ∷ line) h = rw (other b h.0, lines_of-last_by c line h.1
 pub lines_of-last : (line : List ℕ) → HasNoFeed line → 0 < length line → lines_of line ≡ line ∷ []
 lines_of-last [] h some = absurd (omega arith)
 lines_of-last (b ∷ line) h some = lines_of-last_by b line (recursion_from_All _ (b ∷ line) h)
+
+-- what is cut at its first line feed
+pub lines_of-cut : (bytes : List ℕ) (feed : ℕ) → HasNoFeed (take feed bytes) → drop feed bytes ≡ line_feed ∷ drop (feed + 1) bytes
+    → lines_of bytes ≡ take feed bytes ∷ lines_of (take (length bytes - (feed + 1)) (drop (feed + 1) bytes))
+lines_of-cut bytes feed before found =
+    let whole : bytes ≡ take feed bytes ++ line_feed ∷ drop (feed + 1) bytes = sym (take-append-drop feed bytes) ∙ ap (λ (l : List ℕ). take feed bytes ++ l) found in
+    ap lines_of whole ∙ lines_of-feed (take feed bytes) (drop (feed + 1) bytes) before
+    ∙ ap (λ (l : List ℕ). take feed bytes ∷ lines_of l) (sym (take_rest bytes (feed + 1)))
+
+-- what is one line to its end
+pub lines_of-whole : (bytes front back : List ℕ) → HasNoFeed bytes → 0 < length bytes → front ≡ take (length bytes) bytes → back ≡ drop (length bytes) bytes
+    → lines_of bytes ≡ front ∷ lines_of back
+lines_of-whole bytes front back no_feed some first rest =
+    rw (first, rest, take_all (length bytes) bytes (omega arith), drop-length bytes) (lines_of-last bytes no_feed some)
 
 whole_lines_of-feed_by : (line rest : List ℕ) → AllByRecursion (λ b. b ≢ line_feed) line → whole_lines_of (line ++ line_feed ∷ rest) ≡ line ∷ whole_lines_of rest
 whole_lines_of-feed_by [] rest h = refl

@@ -181,7 +181,7 @@ fn room(alloc: Global) -> Result<Vec<u8>, AllocError>
 }
 
 // Where the first line feed stands.
-fn find_feed(bytes: &[u8]) -> Option<usize>
+pub fn find_feed(bytes: &[u8]) -> Option<usize>
     ensures none { IfNone result (HasNoFeed bytes.now) }
     ensures within { IfSome result (λ k. k < length bytes.now) }
     ensures before { IfSome result (λ k. HasNoFeed (take k bytes.now)) }

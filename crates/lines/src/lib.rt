@@ -1,4 +1,5 @@
-//! Lines that are read from any reader, and texts that are written to any writer.
+//! Lines that are read from any reader or stand in bytes that are there, and texts that are written to
+//! any writer.
 //!
 //! All room is taken beforehand, by `LineBuffer::new` and `Outbox::new`. No other call takes memory.
 #![tactic(auto)]
@@ -9,8 +10,10 @@ mod fakes;
 mod outbox;
 mod read;
 mod retry;
+mod slices;
 mod write;
 
 pub use buffer::{LINE_LIMIT, LineBuffer, Next};
 pub use outbox::Outbox;
+pub use slices::{count_lines, first_line};
 pub use write::{write_text, write_texts};

@@ -1,7 +1,11 @@
 pub mod CommandWalk
 pub mod GivenValues
+pub mod KeptLemmas
 pub mod OutcomeLemmas
+pub mod RaceLemmas
+pub mod RacingLemmas
 pub mod ReplayLemmas
 pub mod ServeLemmas
 pub mod SessionLemmas
 pub mod SessionRows
+pub mod WordLemmas

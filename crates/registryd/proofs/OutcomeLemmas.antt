@@ -14,7 +14,8 @@ use Rattle.derivations.specs.declared.line.Line.{Line}
 use Rattle.solver.specs.Outcomes.{Tells, TellsOne}
 use Rattle.wire.specs.Replies.{no_selection, refused, selected}
 use Rattle.wire.specs.Shapes.{resolve}
-use Rattle.registryd.specs.Outcomes.{IsAnswer, IsRefuted, MayStop, NonePreferred}
+use Rattle.chronicle.specs.Answers.{MayStop, NonePreferred}
+use Rattle.registryd.specs.Outcomes.{IsAnswer, IsRefuted}
 use Rattle.registryd.specs.Replay.{at}
 use Rattle.registryd.specs.Session.{Answers, IsRefused, reply_after}
 
@@ -32,12 +33,6 @@ pub answered_none : (old : List Change) (wanted : Wanted) (budget : Option ℕ) 
 answered_none old wanted budget packages lines is derivation =
     let refuted : IsRefuted packages wanted = record { lines = lines; derivation = derivation; none = NoSelection-IsDerivation packages wanted lines derivation } in
     (inr (inl (subst (λ p. IsRefuted p wanted) is refuted, refl)), refl)
-
--- a budget that is spent is not spent where the preferred selection serves
-pub stops_within : (packages : Packages) (wanted : Wanted) (budget : ℕ) (e : Refusal) → (e ≡ NoMemory) ⊎ (e ≡ BudgetSpent)
-    → ((s : Choices) → IsPreferredSelection packages wanted s → Meets packages wanted s → e ≡ NoMemory) → MayStop packages wanted (Some budget) e
-stops_within packages wanted budget e (inl memory) unspent = inl memory
-stops_within packages wanted budget e (inr spent) unspent = inr (spent, λ s is meets. let memory = unspent s is meets in absurd (cc))
 
 -- what may be told where there is no answer
 pub stopped : (old : List Change) (wanted : Wanted) (budget : Option ℕ) (packages : Packages) (e : Refusal) → packages ≡ at old → MayStop packages wanted budget e

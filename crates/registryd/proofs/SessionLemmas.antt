@@ -18,7 +18,7 @@ use Rattle.registryd.specs.Replay.{at}
 use Rattle.registryd.specs.Session.{Answers, IsLawful, IsRefused, Session, asked, reply_after, with_command}
 
 -- a refusal tells want of memory, or what the definition says
-told : {Y : Type 0} (e : Refusal) (said : Result Y Refusal) → Refuses e said → (e ≡ NoMemory) ⊎ (said ≡ Err e)
+pub told : {Y : Type 0} (e : Refusal) (said : Result Y Refusal) → Refuses e said → (e ≡ NoMemory) ⊎ (said ≡ Err e)
 told BadName said is = inr is
 told BadVersion said is = inr is
 told BadRequirement said is = inr is
@@ -42,10 +42,10 @@ told TooLong said is = inr is
 told NotADerivation said is = inr is
 told BudgetSpent said is = inr is
 
-asked-short : (line : List ℕ) → length line ≤ line_limit → asked line ≡ request_of line
+pub asked-short : (line : List ℕ) → length line ≤ line_limit → asked line ≡ request_of line
 asked-short line short = let fits : nat_le (length line) line_limit ≡ true = search rules in rw fits refl
 
-asked-long : (line : List ℕ) → line_limit < length line → asked line ≡ Err BadLine
+pub asked-long : (line : List ℕ) → line_limit < length line → asked line ≡ Err BadLine
 asked-long line long = let over : nat_le (length line) line_limit ≡ false = search rules in rw over refl
 
 -- what a line is answered where it asks this

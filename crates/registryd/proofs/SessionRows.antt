@@ -26,7 +26,8 @@ use Rattle.walk.specs.Choosing.{choice_of}
 use Rattle.solver.specs.Outcomes.{Tells}
 use Rattle.wire.specs.Replies.{Reply, no_selection, refused, selected}
 use Rattle.wire.specs.Shapes.{resolve}
-use Rattle.registryd.specs.Outcomes.{IsAnswer, IsRefuted, NonePreferred}
+use Rattle.chronicle.specs.Answers.{NonePreferred}
+use Rattle.registryd.specs.Outcomes.{IsAnswer, IsRefuted}
 use Rattle.registryd.specs.Replay.{at}
 use Rattle.registryd.specs.Session.{Answers, TellsNone, TellsSpent}
 
@@ -130,7 +131,7 @@ a-tells = record {
 }
 
 -- the reply that lists `a` 1.0.0 is lawful, under every budget and without one
-listed-a : (budget : Option ℕ) → Answers one (resolve needs_a budget) (record { revision = 1; body = selected a_selected }) one
+listed-a : (budget : Option ℕ) → Answers one (resolve needs_a budget) (record { revision = 1; stamp = None; body = selected a_selected }) one
 unfolding one
 listed-a budget =
     let answer : IsAnswer a_alone needs_a a_selected = record {
@@ -197,14 +198,14 @@ zed-derivation =
 zed-none : NoSelection [] needs_zed
 zed-none = NoSelection-IsDerivation [] needs_zed (end ∷ []) zed-derivation
 
-refused-zed : (budget : Option ℕ) → Answers [] (resolve needs_zed budget) (record { revision = 0; body = no_selection }) []
+refused-zed : (budget : Option ℕ) → Answers [] (resolve needs_zed budget) (record { revision = 0; stamp = None; body = no_selection }) []
 refused-zed budget = (
   inr (inl (subst (λ packages. IsRefuted packages needs_zed) (sym at-none) (record { lines = end ∷ []; derivation = zed-derivation; none = zed-none }), refl)),
   refl,
 )
 
 -- under a budget it may be told that this is spent
-spent-zed : Answers [] (resolve needs_zed (Some 0)) (record { revision = 0; body = refused BudgetSpent }) []
+spent-zed : Answers [] (resolve needs_zed (Some 0)) (record { revision = 0; stamp = None; body = refused BudgetSpent }) []
 spent-zed = (inr (inr (subst (λ packages. NonePreferred packages needs_zed) (sym at-none) (λ s is meets. zed-none s meets), refl)), refl)
 
 -- and without one it may not

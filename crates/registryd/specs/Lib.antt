@@ -3,4 +3,7 @@ pub mod Ending
 pub mod Outcomes
 pub mod Replay
 pub mod Session
+pub mod Racing
+pub mod Kept
+pub mod Race
 pub mod Words

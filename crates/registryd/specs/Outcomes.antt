@@ -1,8 +1,6 @@
 -- How a request may be answered.
-use Rattle.std.specs.Prelude.{◌≡◌, ◌⊎◌, ℕ, List, Option, None, Some}
+use Rattle.std.specs.Prelude.{List}
 use Rattle.versions.specs.Words.{Text}
-use Rattle.versions.specs.declared.refusal.Refusal.{Refusal}
-use Rattle.versions.specs.declared.refusal.Refusal.TheVariants.{BudgetSpent, NoMemory}
 use Rattle.registry.specs.Preference.{IsPreferredSelection}
 use Rattle.registry.specs.Registry.{Packages}
 use Rattle.registry.specs.Requests.{Wanted}
@@ -21,12 +19,3 @@ pub record IsRefuted (packages : Packages) (wanted : Wanted) : Type 0 where
   pub lines : List Line
   pub derivation : IsDerivation packages wanted lines
   pub none : NoSelection packages wanted
-
--- there is no preferred selection, or it does not meet the request
-abbrev pub NonePreferred : Packages → Wanted → Type 0
-NonePreferred packages wanted = (s : Choices) → IsPreferredSelection packages wanted s → Meets packages wanted s → ⊥
-
--- Why a request may be left without an answer: for want of memory, or, under a budget, since that is spent; but no budget is spent on a preferred selection that meets it.
-abbrev pub MayStop : Packages → Wanted → Option ℕ → Refusal → Type 0
-MayStop packages wanted None e = e ≡ NoMemory
-MayStop packages wanted (Some budget) e = (e ≡ NoMemory) ⊎ ((e ≡ BudgetSpent) × NonePreferred packages wanted)

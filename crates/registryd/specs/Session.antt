@@ -1,12 +1,14 @@
 -- Which replies are lawful for the lines of a session. The registry is known by the commands that it accepted.
 use Rattle.std.specs.Prelude.{◌≡◌, ◌⊎◌, ◌≤◌, ℕ, List, [], ◌∷◌, ◌++◌, length, take, nat_le, nat_lt, if◌then◌else◌, Option, Some, None, Result, Ok, Err, MatchResult}
 use Rattle.std.specs.Io.KnownBytes.{Appends, Consumes, IsAtEnd}
-use Rattle.versions.specs.Refusals.{Refuses, number_of}
+use Rattle.versions.specs.Refusals.{Refuses}
 use Rattle.versions.specs.declared.refusal.Refusal.{Refusal}
-use Rattle.versions.specs.declared.refusal.Refusal.TheVariants.{BadLine, BudgetSpent, JournalFull, NoMemory}
+use Rattle.versions.specs.declared.refusal.Refusal.TheVariants.{BadLine, BudgetSpent, NoMemory}
 use Rattle.versions.specs.Words.{Text}
 use Rattle.registry.specs.Requests.{Wanted}
 use Rattle.registry.specs.Step.{Change, refusal_of}
+use Rattle.chronicle.specs.Answers.{NonePreferred}
+use Rattle.chronicle.specs.Journals.{full_or}
 use Rattle.lines.specs.Lines.{lines_of, whole_lines_of}
 use Rattle.lines.specs.Texts.{IsBeginning}
 use Rattle.lines.specs.Unread.{line_limit}
@@ -14,13 +16,8 @@ use Rattle.wire.specs.Shapes.{Request, command, listing, resolve}
 use Rattle.wire.specs.Requests.{request_of}
 use Rattle.wire.specs.Replies.{Body, Reply, accepted, refused, listed, no_selection, replies_text, selected}
 use Rattle.wire.specs.Listings.{IsListing, Row}
-use Rattle.registryd.specs.Outcomes.{IsAnswer, IsRefuted, NonePreferred}
+use Rattle.registryd.specs.Outcomes.{IsAnswer, IsRefuted}
 use Rattle.registryd.specs.Replay.{at, most_commands}
-
--- the lower one of a command's refusal and `JournalFull`
-abbrev pub full_or : Option Refusal → Refusal
-full_or None = JournalFull
-full_or (Some refusal) = if nat_lt (number_of refusal) (number_of JournalFull) then refusal else JournalFull
 
 -- the lowest refusal that applies to a command after these; the journal is full at the most commands
 abbrev pub refusal_after : List Change → Change → Option Refusal
@@ -45,7 +42,7 @@ asked line = if nat_le (length line) line_limit then request_of line else Err Ba
 
 -- a reply at the revision after these commands
 abbrev pub reply_after : List Change → Body → Reply
-reply_after changes body = record { revision = length changes; body = body }
+reply_after changes body = record { revision = length changes; stamp = None; body = body }
 
 -- A refusal is told, and changes nothing.
 abbrev pub IsRefused : Refusal → List Change → Reply → List Change → Type 0

@@ -53,6 +53,15 @@ IsServeAlone given = (rows : List Row) × (given ≡ Some (codes "serve", rows))
 abbrev pub AskToServe : List Text → Type 0
 AskToServe words = (fault_of program_app words ≡ []) × IsServeAlone (subcommand_of program_app words)
 
+-- a race of so many files is given, at most 63
+abbrev pub IsRaceOf : ℕ → Option (Text × List Row) → Type 0
+IsRaceOf count given = (rows : List Row) × (files : List Text) × (given ≡ Some (codes "race", rows))
+    × (all_of (codes "files") rows ≡ Some files) × (length files ≡ count) × (count ≤ 63)
+
+-- clap finds no fault in the words, and they ask for a race of so many files
+abbrev pub AskToRace : List Text → ℕ → Type 0
+AskToRace words count = (fault_of program_app words ≡ []) × IsRaceOf count (subcommand_of program_app words)
+
 -- ---- what clap has seen to
 
 -- a number of workers is given, from 1 to 64

@@ -1,15 +1,15 @@
 //! The reply to one line.
-ghost use Rattle.std.specs.Prelude.{◌≡◌, ◌⊎◌, ℕ, ◌≤◌, List, [], length, IfErr, IfOk};
+ghost use Rattle.std.specs.Prelude.{◌≡◌, ◌⊎◌, ℕ, ◌≤◌, List, [], length, None, IfErr, IfOk};
 ghost use Rattle.versions.specs.declared.refusal.Refusal.TheVariants.{NoMemory};
 ghost use Rattle.registry.specs.Preference.{IsPreferredSelection};
 ghost use Rattle.registry.specs.Selections.{Choices, Meets};
 ghost use Rattle.solver.specs.Outcomes as outcomes;
+ghost use Rattle.chronicle.specs.Answers.{MayStop};
 ghost use Rattle.lines.specs.Texts.{Puts};
 ghost use Rattle.lines.specs.Unread.{IsFound, line_limit};
 ghost use Rattle.wire.specs.Replied.{body_of};
 ghost use Rattle.wire.specs.Replies.{Reply, reply_text};
 ghost use Rattle.wire.specs.Shapes.{resolve};
-ghost use Rattle.registryd.specs.Outcomes.{MayStop};
 ghost use Rattle.registryd.specs.Session.{Answers, IsLawful, IsRefused};
 
 use crate::served::Served;
@@ -126,7 +126,12 @@ fn put_reply<W: Write>(
     body: Body<'_>,
 ) -> io::Result<()>
     ensures { Puts (W.contents writer.old) (W.contents writer.new) outbox.old outbox.new result
-        (reply_text (record { revision = revision; body = body_of body.entry })) }
+        (reply_text (record { revision = revision; stamp = None; body = body_of body.entry })) }
 {
-    reply_line(outbox, writer, &wire::Reply { revision, body })
+    let reply = wire::Reply {
+        revision,
+        stamp: None,
+        body,
+    };
+    reply_line(outbox, writer, &reply)
 }

@@ -4,7 +4,10 @@
 mod answer;
 mod command_line;
 mod ending;
+mod kept;
 mod obey;
+mod race;
+mod running;
 mod serve;
 mod served;
 #[cfg(test)]

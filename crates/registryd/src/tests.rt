@@ -3,6 +3,7 @@ mod failures;
 mod hostile;
 mod limits;
 mod obey;
+mod race;
 mod requests;
 mod rows;
 mod words;

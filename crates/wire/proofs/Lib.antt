@@ -2,6 +2,9 @@ pub mod RequestLemmas
 pub mod PairLemmas
 pub mod JudgeLemmas
 pub mod PlainLemmas
+pub mod RequirementLemmas
 pub mod ReplyLemmas
 pub mod PutLemmas
 pub mod ListingLemmas
+pub mod JournalLemmas
+pub mod JournalRows

@@ -31,7 +31,7 @@ escape_byte-plain b plain =
     let nine : (b == 9) ≡ false = grind (arith, nat_tests) in
     rw (quote, slash, low, eight, twelve, ten, thirteen, nine) refl
 
-both : (a b : Bool) → (a && b) ≡ true → (a ≡ true) × (b ≡ true)
+pub both : (a b : Bool) → (a && b) ≡ true → (a ≡ true) × (b ≡ true)
 both true true e = (refl, refl)
 both true false e = absurd (cc)
 both false b e = absurd (cc)
@@ -48,7 +48,7 @@ pub quoted-plain : (text : List ℕ) → list_all is_plain text ≡ true → quo
 quoted-plain text plain = ap (λ (l : List ℕ). 34 ∷ (l ++ 34 ∷ [])) (escape-plain text plain)
 
 -- what holds of each element where a stronger test does
-all_weaker : {A : Type 0} (strong weak : A → Bool) → ((x : A) → strong x ≡ true → weak x ≡ true) → (xs : List A) → list_all strong xs ≡ true → list_all weak xs ≡ true
+pub all_weaker : {A : Type 0} (strong weak : A → Bool) → ((x : A) → strong x ≡ true → weak x ≡ true) → (xs : List A) → list_all strong xs ≡ true → list_all weak xs ≡ true
 all_weaker strong weak step [] all = refl
 all_weaker strong weak step (x ∷ xs) all =
     let parts = both (strong x) (list_all strong xs) all in
@@ -91,7 +91,7 @@ identifier_byte-plain b named = grind (arith, nat_tests)
 digit-plain : (d : ℕ) → d < 10 → is_plain (48 + d) ≡ true
 digit-plain d small = plain_from (48 + d) (omega arith) (omega arith) (omega arith)
 
-decimal-plain : (n : ℕ) → n < 2 ^ 64 → list_all is_plain (decimal n) ≡ true
+pub decimal-plain : (n : ℕ) → n < 2 ^ 64 → list_all is_plain (decimal n) ≡ true
 decimal-plain n fits = decimal_by_steps (λ _ digits. list_all is_plain digits ≡ true) (λ d small. rw (digit-plain d small) refl)
     (λ d digits big before. rw (list_all-append, before, digit-plain (d % 10) (omega arith)) refl) n fits
 
@@ -103,10 +103,10 @@ joined-plain (x ∷ y ∷ parts) all =
     rw (list_all-append, split.0, joined-plain (y ∷ parts) split.1) refl
 
 -- dotted parts that are plain make a plain text
-dotted-plain : (text : Text) → list_all (list_all is_plain) (parts text) ≡ true → list_all is_plain text ≡ true
+pub dotted-plain : (text : Text) → list_all (list_all is_plain) (parts text) ≡ true → list_all is_plain text ≡ true
 dotted-plain text all = subst (λ (t : Text). list_all is_plain t ≡ true) (join_with_byte-slice_split 46 text) (joined-plain (parts text) all)
 
-build_identifier-plain : (part : Text) → is_build_identifier part ≡ true → list_all is_plain part ≡ true
+pub build_identifier-plain : (part : Text) → is_build_identifier part ≡ true → list_all is_plain part ≡ true
 build_identifier-plain part is = all_weaker is_identifier_byte is_plain identifier_byte-plain part (both _ (list_all is_identifier_byte part) is).1
 
 pre_identifier-plain : (part : Text) → is_pre_identifier part ≡ true → list_all is_plain part ≡ true

@@ -1,5 +1,5 @@
 -- The texts of replies, in the parts in which they are written.
-use Rattle.std.proofs.Common.{◌≡◌, ℕ, zero, suc, ◌+◌, add-one, List, [], ◌∷◌, ◌++◌, take, map, Bool, true, false, ◌||◌, nat_lt, Some, codes, decimal, refl, sym, ◌∙◌, ap, rules}
+use Rattle.std.proofs.Common.{◌≡◌, ℕ, zero, suc, ◌+◌, add-one, List, [], ◌∷◌, ◌++◌, take, map, Bool, true, false, ◌||◌, nat_lt, Option, None, Some, codes, decimal, refl, sym, ◌∙◌, ap, rules}
 use Rattle.std.specs.List.{list_all, slice_get}
 use Rattle.std.proofs.lemmas.List.{append-nil, append_assoc}
 use Rattle.std.proofs.lemmas.Simd.{map-map}
@@ -12,16 +12,19 @@ use Rattle.versions.specs.declared.refusal.Refusal.{Refusal}
 use Rattle.versions.specs.declared.refusal.Refusal.TheVariants.{BadName, BadVersion, BadRequirement, RepeatedDependency, SelfDependency, TooManyDependencies, AlreadyPublished, TooManyVersions, TooManyPackages, JournalFull, NoSuchVersion, AlreadyYanked, NotYanked, Stale, Known, StoreFull, Stray, NoMemory, BadLine, TooLong, NotADerivation, BudgetSpent}
 use Rattle.wire.proofs.PlainLemmas.{escape-plain, is_plain, name-plain}
 use Rattle.versions.specs.Words.{Text, is_name}
-use Rattle.wire.specs.Joined.{closing, joined, joined_after}
+use Rattle.wire.specs.Joined.{closing, found_text, joined, joined_after}
 use Rattle.registry.specs.Registry.{Packages, Publication, package_at, versions_or_none}
 use Rattle.wire.specs.Entries.{entry_json, publication_json, row_at}
 use Rattle.wire.specs.declared.listing.Entry.{Entry}
 use Rattle.wire.specs.Listings.{Row, versions_in}
+use Rattle.wire.specs.declared.reply.Spot.{Spot}
 use Rattle.wire.specs.Replies.{accepted, listed, no_selection, pair_json, refused, reply_text, row_json, selected, version_json}
 
-pub accepted_text : (revision : ℕ) → reply_text (record { revision = revision; body = accepted }) ≡ codes "{\"ok\":true,\"revision\":" ++ (decimal revision ++ (codes "}\n" ++ []))
+pub accepted_text : (stamp : Option Spot) (revision : ℕ) → (codes "{\"ok\":true," ++ []) ++ (found_text stamp revision [] ++ codes "}\n")
+    ≡ reply_text (record { revision = revision; stamp = stamp; body = accepted })
 unfolding serde_json_on_literals reply_text
-accepted_text revision = simp append_assoc
+accepted_text None revision = simp append_assoc
+accepted_text (Some spot) revision = simp append_assoc
 
 name_plain : (e : Refusal) → list_all is_plain (name_of e) ≡ true
 name_plain BadName = refl
@@ -47,14 +50,18 @@ name_plain TooLong = refl
 name_plain NotADerivation = refl
 name_plain BudgetSpent = refl
 
-pub refused_text : (e : Refusal) (revision : ℕ) → reply_text (record { revision = revision; body = refused e })
-    ≡ codes "{\"error\":" ++ (decimal (number_of e) ++ (codes ",\"name\":\"" ++ (name_of e ++ (codes "\",\"revision\":" ++ (decimal revision ++ (codes "}\n" ++ []))))))
+pub refused_text : (e : Refusal) (stamp : Option Spot) (revision : ℕ)
+    → (codes "{\"error\":" ++ (decimal (number_of e) ++ (codes ",\"name\":\"" ++ (name_of e ++ (codes "\"," ++ []))))) ++ (found_text stamp revision [] ++ codes "}\n")
+    ≡ reply_text (record { revision = revision; stamp = stamp; body = refused e })
 unfolding serde_json_on_literals reply_text
-refused_text e revision = simp (append_assoc, escape-plain (name_of e) (name_plain e))
+refused_text e None revision = simp (append_assoc, escape-plain (name_of e) (name_plain e))
+refused_text e (Some spot) revision = simp (append_assoc, escape-plain (name_of e) (name_plain e))
 
-pub no_selection_text : (revision : ℕ) → reply_text (record { revision = revision; body = no_selection }) ≡ codes "{\"refused\":true,\"revision\":" ++ (decimal revision ++ (codes "}\n" ++ []))
+pub no_selection_text : (stamp : Option Spot) (revision : ℕ) → (codes "{" ++ []) ++ (found_text stamp revision (codes "\"refused\":true,") ++ codes "}\n")
+    ≡ reply_text (record { revision = revision; stamp = stamp; body = no_selection })
 unfolding serde_json_on_literals reply_text
-no_selection_text revision = simp append_assoc
+no_selection_text None revision = simp append_assoc
+no_selection_text (Some spot) revision = simp append_assoc
 
 -- ---- listings
 
@@ -66,7 +73,7 @@ version_text later true version plain = simp (append_assoc, escape-plain version
 version_text later false version plain = simp (append_assoc, escape-plain version plain)
 
 -- the text of items, whose closing bracket stands behind what is joined
-items_text-joined : (later : Bool) (ds : List Data) → items_text later (items_of ds) ≡ joined_after later ds ++ 93 ∷ []
+pub items_text-joined : (later : Bool) (ds : List Data) → items_text later (items_of ds) ≡ joined_after later ds ++ 93 ∷ []
 items_text-joined later [] = refl
 items_text-joined later (d ∷ ds) =
     ap (λ l. comma_if later ++ (compact_text d ++ l)) (items_text-joined true ds)
@@ -82,14 +89,24 @@ pub row_text : (later : Bool) (name : Text) (versions : List (Text × Bool)) →
 unfolding serde_json_on_literals
 row_text later name versions plain = simp (append_assoc, escape-plain name plain, items_text-joined false (map version_json versions))
 
-end_text : (front digits : List ℕ) → (front ++ (codes ",\"revision\":" ++ (digits ++ 125 ∷ []))) ++ 10 ∷ [] ≡ front ++ (codes ",\"revision\":" ++ (digits ++ (codes "}\n" ++ [])))
-end_text front digits = append_assoc front _ (10 ∷ []) ∙ ap (λ (l : List ℕ). front ++ (codes ",\"revision\":" ++ l)) (append_assoc digits (125 ∷ []) (10 ∷ []))
+-- what ends the line of a listing
+end_nowhere : (front : List ℕ) (revision : ℕ) → front ++ ((codes "," ++ []) ++ (found_text None revision [] ++ codes "}\n"))
+    ≡ (front ++ (codes ",\"revision\":" ++ (decimal revision ++ 125 ∷ []))) ++ 10 ∷ []
+unfolding serde_json_on_literals
+end_nowhere front revision = simp append_assoc
+
+end_at : (front : List ℕ) (spot : Spot) (revision : ℕ) → front ++ ((codes "," ++ []) ++ (found_text (Some spot) revision [] ++ codes "}\n"))
+    ≡ (front ++ (codes ",\"place\":" ++ (decimal spot.place ++ (codes ",\"revision\":" ++ (decimal revision ++ (codes ",\"seat\":" ++ (decimal spot.seat ++ 125 ∷ []))))))) ++ 10 ∷ []
+unfolding serde_json_on_literals
+end_at front spot revision = simp append_assoc
 
 -- a listing
-pub listed_text : (rows : List Row) (revision : ℕ) → reply_text (record { revision = revision; body = listed rows })
-    ≡ codes "{\"packages\":" ++ (compact_text (array (items_of (map row_json rows))) ++ (codes ",\"revision\":" ++ (decimal revision ++ (codes "}\n" ++ []))))
+pub listed_text : (rows : List Row) (stamp : Option Spot) (revision : ℕ)
+    → codes "{\"packages\":" ++ (compact_text (array (items_of (map row_json rows))) ++ ((codes "," ++ []) ++ (found_text stamp revision [] ++ codes "}\n")))
+    ≡ reply_text (record { revision = revision; stamp = stamp; body = listed rows })
 unfolding serde_json_on_literals reply_text
-listed_text rows revision = ap (λ (l : List ℕ). codes "{\"packages\":[" ++ l) (end_text (items_text false (items_of (map row_json rows))) (decimal revision))
+listed_text rows None revision = ap (λ (l : List ℕ). codes "{\"packages\":[" ++ l) (end_nowhere (items_text false (items_of (map row_json rows))) revision)
+listed_text rows (Some spot) revision = ap (λ (l : List ℕ). codes "{\"packages\":[" ++ l) (end_at (items_text false (items_of (map row_json rows))) spot revision)
 
 -- ---- selections
 
@@ -100,11 +117,12 @@ unfolding serde_json_on_literals
 pair_text later name version named versioned = simp (append_assoc, escape-plain name named, escape-plain version versioned)
 
 -- a selection
-pub selected_text : (pairs : List (Text × Text)) (revision : ℕ)
-    → (codes "{\"revision\":" ++ (decimal revision ++ (codes ",\"selected\":[" ++ []))) ++ (joined (map pair_json pairs) ++ codes "]}\n")
-    ≡ reply_text (record { revision = revision; body = selected pairs })
+pub selected_text : (pairs : List (Text × Text)) (stamp : Option Spot) (revision : ℕ)
+    → ((codes "{" ++ []) ++ (found_text stamp revision [] ++ codes ",\"selected\":[")) ++ (joined (map pair_json pairs) ++ codes "]}\n")
+    ≡ reply_text (record { revision = revision; stamp = stamp; body = selected pairs })
 unfolding serde_json_on_literals reply_text
-selected_text pairs revision = simp (append_assoc, items_text-joined false (map pair_json pairs))
+selected_text pairs None revision = simp (append_assoc, items_text-joined false (map pair_json pairs))
+selected_text pairs (Some spot) revision = simp (append_assoc, items_text-joined false (map pair_json pairs))
 
 -- ---- values with commas between
 
@@ -169,17 +187,27 @@ packages_parts packages entries rows is = record {
 }
 
 -- the parts in which the reply with a listing is put
-pub listed_parts : (rows : List Row) (revision : ℕ) (digits : List ℕ) → digits ≡ decimal revision
-    → Makes (codes "{\"packages\":") (compact_text (array (items_of (map row_json rows)))) (codes ",\"revision\":" ++ (digits ++ (codes "}\n" ++ [])))
-    (reply_text (record { revision = revision; body = listed rows }))
-listed_parts rows revision digits is = record { whole = rw is (sym (listed_text rows revision)) }
+pub listed_parts : (rows : List Row) (stamp : Option Spot) (revision : ℕ)
+    → Makes (codes "{\"packages\":") (compact_text (array (items_of (map row_json rows)))) ((codes "," ++ []) ++ (found_text stamp revision [] ++ codes "}\n"))
+    (reply_text (record { revision = revision; stamp = stamp; body = listed rows }))
+listed_parts rows stamp revision = record { whole = listed_text rows stamp revision }
 
 -- the same, from the rows
 pub array_parts : (rows : List Row) → Makes (91 ∷ []) (joined (map row_json rows)) (93 ∷ []) (compact_text (array (items_of (map row_json rows))))
 array_parts rows = record { whole = array_text (map row_json rows) }
 
 -- the parts in which the reply with a selection is put
-pub selected_parts : (pairs : List (Text × Text)) (revision : ℕ) (digits : List ℕ) → digits ≡ decimal revision
-    → Makes (codes "{\"revision\":" ++ (digits ++ (codes ",\"selected\":[" ++ []))) (joined (map pair_json pairs)) (codes "]}\n")
-    (reply_text (record { revision = revision; body = selected pairs }))
-selected_parts pairs revision digits is = record { whole = rw is (selected_text pairs revision) }
+pub selected_parts : (pairs : List (Text × Text)) (stamp : Option Spot) (revision : ℕ)
+    → Makes ((codes "{" ++ []) ++ (found_text stamp revision [] ++ codes ",\"selected\":[")) (joined (map pair_json pairs)) (codes "]}\n")
+    (reply_text (record { revision = revision; stamp = stamp; body = selected pairs }))
+selected_parts pairs stamp revision = record { whole = selected_text pairs stamp revision }
+
+-- the parts in which a text round what was found is put
+pub found_parts : (before after between : List ℕ) (stamp : Option Spot) (revision : ℕ)
+    → Makes before (found_text stamp revision between) after (before ++ (found_text stamp revision between ++ after))
+found_parts before after between stamp revision = record { whole = refl }
+
+-- what is put of no place and no seat
+pub found_nowhere : (stamp : Option Spot) (revision : ℕ) (between text digits : List ℕ) → stamp ≡ None → text ≡ between → digits ≡ decimal revision
+    → text ++ (codes "\"revision\":" ++ (digits ++ [])) ≡ found_text stamp revision between
+found_nowhere stamp revision between text digits nowhere text_is digits_is = rw (nowhere, text_is, digits_is, append-nil) refl

@@ -1,8 +1,9 @@
 -- Values as text, one after another, as they are put.
-use Rattle.std.specs.Prelude.{◌≡◌, ℕ, ◌+◌, ◌≤◌, List, [], ◌∷◌, ◌++◌, Bool, true, false, codes, length, IsOk, Result}
+use Rattle.std.specs.Prelude.{◌≡◌, ℕ, ◌+◌, ◌≤◌, List, [], ◌∷◌, ◌++◌, Bool, true, false, codes, decimal, length, IsOk, Option, None, Some, Result}
 use Rattle.lines.specs.Texts.{outbox_room}
 use Rattle.serde_json.specs.Data.{Data}
 use Rattle.serde_json.specs.Written.{comma_if, compact_text}
+use Rattle.wire.specs.declared.reply.Spot.{Spot}
 
 -- the texts of values, each after a comma but the first where nothing stands before
 abbrev pub joined_after : Bool → List Data → List ℕ
@@ -17,6 +18,12 @@ joined ds = joined_after false ds
 abbrev pub closing : Bool → List ℕ
 closing true = codes "\",true]"
 closing false = codes "\",false]"
+
+-- where and at which revision a line was answered, with what stands between the place and the revision
+abbrev pub found_text : Option Spot → ℕ → List ℕ → List ℕ
+found_text None revision between = between ++ (codes "\"revision\":" ++ decimal revision)
+found_text (Some spot) revision between =
+    codes "\"place\":" ++ (decimal spot.place ++ (codes "," ++ (between ++ (codes "\"revision\":" ++ (decimal revision ++ (codes ",\"seat\":" ++ decimal spot.seat))))))
 
 -- where there is room behind what waited, the put does not fail, and the text waits there
 abbrev pub Waits : {E : Type 0} → List ℕ → List ℕ → Result Unit E → List ℕ → Type 0

@@ -7,3 +7,4 @@ pub mod Entries
 pub mod Replies
 pub mod Joined
 pub mod Replied
+pub mod Journal

@@ -12,4 +12,4 @@ body_of kept.NoSelection = no_selection
 body_of (kept.Listing rows) = listed rows
 
 abbrev pub reply_of : KeptReply → Reply
-reply_of reply = record { revision = reply.revision; body = body_of reply.body }
+reply_of reply = record { revision = reply.revision; stamp = reply.stamp; body = body_of reply.body }

@@ -1,5 +1,5 @@
 -- Replies and their texts.
-use Rattle.std.specs.Prelude.{ℕ, List, [], ◌∷◌, ◌++◌, Bool, true, codes, flat_map, map}
+use Rattle.std.specs.Prelude.{ℕ, List, [], ◌∷◌, ◌++◌, Bool, true, codes, flat_map, map, Option, None, Some}
 use Rattle.serde_json.specs.Data.{Data, object, array, string, boolean, number, unsigned, no_items, item, Members, no_members, put}
 use Rattle.serde_json.specs.View.{items_of}
 use Rattle.serde_json.specs.Written.{compact_text}
@@ -7,6 +7,7 @@ use Rattle.versions.specs.Words.{Text}
 use Rattle.versions.specs.Refusals.{name_of, number_of}
 use Rattle.wire.specs.Listings.{Row}
 use Rattle.versions.specs.declared.refusal.Refusal.{Refusal}
+use Rattle.wire.specs.declared.reply.Spot.{Spot}
 
 -- what is replied
 pub data Body : Type 0 where
@@ -18,9 +19,10 @@ pub data Body : Type 0 where
   no_selection : Body
   listed : List Row → Body
 
--- what is replied, and the revision at which it was found
+-- what is replied, and the revision at which it was found; in a race also the place, and the seat
 pub record Reply : Type 0 where
   pub revision : ℕ
+  pub stamp : Option Spot
   pub body : Body
 
 -- ---- as JSON
@@ -45,13 +47,18 @@ body_members (selected pairs) = (codes "selected", array (items_of (map pair_jso
 body_members no_selection = (codes "refused", boolean true) ∷ []
 body_members (listed rows) = (codes "packages", array (items_of (map row_json rows))) ∷ []
 
+-- the members that tell where a reply of a race was found
+abbrev pub stamp_members : Option Spot → List (Text × Data)
+stamp_members None = []
+stamp_members (Some spot) = (codes "place", number (unsigned spot.place)) ∷ (codes "seat", number (unsigned spot.seat)) ∷ []
+
 -- members, each at its place in the byte order of their names
 abbrev pub members : List (Text × Data) → Members
 members [] = no_members
 members (m ∷ ms) = put m.0 m.1 (members ms)
 
 abbrev pub json_of : Reply → Data
-json_of reply = object (members ((codes "revision", number (unsigned reply.revision)) ∷ body_members reply.body))
+json_of reply = object (members ((codes "revision", number (unsigned reply.revision)) ∷ (stamp_members reply.stamp ++ body_members reply.body)))
 
 -- ---- as text
 

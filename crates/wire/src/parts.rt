@@ -34,3 +34,30 @@ pub fn opening(later: bool) -> &'static str
 {
     if later { ",[\"" } else { "[\"" }
 }
+
+/// Puts what begins a pair, and the two texts of the pair, between quotes.
+pub fn put_quoted<'p, W: Write>(
+    outbox: &mut Outbox,
+    writer: &mut W,
+    before: &'p str,
+    first: &'p str,
+    second: &'p str,
+) -> io::Result<()>
+    ensures text { Puts (W.contents writer.old) (W.contents writer.new) outbox.old outbox.new result
+        (before.now ++ (first.now ++ (codes "\",\"" ++ (second.now ++ codes "\"]")))) }
+    ensures waits { Waits outbox.old outbox.new result
+        (before.now ++ (first.now ++ (codes "\",\"" ++ (second.now ++ codes "\"]")))) }
+    ensures err { OnErr result (outbox.new ≡ []) }
+    ensures retried { IfErr result (λ e. error_kind e ≢ ErrorKind.Interrupted) }
+{
+    outbox.put_all(
+        writer,
+        &[
+            before.as_bytes(),
+            first.as_bytes(),
+            b"\",\"",
+            second.as_bytes(),
+            b"\"]",
+        ],
+    )
+}

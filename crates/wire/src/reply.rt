@@ -1,8 +1,8 @@
 //! Replies, and the lines that tell them.
-ghost use Rattle.std.specs.Prelude.{◌≡◌, ◌≢◌, [], IfErr, OnErr};
+ghost use Rattle.std.specs.Prelude.{◌≡◌, ◌≢◌, ◌++◌, [], flat_map, IfErr, OnErr};
 ghost use Rattle.std.specs.IoError.{error_kind};
 ghost use Rattle.lines.specs.Texts.{Puts};
-ghost use Rattle.wire.specs.Joined.{Waits};
+ghost use Rattle.wire.specs.Joined.{Waits, found_text};
 ghost use Rattle.wire.specs.Replied.{reply_of};
 ghost use Rattle.wire.specs.Replies.{accepted, listed, no_selection, refused, reply_text, selected};
 
@@ -14,11 +14,20 @@ use std::io;
 use std::io::{ErrorKind, Write};
 use versions::{Name, Published, Refusal};
 
+/// Where a reply of a race was found: after so many entries of the journal, by the seat of this number.
+#[derive(Clone, Copy, Debug, PartialEq, Eq)]
+pub struct Spot {
+    pub place: usize,
+    pub seat: u32,
+}
+
 /// What is replied to a line.
 #[derive(Drop)]
 pub struct Reply<'r> {
     /// The revision of the registry at which the line was answered.
     pub revision: u64,
+    /// Where it was answered, in a race.
+    pub stamp: Option<Spot>,
     pub body: Body<'r>,
 }
 
@@ -49,31 +58,37 @@ pub fn reply_line<W: Write>(
     ensures err { OnErr result (outbox.new ≡ []) }
     ensures retried { IfErr result (λ e. error_kind e ≢ ErrorKind.Interrupted) }
 {
+    let (revision, stamp) = (reply.revision, reply.stamp);
     match &reply.body {
-        Body::Accepted => put_accepted(outbox, writer, reply.revision),
-        Body::Refusal(refusal) => put_refusal(outbox, writer, *refusal, reply.revision),
-        Body::Selection(pairs) => put_selection(outbox, writer, *pairs, reply.revision),
-        Body::NoSelection => put_no_selection(outbox, writer, reply.revision),
-        Body::Listing(listing) => put_listing(outbox, writer, listing, reply.revision),
+        Body::Accepted => put_accepted(outbox, writer, revision, stamp),
+        Body::Refusal(refusal) => put_refusal(outbox, writer, *refusal, revision, stamp),
+        Body::Selection(pairs) => put_selection(outbox, writer, *pairs, revision, stamp),
+        Body::NoSelection => put_no_selection(outbox, writer, revision, stamp),
+        Body::Listing(listing) => put_listing(outbox, writer, listing, revision, stamp),
     }
 }
 
-fn put_accepted<W: Write>(outbox: &mut Outbox, writer: &mut W, revision: u64) -> io::Result<()>
+fn put_accepted<W: Write>(
+    outbox: &mut Outbox,
+    writer: &mut W,
+    revision: u64,
+    stamp: Option<Spot>,
+) -> io::Result<()>
     ensures text { Puts (W.contents writer.old) (W.contents writer.new) outbox.old outbox.new result
-        (reply_text (record { revision = revision; body = accepted })) }
+        (reply_text (record { revision = revision; stamp = stamp; body = accepted })) }
     ensures waits { Waits outbox.old outbox.new result
-        (reply_text (record { revision = revision; body = accepted })) }
+        (reply_text (record { revision = revision; stamp = stamp; body = accepted })) }
     ensures err { OnErr result (outbox.new ≡ []) }
     ensures retried { IfErr result (λ e. error_kind e ≢ ErrorKind.Interrupted) }
 {
-    let mut digits = Buffer::new();
-    outbox.put_all(
+    put_around(
+        outbox,
         writer,
-        &[
-            b"{\"ok\":true,\"revision\":",
-            digits.format(revision).as_bytes(),
-            b"}\n",
-        ],
+        &[b"{\"ok\":true,"],
+        revision,
+        stamp,
+        "",
+        b"}\n",
     )
 }
 
@@ -82,26 +97,30 @@ fn put_refusal<W: Write>(
     writer: &mut W,
     refusal: Refusal,
     revision: u64,
+    stamp: Option<Spot>,
 ) -> io::Result<()>
     ensures text { Puts (W.contents writer.old) (W.contents writer.new) outbox.old outbox.new result
-        (reply_text (record { revision = revision; body = refused refusal })) }
+        (reply_text (record { revision = revision; stamp = stamp; body = refused refusal })) }
     ensures waits { Waits outbox.old outbox.new result
-        (reply_text (record { revision = revision; body = refused refusal })) }
+        (reply_text (record { revision = revision; stamp = stamp; body = refused refusal })) }
     ensures err { OnErr result (outbox.new ≡ []) }
     ensures retried { IfErr result (λ e. error_kind e ≢ ErrorKind.Interrupted) }
 {
-    let (mut number, mut digits) = (Buffer::new(), Buffer::new());
-    outbox.put_all(
+    let mut number = Buffer::new();
+    put_around(
+        outbox,
         writer,
         &[
             b"{\"error\":",
             number.format(refusal.number()).as_bytes(),
             b",\"name\":\"",
             refusal.name().as_bytes(),
-            b"\",\"revision\":",
-            digits.format(revision).as_bytes(),
-            b"}\n",
+            b"\",",
         ],
+        revision,
+        stamp,
+        "",
+        b"}\n",
     )
 }
 
@@ -110,43 +129,49 @@ fn put_selection<W: Write>(
     writer: &mut W,
     pairs: &[(Name, Published)],
     revision: u64,
+    stamp: Option<Spot>,
 ) -> io::Result<()>
     ensures text { Puts (W.contents writer.old) (W.contents writer.new) outbox.old outbox.new result
-        (reply_text (record { revision = revision; body = selected pairs.now })) }
+        (reply_text (record { revision = revision; stamp = stamp; body = selected pairs.now })) }
     ensures waits { Waits outbox.old outbox.new result
-        (reply_text (record { revision = revision; body = selected pairs.now })) }
+        (reply_text (record { revision = revision; stamp = stamp; body = selected pairs.now })) }
     ensures err { OnErr result (outbox.new ≡ []) }
     ensures retried { IfErr result (λ e. error_kind e ≢ ErrorKind.Interrupted) }
 {
-    let mut digits = Buffer::new();
-    outbox.put_all(
+    put_around(
+        outbox,
         writer,
-        &[
-            b"{\"revision\":",
-            digits.format(revision).as_bytes(),
-            b",\"selected\":[",
-        ],
+        &[b"{"],
+        revision,
+        stamp,
+        "",
+        b",\"selected\":[",
     )?;
     put_selected(outbox, writer, pairs)?;
     outbox.put(writer, b"]}\n")
 }
 
-fn put_no_selection<W: Write>(outbox: &mut Outbox, writer: &mut W, revision: u64) -> io::Result<()>
+fn put_no_selection<W: Write>(
+    outbox: &mut Outbox,
+    writer: &mut W,
+    revision: u64,
+    stamp: Option<Spot>,
+) -> io::Result<()>
     ensures text { Puts (W.contents writer.old) (W.contents writer.new) outbox.old outbox.new result
-        (reply_text (record { revision = revision; body = no_selection })) }
+        (reply_text (record { revision = revision; stamp = stamp; body = no_selection })) }
     ensures waits { Waits outbox.old outbox.new result
-        (reply_text (record { revision = revision; body = no_selection })) }
+        (reply_text (record { revision = revision; stamp = stamp; body = no_selection })) }
     ensures err { OnErr result (outbox.new ≡ []) }
     ensures retried { IfErr result (λ e. error_kind e ≢ ErrorKind.Interrupted) }
 {
-    let mut digits = Buffer::new();
-    outbox.put_all(
+    put_around(
+        outbox,
         writer,
-        &[
-            b"{\"refused\":true,\"revision\":",
-            digits.format(revision).as_bytes(),
-            b"}\n",
-        ],
+        &[b"{"],
+        revision,
+        stamp,
+        "\"refused\":true,",
+        b"}\n",
     )
 }
 
@@ -155,25 +180,84 @@ fn put_listing<W: Write>(
     writer: &mut W,
     listing: &Listing<'_>,
     revision: u64,
+    stamp: Option<Spot>,
 ) -> io::Result<()>
     ensures text { Puts (W.contents writer.old) (W.contents writer.new) outbox.old outbox.new result
-        (reply_text (record { revision = revision; body = listed listing.now })) }
+        (reply_text (record { revision = revision; stamp = stamp; body = listed listing.now })) }
     ensures waits { Waits outbox.old outbox.new result
-        (reply_text (record { revision = revision; body = listed listing.now })) }
+        (reply_text (record { revision = revision; stamp = stamp; body = listed listing.now })) }
     ensures err { OnErr result (outbox.new ≡ []) }
     ensures retried { IfErr result (λ e. error_kind e ≢ ErrorKind.Interrupted) }
 {
     outbox.put(writer, b"{\"packages\":")?;
     put_packages(outbox, writer, listing)?;
+    put_around(outbox, writer, &[b","], revision, stamp, "", b"}\n")
+}
+
+/// Puts where and at which revision a line was answered, between other texts.
+fn put_around<W: Write>(
+    outbox: &mut Outbox,
+    writer: &mut W,
+    before: &[&[u8]],
+    revision: u64,
+    stamp: Option<Spot>,
+    between: &str,
+    after: &[u8],
+) -> io::Result<()>
+    ensures text { Puts (W.contents writer.old) (W.contents writer.new) outbox.old outbox.new result
+        (flat_map (λ t. t.now) before.now ++ (found_text stamp revision between.now ++ after.now)) }
+    ensures waits { Waits outbox.old outbox.new result
+        (flat_map (λ t. t.now) before.now ++ (found_text stamp revision between.now ++ after.now)) }
+    ensures err { OnErr result (outbox.new ≡ []) }
+    ensures retried { IfErr result (λ e. error_kind e ≢ ErrorKind.Interrupted) }
+{
+    outbox.put_all(writer, before)?;
+    put_found(outbox, writer, revision, stamp, between)?;
+    outbox.put(writer, after)
+}
+
+/// Puts the revision, behind the place and before the seat where there are some.
+fn put_found<W: Write>(
+    outbox: &mut Outbox,
+    writer: &mut W,
+    revision: u64,
+    stamp: Option<Spot>,
+    between: &str,
+) -> io::Result<()>
+    ensures text { Puts (W.contents writer.old) (W.contents writer.new) outbox.old outbox.new result
+        (found_text stamp revision between.now) }
+    ensures waits { Waits outbox.old outbox.new result
+        (found_text stamp revision between.now) }
+    ensures err { OnErr result (outbox.new ≡ []) }
+    ensures retried { IfErr result (λ e. error_kind e ≢ ErrorKind.Interrupted) }
+{
     let mut digits = Buffer::new();
-    outbox.put_all(
-        writer,
-        &[
-            b",\"revision\":",
-            digits.format(revision).as_bytes(),
-            b"}\n",
-        ],
-    )
+    match stamp {
+        None => outbox.put_all(
+            writer,
+            &[
+                between.as_bytes(),
+                b"\"revision\":",
+                digits.format(revision).as_bytes(),
+            ],
+        ),
+        Some(spot) => {
+            let (mut place, mut seat) = (Buffer::new(), Buffer::new());
+            outbox.put_all(
+                writer,
+                &[
+                    b"\"place\":",
+                    place.format(spot.place).as_bytes(),
+                    b",",
+                    between.as_bytes(),
+                    b"\"revision\":",
+                    digits.format(revision).as_bytes(),
+                    b",\"seat\":",
+                    seat.format(spot.seat).as_bytes(),
+                ],
+            )
+        }
+    }
 }
 
 #[cfg(test)]

@@ -1,12 +1,12 @@
 //! The text of a selection, put in parts.
-ghost use Rattle.std.specs.Prelude.{◌≡◌, ◌≢◌, ◌++◌, [], codes, map, IfErr, OnErr};
+ghost use Rattle.std.specs.Prelude.{◌≡◌, ◌≢◌, ◌++◌, [], map, IfErr, OnErr};
 ghost use Rattle.std.specs.IoError.{error_kind};
 ghost use Rattle.lines.specs.Texts.{Puts};
 ghost use Rattle.serde_json.specs.Written.{comma_if, compact_text};
 ghost use Rattle.wire.specs.Joined.{Waits, joined};
 ghost use Rattle.wire.specs.Replies.{pair_json};
 
-use crate::parts::opening;
+use crate::parts::{opening, put_quoted};
 use lines::Outbox;
 use std::io;
 use std::io::{ErrorKind, Write};
@@ -47,31 +47,4 @@ fn put_pair<W: Write>(
     ensures retried { IfErr result (λ e. error_kind e ≢ ErrorKind.Interrupted) }
 {
     put_quoted(outbox, writer, opening(later), pair.0.text(), pair.1.text())
-}
-
-/// Puts what begins a pair, and the two texts of the pair, between quotes.
-fn put_quoted<'p, W: Write>(
-    outbox: &mut Outbox,
-    writer: &mut W,
-    before: &'p str,
-    first: &'p str,
-    second: &'p str,
-) -> io::Result<()>
-    ensures text { Puts (W.contents writer.old) (W.contents writer.new) outbox.old outbox.new result
-        (before.now ++ (first.now ++ (codes "\",\"" ++ (second.now ++ codes "\"]")))) }
-    ensures waits { Waits outbox.old outbox.new result
-        (before.now ++ (first.now ++ (codes "\",\"" ++ (second.now ++ codes "\"]")))) }
-    ensures err { OnErr result (outbox.new ≡ []) }
-    ensures retried { IfErr result (λ e. error_kind e ≢ ErrorKind.Interrupted) }
-{
-    outbox.put_all(
-        writer,
-        &[
-            before.as_bytes(),
-            first.as_bytes(),
-            b"\",\"",
-            second.as_bytes(),
-            b"\"]",
-        ],
-    )
 }

@@ -12,6 +12,8 @@ fn obeys(rt: HostRuntime) -> Result<(), Fail> {
         ),
         ("serve", End::Words, "--workers"),
         ("--help", End::Words, "serve"),
+        // A file that is not there.
+        ("race no/such/file", End::Input, ""),
     ] {
         let mut words = Vec::new(rt.alloc());
         for word in line.split(' ') {

@@ -100,9 +100,27 @@ const REFUSED: [(Refusal, &str); 22] = [
 
 /// The line of a reply.
 fn text_of(alloc: Global, revision: u64, body: Body<'_>) -> Result<Vec<u8>, Fail> {
+    stamped_text_of(alloc, revision, None, body)
+}
+
+/// The line of a reply, of a race or not.
+fn stamped_text_of(
+    alloc: Global,
+    revision: u64,
+    stamp: Option<Spot>,
+    body: Body<'_>,
+) -> Result<Vec<u8>, Fail> {
     let mut outbox = Outbox::new(alloc)?;
     let mut writer = Vec::new(alloc);
-    reply_line(&mut outbox, &mut writer, &Reply { revision, body })?;
+    reply_line(
+        &mut outbox,
+        &mut writer,
+        &Reply {
+            revision,
+            stamp,
+            body,
+        },
+    )?;
     outbox.send(&mut writer)?;
     Ok(writer)
 }
@@ -311,5 +329,44 @@ fn a_long_listing_is_whole(rt: HostRuntime) -> Result<(), Fail> {
     let text = listed(rt.alloc(), &registry)?;
     assert!(rt; line.len() > 65_536);
     assert_eq!(rt; text.as_slice(), line.as_bytes());
+    Ok(())
+}
+
+#[test]
+fn a_reply_of_a_race_has_its_place_and_seat(rt: HostRuntime) -> Result<(), Fail> {
+    let registry = registry_of(
+        rt.alloc(),
+        &["{\"op\":\"publish\",\"name\":\"a\",\"version\":\"1.0.0\",\"needs\":[]}"],
+    )?;
+    let listing = Listing::new(rt.alloc(), &registry)?;
+    for (body, line) in [
+        (
+            Body::Accepted,
+            "{\"ok\":true,\"place\":12,\"revision\":9,\"seat\":63}\n",
+        ),
+        (
+            Body::Refusal(Refusal::AlreadyPublished),
+            "{\"error\":7,\"name\":\"AlreadyPublished\",\"place\":12,\"revision\":9,\"seat\":63}\n",
+        ),
+        (
+            Body::Selection(&[]),
+            "{\"place\":12,\"revision\":9,\"seat\":63,\"selected\":[]}\n",
+        ),
+        (
+            Body::NoSelection,
+            "{\"place\":12,\"refused\":true,\"revision\":9,\"seat\":63}\n",
+        ),
+        (
+            Body::Listing(listing),
+            "{\"packages\":[[\"a\",[[\"1.0.0\",false]]]],\"place\":12,\"revision\":9,\"seat\":63}\n",
+        ),
+    ] {
+        let stamp = Some(Spot {
+            place: 12,
+            seat: 63,
+        });
+        let text = stamped_text_of(rt.alloc(), 9, stamp, body)?;
+        assert_eq!(rt; text.as_slice(), line.as_bytes());
+    }
     Ok(())
 }

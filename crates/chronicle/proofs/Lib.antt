@@ -1,0 +1,9 @@
+-- Lemmas.
+pub mod JournalLemmas
+pub mod RefusalLemmas
+pub mod CallLemmas
+pub mod MarkLemmas
+pub mod RevisionLemmas
+pub mod AnswerLemmas
+pub mod ScheduleLemmas
+pub mod WorkedRows

@@ -1,0 +1,9 @@
+-- The definitions that contracts cite.
+pub mod Cells
+pub mod Journals
+pub mod Replicas
+pub mod Answers
+pub mod Seats
+pub mod Notes
+pub mod World
+pub mod Rows

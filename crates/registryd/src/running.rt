@@ -1,0 +1,237 @@
+//! One seat of a race, which answers the lines of a file.
+ghost use Rattle.std.specs.Prelude.{◌≡◌, ◌⊎◌, ◌≤◌, List, [], length, vec_capacity, IfErr, IfOk};
+ghost use Rattle.registry.specs.Commands.{change_of};
+ghost use Rattle.registry.specs.Preference.{IsPreferredSelection};
+ghost use Rattle.registry.specs.Selections.{Choices, Meets};
+ghost use Rattle.solver.specs.Outcomes as outcomes;
+ghost use Rattle.chronicle.specs.Answers.{MayStop, OnlyWhereNone, Resolves};
+ghost use Rattle.chronicle.specs.Journals.{packages_of, revision_of};
+ghost use Rattle.chronicle.specs.Seats.{IsStopped, MayHaveSeen};
+ghost use Rattle.lines.specs.Lines.{lines_of};
+ghost use Rattle.wire.specs.Listings.{IsListing, Row};
+ghost use Rattle.wire.specs.Replies.{Reply, listed, replies_text, reply_text};
+ghost use Rattle.wire.specs.Shapes as shapes;
+ghost use Rattle.registryd.specs.Kept.{Answered, kept_line, kept_text};
+ghost use Rattle.registryd.specs.Racing.{GivesUp, IsSeatReply, SeatAnswers, SeatSession, race_capacity, reply_at};
+
+use crate::kept::{Kept, Told, put_found};
+use chronicle::{Mark, Seat, Stamp};
+use lines::{LINE_LIMIT, Outbox, count_lines, first_line};
+use registry::{Command, Request};
+use solver::Outcome;
+use std::alloc::Global;
+use versions::Refusal;
+use wire::{Asked, Body, Listing, Spot, read_request};
+
+/// What a thread of a race is given: a seat, the file whose lines it answers, and room for a reply a
+/// line.
+#[derive(Drop)]
+pub struct Job<'a> {
+    pub seat: Seat<'a>,
+    pub file: Vec<u8>,
+    pub replies: Vec<Kept>,
+    pub alloc: Global,
+}
+
+/// What it hands back: its replies, and a mark of all that its seat has seen.
+#[derive(Drop)]
+pub struct Run<'a> {
+    pub replies: Vec<Kept>,
+    pub mark: Result<Mark<'a>, Refusal>,
+}
+
+impl<'a> Job<'a> {
+    /// Makes the room.
+    pub fn new(alloc: Global, seat: Seat<'a>, file: Vec<u8>) -> Result<Job<'a>, Refusal>
+        ensures seat { IfOk result (λ job. job.seat ≡ seat.entry) }
+        ensures file { IfOk result (λ job. job.file.items ≡ file.items) }
+        ensures empty { IfOk result (λ job. job.replies.items ≡ []) }
+        ensures room { IfOk result (λ job. length (lines_of job.file.items) ≤ vec_capacity job.replies) }
+    {
+        let lines = count_lines(file.as_slice());
+        let replies = Vec::with_capacity(alloc, lines)?;
+        Ok(Job {
+            seat,
+            file,
+            replies,
+            alloc,
+        })
+    }
+}
+
+/// Answers the lines of a file, in order, with the seat.
+pub fn run_file<'a>(job: Job<'a>) -> Run<'a>
+    requires fresh { job.seat.journal ≡ [] }
+    requires row { job.seat.row.capacity ≡ race_capacity }
+    requires empty { job.replies.items ≡ [] }
+    requires room { length (lines_of job.file.items) ≤ vec_capacity job.replies }
+    ensures row { IfOk result.mark (λ m. m.row ≡ job.entry.seat.row) }
+    ensures answered { IfOk result.mark (λ m. Answered job.entry.seat.number job.entry.file.items result.replies.items m.entries) }
+{
+    let Job {
+        seat,
+        file,
+        replies,
+        alloc,
+    } = job;
+    let mut seat = seat;
+    let mut replies = replies;
+    answer_lines(alloc, &mut seat, file.as_slice(), &mut replies);
+    let mark = seat.mark();
+    Run { replies, mark }
+}
+
+/// Answers lines one after another, and keeps the replies.
+fn answer_lines(alloc: Global, seat: &mut Seat<'_>, file: &[u8], replies: &mut Vec<Kept>)
+    requires row { seat.old.row.capacity ≡ race_capacity }
+    requires empty { replies.old.items ≡ [] }
+    requires room { length (lines_of file.now) ≤ vec_capacity replies.old }
+    ensures row { seat.new.row ≡ seat.old.row }
+    ensures number { seat.new.number ≡ seat.old.number }
+    ensures answered { (told : List Reply) × SeatSession seat.old.number seat.old.journal (lines_of file.now) told seat.new.journal
+        × (kept_text replies.new.items ≡ replies_text told) }
+{
+    let mut rest = file;
+    'answering: while let Some((line, behind)) = first_line(rest) {
+        let kept = answer(alloc, seat, line);
+        replies.push_reserved(kept);
+        rest = behind;
+    }
+}
+
+/// Answers a line.
+fn answer(alloc: Global, seat: &mut Seat<'_>, line: &[u8]) -> Kept
+    requires { seat.old.row.capacity ≡ race_capacity }
+    ensures row { seat.new.row ≡ seat.old.row }
+    ensures number { seat.new.number ≡ seat.old.number }
+    ensures reply { (reply : Reply) × IsSeatReply seat.old.number seat.old.journal line.now reply seat.new.journal
+        × (kept_line result ≡ reply_text reply) }
+{
+    if line.len() > LINE_LIMIT {
+        return kept_at(seat, Told::Refusal(Refusal::BadLine));
+    }
+    match read_request(alloc, line) {
+        Ok(Asked::Command(command)) => enter(seat, command),
+        Ok(Asked::Resolve { request, budget }) => resolve(seat, &request, budget),
+        Ok(Asked::Listing) => list(alloc, seat),
+        Err(fault) => kept_at(seat, Told::Refusal(fault)),
+    }
+}
+
+/// A reply at the end of what the seat has seen.
+fn kept_at(seat: &Seat<'_>, told: Told) -> Kept
+    ensures { result ≡ record { stamp = record { place = length seat.now.journal; seat = seat.now.number }; revision = revision_of seat.now.journal; told = told } }
+{
+    Kept {
+        stamp: spot_of(seat),
+        revision: seat.revision(),
+        told,
+    }
+}
+
+/// Where the seat stands.
+fn spot_of(seat: &Seat<'_>) -> Spot
+    ensures { result ≡ record { place = length seat.now.journal; seat = seat.now.number } }
+{
+    Spot {
+        place: seat.place(),
+        seat: seat.number(),
+    }
+}
+
+/// Enters a command. The reply takes no memory, so that an accepted one is never told as 18.
+fn enter(seat: &mut Seat<'_>, command: Command) -> Kept
+    requires { seat.old.row.capacity ≡ race_capacity }
+    ensures row { seat.new.row ≡ seat.old.row }
+    ensures number { seat.new.number ≡ seat.old.number }
+    ensures reply { (reply : Reply)
+        × (GivesUp seat.old.number seat.old.journal reply seat.new.journal
+        ⊎ SeatAnswers seat.old.number seat.old.journal (shapes.command (change_of command)) reply seat.new.journal)
+        × (kept_line result ≡ reply_text reply) }
+{
+    match seat.enter(command) {
+        Ok(_) => kept_at(seat, Told::Accepted),
+        Err(refusal) => kept_at(seat, Told::Refusal(refusal)),
+    }
+}
+
+/// Answers a request. Nothing is learnt of the search yet.
+fn resolve(seat: &mut Seat<'_>, request: &Request, budget: Option<u32>) -> Kept
+    requires { seat.old.row.capacity ≡ race_capacity }
+    ensures row { seat.new.row ≡ seat.old.row }
+    ensures number { seat.new.number ≡ seat.old.number }
+    ensures reply { (reply : Reply)
+        × (GivesUp seat.old.number seat.old.journal reply seat.new.journal
+        ⊎ SeatAnswers seat.old.number seat.old.journal (shapes.resolve request.now budget) reply seat.new.journal)
+        × (kept_line result ≡ reply_text reply) }
+{
+    match outcome_of(seat, request, budget) {
+        Ok((_, Outcome::Selection(list, _))) => kept_at(seat, Told::Selection(list)),
+        Ok((_, Outcome::Refused(_, _))) => kept_at(seat, Told::NoSelection),
+        Err(e) => kept_at(seat, Told::Refusal(e)),
+    }
+}
+
+/// What the seat answers to a request, under its budget where it has one.
+fn outcome_of(
+    seat: &mut Seat<'_>,
+    request: &Request,
+    budget: Option<u32>,
+) -> Result<(Stamp, Outcome), Refusal>
+    ensures seen { MayHaveSeen seat.old seat.new }
+    ensures answered { IfOk result (λ r. Resolves seat.new.journal request.now r.0.place r.0.revision r.1) }
+    ensures none { IfOk result (λ r. OnlyWhereNone (packages_of seat.new.journal) request.now r.1) }
+    ensures preferred { (s : Choices) → IsPreferredSelection (packages_of seat.new.journal) request.now s → Meets (packages_of seat.new.journal) request.now s
+        → IfOk result (λ r. outcomes.Answers (packages_of seat.new.journal) s r.1) }
+    ensures reason { IfErr result (λ e. IsStopped seat.new e ⊎ MayStop (packages_of seat.new.journal) request.now budget e) }
+{
+    match budget {
+        Some(budget) => seat.resolve_within(request, budget),
+        None => seat.resolve(request),
+    }
+}
+
+/// Lists what is published, after a look at the row.
+fn list(alloc: Global, seat: &mut Seat<'_>) -> Kept
+    requires { seat.old.row.capacity ≡ race_capacity }
+    ensures row { seat.new.row ≡ seat.old.row }
+    ensures number { seat.new.number ≡ seat.old.number }
+    ensures reply { (reply : Reply)
+        × (GivesUp seat.old.number seat.old.journal reply seat.new.journal
+        ⊎ SeatAnswers seat.old.number seat.old.journal shapes.listing reply seat.new.journal)
+        × (kept_line result ≡ reply_text reply) }
+{
+    match seat.catch_up() {
+        Ok(()) => {}
+        Err(e) => return kept_at(seat, Told::Refusal(e)),
+    }
+    match listing_line(alloc, seat) {
+        Ok(line) => kept_at(seat, Told::Line(line)),
+        Err(e) => kept_at(seat, Told::Refusal(e)),
+    }
+}
+
+/// The line of the listing where the seat stands.
+fn listing_line(alloc: Global, seat: &Seat<'_>) -> Result<Vec<u8>, Refusal>
+    ensures line { IfOk result (λ line. (rows : List Row) × IsListing (packages_of seat.now.journal) rows
+        × (line.items ≡ reply_text (reply_at seat.now.number seat.now.journal (listed rows)))) }
+    ensures only { IfErr result (λ e. e ≡ Refusal.NoMemory) }
+{
+    let listing = Listing::new(alloc, seat.registry())?;
+    let mut outbox = Outbox::new(alloc)?;
+    let mut line = Vec::new(alloc);
+    match put_found(
+        &mut outbox,
+        &mut line,
+        spot_of(seat),
+        seat.revision(),
+        Body::Listing(listing),
+    ) {
+        Ok(()) => {}
+        Err(_) => return Err(Refusal::NoMemory),
+    }
+    match outbox.send(&mut line) {
+        Ok(()) => Ok(line),
+        Err(_) => Err(Refusal::NoMemory),
+    }
+}
