@@ -22,14 +22,21 @@ def unyank(name, version):
     return json.dumps({"op": "unyank", "name": name, "version": version})
 
 
-def resolve(*needs, lock=None, budget=None):
+def resolve(*needs, lock=None, budget=None, explain=None):
     """A resolve line; needs are texts `name requirement`, the lock's lines texts `name version`, the budget a number."""
     asked = {"op": "resolve", "needs": [need.split(" ", 1) for need in needs]}
     if lock is not None:
         asked["lock"] = [line.split(" ", 1) for line in lock]
     if budget is not None:
         asked["budget"] = budget
+    if explain is not None:
+        asked["explain"] = explain
     return json.dumps(asked)
+
+
+def check(*needs, derivation):
+    """A check line; needs are texts `name requirement`, the derivation is a list of lines."""
+    return json.dumps({"op": "check", "needs": [need.split(" ", 1) for need in needs], "derivation": derivation})
 
 
 LIST = '{"op":"list"}'

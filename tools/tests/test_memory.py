@@ -1,6 +1,7 @@
 """Each request for memory of a small session, and of small races, is refused in turn: a reply may
 then be 18, and changes in no other way, and nothing is lost."""
 import copy
+import functools
 import json
 import os
 import subprocess
@@ -8,9 +9,16 @@ import tempfile
 import unittest
 
 from plain_search import Published
-from program import LIST, PROGRAM, SERVE, TOP, journal_line, publish, resolve, unyank, yank
+from program import LIST, PROGRAM, SERVE, TOP, check, journal_line, publish, resolve, serve, unyank, yank
 from reference import Registry
 
+# Why neither version of b below can be had.
+REFUTED = [
+    {"causes": [{"fact": "premise", "name": "b", "need": "^1.0.0", "target": "a", "versions": [0], "within": []},
+                {"fact": "premise", "name": "b", "need": "^1.0.0", "target": "d", "versions": [1], "within": []}],
+     "conclusion": [["b", True, [0, 1]]], "pivot": "b"},
+    {"causes": [{"line": 1}, {"fact": "need", "index": 0}], "conclusion": [["", True, [0]]], "pivot": "b"},
+]
 LINES = [
     publish("b", "1.0.0", ["a ^1.0.0", "c >=1.0.0, <2.0.0-rc.1"]),
     publish("a", "1.0.0-alpha.beta+x"),
@@ -24,6 +32,9 @@ LINES = [
     resolve("a >=1.0.0-alpha", lock=["b 1.0.0"]),
     resolve("b ^1.0.0"),
     resolve("b ^1.0.0", budget=0),
+    resolve("b ^1.0.0", explain=True),
+    check("b ^1.0.0", derivation=REFUTED),
+    check("a *", derivation=REFUTED),
     resolve("a >=1.0.0-alpha", budget=0),
     publish("e", "1.1.0", ["d ^1.0.0"]),
     publish("e", "1.0.0", ["a >=1.0.0-alpha"]),
@@ -33,19 +44,29 @@ LINES = [
 ]
 # Two files that ask for the same, in other orders.
 RIVALS = [
-    [publish("a", "1.0.0"), yank("a", "1.0.0"), publish("b", "1.0.0", ["a ^1.0.0"]), resolve("b *"), LIST],
-    [publish("b", "1.0.0"), publish("a", "1.0.0"), unyank("a", "1.0.0"), resolve("b *"), yank("a", "1.0.0")],
+    [publish("a", "1.0.0"), yank("a", "1.0.0"), publish("b", "1.0.0", ["a ^1.0.0"]), resolve("b *"), LIST,
+     resolve("b *", "c *", explain=True)],
+    [publish("b", "1.0.0"), publish("a", "1.0.0"), unyank("a", "1.0.0"), resolve("b *"), yank("a", "1.0.0"),
+     check("b ^1.0.0", derivation=REFUTED)],
 ]
+# How many runs in a row don't come to their request before that is taken as the end: of threads some runs make more.
+LAST_RUNS = 10
 # Where a race misses memory: before the first line, at a line, or behind the last.
 BEFORE, AT_A_LINE, BEHIND = range(3)
 REQUIREMENTS = ["^1.0.0", ">=1.0.0, <2.0.0-rc.1", "*", ">=1.0.0-alpha"]
+
+
+@functools.cache
+def with_ample_memory(accepted, line):
+    """The reply to a line after these commands, where no memory is refused."""
+    return serve([*accepted, line])[-1]
 
 
 class Model:
     """What was accepted, by the two plain models together."""
 
     def __init__(self):
-        self.registry, self.published = Registry(), Published()
+        self.registry, self.published, self.accepted = Registry(), Published(), []
 
     def short(self):
         """The reply to any line where memory is refused."""
@@ -54,11 +75,15 @@ class Model:
     def answers(self, line):
         """The other lawful replies to a line, whose command is carried out where it is accepted."""
         request = json.loads(line)
+        if "explain" in request or request["op"] == "check":
+            # the tests of explanations say that these are right
+            return [with_ample_memory(tuple(self.accepted), line)]
         if request["op"] == "resolve":
             return self.selections(request)
         reply = self.registry.answer(request, REQUIREMENTS)
         if reply.startswith('{"ok"'):
             self.published.apply(request)
+            self.accepted.append(line)
         return [reply]
 
     def selections(self, request):
@@ -82,10 +107,10 @@ class Memory(unittest.TestCase):
         subprocess.run(["cc", "-O1", "-shared", "-fPIC", "-o", cls.library, source], check=True)
 
     def refuse_each(self, words, given=""):
-        """Runs the program with each request refused in turn, up to ten runs in a row that don't come to their request,
-        since of threads some runs make more; answers the number, what the run left, and whether it came to it."""
+        """Runs the program with each request refused in turn; answers its number, what the run left, and whether the run
+        came to it."""
         number = behind = 0
-        while behind < 10:
+        while behind < LAST_RUNS:
             number += 1
             self.assertLess(number, 5000)
             done, came = self.refuse(words, given, number)
@@ -127,7 +152,7 @@ class Memory(unittest.TestCase):
                 refused += short
         self.assertGreater(early, 2)
         self.assertGreater(refused, 20)
-        print(f"({number - 10} requests refused in turn: {early} before the first line, {refused} answered 18) ", end="")
+        print(f"({number - LAST_RUNS} requests refused in turn: {early} before the first line, {refused} answered 18) ", end="")
 
     def models_of(self, files, replies, number):
         """The journal that replies tell, and what is accepted after each beginning of it."""
@@ -197,7 +222,7 @@ class Memory(unittest.TestCase):
         counts = [missed.count(where) for where in (BEFORE, AT_A_LINE, BEHIND)]
         self.assertGreater(min(counts), 2)
         print("({} requests refused in turn: {} before the first line, {} answered 18, {} behind the last) "
-              .format(number - 10, *counts), end="")
+              .format(number - LAST_RUNS, *counts), end="")
         return missed, all_short
 
     def test_each_request_of_a_race_of_one_file(self):

@@ -152,7 +152,7 @@ class Resolving(unittest.TestCase):
             self.check([], ('{"op":"resolve","needs":[],"budget":%s}' % budget, bad),
                        ('{"op":"resolve","needs":[["A","none"]],"lock":[],"budget":%s}' % budget, bad))
         for line in ('{"op":"resolve","budget":1}', '{"op":"list","budget":1}', '{"op":"resolve","needs":[],"budget":1,"budget":1.0}',
-                     '{"op":"resolve","needs":[],"budget":1,"budgets":1}', '{"op":"resolve","needs":[],"lock":[],"budget":1,"explain":true}'):
+                     '{"op":"resolve","needs":[],"budget":1,"budgets":1}', '{"op":"resolve","needs":[],"lock":[],"budget":1,"explain":1}'):
             self.check([], (line, bad))
         for line in ('{"op":"resolve","needs":[],"budget":0}', '{"op":"resolve","needs":[],"budget":4294967295}',
                      ' {"budget" : 7 , "lock":[],"needs":[],"op":"resolve"} ', '{"op":"resolve","needs":[],"budget":1.0,"budget":2}'):

@@ -133,6 +133,7 @@ fn a_seat_yanks_and_resolves_in(
     assert!(rt; yank(seat, alloc, "1.0.0+x") == Ok(at(2, 2)));
     assert!(rt; yank(seat, alloc, "1.0.0") == Err(Refusal::AlreadyYanked));
     assert!(rt; !selects(seat, &request, 1000)?);
+    assert!(rt; selects(seat, &request, 0) == Err(Refusal::BudgetSpent));
     assert!(rt; unyank(seat, alloc, "1.0.0") == Ok(at(3, 3)));
     assert!(rt; selects(seat, &request, 0)?);
     assert!(rt; seat.registry().revision() == 3 && ends_with(seat, seat.number(), 3));
@@ -145,6 +146,31 @@ fn a_seat_yanks_and_resolves(rt: HostRuntime) -> Result<(), Refusal> {
     let mut seat = last_of(rt.alloc(), &row, 3)?;
     assert!(rt; seat.number() == 3);
     a_seat_yanks_and_resolves_in(&rt, rt.alloc(), &mut seat)
+}
+
+// The second is told of nothing, and answers of all that the first entered.
+fn a_request_is_answered_after_a_look_in(
+    rt: &impl Abort,
+    alloc: Global,
+    first: &mut Seat<'_>,
+    second: &mut Seat<'_>,
+) -> Result<(), Refusal> {
+    let request = request_of(alloc, "c", "^1")?;
+    publish_three(first, alloc)?;
+    let (stamp, outcome) = second.resolve(&request)?;
+    assert!(rt; stamp == at(3, 3) && is_one(&outcome, "c", "1.0.0"));
+    assert!(rt; publish(first, alloc, "d") == Ok(at(4, 4)));
+    assert!(rt; yank(first, alloc, "1.0.0") == Ok(at(5, 5)));
+    let (stamp, outcome) = second.resolve_within(&request, 0)?;
+    assert!(rt; stamp == at(5, 5) && is_one(&outcome, "c", "1.0.0"));
+    Ok(())
+}
+
+#[test]
+fn a_request_is_answered_after_a_look(rt: HostRuntime) -> Result<(), Refusal> {
+    let row = Row::open(rt.alloc(), 8)?;
+    let (mut first, mut second) = two_of(rt.alloc(), &row, 1, 2)?;
+    a_request_is_answered_after_a_look_in(&rt, rt.alloc(), &mut first, &mut second)
 }
 
 // Of what was entered after the mark the second finds out by a look.

@@ -5,6 +5,7 @@ pub mod Matching
 pub mod Soundness
 pub mod Lasting
 pub mod Walking
+pub mod Taken
 pub mod Judging
 pub mod LastLine
 pub mod Sound

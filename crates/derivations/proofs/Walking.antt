@@ -418,8 +418,8 @@ falls_up known end numbers lines users at w rest user number popped some =
     (unnumbered-set numbers at number (omega (arith, open_within known numbers at w.here, w.lengths)) (open_zero known numbers at w.here) some)
     (open_within known numbers user waiting.1)
 
-pub some_pushed : (lines : List Line) (line : Line) (pushed : List Line) → pushed ≡ lines ++ line ∷ [] → 0 < length pushed
-some_pushed lines line pushed e = omega (arith, ap length e ∙ length-append lines (line ∷ []))
+pub some_pushed : {A : Type 0} (xs : List A) (x : A) (pushed : List A) → pushed ≡ xs ++ x ∷ [] → 0 < length pushed
+some_pushed xs x pushed e = omega (arith, ap length e ∙ length-append xs (x ∷ []))
 
 -- the walk goes down to a cause that is still to be written
 pub goes_down : (known : List Known) (end : ℕ) (numbers : List ℕ) (lines : List Line) (users : List ℕ) (at : ℕ) → IsWalk known end numbers lines (reverse users) at → (numbers' : List ℕ) → numbers' ≡ numbers

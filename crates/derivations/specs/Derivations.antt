@@ -2,7 +2,7 @@
 use Rattle.std.specs.Prelude.{◌≡◌, ◌⊎◌, ℕ, suc, ◌||◌, true, false, List, [], ◌∷◌, ◌++◌, Option, Some, None, IsSome, slice_get}
 use Rattle.versions.specs.Words.{Text}
 use Rattle.terms.specs.Sets.{has}
-use Rattle.terms.specs.Incompats.{Follows, has_term}
+use Rattle.terms.specs.Incompats.{Follows, IsIncompat, has_term}
 use Rattle.terms.specs.declared.term.Term.TheVariants.{In, NotIn}
 use Rattle.registry.specs.Registry.{Packages, package_at}
 use Rattle.registry.specs.Requests.{Wanted, is_allowed}
@@ -78,6 +78,11 @@ AreDerived packages wanted earlier lines = AreDerivedBy (Yields packages wanted)
 abbrev pub conclusions : List Line → List Terms
 conclusions [] = []
 conclusions (line ∷ rest) = line.conclusion ∷ conclusions rest
+
+-- each conclusion is an incompatibility
+abbrev pub AreIncompats : List Line → Type 0
+AreIncompats [] = Unit {0}
+AreIncompats (line ∷ rest) = IsIncompat line.conclusion × AreIncompats rest
 
 -- what the last line says
 abbrev pub last_conclusion : List Line → Option Terms

@@ -4,6 +4,7 @@ pub mod Derivations
 pub mod Causes
 pub mod Learning
 pub mod Known
+pub mod Taking
 pub mod Offering
 pub mod Laws
 pub mod Stored

@@ -5,10 +5,12 @@ ghost use Rattle.registry.specs.Registry.{Packages};
 ghost use Rattle.registry.specs.Requests.{Wanted};
 ghost use Rattle.derivations.specs.Derivations.{IsDerivation};
 ghost use Rattle.derivations.specs.Known.{cited, is_open, AreCited, AreClear, AreLawful, AreNumberedAt, AreOrdered, EndsAt, IsCauseOf, IsEndLine, IsLineFor, IsOpen, IsReady, IsResolved, IsResolvedAt, ShowsLine};
+ghost use Rattle.derivations.specs.Taking.{line_at, lines_at, places_of, ArePlaced};
 
 use crate::derivation::Derivation;
 use crate::facts::Cause;
 use crate::line::{Line, is_root_alone};
+use crate::taking::{Step, lines_copied, lines_taken};
 use std::alloc::{AllocError, Global};
 use terms::{Incompat, Pkg};
 use versions::Refusal;
@@ -61,8 +63,35 @@ fn cites(line: &Known) -> (usize, usize, Pkg)
     }
 }
 
-/// The first of the two lines that a line cites which is still to be written.
-fn open_cause(known: &[Known], numbers: &[usize], at: usize) -> Option<usize>
+/// How many lines a line takes, where that was counted.
+fn weight(weights: &[usize], place: usize) -> usize {
+    match weights.get(place) {
+        Some(weight) => *weight,
+        None => 0,
+    }
+}
+
+/// How many lines each line takes with those that it rests on, of which one that is cited twice
+/// counts twice. Facts take none.
+fn weights_of(alloc: Global, known: &[Known]) -> Result<Vec<usize>, Refusal>
+    ensures only { IfErr result (λ e. e ≡ Refusal.NoMemory) }
+{
+    let mut weights: Vec<usize> = Vec::with_capacity(alloc, known.len())?;
+    'count: for line in known {
+        let taken = match line.reason {
+            Reason::Fact(_) => 0,
+            Reason::Resolved(i, j, _) => weight(&weights, i)
+                .saturating_add(weight(&weights, j))
+                .saturating_add(1),
+        };
+        weights.push(taken)?;
+    }
+    Ok(weights)
+}
+
+/// One of the two lines that a line cites which is still to be written: the one that takes more
+/// lines, so that the shorter part stands right before the line that cites both.
+fn open_cause(known: &[Known], weights: &[usize], numbers: &[usize], at: usize) -> Option<usize>
     requires ordered { AreOrdered known.now }
     requires lengths { length numbers.now ≡ length known.now }
     requires here { IsOpen known.now numbers.now at }
@@ -72,6 +101,9 @@ fn open_cause(known: &[Known], numbers: &[usize], at: usize) -> Option<usize>
     ensures ready { IfNone result (IsReady known.now numbers.now at) }
 {
     let (i, j, _) = cites(&known[at]);
+    if weight(weights, i) < weight(weights, j) && is_open(&known[j], numbers[j]) {
+        return Some(j);
+    }
     if is_open(&known[i], numbers[i]) {
         return Some(i);
     }
@@ -81,11 +113,12 @@ fn open_cause(known: &[Known], numbers: &[usize], at: usize) -> Option<usize>
     None
 }
 
-/// The line of a derivation for the one at a place, whose causes are written.
-fn line_for(alloc: Global, known: &[Known], numbers: &[usize], at: usize) -> Result<Line, Refusal>
+/// The step to the line at a place, whose causes are written.
+fn step_for(alloc: Global, known: &[Known], numbers: &[usize], at: usize) -> Result<Step, Refusal>
     requires lengths { length numbers.now ≡ length known.now }
     requires ready { IsReady known.now numbers.now at }
-    ensures same { IfOk result (IsLineFor known.now numbers.now at) }
+    ensures here { IfOk result (λ step. step.place ≡ at) }
+    ensures same { IfOk result (λ step. IsLineFor known.now numbers.now at (line_at known.now step)) }
     ensures only { IfErr result (λ e. e ≡ Refusal.NoMemory) }
 {
     let own = &known[at];
@@ -94,13 +127,16 @@ fn line_for(alloc: Global, known: &[Known], numbers: &[usize], at: usize) -> Res
     let two = &known[j];
     let first = cited(alloc, one, numbers[i])?;
     let second = cited(alloc, two, numbers[j])?;
-    let conclusion = own.conclusion.copy(alloc)?;
-    Ok(Line {
-        conclusion,
+    Ok(Step {
+        place: at,
         causes: (first, second),
         pivot,
     })
 }
+
+/// For how many lines room is made before they are written, so that a short derivation is not moved
+/// again and again while it grows.
+const ROOM: usize = 64;
 
 /// A list of so many zeros.
 pub fn zeros(alloc: Global, count: usize) -> Result<Vec<usize>, AllocError>
@@ -125,55 +161,55 @@ fn clear_at(numbers: &mut Vec<usize>, place: usize)
     }
 }
 
-/// Takes away the numbers, which stand at these places.
-fn cleared(numbers: Vec<usize>, places: &[usize]) -> Vec<usize>
-    requires { AreNumberedAt numbers.items places.now }
+/// Takes away the numbers, which stand at the places of these steps.
+fn cleared(numbers: Vec<usize>, steps: &[Step]) -> Vec<usize>
+    requires { AreNumberedAt numbers.items (places_of steps.now) }
     ensures length { length result.items ≡ length numbers.items }
     ensures zeros { (k : ℕ) → slice_index result.items k ≡ 0 }
 {
     let mut list = numbers;
-    let mut left = places;
-    'clear: while let [place, rest @ ..] = left {
-        clear_at(&mut list, *place);
+    let mut left = steps;
+    'clear: while let [step, rest @ ..] = left {
+        clear_at(&mut list, step.place);
         left = rest;
     }
     list
 }
 
-/// The lines that the one at a place rests on, with the numbers of the search's lines, and the places
-/// that have one.
-fn numbered_lines(
+/// The steps to the lines that the one at a place rests on, with the numbers of the search's lines.
+fn numbered_steps(
     alloc: Global,
     known: &[Known],
+    weights: &[usize],
     zeros: Vec<usize>,
     place: usize,
-) -> Result<(Vec<Line>, Vec<usize>, Vec<usize>), Refusal>
+) -> Result<(Vec<Step>, Vec<usize>), Refusal>
     requires ordered { AreOrdered known.now }
     requires resolved { IsResolvedAt known.now place }
     requires clear { AreClear known.now zeros.items }
-    ensures shows { IfOk result (λ made. ShowsLine known.now place made.0.items) }
+    ensures shows { IfOk result (λ made. ShowsLine known.now place (lines_at known.now made.0.items)) }
+    ensures placed { IfOk result (λ made. ArePlaced (length known.now) made.0.items) }
     ensures length { IfOk result (λ made. length made.1.items ≡ length known.now) }
-    ensures numbered { IfOk result (λ made. AreNumberedAt made.1.items made.2.items) }
+    ensures numbered { IfOk result (λ made. AreNumberedAt made.1.items (places_of made.0.items)) }
     ensures only { IfErr result (λ e. e ≡ Refusal.NoMemory) }
 {
     let mut numbers = zeros;
-    let mut lines = Vec::new(alloc);
-    let mut users: Vec<usize> = Vec::new(alloc);
-    let mut written: Vec<usize> = Vec::new(alloc);
+    let room = known.len().min(ROOM);
+    let mut steps = Vec::with_capacity(alloc, room)?;
+    let mut users: Vec<usize> = Vec::with_capacity(alloc, room)?;
     let mut at = place;
     'walk: loop {
-        match open_cause(known, &numbers, at) {
+        match open_cause(known, weights, &numbers, at) {
             Some(cause) => {
                 users.push(at)?;
                 at = cause;
             }
             None => {
-                let line = line_for(alloc, known, &numbers, at)?;
-                lines.push(line)?;
-                numbers[at] = lines.as_slice().len();
-                written.push(at)?;
+                let step = step_for(alloc, known, &numbers, at)?;
+                steps.push(step)?;
+                numbers[at] = steps.as_slice().len();
                 match users.pop() {
-                    None => return Ok((lines, numbers, written)),
+                    None => return Ok((steps, numbers)),
                     Some(user) => at = user,
                 }
             }
@@ -196,21 +232,37 @@ pub fn lines_by(
     ensures clear { IfOk result (λ made. AreClear known.now made.1.items) }
     ensures only { IfErr result (λ e. e ≡ Refusal.NoMemory) }
 {
-    let (lines, numbers, written) = numbered_lines(alloc, known, zeros, place)?;
-    Ok((lines, cleared(numbers, &written)))
+    let (steps, numbers) = numbered_steps(alloc, known, &[], zeros, place)?;
+    let zeros = cleared(numbers, &steps);
+    Ok((lines_copied(alloc, known, steps)?, zeros))
+}
+
+/// The steps to the lines of [`lines_of`].
+fn steps_of(alloc: Global, known: &[Known], place: usize) -> Result<Vec<Step>, Refusal>
+    requires ordered { AreOrdered known.now }
+    requires resolved { IsResolvedAt known.now place }
+    ensures shows { IfOk result (λ steps. ShowsLine known.now place (lines_at known.now steps.items)) }
+    ensures placed { IfOk result (λ steps. ArePlaced (length known.now) steps.items) }
+    ensures only { IfErr result (λ e. e ≡ Refusal.NoMemory) }
+{
+    let numbers = zeros(alloc, known.len())?;
+    let weights = weights_of(alloc, known)?;
+    let (steps, _) = numbered_steps(alloc, known, &weights, numbers, place)?;
+    Ok(steps)
 }
 
 /// The lines that the one at a place rests on, with itself as the last: from facts, each written
-/// once and before the lines that cite it. Linear in the lines of the search, without recursion.
+/// once and before the lines that cite it. Of two lines that are first cited together the one that
+/// takes more lines comes first, so that each stands as near as it can to the first line that cites
+/// it. Linear in the lines of the search, without recursion.
 pub fn lines_of(alloc: Global, known: &[Known], place: usize) -> Result<Vec<Line>, Refusal>
     requires ordered { AreOrdered known.now }
     requires resolved { IsResolvedAt known.now place }
     ensures shows { IfOk result (λ lines. ShowsLine known.now place lines.items) }
     ensures only { IfErr result (λ e. e ≡ Refusal.NoMemory) }
 {
-    let numbers = zeros(alloc, known.len())?;
-    let (lines, _, _) = numbered_lines(alloc, known, numbers, place)?;
-    Ok(lines)
+    let steps = steps_of(alloc, known, place)?;
+    Ok(lines_copied(alloc, known, steps)?)
 }
 
 /// Whether the line follows from others.
@@ -239,15 +291,18 @@ fn last_step(known: &[Known], end: usize) -> usize
 }
 
 /// The derivation of a refusal, cut from the lines of a search: those that the one at `end` rests
-/// on, each written once, from facts. Linear in the lines of the search.
-pub fn cut(alloc: Global, known: &[Known], end: usize) -> Result<Derivation, Refusal>
-    requires ordered { AreOrdered known.now }
-    requires end { EndsAt known.now end }
+/// on, each written once, from facts. What they say is moved and not copied. Linear in the lines of
+/// the search.
+pub fn cut(alloc: Global, known: Vec<Known>, end: usize) -> Result<Derivation, Refusal>
+    requires ordered { AreOrdered known.items }
+    requires end { EndsAt known.items end }
     ensures derived { IfOk result (λ derivation. (packages : Packages) (wanted : Wanted) →
-        AreLawful packages wanted known.now → IsDerivation packages wanted derivation) }
+        AreLawful packages wanted known.items → IsDerivation packages wanted derivation) }
     ensures cited { IfOk result AreCited }
     ensures only { IfErr result (λ e. e ≡ Refusal.NoMemory) }
 {
-    let lines = lines_of(alloc, known, last_step(known, end))?;
+    let place = last_step(&known, end);
+    let steps = steps_of(alloc, &known, place)?;
+    let lines = lines_taken(alloc, known, steps)?;
     Ok(Derivation::new(lines))
 }

@@ -2,10 +2,10 @@
 
 ghost use Rattle.std.specs.Prelude.{◌≡◌, ◌↔◌, IfErr, IfOk, IsTrue};
 ghost use Rattle.std.specs.Bool.{OnTrue};
-ghost use Rattle.derivations.specs.Derivations.{IsDerivation, NoSelection};
+ghost use Rattle.derivations.specs.Derivations.{AreIncompats, IsDerivation, NoSelection};
 
 use crate::following::are_derived;
-use crate::line::{Line, copied, is_end, last_conclusion};
+use crate::line::{Line, are_lawful, copied, is_end, last_conclusion};
 use registry::{Registry, Request};
 use std::alloc::Global;
 use std::marker::Model;
@@ -39,6 +39,13 @@ impl Derivation {
         ensures { result.now ≡ self.now }
     {
         self.lines.as_slice()
+    }
+
+    /// Each conclusion is an incompatibility, as the type of conclusions has it.
+    pub fn is_lawful(&self)
+        ensures { AreIncompats self.now }
+    {
+        are_lawful(self.lines.as_slice());
     }
 
     /// An equal derivation.

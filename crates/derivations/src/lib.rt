@@ -15,6 +15,7 @@ mod line;
 mod offering;
 mod standing;
 mod store;
+mod taking;
 #[cfg(test)]
 mod tests;
 

@@ -3,7 +3,7 @@
 ghost use Rattle.std.specs.Prelude.{◌≡◌, ◌↔◌, ◌∷◌, [], IfErr, IfOk, IsTrue};
 ghost use Rattle.std.specs.Option.{option_copied};
 ghost use Rattle.terms.specs.declared.term.Term.TheVariants.{In};
-ghost use Rattle.derivations.specs.Derivations.{last_conclusion, IsEnd};
+ghost use Rattle.derivations.specs.Derivations.{last_conclusion, AreIncompats, IsEnd};
 
 use crate::facts::Cause;
 use std::alloc::Global;
@@ -43,6 +43,15 @@ pub fn copied(alloc: Global, lines: &[Line]) -> Result<Vec<Line>, Refusal>
         copy.push(line.copy(alloc)?)?;
     }
     Ok(copy)
+}
+
+/// Each conclusion is an incompatibility, as its type has it.
+pub fn are_lawful(lines: &[Line])
+    ensures { AreIncompats lines.now }
+{
+    for line in lines {
+        let _terms = line.conclusion.terms();
+    }
 }
 
 /// What the last line says.

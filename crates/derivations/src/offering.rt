@@ -127,6 +127,9 @@ pub fn offers(alloc: Global, known: &[Known], places: &[usize]) -> Result<Vec<Le
     ensures from { IfOk result (λ offered. All (ShowsOne known.now places.now) offered.items) }
     ensures only { IfErr result (λ e. e ≡ Refusal.NoMemory) }
 {
+    if places.is_empty() {
+        return Ok(Vec::new(alloc));
+    }
     let counts = counts_of(alloc, known)?;
     let mut numbers = zeros(alloc, known.len())?;
     let mut offered = Vec::new(alloc);

@@ -1,4 +1,7 @@
 //! Derivations that follow and ones that nearly do, what may be learnt, and each call once.
+//!
+//! The helpers are small for the prover's sake: a proof grows with the values that a function
+//! holds, times its ways out, since each way out lets go of them all.
 ghost use Rattle.std.specs.Prelude.{◌≡◌, ◌↔◌, [], IsTrue};
 ghost use Rattle.std.specs.Bool.{OnTrue};
 ghost use Rattle.derivations.specs.Known.{AreOrdered, EndsAt, IsBefore, IsResolved};
@@ -7,6 +10,7 @@ use crate::offering::is_resolved_at;
 use crate::*;
 use registry::{Command, Dependencies, Registry, Request};
 use std::alloc::Global;
+use std::process::Abort;
 use terms::{Incompat, Pkg, Term, VSet};
 use versions::{Name, Need, Published, Refusal};
 
@@ -147,14 +151,31 @@ const OFFERED: [(&str, u8); 10] = [
     ("1 in 0; 3 out 0 | line 1 | premise 2 0 3 ^1.0.0 0 | 2", 21),
 ];
 
+fn named_need(alloc: Global, name: &str, need: &str) -> Result<(Name, Need), Refusal> {
+    Ok((Name::read(alloc, name)?, Need::read(alloc, need)?))
+}
+
 fn needs(alloc: Global, listed: &str) -> Result<Vec<(Name, Need)>, Refusal> {
     let mut needs = Vec::new(alloc);
     for need in listed.split("; ") {
         if let Some((name, need)) = need.split_once(' ') {
-            needs.push((Name::read(alloc, name)?, Need::read(alloc, need)?))?;
+            needs.push(named_need(alloc, name, need)?)?;
         }
     }
     Ok(needs)
+}
+
+fn named_version(alloc: Global, name: &str, version: &str) -> Result<(Name, Published), Refusal> {
+    Ok((Name::read(alloc, name)?, Published::read(alloc, version)?))
+}
+
+fn dependencies(alloc: Global, listed: &str) -> Result<Dependencies, Refusal> {
+    Dependencies::new(alloc, needs(alloc, listed)?)
+}
+
+fn publication(alloc: Global, row: &Row) -> Result<Command, Refusal> {
+    let (name, version) = named_version(alloc, row.0, row.1)?;
+    Ok(Command::Publish(name, version, dependencies(alloc, row.2)?))
 }
 
 fn submit(registry: &mut Registry, command: Command) -> Result<(), Refusal> {
@@ -165,30 +186,34 @@ fn submit(registry: &mut Registry, command: Command) -> Result<(), Refusal> {
     registry.apply(command)
 }
 
-fn publish(registry: &mut Registry, alloc: Global, row: Row) -> Result<(), Refusal> {
-    let (name, version, listed) = row;
-    let command = Command::Publish(
-        Name::read(alloc, name)?,
-        Published::read(alloc, version)?,
-        Dependencies::new(alloc, needs(alloc, listed)?)?,
-    );
-    submit(registry, command)
+fn publish(registry: &mut Registry, alloc: Global, row: &Row) -> Result<(), Refusal> {
+    submit(registry, publication(alloc, row)?)
+}
+
+fn publish_rows(registry: &mut Registry, alloc: Global, rows: &[Row]) -> Result<(), Refusal> {
+    for row in rows {
+        publish(registry, alloc, row)?;
+    }
+    Ok(())
 }
 
 fn published(alloc: Global, rows: &[Row]) -> Result<Registry, Refusal> {
     let mut registry = Registry::new(alloc);
-    for row in rows {
-        publish(&mut registry, alloc, *row)?;
-    }
+    publish_rows(&mut registry, alloc, rows)?;
     Ok(registry)
 }
 
-fn asked(alloc: Global, listed: &str, locked: &str) -> Result<Request, Refusal> {
+fn lock(alloc: Global, locked: &str) -> Result<Vec<(Name, Published)>, Refusal> {
     let mut lock = Vec::new(alloc);
     if let Some((name, version)) = locked.split_once(' ') {
-        lock.push((Name::read(alloc, name)?, Published::read(alloc, version)?))?;
+        lock.push(named_version(alloc, name, version)?)?;
     }
-    Request::new(alloc, needs(alloc, listed)?, lock)
+    Ok(lock)
+}
+
+fn asked(alloc: Global, listed: &str, locked: &str) -> Result<Request, Refusal> {
+    let needs = needs(alloc, listed)?;
+    Request::new(alloc, needs, lock(alloc, locked)?)
 }
 
 fn word(text: &str, index: usize) -> &str {
@@ -229,13 +254,19 @@ fn cause(alloc: Global, text: &str) -> Result<Cause, Refusal> {
     }
 }
 
+fn term(alloc: Global, text: &str) -> Result<Option<(Pkg, Term)>, Refusal> {
+    match word(text, 1) {
+        "in" => Ok(Some((number(text, 0), Term::In(set(alloc, text, 2)?)))),
+        "out" => Ok(Some((number(text, 0), Term::NotIn(set(alloc, text, 2)?)))),
+        _ => Ok(None),
+    }
+}
+
 fn conclusion(alloc: Global, listed: &str) -> Result<Option<Incompat>, Refusal> {
     let mut terms = Vec::new(alloc);
     for text in listed.split("; ") {
-        match word(text, 1) {
-            "in" => terms.push((number(text, 0), Term::In(set(alloc, text, 2)?)))?,
-            "out" => terms.push((number(text, 0), Term::NotIn(set(alloc, text, 2)?)))?,
-            _ => {}
+        if let Some(term) = term(alloc, text)? {
+            terms.push(term)?;
         }
     }
     Ok(Incompat::new(terms))
@@ -245,13 +276,21 @@ fn part(text: &str, index: usize) -> &str {
     text.split(" | ").nth(index).unwrap_or("")
 }
 
+fn stated(alloc: Global, listed: &str) -> Result<Incompat, Refusal> {
+    match conclusion(alloc, listed)? {
+        Some(conclusion) => Ok(conclusion),
+        None => Err(Refusal::BadLine),
+    }
+}
+
+fn causes(alloc: Global, text: &str) -> Result<(Cause, Cause), Refusal> {
+    Ok((cause(alloc, part(text, 1))?, cause(alloc, part(text, 2))?))
+}
+
 fn line(alloc: Global, text: &str) -> Result<Line, Refusal> {
-    let Some(conclusion) = conclusion(alloc, part(text, 0))? else {
-        return Err(Refusal::BadLine);
-    };
     Ok(Line {
-        conclusion,
-        causes: (cause(alloc, part(text, 1))?, cause(alloc, part(text, 2))?),
+        conclusion: stated(alloc, part(text, 0))?,
+        causes: causes(alloc, text)?,
         pivot: number(part(text, 3), 0),
     })
 }
@@ -300,11 +339,11 @@ fn ends_chain(alloc: Global, texts: &[&str]) -> Result<bool, Refusal> {
 
 #[test]
 fn a_derivation_follows_only_as_it_is(rt: HostRuntime) -> Result<(), Refusal> {
-    for (place, text, want) in CHANGED {
+    for (place, text, want) in &CHANGED {
         let mut texts = FIRST;
-        assert!(rt; place < 3);
-        texts[place] = text;
-        assert_eq!(rt; ends_chain(rt.alloc(), &texts)?, want, "{text}");
+        assert!(rt; *place < 3);
+        texts[*place] = *text;
+        assert!(rt; ends_chain(rt.alloc(), &texts)? == *want, "{text}");
     }
     Ok(())
 }
@@ -332,8 +371,8 @@ fn a_line_may_be_cited_twice(rt: HostRuntime) -> Result<(), Refusal> {
 }
 
 fn yank(registry: &mut Registry, alloc: Global, name: &str, version: &str) -> Result<(), Refusal> {
-    let command = Command::Yank(Name::read(alloc, name)?, Published::read(alloc, version)?);
-    submit(registry, command)
+    let (name, version) = named_version(alloc, name, version)?;
+    submit(registry, Command::Yank(name, version))
 }
 
 /// A registry of a 1.0.0, which may be yanked.
@@ -385,9 +424,9 @@ fn answer(alloc: Global, texts: &[&str]) -> Result<u8, Refusal> {
 
 #[test]
 fn premises_and_earlier_lines_are_learnt(rt: HostRuntime) -> Result<(), Refusal> {
-    assert_eq!(rt; answer(rt.alloc(), &[])?, 21);
-    for (text, want) in OFFERED {
-        assert_eq!(rt; answer(rt.alloc(), &[text])?, want, "{text}");
+    assert!(rt; answer(rt.alloc(), &[])? == 21);
+    for (text, want) in &OFFERED {
+        assert!(rt; answer(rt.alloc(), &[*text])? == *want, "{text}");
     }
     Ok(())
 }
@@ -402,12 +441,17 @@ fn repeated<'a>(alloc: Global, count: usize, last: &'a str) -> Result<Vec<&'a st
     Ok(texts)
 }
 
+fn answer_to_repeated(alloc: Global, count: usize, last: &str) -> Result<u8, Refusal> {
+    let texts = repeated(alloc, count, last)?;
+    answer(alloc, &texts)
+}
+
 #[test]
 fn at_most_256_lines_are_learnt(rt: HostRuntime) -> Result<(), Refusal> {
-    for (count, last, want) in [(255, 0, 0), (255, 2, 21), (256, 0, 20), (256, 2, 20)] {
-        assert!(rt; last < 10);
-        let texts = repeated(rt.alloc(), count, OFFERED[last].0)?;
-        assert_eq!(rt; answer(rt.alloc(), &texts)?, want, "{count} {last}");
+    for (count, last, want) in &[(255, 0, 0), (255, 2, 21), (256, 0, 20), (256, 2, 20)] {
+        assert!(rt; *last < 10);
+        let number = answer_to_repeated(rt.alloc(), *count, OFFERED[*last].0)?;
+        assert!(rt; number == *want, "{count} {last}");
     }
     Ok(())
 }
@@ -453,17 +497,27 @@ fn concludes(alloc: Global, text: &str, listed: &str) -> Result<bool, Refusal> {
     }
 }
 
+/// How many lines what is learnt of a line has.
+fn count_of_lines(alloc: Global, text: &str) -> Result<usize, Refusal> {
+    Ok(learnt(alloc, text)?.lines().len())
+}
+
 /// The packages that what is learnt of a line rests on.
 fn targets(alloc: Global, text: &str) -> Result<Vec<u32>, Refusal> {
     Ok(learnt(alloc, text)?.rests_on().ordinals(alloc)?)
 }
 
+/// Whether what is learnt of a line rests on these packages.
+fn rests_on(alloc: Global, text: &str, packages: &[u32]) -> Result<bool, Refusal> {
+    let targets = targets(alloc, text)?;
+    Ok(targets.as_slice() == packages)
+}
+
 #[test]
 fn what_is_learnt_tells_its_lines(rt: HostRuntime) -> Result<(), Refusal> {
-    assert_eq!(rt; learnt(rt.alloc(), OFFERED[0].0)?.lines().len(), 1);
+    assert!(rt; count_of_lines(rt.alloc(), OFFERED[0].0)? == 1);
     assert!(rt; concludes(rt.alloc(), OFFERED[0].0, "1 in 0; 3 out 0")?);
-    let targets = targets(rt.alloc(), OFFERED[0].0)?;
-    assert_eq!(rt; targets.as_slice(), [2, 3].as_slice());
+    assert!(rt; rests_on(rt.alloc(), OFFERED[0].0, &[2, 3])?);
     let _empty = Store::new(rt.alloc());
     Ok(())
 }
@@ -493,16 +547,19 @@ fn reason(alloc: Global, text: &str) -> Result<Reason, Refusal> {
     }
 }
 
+fn known(alloc: Global, text: &str) -> Result<Known, Refusal> {
+    Ok(Known {
+        conclusion: stated(alloc, part(text, 0))?,
+        reason: reason(alloc, part(text, 1))?,
+    })
+}
+
 fn searched(alloc: Global, texts: &[&str]) -> Result<Vec<Known>, Refusal> {
-    let mut known = Vec::new(alloc);
+    let mut lines = Vec::new(alloc);
     for text in texts {
-        let Some(conclusion) = conclusion(alloc, part(*text, 0))? else {
-            return Err(Refusal::BadLine);
-        };
-        let reason = reason(alloc, part(*text, 1))?;
-        known.push(Known { conclusion, reason })?;
+        lines.push(known(alloc, *text)?)?;
     }
-    Ok(known)
+    Ok(lines)
 }
 
 fn is_before(line: &Known, place: usize) -> bool
@@ -540,18 +597,59 @@ fn ends_at(known: &[Known], place: usize) -> bool
     place < known.len() && is_empty_end(&known[place])
 }
 
+/// The derivation that a search's lines are cut to at a place.
+fn cut_at(
+    rt: &impl Abort,
+    alloc: Global,
+    known: Vec<Known>,
+    place: usize,
+) -> Result<Derivation, Refusal> {
+    assert!(rt; are_ordered(&known));
+    assert!(rt; ends_at(&known, place));
+    cut(alloc, known, place)
+}
+
+fn a_refusal_is_cut_to_what_it_rests_on_in(rt: &impl Abort, lines: &[Line]) {
+    assert!(rt; lines.len() == 2);
+    assert!(rt; lines[0].pivot == 1);
+    assert!(rt; lines[1].pivot == 2);
+    assert!(rt; matches!(lines[1].causes.0, Cause::Line(1)));
+    assert!(rt; matches!(lines[1].causes.1, Cause::NotAllowed(2, _)));
+}
+
 #[test]
 fn a_refusal_is_cut_to_what_it_rests_on(rt: HostRuntime) -> Result<(), Refusal> {
     let known = searched(rt.alloc(), &SEARCH)?;
-    assert!(rt; are_ordered(&known));
-    assert!(rt; ends_at(&known, 7));
-    let derivation = cut(rt.alloc(), &known, 7)?;
+    let derivation = cut_at(&rt, rt.alloc(), known, 7)?;
+    a_refusal_is_cut_to_what_it_rests_on_in(&rt, derivation.lines());
+    Ok(())
+}
+
+/// The lines of a search, of which the last rests on a line that takes none but itself, cited first,
+/// and on one that takes two. Nothing of it has to be true.
+const UNEVEN: [&str; 9] = [
+    "0 out 0 | root",
+    "1 in 0; 2 out 0 | premise 1 0 2 * 0",
+    "2 in 0; 3 out 0 | premise 2 0 3 * 0",
+    "3 in 0 | barred 3 0",
+    "0 in 0; 1 out 0 | need 0",
+    "0 in 0; 2 out 0 | resolved 4 1 1",
+    "1 in 0; 3 out 0 | resolved 1 2 2",
+    "1 in 0 | resolved 6 3 3",
+    " | resolved 5 7 1",
+];
+
+#[test]
+fn the_shorter_part_stands_before_the_line_that_cites_both(rt: HostRuntime) -> Result<(), Refusal> {
+    let known = searched(rt.alloc(), &UNEVEN)?;
+    let derivation = cut_at(&rt, rt.alloc(), known, 8)?;
     let lines = derivation.lines();
-    assert_eq!(rt; lines.len(), 2);
-    assert_eq!(rt; lines[0].pivot, 1);
-    assert_eq!(rt; lines[1].pivot, 2);
-    assert!(rt; matches!(lines[1].causes.0, Cause::Line(1)));
-    assert!(rt; matches!(lines[1].causes.1, Cause::NotAllowed(2, _)));
+    assert_eq!(rt; lines.len(), 4);
+    assert_eq!(rt; lines[0].pivot, 2);
+    assert_eq!(rt; lines[1].pivot, 3);
+    assert_eq!(rt; lines[2].pivot, 1);
+    assert!(rt; matches!(lines[3].causes.0, Cause::Line(3)));
+    assert!(rt; matches!(lines[3].causes.1, Cause::Line(2)));
     Ok(())
 }
 
@@ -601,10 +699,15 @@ fn learnt_of_search(alloc: Global, places: &[usize]) -> Result<Vec<usize>, Refus
     learnt_of(alloc, &known, places)
 }
 
+/// Whether the lines at these places lead to so many lines that may be learnt.
+fn are_learnt(alloc: Global, places: &[usize], counts: &[usize]) -> Result<bool, Refusal> {
+    let learnt = learnt_of_search(alloc, places)?;
+    Ok(learnt.as_slice() == counts)
+}
+
 // `offers` takes no lines but a search's own, so it is tested with the search.
 #[test]
 fn what_rests_on_premises_alone_may_be_learnt(rt: HostRuntime) -> Result<(), Refusal> {
-    let counts = learnt_of_search(rt.alloc(), &[5, 6, 0, 4, 3, 7])?;
-    assert_eq!(rt; counts.as_slice(), [2, 0, 0, 0, 1, 0].as_slice());
+    assert!(rt; are_learnt(rt.alloc(), &[5, 6, 0, 4, 3, 7], &[2, 0, 0, 0, 1, 0])?);
     Ok(())
 }

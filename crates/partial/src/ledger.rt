@@ -1,6 +1,6 @@
 // The assignments, kept in order and by package.
 
-ghost use Rattle.std.specs.Prelude.{◌≡◌, ◌≤◌, ◌<◌, ◌++◌, ◌∷◌, ℕ, [], None, Option, Some, false, true, nat_eq, slice_get, take, length, OnErr, OnOk};
+ghost use Rattle.std.specs.Prelude.{◌≡◌, ◌≤◌, ◌<◌, ◌++◌, ◌∷◌, ℕ, [], None, Option, Some, false, true, nat_eq, slice_get, take, length, IfOk, OnErr, OnOk};
 ghost use Rattle.terms.specs.Terms.{true_of};
 ghost use Rattle.partial.specs.Assignments.{decided, decisions, is_decided, is_decision, says, upto, LevelsFrom};
 ghost use Rattle.partial.specs.Ledger.{last_place, through, AreFew, AreSameHeads, HasRoom, IsLedger, IsPlaceOn};
@@ -45,7 +45,22 @@ pub(crate) fn empty(alloc: Global) -> Ledger
     }
 }
 
+/// As [`empty`], with room for so many assignments.
+pub(crate) fn with_room(alloc: Global, room: usize) -> Result<Ledger, AllocError>
+    ensures kept { IfOk result IsLedger }
+    ensures made { IfOk result (λ ledger. ledger.made.items ≡ []) }
+{
+    let any = Term::NotIn(VSet::new(alloc));
+    Ok(Ledger {
+        made: Vec::with_capacity(alloc, room)?,
+        notes: Vec::with_capacity(alloc, room)?,
+        heads: Vec::with_capacity(alloc, room)?,
+        any,
+    })
+}
+
 /// The place of the last assignment on a package.
+#[inline(always)]
 pub(crate) fn last_on(ledger: &Ledger, pkg: Pkg) -> Option<usize>
     requires { IsLedger ledger.now }
     ensures { result ≡ last_place ledger.now.made.items pkg }
@@ -57,6 +72,7 @@ pub(crate) fn last_on(ledger: &Ledger, pkg: Pkg) -> Option<usize>
 }
 
 /// What the assignments on a package say together up to one of them, or with none.
+#[inline(always)]
 pub(crate) fn said_at(ledger: &Ledger, place: Option<usize>) -> &Term
     requires kept { IsLedger ledger.now }
     requires within { through place ≤ length ledger.now.made.items }
@@ -81,6 +97,7 @@ pub(crate) fn decided_at(ledger: &Ledger, place: Option<usize>) -> Option<u32>
 }
 
 /// What all assignments on a package say together.
+#[inline(always)]
 pub(crate) fn said_on(ledger: &Ledger, pkg: Pkg) -> &Term
     requires { IsLedger ledger.now }
     ensures { (choice : Option ℕ) → true_of result.now choice ≡ says ledger.now.made.items pkg choice }
@@ -130,6 +147,7 @@ fn enter(heads: &mut Vec<Option<usize>>, pkg: Pkg, place: Option<usize>)
 }
 
 /// Makes room for one assignment more, on this package.
+#[inline(always)]
 fn make_room(
     made: &mut Vec<Assignment>,
     notes: &mut Vec<Note>,
@@ -150,6 +168,7 @@ fn make_room(
 
 /// Adds an assignment where there is room, given the place of the last one on its package and what is
 /// said of it then.
+#[inline(always)]
 fn put(ledger: &mut Ledger, a: Assignment, last: Option<usize>, said: Term)
     requires kept { IsLedger ledger.old }
     requires room { HasRoom ledger.old.made ledger.old.notes ledger.old.heads.items a.pkg }
@@ -175,6 +194,7 @@ fn put(ledger: &mut Ledger, a: Assignment, last: Option<usize>, said: Term)
 }
 
 /// Adds an assignment, given the place of the last one on its package and what is said of it then.
+#[inline(always)]
 pub(crate) fn add(
     ledger: &mut Ledger,
     a: Assignment,

@@ -24,6 +24,7 @@ struct Reach {
 }
 
 /// Whether a term must hold where another does.
+#[inline(always)]
 fn implies(said: &Term, term: &Term) -> bool
     ensures yes { result ≡ true → Implies said.now term.now }
     ensures no { result ≡ false → Exception said.now term.now }

@@ -10,7 +10,7 @@ ghost use Rattle.partial.specs.Satisfying.{CanGoBack, IsSatisfier, Satisfied, St
 
 use crate::assignment::{Assignment, Why};
 use crate::ledger::{
-    Ledger, add, decided_at, decided_on, empty, go_back, last_on, level_of, said_at,
+    Ledger, add, decided_at, decided_on, empty, go_back, last_on, level_of, said_at, with_room,
 };
 use crate::satisfier::satisfier_of;
 use crate::standing::{Standing, standing_of};
@@ -65,6 +65,16 @@ impl Partial {
             ledger: empty(alloc),
             alloc,
         }
+    }
+
+    /// Without assignments, and with room for so many of them, and for packages below this number.
+    pub fn with_room(alloc: Global, room: usize) -> Result<Partial, AllocError>
+        ensures { IfOk result (λ partial. partial ≡ []) }
+    {
+        Ok(Partial {
+            ledger: with_room(alloc, room)?,
+            alloc,
+        })
     }
 
     /// The assignments, in order.

@@ -12,3 +12,5 @@ pub mod RequestLemmas
 pub mod SelectionLaws
 pub mod WorkedRows
 pub mod SelectionRows
+pub mod Alike
+pub mod Yanks

@@ -1,5 +1,5 @@
 -- What a contract sees of the publications of a package as they are stored, and of the lists of them.
-use Rattle.std.specs.Prelude.{ℕ, List, [], ◌∷◌, map, Option, None, Some}
+use Rattle.std.specs.Prelude.{◌≡◌, ◌<◌, ◌+◌, ℕ, Bool, true, false, List, [], ◌∷◌, length, map, slice_get, Option, None, Some}
 use Rattle.releases.specs.declared.release.Release.{Release}
 use Rattle.versions.specs.Words.{Text}
 use Rattle.registry.specs.Registry.{Packages, Publication}
@@ -15,6 +15,14 @@ publications_of [] needs = []
 publications_of (release ∷ releases) [] = []
 publications_of (release ∷ releases) (needs ∷ others) =
     (record { version = release.version; needs = needs; yanked = release.yanked }) ∷ publications_of releases others
+
+-- a publication that has a mark needs what the one before it does
+abbrev pub AreAlike : List Bool → List (List (Text × Text)) → Type 0
+AreAlike marks needs = (k : ℕ) → slice_get marks k ≡ Some true → (k < length needs) × (j : ℕ) × (j + 1 ≡ k) × (slice_get needs k ≡ slice_get needs j)
+
+-- none of the releases is yanked, unless one ever was
+abbrev pub AreOffered : Bool → List Release → Type 0
+AreOffered ever releases = ever ≡ false → (k : ℕ) (release : Release) → slice_get releases k ≡ Some release → release.yanked ≡ false
 
 -- the publications that a list has, where there is one
 abbrev pub publications_in : Option PublicationList → List Publication

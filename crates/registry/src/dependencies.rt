@@ -1,6 +1,6 @@
 // What a version depends on.
 
-ghost use Rattle.std.specs.Prelude.{◌≡◌, IfErr, IfOk};
+ghost use Rattle.std.specs.Prelude.{◌≡◌, ◌≢◌, ◌↔◌, ◌∷◌, ℕ, List, IfErr, IfNone, IfOk, IfSome, IsTrue};
 ghost use Rattle.registry.specs.Needs.{has_name, repeats_name};
 
 use crate::by_name::{places_by_name, repeats};
@@ -92,6 +92,32 @@ impl Dependencies {
             repeats: self.repeats,
         })
     }
+}
+
+/// The needs after the first, where the first is this need.
+fn after_first<'a>(needs: &'a [(Name, Need)], need: &(Name, Need)) -> Option<&'a [(Name, Need)]>
+    ensures some { IfSome result (λ rest. needs.now ≡ need.now ∷ rest.now) }
+    ensures none { IfNone result ((rest : List (List ℕ × List ℕ)) → needs.now ≢ need.now ∷ rest) }
+{
+    let (first, rest) = needs.split_first()?;
+    if first.0 != need.0 || first.1 != need.1 {
+        return None;
+    }
+    Some(rest)
+}
+
+/// Whether two lists of needs are the same.
+pub fn are_same(first: &[(Name, Need)], second: &[(Name, Need)]) -> bool
+    ensures { IsTrue result ↔ (first.now ≡ second.now) }
+{
+    let mut rest = first;
+    for need in second {
+        match after_first(rest, need) {
+            Some(others) => rest = others,
+            None => return false,
+        }
+    }
+    rest.is_empty()
 }
 
 /// Whether a name is among the needs.

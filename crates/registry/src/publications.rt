@@ -1,15 +1,15 @@
 // The publications of one package.
 
-ghost use Rattle.std.specs.Prelude.{◌≡◌, ◌<◌, ◌∷◌, ◌++◌, [], ℕ, false, length, slice_get, None, Some, IfErr, IfNone, IfOk, IfSome, IsOk, OnOk, is_some, true};
+ghost use Rattle.std.specs.Prelude.{◌≡◌, ◌<◌, ◌+◌, ◌∷◌, ◌++◌, [], ℕ, false, length, slice_get, None, Some, IfErr, IfNone, IfOk, IfSome, IsOk, OnOk, is_some, true};
 ghost use Rattle.std.specs.Option.{option_copied};
 ghost use Rattle.releases.specs.Matching.{ordinals_of};
 ghost use Rattle.terms.specs.Sets.{has};
 ghost use Rattle.registry.specs.Highest.{IsHighest};
-ghost use Rattle.registry.specs.Publications.{publications_in};
-ghost use Rattle.registry.specs.Registry.{has_version, publication_equals, publication_meets};
+ghost use Rattle.registry.specs.Publications.{publications_in, AreAlike};
+ghost use Rattle.registry.specs.Registry.{has_version, needs_or_none, publication_equals, publication_meets};
 ghost use Rattle.registry.specs.Step.{set_yanked, unyank_refusal, yank_of, yank_refusal};
 
-use crate::dependencies::Dependencies;
+use crate::dependencies::{Dependencies, are_same};
 use releases::{Matching, Release, Releases};
 use std::alloc::{AllocError, Global};
 use std::marker::Model;
@@ -21,11 +21,15 @@ use versions::{Need, Published, Refusal};
 pub struct Publications {
     releases: Releases,
     needs: Vec<Dependencies>,
+    /// Whether each publication is known to need what the one before it does. It may end early.
+    alike: Vec<bool>,
+    /// Whether one of them was ever yanked.
+    yanks: bool,
 }
 
 impl Model for Publications {
     ghost use Rattle.std.specs.Prelude.{◌≡◌, ◌-◌, length, min, vec_capacity, vec_len};
-    ghost use Rattle.registry.specs.Publications.{PublicationList, publications_of};
+    ghost use Rattle.registry.specs.Publications.{PublicationList, publications_of, AreAlike, AreOffered};
 
     ghost Value = { PublicationList };
 
@@ -34,7 +38,10 @@ impl Model for Publications {
       room = min p.releases.room (vec_capacity p.needs - vec_len p.needs);
     } };
 
-    ghost invariant = { λ p. length p.needs.items ≡ length p.releases.releases };
+    ghost invariant = { λ p.
+        (length p.needs.items ≡ length p.releases.releases)
+        × AreAlike p.alike.items p.needs.items
+        × AreOffered p.yanks p.releases.releases };
 }
 
 impl Publications {
@@ -45,6 +52,8 @@ impl Publications {
         Publications {
             releases: Releases::new(alloc),
             needs: Vec::new(alloc),
+            alike: Vec::new(alloc),
+            yanks: false,
         }
     }
 
@@ -66,6 +75,20 @@ impl Publications {
     {
         let place = ordinal as usize;
         (&self.releases.as_slice()[place], &self.needs[place])
+    }
+
+    /// Whether the one with this ordinal is known to need what the one before it does.
+    pub fn is_alike(&self, ordinal: u32) -> bool
+        ensures { result ≡ true → (k : ℕ) × (k + 1 ≡ ordinal) × (needs_or_none (slice_get self.now.publications ordinal) ≡ needs_or_none (slice_get self.now.publications k)) }
+    {
+        is_marked(&self.alike, ordinal as usize)
+    }
+
+    /// Whether one of them was ever yanked. Else none is.
+    pub fn has_yanks(&self) -> bool
+        ensures { result ≡ false → (k : ℕ) → IfSome (slice_get self.now.publications k) (λ publication. publication.yanked ≡ false) }
+    {
+        self.yanks
     }
 
     /// Whether there is one of equal precedence.
@@ -144,6 +167,7 @@ impl Publications {
         ensures ok { OnOk result (0 < self.new.room) }
     {
         self.needs.reserve(1)?;
+        self.alike.reserve(1)?;
         self.releases.reserve()
     }
 
@@ -154,6 +178,7 @@ impl Publications {
         requires few { length self.old.publications < 1024 }
         ensures { self.new.publications ≡ self.old.publications ++ (record { version = version; needs = needs; yanked = false }) ∷ [] }
     {
+        mark_next(&mut self.alike, &self.needs, &needs);
         self.releases.push(version);
         self.needs.push(needs).unwrap();
     }
@@ -166,10 +191,47 @@ impl Publications {
             return;
         };
         if yanked {
+            self.yanks = true;
             self.releases.yank(ordinal);
         } else {
             self.releases.unyank(ordinal);
         }
+    }
+}
+
+/// Whether there is a mark at a place.
+fn is_marked(marks: &[bool], place: usize) -> bool
+    ensures { result ≡ true → slice_get marks.now place ≡ Some true }
+{
+    match marks.get(place) {
+        Some(mark) => *mark,
+        None => false,
+    }
+}
+
+/// Whether these end with the same needs as another's.
+fn end_with(needs: &[Dependencies], next: &Dependencies) -> bool
+    ensures some { result ≡ true → 0 < length needs.now }
+    ensures same { result ≡ true → (k : ℕ) → k + 1 ≡ length needs.now → slice_get needs.now k ≡ Some next.now }
+{
+    match needs {
+        [] => false,
+        [.., last] => are_same(last.needs(), next.needs()),
+    }
+}
+
+/// Marks the next publication where it needs what the last one does. Once a mark found no memory, no
+/// more are made.
+fn mark_next(marks: &mut Vec<bool>, needs: &[Dependencies], next: &Dependencies)
+    requires { AreAlike marks.old.items needs.now }
+    ensures { AreAlike marks.new.items (needs.now ++ next.now ∷ []) }
+{
+    if marks.len() != needs.len() {
+        return;
+    }
+    let mark = end_with(needs, next);
+    match marks.push(mark) {
+        Ok(()) | Err(_) => {}
     }
 }
 

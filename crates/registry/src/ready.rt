@@ -8,7 +8,7 @@ ghost use Rattle.indexmap.specs.IndexSet.{spare};
 ghost use Rattle.registry.specs.Publications.{lists_of, rooms_of};
 ghost use Rattle.registry.specs.Rooms.{names_in, publication_for, room_where, unknown_names, AreEmpty, IsReady};
 
-use crate::dependencies::Dependencies;
+use crate::dependencies::{Dependencies, are_same};
 use crate::listed::{Listed, Place};
 use crate::publications::Publications;
 use indexmap::IndexSet;
@@ -27,32 +27,6 @@ pub struct Ready {
     pub own: Publications,
     /// The names of the needs that are new.
     pub added: Vec<(Name, Publications)>,
-}
-
-/// The needs after the first, where the first is this need.
-fn after_first<'a>(needs: &'a [(Name, Need)], need: &(Name, Need)) -> Option<&'a [(Name, Need)]>
-    ensures some { IfSome result (λ rest. needs.now ≡ need.now ∷ rest.now) }
-    ensures none { IfNone result ((rest : List (List ℕ × List ℕ)) → needs.now ≢ need.now ∷ rest) }
-{
-    let (first, rest) = needs.split_first()?;
-    if first.0 != need.0 || first.1 != need.1 {
-        return None;
-    }
-    Some(rest)
-}
-
-/// Whether two lists of needs are the same.
-fn are_same(first: &[(Name, Need)], second: &[(Name, Need)]) -> bool
-    ensures { IsTrue result ↔ (first.now ≡ second.now) }
-{
-    let mut rest = first;
-    for need in second {
-        match after_first(rest, need) {
-            Some(others) => rest = others,
-            None => return false,
-        }
-    }
-    rest.is_empty()
 }
 
 /// What was made ready for this publication.

@@ -155,8 +155,30 @@ impl Registry {
         }
     }
 
+    /// Whether a version is known to depend on what the one before it does, by a look at a mark.
+    pub fn repeats(&self, pkg: Pkg, ordinal: u32) -> bool
+        ensures { result ≡ true → (k : ℕ) × (k + 1 ≡ ordinal) × (needs_of self.now.packages pkg ordinal ≡ needs_of self.now.packages pkg k) }
+    {
+        match self.publications_at(pkg) {
+            None => false,
+            Some(publications) => publications.is_alike(ordinal),
+        }
+    }
+
+    /// Whether some version of a package was ever yanked, by a look at a note. Else each is allowed
+    /// to every request.
+    pub fn has_yanks(&self, pkg: Pkg) -> bool
+        ensures { result ≡ false → (k : ℕ) → IfSome (publication_at self.now.packages pkg k) (λ publication. publication.yanked ≡ false) }
+    {
+        match self.publications_at(pkg) {
+            None => false,
+            Some(publications) => publications.has_yanks(),
+        }
+    }
+
     /// Whether a version is allowed to a request: it is published, and is not yanked or is named by
     /// the lock (the Cargo Book, "cargo yank"). Takes no memory.
+    #[inline(always)]
     pub fn allowed(&self, request: &Request, pkg: Pkg, ordinal: u32) -> bool
         ensures { result ≡ is_allowed self.now.packages request.now pkg ordinal }
     {

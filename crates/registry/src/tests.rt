@@ -3,6 +3,7 @@
 //! The helpers are small for the prover's sake: a proof grows with the values that a function
 //! holds, times its ways out, since each way out lets go of them all.
 mod finding;
+mod marks;
 mod matching;
 mod requests;
 
@@ -119,17 +120,29 @@ fn submit_row(registry: &mut Registry, alloc: Global, row: &Row) -> Result<u8, R
     submit(registry, command)
 }
 
-/// The registry after these rows, each of which must be answered as it says.
+/// Asserts what is so of a row, which these two texts tell.
+fn holds(rt: &impl Abort, is_so: bool, row: &str, more: &str) {
+    assert!(rt; is_so, "{row} {more}");
+}
+
+/// Submits these rows, each of which must be answered as it says.
+fn tell(
+    rt: &impl Abort,
+    alloc: Global,
+    registry: &mut Registry,
+    rows: &[Row],
+) -> Result<(), Refusal> {
+    for row in rows {
+        let number = submit_row(registry, alloc, row)?;
+        holds(rt, number == row.4, row.1, row.2);
+    }
+    Ok(())
+}
+
+/// The registry after these rows.
 fn told(rt: &impl Abort, alloc: Global, rows: &[Row]) -> Result<Registry, Refusal> {
     let mut registry = Registry::new(alloc);
-    for row in rows {
-        let (_, name, version, _, want) = row;
-        assert_eq!(rt;
-            submit_row(&mut registry, alloc, row)?,
-            *want,
-            "{name} {version}"
-        );
-    }
+    tell(rt, alloc, &mut registry, rows)?;
     Ok(registry)
 }
 
@@ -156,20 +169,39 @@ fn numbered_name(alloc: Global, letter: char, number: usize) -> Result<Name, Ref
     Name::read(alloc, name.as_str())
 }
 
-/// This many names that begin with a letter and go on with the numbers from `from` on, each needed as `*`.
+/// A need on the name of a letter and a number.
+fn numbered_need(
+    alloc: Global,
+    letter: char,
+    number: usize,
+    need: &Need,
+) -> Result<(Name, Need), Refusal> {
+    Ok((numbered_name(alloc, letter, number)?, need.copy()?))
+}
+
+/// This many names that begin with a letter and go on with the numbers from `from` on, each needed so.
+fn many_of(
+    alloc: Global,
+    letter: char,
+    from: usize,
+    count: usize,
+    need: &Need,
+) -> Result<Vec<(Name, Need)>, Refusal> {
+    let mut needs = Vec::new(alloc);
+    for number in from..from.saturating_add(count) {
+        needs.push(numbered_need(alloc, letter, number, need)?)?;
+    }
+    Ok(needs)
+}
+
+/// As [`many_of`], each needed as `*`.
 fn many(
     alloc: Global,
     letter: char,
     from: usize,
     count: usize,
 ) -> Result<Vec<(Name, Need)>, Refusal> {
-    let need = Need::read(alloc, "*")?;
-    let mut needs = Vec::new(alloc);
-    for number in from..from.saturating_add(count) {
-        let name = numbered_name(alloc, letter, number)?;
-        needs.push((name, need.copy()?))?;
-    }
-    Ok(needs)
+    many_of(alloc, letter, from, count, &Need::read(alloc, "*")?)
 }
 
 /// The names "n0", "n1" and so on, this many, and then "n0" once more with this need.
@@ -215,51 +247,63 @@ fn facts_of<'a>(rt: &impl Abort, registry: &'a Registry, pkg: Pkg, ordinal: u32)
     registry.facts(pkg, ordinal)
 }
 
-fn the_lowest_refusal_is_given_in(rt: &impl Abort, registry: &Registry) -> Result<(), Refusal> {
-    assert_eq!(rt; registry.packages(), 1);
-    assert_eq!(rt; registry.revision(), 2);
-    Ok(())
+fn the_lowest_refusal_is_given_in(rt: &impl Abort, registry: &Registry) {
+    assert!(rt; registry.packages() == 1);
+    assert!(rt; registry.revision() == 2);
 }
 
 #[test]
 fn the_lowest_refusal_is_given(rt: HostRuntime) -> Result<(), Refusal> {
     let registry = told(&rt, rt.alloc(), &REFUSED)?;
-    the_lowest_refusal_is_given_in(&rt, &registry)
+    the_lowest_refusal_is_given_in(&rt, &registry);
+    Ok(())
 }
 
-fn a_version_is_published_once_in(rt: &impl Abort, registry: &Registry) -> Result<(), Refusal> {
-    assert_eq!(rt; registry.revision(), 3);
-    assert_eq!(rt; registry.versions(1), 2);
-    Ok(())
+fn a_version_is_published_once_in(rt: &impl Abort, registry: &Registry) {
+    assert!(rt; registry.revision() == 3);
+    assert!(rt; registry.versions(1) == 2);
 }
 
 #[test]
 fn a_version_is_published_once(rt: HostRuntime) -> Result<(), Refusal> {
     let registry = told(&rt, rt.alloc(), &REPEATED)?;
-    a_version_is_published_once_in(&rt, &registry)
+    a_version_is_published_once_in(&rt, &registry);
+    Ok(())
 }
 
-fn yanks_go_by_equal_precedence_in(rt: &impl Abort, registry: &Registry) -> Result<(), Refusal> {
-    assert_eq!(rt; registry.revision(), 5);
+fn yanks_go_by_equal_precedence_in(rt: &impl Abort, registry: &Registry) {
+    assert!(rt; registry.revision() == 5);
     assert!(rt; !facts_of(rt, registry, 1, 0).yanked);
     assert!(rt; facts_of(rt, registry, 1, 1).yanked);
-    assert_eq!(rt; facts_of(rt, registry, 1, 0).version.text(), "1.0.0+x");
-    Ok(())
+    assert!(rt; facts_of(rt, registry, 1, 0).version.text() == "1.0.0+x");
 }
 
 #[test]
 fn yanks_go_by_equal_precedence(rt: HostRuntime) -> Result<(), Refusal> {
     let registry = told(&rt, rt.alloc(), &YANKED)?;
-    yanks_go_by_equal_precedence_in(&rt, &registry)
+    yanks_go_by_equal_precedence_in(&rt, &registry);
+    Ok(())
 }
+
+/// A number, the name that has it, and how many versions there are.
+const NUMBERED: [(Pkg, &str, usize); 4] = [(1, "b", 1), (2, "c", 0), (3, "a", 1), (4, "d", 0)];
 
 /// The package has this number, this name and so many versions.
 fn numbered(rt: &impl Abort, registry: &Registry, pkg: Pkg, name: &Name, count: usize) {
-    let number = registry.number(name);
-    assert!(rt; number == Some(pkg), "{pkg}");
-    assert!(rt; registry.versions(pkg) == count, "{pkg}");
-    assert!(rt; pkg >= 1 && pkg as usize <= registry.packages(), "{pkg}");
-    assert!(rt; registry.name(pkg) == name, "{pkg}");
+    holds(
+        rt,
+        registry.number(name) == Some(pkg),
+        name.text(),
+        "has the number",
+    );
+    holds(
+        rt,
+        registry.versions(pkg) == count,
+        name.text(),
+        "has so many versions",
+    );
+    assert!(rt; pkg >= 1 && pkg as usize <= registry.packages());
+    holds(rt, registry.name(pkg) == name, name.text(), "is the name");
 }
 
 fn names_are_numbered_by_first_mention_in(
@@ -267,11 +311,11 @@ fn names_are_numbered_by_first_mention_in(
     alloc: Global,
     registry: &Registry,
 ) -> Result<(), Refusal> {
-    for (pkg, name, count) in [(1, "b", 1), (2, "c", 0), (3, "a", 1), (4, "d", 0)] {
-        numbered(rt, registry, pkg, &Name::read(alloc, name)?, count);
+    for (pkg, name, count) in &NUMBERED {
+        numbered(rt, registry, *pkg, &Name::read(alloc, *name)?, *count);
     }
-    assert_eq!(rt; registry.packages(), 4);
-    assert_eq!(rt; number_of(registry, alloc, "e")?, None);
+    assert!(rt; registry.packages() == 4);
+    assert!(rt; number_of(registry, alloc, "e")?.is_none());
     Ok(())
 }
 
@@ -290,16 +334,20 @@ fn texts<'a>(alloc: Global, needs: &'a [(Name, Need)]) -> Result<Vec<(&'a str, &
     Ok(texts)
 }
 
+/// Whether these needs have these names and requirements, in their order.
+fn are(alloc: Global, needs: &[(Name, Need)], wanted: &[(&str, &str)]) -> Result<bool, Refusal> {
+    Ok(texts(alloc, needs)?.as_slice() == wanted)
+}
+
 fn facts_are_what_was_published_in(
     rt: &impl Abort,
     alloc: Global,
     registry: &Registry,
 ) -> Result<(), Refusal> {
     let facts = facts_of(rt, registry, 3, 0);
-    assert_eq!(rt; facts.version.text(), "0.1.0");
+    assert!(rt; facts.version.text() == "0.1.0");
     assert!(rt; !facts.yanked);
-    let needs = texts(alloc, facts.needs)?;
-    assert!(rt; needs.as_slice() == [("d", "=2.0.0"), ("c", ">1, <2")].as_slice());
+    assert!(rt; are(alloc, facts.needs, &[("d", "=2.0.0"), ("c", ">1, <2")])?);
     Ok(())
 }
 
@@ -309,32 +357,32 @@ fn facts_are_what_was_published(rt: HostRuntime) -> Result<(), Refusal> {
     facts_are_what_was_published_in(&rt, rt.alloc(), &registry)
 }
 
-fn no_version_is_published_of_other_numbers_in(
-    rt: &impl Abort,
-    registry: &Registry,
-) -> Result<(), Refusal> {
-    for pkg in [0, 5, u32::MAX] {
-        assert_eq!(rt; registry.versions(pkg), 0);
+fn no_version_is_published_of_other_numbers_in(rt: &impl Abort, registry: &Registry) {
+    for pkg in &[0, 5, u32::MAX] {
+        assert!(rt; registry.versions(*pkg) == 0);
     }
-    Ok(())
 }
 
 #[test]
 fn no_version_is_published_of_other_numbers(rt: HostRuntime) -> Result<(), Refusal> {
     let registry = told(&rt, rt.alloc(), &MENTIONED)?;
-    no_version_is_published_of_other_numbers_in(&rt, &registry)
+    no_version_is_published_of_other_numbers_in(&rt, &registry);
+    Ok(())
 }
+
+/// A name, of how many dependencies, and the number of the refusal, or 0.
+const COUNTED: [(&str, usize, u8); 4] = [("a", 65, 6), ("n64", 65, 5), ("b", 64, 0), ("b", 65, 6)];
 
 fn a_version_has_at_most_64_dependencies_in(
     rt: &impl Abort,
     alloc: Global,
     registry: &mut Registry,
 ) -> Result<(), Refusal> {
-    for (name, count, want) in [("a", 65, 6), ("n64", 65, 5), ("b", 64, 0), ("b", 65, 6)] {
-        let number = first_of_many(registry, alloc, name, 'n', 0, count)?;
-        assert_eq!(rt; number, want, "{name}");
+    for (name, count, want) in &COUNTED {
+        let number = first_of_many(registry, alloc, *name, 'n', 0, *count)?;
+        holds(rt, number == *want, *name, "with so many dependencies");
     }
-    assert_eq!(rt; registry.packages(), 65);
+    assert!(rt; registry.packages() == 65);
     Ok(())
 }
 
@@ -349,10 +397,8 @@ fn long_lists_of_dependencies_are_refused_in(
     alloc: Global,
     registry: &mut Registry,
 ) -> Result<(), Refusal> {
-    let distinct = first_of_many(registry, alloc, "a", 'n', 0, 75_000)?;
-    assert_eq!(rt; distinct, 6);
-    let twice = repeated(alloc, 75_000, "^1")?;
-    assert_eq!(rt; first(registry, alloc, "a", twice)?, 4);
+    assert!(rt; first_of_many(registry, alloc, "a", 'n', 0, 75_000)? == 6);
+    assert!(rt; first(registry, alloc, "a", repeated(alloc, 75_000, "^1")?)? == 4);
     Ok(())
 }
 
@@ -362,27 +408,27 @@ fn long_lists_of_dependencies_are_refused(rt: HostRuntime) -> Result<(), Refusal
     long_lists_of_dependencies_are_refused_in(&rt, rt.alloc(), &mut registry)
 }
 
-/// So many names, each once, repeat none.
-fn none_is_repeated(rt: &impl Abort, alloc: Global, count: usize) -> Result<(), Refusal> {
+/// Whether so many names, each once, repeat none.
+fn none_is_repeated(alloc: Global, count: usize) -> Result<bool, Refusal> {
     let once = Dependencies::new(alloc, many(alloc, 'n', 0, count)?)?;
-    assert!(rt; !once.repeats_name(), "{count}");
-    assert_eq!(rt; once.needs().len(), count);
-    Ok(())
+    Ok(!once.repeats_name() && once.needs().len() == count)
 }
 
-/// The name "n0" behind so many names is a repeat, unless it stands alone.
-fn one_is_repeated(rt: &impl Abort, alloc: Global, count: usize) -> Result<(), Refusal> {
-    let needs = repeated(alloc, count, "^1")?;
-    let twice = Dependencies::new(alloc, needs)?.copy()?;
-    assert_eq!(rt; twice.repeats_name(), count > 0, "{count}");
-    Ok(())
+/// Whether the name "n0" behind so many names is a repeat.
+fn one_is_repeated(alloc: Global, count: usize) -> Result<bool, Refusal> {
+    let twice = Dependencies::new(alloc, repeated(alloc, count, "^1")?)?.copy()?;
+    Ok(twice.repeats_name())
 }
 
 #[test]
 fn repeats_are_found_in_short_and_long_lists(rt: HostRuntime) -> Result<(), Refusal> {
     for count in 0..40 {
-        none_is_repeated(&rt, rt.alloc(), count)?;
-        one_is_repeated(&rt, rt.alloc(), count)?;
+        assert!(rt; none_is_repeated(rt.alloc(), count)?, "{count}");
+        // A name that stands alone is no repeat.
+        assert!(rt;
+            one_is_repeated(rt.alloc(), count)? == (count > 0),
+            "{count}"
+        );
     }
     Ok(())
 }
@@ -394,15 +440,13 @@ fn a_package_has_at_most_1024_versions_in(
 ) -> Result<(), Refusal> {
     for number in 0..=1024 {
         let want = if number < 1024 { 0 } else { 8 };
-        assert_eq!(rt;
-            publish_patch(registry, alloc, number)?,
-            want,
+        assert!(rt;
+            publish_patch(registry, alloc, number)? == want,
             "0.0.{number}"
         );
     }
-    let again = submit_on_a(registry, alloc, Op::Publish, "0.0.1023+x")?;
-    assert_eq!(rt; again, 7);
-    assert_eq!(rt; registry.versions(1), 1024);
+    assert!(rt; submit_on_a(registry, alloc, Op::Publish, "0.0.1023+x")? == 7);
+    assert!(rt; registry.versions(1) == 1024);
     Ok(())
 }
 
@@ -423,40 +467,47 @@ fn number_more(
     first_of_many(registry, alloc, name.as_str(), 'n', numbered, more)
 }
 
-/// A registry with the names "n0", "n1" and so on, of which this many are numbered.
-fn crowd(alloc: Global, packages: usize) -> Result<Registry, Refusal> {
-    let mut registry = Registry::new(alloc);
+/// Numbers the names "n0", "n1" and so on, this many.
+fn crowd(registry: &mut Registry, alloc: Global, packages: usize) -> Result<(), Refusal> {
     for numbered in (1..packages).step_by(64) {
         let more = packages.saturating_sub(numbered).min(64);
-        number_more(&mut registry, alloc, numbered, more)?;
+        number_more(registry, alloc, numbered, more)?;
     }
-    Ok(registry)
+    Ok(())
 }
+
+/// A name with a letter and how many names that begin with it, the answer, and how many names are
+/// numbered then.
+const CROWDED: [(&str, char, usize, u8, usize); 5] = [
+    ("a", 'm', 5, 9, 65_530),
+    ("a", 'm', 4, 0, 65_535),
+    ("b", 'm', 0, 9, 65_535),
+    ("m0", 'k', 1, 9, 65_535),
+    ("m1", 'n', 64, 0, 65_535),
+];
 
 fn at_most_65535_names_are_numbered_in(
     rt: &impl Abort,
     alloc: Global,
     registry: &mut Registry,
 ) -> Result<(), Refusal> {
-    // Names that are new and how many of them, the answer, and how many names are numbered then.
-    let rows = [
-        ("a", 'm', 0, 5, 9, 65_530),
-        ("a", 'm', 0, 4, 0, 65_535),
-        ("b", 'm', 0, 0, 9, 65_535),
-        ("m0", 'k', 0, 1, 9, 65_535),
-        ("m1", 'n', 0, 64, 0, 65_535),
-    ];
-    for (name, letter, from, count, want, packages) in rows {
-        let number = first_of_many(registry, alloc, name, letter, from, count)?;
-        assert_eq!(rt; number, want, "{name}");
-        assert_eq!(rt; registry.packages(), packages, "{name}");
+    crowd(registry, alloc, 65_530)?;
+    for (name, letter, count, want, packages) in &CROWDED {
+        let number = first_of_many(registry, alloc, *name, *letter, 0, *count)?;
+        holds(rt, number == *want, *name, "is answered");
+        holds(
+            rt,
+            registry.packages() == *packages,
+            *name,
+            "leaves so many",
+        );
     }
     Ok(())
 }
 
 #[test]
 fn at_most_65535_names_are_numbered(rt: HostRuntime) -> Result<(), Refusal> {
-    let mut registry = crowd(rt.alloc(), 65_530)?;
+    let mut registry = Registry::new(rt.alloc());
     at_most_65535_names_are_numbered_in(&rt, rt.alloc(), &mut registry)
 }
 
@@ -495,10 +546,10 @@ fn room_serves_an_equal_command_alone_in(
 ) -> Result<(), Refusal> {
     make_room(registry, alloc, "a", "b ^1; c *")?;
     // Another command comes between, and numbers other names.
-    assert_eq!(rt; publish(registry, alloc, "d", "c *; e *")?, 0);
-    assert_eq!(rt; publish(registry, alloc, "a", "b ^1; c *")?, 0);
-    for (pkg, name) in [(1, "d"), (2, "c"), (3, "e"), (4, "a"), (5, "b")] {
-        assert_eq!(rt; number_of(registry, alloc, name)?, Some(pkg));
+    assert!(rt; publish(registry, alloc, "d", "c *; e *")? == 0);
+    assert!(rt; publish(registry, alloc, "a", "b ^1; c *")? == 0);
+    for (pkg, name) in &[(1, "d"), (2, "c"), (3, "e"), (4, "a"), (5, "b")] {
+        assert!(rt; number_of(registry, alloc, *name)? == Some(*pkg));
     }
     Ok(())
 }

@@ -1,43 +1,62 @@
--- Lawful replies to requests.
-use Rattle.std.proofs.Common.{◌≡◌, ◌⊎◌, ℕ, List, Option, None, Some, inl, inr, refl, ap, subst}
+-- What may be told of a registry.
+use Rattle.std.proofs.Common.{◌≡◌, ℕ, Bool, true, false, List, Option, None, Some, inl, inr, refl, ap}
 use Rattle.versions.specs.Words.{Text}
 use Rattle.versions.specs.declared.refusal.Refusal.{Refusal}
-use Rattle.versions.specs.declared.refusal.Refusal.TheVariants.{BudgetSpent, NoMemory}
 use Rattle.registry.specs.Preference.{IsPreferredSelection}
 use Rattle.registry.specs.Registry.{Packages}
 use Rattle.registry.specs.Requests.{Wanted}
 use Rattle.registry.specs.Selections.{Choices, Meets}
-use Rattle.registry.specs.Step.{Change}
 use Rattle.derivations.proofs.Soundness.{NoSelection-IsDerivation}
 use Rattle.derivations.specs.Derivations.{IsDerivation}
 use Rattle.derivations.specs.declared.line.Line.{Line}
 use Rattle.solver.specs.Outcomes.{Tells, TellsOne}
-use Rattle.wire.specs.Replies.{no_selection, refused, selected}
-use Rattle.wire.specs.Shapes.{resolve}
-use Rattle.chronicle.specs.Answers.{MayStop, NonePreferred}
-use Rattle.registryd.specs.Outcomes.{IsAnswer, IsRefuted}
-use Rattle.registryd.specs.Replay.{at}
-use Rattle.registryd.specs.Session.{Answers, IsRefused, reply_after}
+use Rattle.explain.specs.Explanations.{explanation}
+use Rattle.chronicle.specs.Answers.{MayStop}
+use Rattle.wire.specs.Named.{IsNumbered}
+use Rattle.wire.specs.Replies.{Body, explained, no_selection, refused, selected}
+use Rattle.wire.specs.declared.by_name.NamedLine.{NamedLine}
+use Rattle.registryd.specs.Outcomes.{IsAnswer, IsRefuted, MayTell, TellsFound, TellsNone, TellsOutcome}
+
+-- ---- what is found
 
 -- a selection that answers
-pub answered_selection : (old : List Change) (wanted : Wanted) (budget : Option ℕ) (packages : Packages) (list : List (Text × Text)) → packages ≡ at old → TellsOne packages wanted list
+pub found_selection : (packages : Packages) (wanted : Wanted) (explain : Bool) (list : List (Text × Text)) → TellsOne packages wanted list
     → ((s : Choices) → IsPreferredSelection packages wanted s → Meets packages wanted s → Tells packages s list)
-    → Answers old (resolve wanted budget) (reply_after old (selected list)) old
-answered_selection old wanted budget packages list is lawful preferred =
+    → TellsFound packages wanted explain (selected list)
+found_selection packages wanted explain list lawful preferred =
     let answer : IsAnswer packages wanted list = record { lawful = lawful; preferred = preferred } in
-    (inl (list, subst (λ p. IsAnswer p wanted list) is answer, refl), refl)
+    inl (list, answer, refl)
 
 -- a derivation that there is none
-pub answered_none : (old : List Change) (wanted : Wanted) (budget : Option ℕ) (packages : Packages) (lines : List Line) → packages ≡ at old → IsDerivation packages wanted lines
-    → Answers old (resolve wanted budget) (reply_after old no_selection) old
-answered_none old wanted budget packages lines is derivation =
-    let refuted : IsRefuted packages wanted = record { lines = lines; derivation = derivation; none = NoSelection-IsDerivation packages wanted lines derivation } in
-    (inr (inl (subst (λ p. IsRefuted p wanted) is refuted, refl)), refl)
+pub refuted_by : (packages : Packages) (wanted : Wanted) (lines : List Line) → IsDerivation packages wanted lines → IsRefuted packages wanted
+refuted_by packages wanted lines derivation = record { lines = lines; derivation = derivation; none = NoSelection-IsDerivation packages wanted lines derivation }
+
+-- told without its reason
+pub told_none : (packages : Packages) (wanted : Wanted) (lines : List Line) → IsDerivation packages wanted lines → TellsNone packages wanted false no_selection
+told_none packages wanted lines derivation = (refuted_by packages wanted lines derivation, refl)
+
+-- told by names, with the lines that explain it
+pub told_explained : (packages : Packages) (wanted : Wanted) (lines : List Line) (named : List NamedLine) (texts : List Text) → IsDerivation packages wanted lines
+    → IsNumbered packages named lines → texts ≡ explanation packages wanted lines → TellsNone packages wanted true (explained named texts)
+unfolding refuted_by
+told_explained packages wanted lines named texts derivation same told = record {
+  refuted = refuted_by packages wanted lines derivation;
+  named = named;
+  same = same;
+  told = ap (λ (l : List Text). explained named l) told;
+}
+
+-- ---- what is told of it
+
+-- what was found
+pub found_told : (packages : Packages) (wanted : Wanted) (explain : Bool) (budget : Option ℕ) (body : Body) → MayTell (TellsFound packages wanted explain) body
+    → MayTell (TellsOutcome packages wanted explain budget) body
+found_told packages wanted explain budget body (inl memory) = inl memory
+found_told packages wanted explain budget body (inr found) = inr (inl found)
 
 -- what may be told where there is no answer
-pub stopped : (old : List Change) (wanted : Wanted) (budget : Option ℕ) (packages : Packages) (e : Refusal) → packages ≡ at old → MayStop packages wanted budget e
-    → IsRefused NoMemory old (reply_after old (refused e)) old ⊎ Answers old (resolve wanted budget) (reply_after old (refused e)) old
-stopped old wanted None packages e is memory = inl (ap (λ (r : Refusal). reply_after old (refused r)) memory, refl)
-stopped old wanted (Some budget) packages e is (inl memory) = inl (ap (λ (r : Refusal). reply_after old (refused r)) memory, refl)
-stopped old wanted (Some budget) packages e is (inr (spent, none)) =
-    inr (inr (inr (subst (λ p. NonePreferred p wanted) is none, ap (λ (r : Refusal). reply_after old (refused r)) spent)), refl)
+pub stopped_told : (packages : Packages) (wanted : Wanted) (explain : Bool) (budget : Option ℕ) (e : Refusal) → MayStop packages wanted budget e
+    → MayTell (TellsOutcome packages wanted explain budget) (refused e)
+stopped_told packages wanted explain None e memory = inl (ap (λ (r : Refusal). refused r) memory)
+stopped_told packages wanted explain (Some budget) e (inl memory) = inl (ap (λ (r : Refusal). refused r) memory)
+stopped_told packages wanted explain (Some budget) e (inr (spent, none)) = inr (inr (none, ap (λ (r : Refusal). refused r) spent))

@@ -1,18 +1,13 @@
 -- Lawful replies of a seat to one line, and to lines one after another.
-use Rattle.std.proofs.Common.{◌≡◌, ◌⊎◌, ℕ, ◌<◌, ◌≤◌, ◌+◌, ◌++◌, List, [], ◌∷◌, length, refl, sym, ap, subst, ◌∙◌, inl, inr, Option, None, Some, Result, Ok, MatchResult}
+use Rattle.std.proofs.Common.{◌≡◌, ◌⊎◌, ℕ, ◌<◌, ◌≤◌, ◌+◌, ◌++◌, Bool, List, [], ◌∷◌, length, refl, sym, ap, subst, ◌∙◌, inl, inr, Option, Some, Result, Ok, MatchResult}
 use Rattle.versions.specs.Refusals.{Refuses}
-use Rattle.versions.specs.Words.{Text}
 use Rattle.versions.specs.declared.refusal.Refusal.{Refusal}
-use Rattle.versions.specs.declared.refusal.Refusal.TheVariants.{BadLine}
+use Rattle.versions.specs.declared.refusal.Refusal.TheVariants.{BadLine, NoMemory}
 use Rattle.registry.specs.Commands.{change_of}
-use Rattle.registry.specs.Preference.{IsPreferredSelection}
+use Rattle.registry.specs.Registry.{Packages}
 use Rattle.registry.specs.Requests.{Wanted}
-use Rattle.registry.specs.Selections.{Choices, Meets}
 use Rattle.registry.specs.declared.commands.Command.{Command}
 use Rattle.registry.specs.declared.commands.Command.TheVariants as command
-use Rattle.derivations.specs.Derivations.{IsDerivation, NoSelection}
-use Rattle.derivations.specs.declared.line.Line.{Line}
-use Rattle.solver.specs.Outcomes.{Tells, TellsOne}
 use Rattle.chronicle.specs.Answers.{MayStop}
 use Rattle.chronicle.specs.Journals.{EntersAfter, packages_of, refusal_at, revision_of}
 use Rattle.chronicle.specs.Seats.{Accepted, IsStopped, MayHaveSeen, Place, Refused}
@@ -22,12 +17,15 @@ use Rattle.chronicle.specs.declared.entry.Entry.{Entry}
 use Rattle.chronicle.specs.declared.entry.Stamp.{Stamp}
 use Rattle.chronicle.proofs.CallLemmas.{begins_self}
 use Rattle.lines.specs.Unread.{line_limit}
-use Rattle.wire.specs.Replies.{Reply, accepted, no_selection, refused, selected}
+use Rattle.wire.specs.Listings.{IsListing, Row}
+use Rattle.wire.specs.Replies.{Body, Reply, accepted, listed, refused}
 use Rattle.wire.specs.Requests.{request_of}
 use Rattle.wire.specs.Shapes as shapes
-use Rattle.registryd.specs.Outcomes.{IsAnswer, IsRefuted}
+use Rattle.wire.specs.declared.by_name.NamedLine.{NamedLine}
+use Rattle.registryd.specs.Outcomes.{MayTell, TellsOutcome, TellsVerdict}
 use Rattle.registryd.specs.Racing.{GivesUp, IsSeatReply, OnlySees, SeatAnswers, SeatSession, call_of, race_capacity, reply_at}
 use Rattle.registryd.specs.Session.{asked}
+use Rattle.registryd.proofs.OutcomeLemmas.{stopped_told}
 use Rattle.registryd.proofs.SessionLemmas.{asked-long, asked-short, told}
 
 -- the call of a command's change is the command
@@ -65,6 +63,10 @@ stopped_reply old new e row may (inl memory) = (only_sees may, inl (ap (λ (r : 
 stopped_reply old new e row may (inr stray) =
     (only_sees may, inr (ap (λ (r : Refusal). reply_at old.number new.journal (refused r)) stray.0, subst (λ (n : ℕ). length new.journal < n) row stray.1))
 
+-- want of memory
+no_memory_reply : (old new : Place) (body : Body) → MayHaveSeen old new → body ≡ refused NoMemory → GivesUp old.number old.journal (reply_at old.number new.journal body) new.journal
+no_memory_reply old new body may memory = (only_sees may, inl (ap (λ (b : Body). reply_at old.number new.journal b) memory))
+
 -- a command that was refused
 pub refused_reply : (old new : Place) (c : Command) (e : Refusal) → new.row.capacity ≡ race_capacity → MayHaveSeen old new → Refused new (call.Command c) e
     → GivesUp old.number old.journal (reply_at old.number new.journal (refused e)) new.journal
@@ -76,31 +78,37 @@ refused_reply old new c e row may (inr applies) =
     in
     inr (inr (only_sees may, (e, here, refl)))
 
--- a selection that answers
-pub selected_reply : (old new : Place) (wanted : Wanted) (budget : Option ℕ) (list : List (Text × Text)) → MayHaveSeen old new → TellsOne (packages_of new.journal) wanted list
-    → ((s : Choices) → IsPreferredSelection (packages_of new.journal) wanted s → Meets (packages_of new.journal) wanted s → Tells (packages_of new.journal) s list)
-    → SeatAnswers old.number old.journal (shapes.resolve wanted budget) (reply_at old.number new.journal (selected list)) new.journal
-selected_reply old new wanted budget list may lawful preferred =
-    let answer : IsAnswer (packages_of new.journal) wanted list = record { lawful = lawful; preferred = preferred } in
-    (only_sees may, inl (list, answer, refl))
-
--- a derivation that there is none
-pub none_reply : (old new : Place) (wanted : Wanted) (budget : Option ℕ) (lines : List Line) → MayHaveSeen old new → IsDerivation (packages_of new.journal) wanted lines
-    → NoSelection (packages_of new.journal) wanted → SeatAnswers old.number old.journal (shapes.resolve wanted budget) (reply_at old.number new.journal no_selection) new.journal
-none_reply old new wanted budget lines may derivation none =
-    let refuted : IsRefuted (packages_of new.journal) wanted = record { lines = lines; derivation = derivation; none = none } in
-    (only_sees may, inr (inl (refuted, refl)))
+-- what may be told of a request
+pub resolved_reply : (old new : Place) (wanted : Wanted) (explain : Bool) (budget : Option ℕ) (packages : Packages) (body : Body) → MayHaveSeen old new
+    → packages ≡ packages_of new.journal → MayTell (TellsOutcome packages wanted explain budget) body
+    → GivesUp old.number old.journal (reply_at old.number new.journal body) new.journal
+    ⊎ SeatAnswers old.number old.journal (shapes.resolve wanted explain budget) (reply_at old.number new.journal body) new.journal
+resolved_reply old new wanted explain budget packages body may is (inl memory) = inl (no_memory_reply old new body may memory)
+resolved_reply old new wanted explain budget packages body may is (inr told) =
+    inr (only_sees may, (body, subst (λ (p : Packages). TellsOutcome p wanted explain budget body) is told, refl))
 
 -- a request that is left without an answer
-pub unanswered_reply : (old new : Place) (wanted : Wanted) (budget : Option ℕ) (e : Refusal) → new.row.capacity ≡ race_capacity → MayHaveSeen old new
+pub unanswered_reply : (old new : Place) (wanted : Wanted) (explain : Bool) (budget : Option ℕ) (e : Refusal) → new.row.capacity ≡ race_capacity → MayHaveSeen old new
     → IsStopped new e ⊎ MayStop (packages_of new.journal) wanted budget e
     → GivesUp old.number old.journal (reply_at old.number new.journal (refused e)) new.journal
-    ⊎ SeatAnswers old.number old.journal (shapes.resolve wanted budget) (reply_at old.number new.journal (refused e)) new.journal
-unanswered_reply old new wanted budget e row may (inl stopped) = inl (stopped_reply old new e row may stopped)
-unanswered_reply old new wanted None e row may (inr memory) = inl (stopped_reply old new e row may (inl memory))
-unanswered_reply old new wanted (Some budget) e row may (inr (inl memory)) = inl (stopped_reply old new e row may (inl memory))
-unanswered_reply old new wanted (Some budget) e row may (inr (inr (spent, none))) =
-    inr (only_sees may, inr (inr (none, ap (λ (r : Refusal). reply_at old.number new.journal (refused r)) spent)))
+    ⊎ SeatAnswers old.number old.journal (shapes.resolve wanted explain budget) (reply_at old.number new.journal (refused e)) new.journal
+unanswered_reply old new wanted explain budget e row may (inl stopped) = inl (stopped_reply old new e row may stopped)
+unanswered_reply old new wanted explain budget e row may (inr may_stop) =
+    resolved_reply old new wanted explain budget (packages_of new.journal) (refused e) may refl (stopped_told (packages_of new.journal) wanted explain budget e may_stop)
+
+-- what may be told of a derivation
+pub judged_reply : (old new : Place) (wanted : Wanted) (lines : List NamedLine) (packages : Packages) (body : Body) → MayHaveSeen old new
+    → packages ≡ packages_of new.journal → MayTell (TellsVerdict packages wanted lines) body
+    → GivesUp old.number old.journal (reply_at old.number new.journal body) new.journal
+    ⊎ SeatAnswers old.number old.journal (shapes.check wanted lines) (reply_at old.number new.journal body) new.journal
+judged_reply old new wanted lines packages body may is (inl memory) = inl (no_memory_reply old new body may memory)
+judged_reply old new wanted lines packages body may is (inr told) =
+    inr (only_sees may, (body, subst (λ (p : Packages). TellsVerdict p wanted lines body) is told, refl))
+
+-- a listing
+pub listed_reply : (old new : Place) (rows : List Row) → MayHaveSeen old new → IsListing (packages_of new.journal) rows
+    → SeatAnswers old.number old.journal shapes.listing (reply_at old.number new.journal (listed rows)) new.journal
+listed_reply old new rows may is = (only_sees may, (listed rows, (rows, is, refl), refl))
 
 -- ---- what a line asks
 

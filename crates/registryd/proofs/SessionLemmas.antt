@@ -1,8 +1,9 @@
 -- Lawful replies to one line.
-use Rattle.std.proofs.Common.{◌≡◌, ◌⊎◌, ℕ, ◌<◌, ◌≤◌, true, false, List, [], ◌∷◌, length, refl, sym, subst, ◌∙◌, inl, inr, rules, Option, Result, Ok, Err, MatchResult, nat_le}
+use Rattle.std.proofs.Common.{◌≡◌, Bool, ◌⊎◌, ℕ, ◌<◌, ◌≤◌, true, false, List, [], ◌∷◌, length, refl, sym, ap, subst, ◌∙◌, inl, inr, rules, Option, Result, Ok, Err, MatchResult, nat_le}
 use Rattle.versions.specs.Refusals.{Refuses}
 use Rattle.versions.specs.declared.refusal.Refusal.{Refusal}
 use Rattle.versions.specs.declared.refusal.Refusal.TheVariants.{BadName, BadVersion, BadRequirement, RepeatedDependency, SelfDependency, TooManyDependencies, AlreadyPublished, TooManyVersions, TooManyPackages, JournalFull, NoSuchVersion, AlreadyYanked, NotYanked, Stale, Known, StoreFull, Stray, NoMemory, BadLine, TooLong, NotADerivation, BudgetSpent}
+use Rattle.registry.specs.Registry.{Packages}
 use Rattle.registry.specs.Requests.{Wanted}
 use Rattle.registry.specs.Step.{Change}
 use Rattle.lines.specs.Lines.{HasNoFeed, lines_of}
@@ -11,9 +12,11 @@ use Rattle.lines.specs.declared.buffer.Next.{Next}
 use Rattle.lines.specs.declared.buffer.Next.TheVariants.{Line, TooLong, More}
 use Rattle.lines.proofs.LineLemmas.{lines_of-last}
 use Rattle.wire.specs.Listings.{IsListing, Row}
-use Rattle.wire.specs.Replies.{Reply, accepted, listed, refused}
+use Rattle.wire.specs.Replies.{Body, Reply, accepted, listed, refused}
 use Rattle.wire.specs.Requests.{request_of}
-use Rattle.wire.specs.Shapes.{Request, command, listing, resolve}
+use Rattle.wire.specs.Shapes.{Request, check, command, listing, resolve}
+use Rattle.wire.specs.declared.by_name.NamedLine.{NamedLine}
+use Rattle.registryd.specs.Outcomes.{MayTell, TellsOutcome, TellsVerdict}
 use Rattle.registryd.specs.Replay.{at}
 use Rattle.registryd.specs.Session.{Answers, IsLawful, IsRefused, Session, asked, reply_after, with_command}
 
@@ -72,15 +75,28 @@ lawful_bad e old line short said = elim (told e (request_of line) said) [
 -- a listing
 pub lawful_listed : (old : List Change) (line : List ℕ) (rows : List Row) → length line ≤ line_limit → request_of line ≡ Ok listing → IsListing (at old) rows
     → IsLawful old line (reply_after old (listed rows)) old
-lawful_listed old line rows short said is = as_asked old line _ old _ (asked-short line short ∙ said) ((rows, is, refl), refl)
+lawful_listed old line rows short said is = as_asked old line _ old _ (asked-short line short ∙ said) ((listed rows, (rows, is, refl), refl), refl)
+
+-- what may be told of a request is a reply to it
+pub replied : (old : List Change) (wanted : Wanted) (explain : Bool) (budget : Option ℕ) (packages : Packages) (body : Body) → packages ≡ at old → MayTell (TellsOutcome packages wanted explain budget) body
+    → IsRefused NoMemory old (reply_after old body) old ⊎ Answers old (resolve wanted explain budget) (reply_after old body) old
+replied old wanted explain budget packages body is (inl memory) = inl (ap (λ (b : Body). reply_after old b) memory, refl)
+replied old wanted explain budget packages body is (inr told) = inr ((body, subst (λ (p : Packages). TellsOutcome p wanted explain budget body) is told, refl), refl)
 
 -- a request that was answered, or for which no memory was there
-pub lawful_resolved : (old : List Change) (line : List ℕ) (wanted : Wanted) (budget : Option ℕ) (reply : Reply) → length line ≤ line_limit → request_of line ≡ Ok (resolve wanted budget)
-    → IsRefused NoMemory old reply old ⊎ Answers old (resolve wanted budget) reply old → IsLawful old line reply old
-lawful_resolved old line wanted budget reply short said answered = elim answered [
+pub lawful_resolved : (old : List Change) (line : List ℕ) (wanted : Wanted) (explain : Bool) (budget : Option ℕ) (reply : Reply) → length line ≤ line_limit → request_of line ≡ Ok (resolve wanted explain budget)
+    → IsRefused NoMemory old reply old ⊎ Answers old (resolve wanted explain budget) reply old → IsLawful old line reply old
+lawful_resolved old line wanted explain budget reply short said answered = elim answered [
   | inl memory ↦ inl memory
   | inr answers ↦ as_asked old line reply old _ (asked-short line short ∙ said) answers
 ]
+
+-- a derivation that was judged, or for which no memory was there
+pub lawful_judged : (old : List Change) (line : List ℕ) (wanted : Wanted) (lines : List NamedLine) (packages : Packages) (body : Body) → length line ≤ line_limit
+    → request_of line ≡ Ok (check wanted lines) → packages ≡ at old → MayTell (TellsVerdict packages wanted lines) body → IsLawful old line (reply_after old body) old
+lawful_judged old line wanted lines packages body short said is (inl memory) = inl (ap (λ (b : Body). reply_after old b) memory, refl)
+lawful_judged old line wanted lines packages body short said is (inr told) =
+    as_asked old line _ old _ (asked-short line short ∙ said) ((body, subst (λ (p : Packages). TellsVerdict p wanted lines body) is told, refl), refl)
 
 -- a command that was accepted
 pub lawful_accepted : (old : List Change) (line : List ℕ) (change : Change) (new : List Change) → length line ≤ line_limit → request_of line ≡ Ok (command change)

@@ -24,12 +24,14 @@ use Rattle.derivations.specs.declared.facts.Cause.TheVariants.{Need, Root}
 use Rattle.derivations.specs.declared.line.Line.{Line}
 use Rattle.walk.specs.Choosing.{choice_of}
 use Rattle.solver.specs.Outcomes.{Tells}
-use Rattle.wire.specs.Replies.{Reply, no_selection, refused, selected}
-use Rattle.wire.specs.Shapes.{resolve}
+use Rattle.wire.specs.Replies.{Body, follows, no_selection, refused, selected}
+use Rattle.wire.specs.Shapes.{check, resolve}
+use Rattle.wire.specs.declared.by_name.NamedCause.TheVariants as named
+use Rattle.wire.specs.declared.by_name.NamedLine.{NamedLine}
 use Rattle.chronicle.specs.Answers.{NonePreferred}
-use Rattle.registryd.specs.Outcomes.{IsAnswer, IsRefuted}
+use Rattle.registryd.specs.Outcomes.{IsAnswer, IsRefuted, Proves, TellsNone, TellsSpent, TellsVerdict}
 use Rattle.registryd.specs.Replay.{at}
-use Rattle.registryd.specs.Session.{Answers, TellsNone, TellsSpent}
+use Rattle.registryd.specs.Session.{Answers}
 
 -- ---- `a` 1.0.0 is published, and `a` with `^1` is asked for
 
@@ -130,24 +132,28 @@ a-tells = record {
   told = refl;
 }
 
--- the reply that lists `a` 1.0.0 is lawful, under every budget and without one
-listed-a : (budget : Option ℕ) → Answers one (resolve needs_a budget) (record { revision = 1; stamp = None; body = selected a_selected }) one
+-- the reply that lists `a` 1.0.0 is lawful, under every budget and without one, whether an explanation is asked or not
+listed-a : (explain : Bool) (budget : Option ℕ) → Answers one (resolve needs_a explain budget) (record { revision = 1; stamp = None; body = selected a_selected }) one
 unfolding one
-listed-a budget =
+listed-a explain budget =
     let answer : IsAnswer a_alone needs_a a_selected = record {
       lawful = record { selection = first; meets = first-meets; tells = a-tells };
       preferred = λ s is meets. subst (λ (x : Choices). Tells a_alone x a_selected) (λ i p. preferred-once a_alone needs_a first s first-preferred is p i) a-tells;
     } in
-    (inl (a_selected, subst (λ packages. IsAnswer packages needs_a a_selected) (sym at-one) answer, refl), refl)
+    ((selected a_selected, inl (inl (a_selected, subst (λ packages. IsAnswer packages needs_a a_selected) (sym at-one) answer, refl)), refl), refl)
 
 -- and no reply that none meets the request is
-told-none : (reply : Reply) → TellsNone one needs_a reply → ⊥
-told-none reply told = told.0.none first (subst (λ packages. Meets packages needs_a first) (sym at-one) first-meets)
+refuted-none : IsRefuted (at one) needs_a → ⊥
+refuted-none refuted = refuted.none first (subst (λ packages. Meets packages needs_a first) (sym at-one) first-meets)
+
+told-none : (explain : Bool) (body : Body) → TellsNone (at one) needs_a explain body → ⊥
+told-none false body told = refuted-none told.0
+told-none true body told = refuted-none told.refuted
 
 -- nor one that a budget is spent
-told-spent : (budget : Option ℕ) (reply : Reply) → TellsSpent one needs_a budget reply → ⊥
-told-spent None reply told = told
-told-spent (Some budget) reply told =
+told-spent : (budget : Option ℕ) (body : Body) → TellsSpent (at one) needs_a budget body → ⊥
+told-spent None body told = told
+told-spent (Some budget) body told =
     told.0 first (subst (λ packages. IsPreferredSelection packages needs_a first) (sym at-one) first-preferred) (subst (λ packages. Meets packages needs_a first) (sym at-one) first-meets)
 
 -- ---- nothing is published, and `zed` is asked for
@@ -198,16 +204,33 @@ zed-derivation =
 zed-none : NoSelection [] needs_zed
 zed-none = NoSelection-IsDerivation [] needs_zed (end ∷ []) zed-derivation
 
-refused-zed : (budget : Option ℕ) → Answers [] (resolve needs_zed budget) (record { revision = 0; stamp = None; body = no_selection }) []
-refused-zed budget = (
-  inr (inl (subst (λ packages. IsRefuted packages needs_zed) (sym at-none) (record { lines = end ∷ []; derivation = zed-derivation; none = zed-none }), refl)),
-  refl,
-)
+zed-refuted : IsRefuted (at []) needs_zed
+zed-refuted = subst (λ packages. IsRefuted packages needs_zed) (sym at-none) (record { lines = end ∷ []; derivation = zed-derivation; none = zed-none })
+
+refused-zed : (budget : Option ℕ) → Answers [] (resolve needs_zed false budget) (record { revision = 0; stamp = None; body = no_selection }) []
+refused-zed budget = ((no_selection, inl (inr (zed-refuted, refl)), refl), refl)
 
 -- under a budget it may be told that this is spent
-spent-zed : Answers [] (resolve needs_zed (Some 0)) (record { revision = 0; stamp = None; body = refused BudgetSpent }) []
-spent-zed = (inr (inr (subst (λ packages. NonePreferred packages needs_zed) (sym at-none) (λ s is meets. zed-none s meets), refl)), refl)
+spent-zed : Answers [] (resolve needs_zed false (Some 0)) (record { revision = 0; stamp = None; body = refused BudgetSpent }) []
+spent-zed = ((refused BudgetSpent, inr (subst (λ packages. NonePreferred packages needs_zed) (sym at-none) (λ s is meets. zed-none s meets), refl), refl), refl)
 
 -- and without one it may not
-unspent-zed : (reply : Reply) → TellsSpent [] needs_zed None reply → ⊥
-unspent-zed reply told = told
+unspent-zed : (body : Body) → TellsSpent [] needs_zed None body → ⊥
+unspent-zed body told = told
+
+-- ---- the same derivation by names
+
+zed_named : List NamedLine
+zed_named = record { conclusion = []; causes = (named.Need 0, named.Root); pivot = None } ∷ []
+
+zed-proves : Proves (at []) needs_zed zed_named
+unfolding zed_named end
+zed-proves = (end ∷ [], record { same = refl; lawful = (tt, tt) }, subst (λ packages. IsDerivation packages needs_zed (end ∷ [])) (sym at-none) zed-derivation)
+
+-- it may be told to follow
+follows-zed : Answers [] (check needs_zed zed_named) (record { revision = 0; stamp = None; body = follows true }) []
+follows-zed = ((follows true, (true, (λ _. zed-proves, λ _. refl), refl), refl), refl)
+
+-- and may not be told not to
+denied-zed : TellsVerdict (at []) needs_zed zed_named (follows false) → ⊥
+denied-zed (holds, exact, told) = let yes_is : holds ≡ true = exact.1 zed-proves in let no_is : follows false ≡ follows holds = told in cc

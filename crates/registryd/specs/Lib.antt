@@ -4,6 +4,7 @@ pub mod Outcomes
 pub mod Replay
 pub mod Session
 pub mod Racing
+pub mod Told
 pub mod Kept
 pub mod Race
 pub mod Words

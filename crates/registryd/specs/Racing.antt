@@ -1,14 +1,12 @@
 -- What the seats of a race may answer, and what a race prints.
-use Rattle.std.specs.Prelude.{◌≡◌, ◌⊎◌, ℕ, ◌+◌, ◌<◌, List, [], ◌∷◌, ◌++◌, flat_map, length, MatchResult, Option, Some, None}
+use Rattle.std.specs.Prelude.{◌≡◌, ◌⊎◌, ℕ, ◌+◌, ◌<◌, List, [], ◌∷◌, ◌++◌, flat_map, length, MatchResult, Option, Some}
 use Rattle.std.specs.Io.KnownBytes.{Appends}
 use Rattle.versions.specs.Words.{Text}
 use Rattle.versions.specs.declared.refusal.Refusal.{Refusal}
-use Rattle.versions.specs.declared.refusal.Refusal.TheVariants.{BudgetSpent, NoMemory, Stray}
+use Rattle.versions.specs.declared.refusal.Refusal.TheVariants.{NoMemory, Stray}
 use Rattle.registry.specs.Commands.{change_of}
-use Rattle.registry.specs.Requests.{Wanted}
 use Rattle.registry.specs.Step.{Change, Publish, Unyank, Yank}
 use Rattle.registry.specs.declared.commands.Command.TheVariants as command
-use Rattle.chronicle.specs.Answers.{NonePreferred}
 use Rattle.chronicle.specs.Journals.{Begins, EntersAfter, packages_of, refusal_at, revision_of, serials_of}
 use Rattle.chronicle.specs.declared.entry.Call.{Call}
 use Rattle.chronicle.specs.declared.entry.Call.TheVariants as call
@@ -16,10 +14,9 @@ use Rattle.chronicle.specs.declared.entry.Entry.{Entry}
 use Rattle.lines.specs.Lines.{lines_of}
 use Rattle.lines.specs.Texts.{IsBeginning}
 use Rattle.wire.specs.Journal.{journal_text}
-use Rattle.wire.specs.Listings.{IsListing, Row}
-use Rattle.wire.specs.Replies.{Body, Reply, accepted, listed, no_selection, refused, replies_text, selected}
-use Rattle.wire.specs.Shapes.{Request, command as commands, listing, resolve}
-use Rattle.registryd.specs.Outcomes.{IsAnswer, IsRefuted}
+use Rattle.wire.specs.Replies.{Body, Reply, accepted, refused, replies_text}
+use Rattle.wire.specs.Shapes.{Request, check, command as commands, listing, resolve}
+use Rattle.registryd.specs.Outcomes.{TellsListing, TellsOutcome, TellsVerdict}
 use Rattle.registryd.specs.Session.{asked}
 
 -- how many cells the row of a race has
@@ -63,22 +60,16 @@ abbrev pub IsNotEntered : ℕ → List Entry → Change → Reply → List Entry
 IsNotEntered seat old change reply new = OnlySees seat old new
     × ((refusal : Refusal) × (refusal_at race_capacity new (call_of change) ≡ Some refusal) × (reply ≡ reply_at seat new (refused refusal)))
 
--- The budget of the line is spent. So is no line told that has none, and none whose preferred selection meets what is wanted.
-abbrev pub SpentAt : ℕ → List Entry → Wanted → Option ℕ → Reply → Type 0
-SpentAt seat new wanted None reply = ⊥
-SpentAt seat new wanted (Some budget) reply = NonePreferred (packages_of new) wanted × (reply ≡ reply_at seat new (refused BudgetSpent))
+-- The seat enters nothing, and its reply tells such a body where it then stands.
+abbrev pub LooksAndTells : ℕ → (Body → Type 0) → List Entry → Reply → List Entry → Type 0
+LooksAndTells seat is old reply new = OnlySees seat old new × ((body : Body) × is body × (reply ≡ reply_at seat new body))
 
--- What is wanted is answered of the registry where the seat then stands.
-abbrev pub ResolvesAt : ℕ → List Entry → Wanted → Option ℕ → Reply → Type 0
-ResolvesAt seat new wanted budget reply =
-    ((list : List (Text × Text)) × IsAnswer (packages_of new) wanted list × (reply ≡ reply_at seat new (selected list)))
-    ⊎ ((IsRefuted (packages_of new) wanted × (reply ≡ reply_at seat new no_selection)) ⊎ SpentAt seat new wanted budget reply)
-
--- A request may be answered so by a seat, which then has seen these entries.
+-- A request may be answered so by a seat, which then has seen these entries. What enters nothing is answered of the registry where the seat then stands.
 abbrev pub SeatAnswers : ℕ → List Entry → Request → Reply → List Entry → Type 0
 SeatAnswers seat old (commands change) reply new = IsEntered seat old change reply new ⊎ IsNotEntered seat old change reply new
-SeatAnswers seat old (resolve wanted budget) reply new = OnlySees seat old new × ResolvesAt seat new wanted budget reply
-SeatAnswers seat old listing reply new = OnlySees seat old new × ((rows : List Row) × IsListing (packages_of new) rows × (reply ≡ reply_at seat new (listed rows)))
+SeatAnswers seat old (resolve wanted explain budget) reply new = LooksAndTells seat (TellsOutcome (packages_of new) wanted explain budget) old reply new
+SeatAnswers seat old (check wanted lines) reply new = LooksAndTells seat (TellsVerdict (packages_of new) wanted lines) old reply new
+SeatAnswers seat old listing reply new = LooksAndTells seat (TellsListing (packages_of new)) old reply new
 
 -- The seat went no further: for want of memory, or since the next cell has an entry of its number that it did not make.
 abbrev pub GivesUp : ℕ → List Entry → Reply → List Entry → Type 0

@@ -3,20 +3,16 @@ use Rattle.std.specs.Prelude.{◌≡◌, ◌⊎◌, ◌≤◌, ℕ, List, [], �
 use Rattle.std.specs.Io.KnownBytes.{Appends, Consumes, IsAtEnd}
 use Rattle.versions.specs.Refusals.{Refuses}
 use Rattle.versions.specs.declared.refusal.Refusal.{Refusal}
-use Rattle.versions.specs.declared.refusal.Refusal.TheVariants.{BadLine, BudgetSpent, NoMemory}
-use Rattle.versions.specs.Words.{Text}
-use Rattle.registry.specs.Requests.{Wanted}
+use Rattle.versions.specs.declared.refusal.Refusal.TheVariants.{BadLine, NoMemory}
 use Rattle.registry.specs.Step.{Change, refusal_of}
-use Rattle.chronicle.specs.Answers.{NonePreferred}
 use Rattle.chronicle.specs.Journals.{full_or}
 use Rattle.lines.specs.Lines.{lines_of, whole_lines_of}
 use Rattle.lines.specs.Texts.{IsBeginning}
 use Rattle.lines.specs.Unread.{line_limit}
-use Rattle.wire.specs.Shapes.{Request, command, listing, resolve}
+use Rattle.wire.specs.Shapes.{Request, check, command, listing, resolve}
 use Rattle.wire.specs.Requests.{request_of}
-use Rattle.wire.specs.Replies.{Body, Reply, accepted, refused, listed, no_selection, replies_text, selected}
-use Rattle.wire.specs.Listings.{IsListing, Row}
-use Rattle.registryd.specs.Outcomes.{IsAnswer, IsRefuted}
+use Rattle.wire.specs.Replies.{Body, Reply, accepted, refused, replies_text}
+use Rattle.registryd.specs.Outcomes.{TellsListing, TellsOutcome, TellsVerdict}
 use Rattle.registryd.specs.Replay.{at, most_commands}
 
 -- the lowest refusal that applies to a command after these; the journal is full at the most commands
@@ -48,26 +44,18 @@ reply_after changes body = record { revision = length changes; stamp = None; bod
 abbrev pub IsRefused : Refusal → List Change → Reply → List Change → Type 0
 IsRefused refusal old reply new = (reply ≡ reply_after old (refused refusal)) × (new ≡ old)
 
--- The reply tells a selection that answers what is wanted of the registry at this line.
-abbrev pub TellsSelection : List Change → Wanted → Reply → Type 0
-TellsSelection changes wanted reply = (list : List (Text × Text)) × IsAnswer (at changes) wanted list × (reply ≡ reply_after changes (selected list))
-
--- The reply tells that no selection of the registry at this line meets what is wanted.
-abbrev pub TellsNone : List Change → Wanted → Reply → Type 0
-TellsNone changes wanted reply = IsRefuted (at changes) wanted × (reply ≡ reply_after changes no_selection)
-
--- The reply tells that the budget of the line is spent. So is no line told that has none, and none whose preferred selection meets what is wanted.
-abbrev pub TellsSpent : List Change → Wanted → Option ℕ → Reply → Type 0
-TellsSpent changes wanted None reply = ⊥
-TellsSpent changes wanted (Some budget) reply = NonePreferred (at changes) wanted × (reply ≡ reply_after changes (refused BudgetSpent))
+-- Nothing changes, and the reply tells such a body.
+abbrev pub OnlyTells : (Body → Type 0) → List Change → Reply → List Change → Type 0
+OnlyTells is old reply new = ((body : Body) × is body × (reply ≡ reply_after old body)) × (new ≡ old)
 
 -- A request may be answered so, and leaves these commands.
 abbrev pub Answers : List Change → Request → Reply → List Change → Type 0
 Answers old (command change) reply new = MatchResult (with_command old change)
     (λ changes. (reply ≡ reply_after changes accepted) × (new ≡ changes))
     (λ refusal. IsRefused refusal old reply new)
-Answers old (resolve wanted budget) reply new = (TellsSelection old wanted reply ⊎ (TellsNone old wanted reply ⊎ TellsSpent old wanted budget reply)) × (new ≡ old)
-Answers old listing reply new = ((rows : List Row) × IsListing (at old) rows × (reply ≡ reply_after old (listed rows))) × (new ≡ old)
+Answers old (resolve wanted explain budget) reply new = OnlyTells (TellsOutcome (at old) wanted explain budget) old reply new
+Answers old (check wanted lines) reply new = OnlyTells (TellsVerdict (at old) wanted lines) old reply new
+Answers old listing reply new = OnlyTells (TellsListing (at old)) old reply new
 
 -- A line may be answered so: for want of memory, or as what it asks is.
 abbrev pub IsLawful : List Change → List ℕ → Reply → List Change → Type 0

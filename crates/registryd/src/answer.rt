@@ -1,5 +1,5 @@
-//! The reply to one line.
-ghost use Rattle.std.specs.Prelude.{◌≡◌, ◌⊎◌, ℕ, ◌≤◌, List, [], length, None, IfErr, IfOk};
+//! The reply to one line of a session.
+ghost use Rattle.std.specs.Prelude.{◌⊎◌, ℕ, ◌≤◌, List, length, IfErr, IfOk};
 ghost use Rattle.versions.specs.declared.refusal.Refusal.TheVariants.{NoMemory};
 ghost use Rattle.registry.specs.Preference.{IsPreferredSelection};
 ghost use Rattle.registry.specs.Selections.{Choices, Meets};
@@ -7,12 +7,12 @@ ghost use Rattle.solver.specs.Outcomes as outcomes;
 ghost use Rattle.chronicle.specs.Answers.{MayStop};
 ghost use Rattle.lines.specs.Texts.{Puts};
 ghost use Rattle.lines.specs.Unread.{IsFound, line_limit};
-ghost use Rattle.wire.specs.Replied.{body_of};
 ghost use Rattle.wire.specs.Replies.{Reply, reply_text};
 ghost use Rattle.wire.specs.Shapes.{resolve};
 ghost use Rattle.registryd.specs.Session.{Answers, IsLawful, IsRefused};
 
 use crate::served::Served;
+use crate::told::{put_reply, put_told, told_of, verdict_on};
 use derivations::Store;
 use lines::{LineBuffer, Next, Outbox};
 use registry::{Registry, Request};
@@ -21,7 +21,7 @@ use std::alloc::Global;
 use std::io;
 use std::io::Write;
 use versions::Refusal;
-use wire::{Asked, Body, Listing, read_request, reply_line};
+use wire::{Asked, Body, Listing, read_request};
 
 /// Replies to the line that was found. The reply waits in the outbox where there is room.
 pub fn reply_to_found<W: Write>(
@@ -42,6 +42,7 @@ pub fn reply_to_found<W: Write>(
         Next::TooLong => put_reply(
             outbox,
             writer,
+            None,
             served.revision(),
             Body::Refusal(Refusal::BadLine),
         ),
@@ -63,17 +64,36 @@ fn reply_to<W: Write>(
 {
     match read_request(alloc, line) {
         Ok(Asked::Command(command)) => match served.accept(command) {
-            Ok(()) => put_reply(outbox, writer, served.revision(), Body::Accepted),
-            Err(e) => put_reply(outbox, writer, served.revision(), Body::Refusal(e)),
+            Ok(()) => put_reply(outbox, writer, None, served.revision(), Body::Accepted),
+            Err(e) => put_reply(outbox, writer, None, served.revision(), Body::Refusal(e)),
         },
-        Ok(Asked::Resolve { request, budget }) => {
-            reply_to_request(alloc, served, outbox, writer, &request, budget)
+        Ok(
+            Asked::Resolve {
+                request,
+                explain,
+                budget,
+            },
+        ) => reply_to_request(alloc, served, outbox, writer, &request, explain, budget),
+        Ok(
+            Asked::Check {
+                request,
+                derivation,
+            },
+        ) => {
+            let told = verdict_on(alloc, served.registry(), &request, &derivation);
+            put_told(outbox, writer, None, served.revision(), &told)
         }
         Ok(Asked::Listing) => match Listing::new(alloc, served.registry()) {
-            Ok(listing) => put_reply(outbox, writer, served.revision(), Body::Listing(listing)),
-            Err(e) => put_reply(outbox, writer, served.revision(), Body::Refusal(e)),
+            Ok(listing) => put_reply(
+                outbox,
+                writer,
+                None,
+                served.revision(),
+                Body::Listing(listing),
+            ),
+            Err(e) => put_reply(outbox, writer, None, served.revision(), Body::Refusal(e)),
         },
-        Err(e) => put_reply(outbox, writer, served.revision(), Body::Refusal(e)),
+        Err(e) => put_reply(outbox, writer, None, served.revision(), Body::Refusal(e)),
     }
 }
 
@@ -84,19 +104,21 @@ fn reply_to_request<W: Write>(
     outbox: &mut Outbox,
     writer: &mut W,
     request: &Request,
+    explain: bool,
     budget: Option<u32>,
 ) -> io::Result<()>
     ensures { (reply : Reply)
-        × (IsRefused NoMemory served.now reply served.now ⊎ Answers served.now (resolve request.now budget) reply served.now)
+        × (IsRefused NoMemory served.now reply served.now ⊎ Answers served.now (resolve request.now explain budget) reply served.now)
         × Puts (W.contents writer.old) (W.contents writer.new) outbox.old outbox.new result (reply_text reply) }
 {
     let revision = served.revision();
-    match answer_of(alloc, served.registry(), request, budget) {
-        Ok(Outcome::Selection(list, _)) => {
-            put_reply(outbox, writer, revision, Body::Selection(list.as_slice()))
+    let registry = served.registry();
+    match answer_of(alloc, registry, request, budget) {
+        Ok(outcome) => {
+            let told = told_of(alloc, registry, request, explain, outcome);
+            put_told(outbox, writer, None, revision, &told)
         }
-        Ok(Outcome::Refused(_, _)) => put_reply(outbox, writer, revision, Body::NoSelection),
-        Err(e) => put_reply(outbox, writer, revision, Body::Refusal(e)),
+        Err(e) => put_reply(outbox, writer, None, revision, Body::Refusal(e)),
     }
 }
 
@@ -117,21 +139,4 @@ fn answer_of(
         Some(budget) => Ok(solve_within(alloc, registry, request, &store, budget)?),
         None => Ok(solve(alloc, registry, request, &store)?),
     }
-}
-
-fn put_reply<W: Write>(
-    outbox: &mut Outbox,
-    writer: &mut W,
-    revision: u64,
-    body: Body<'_>,
-) -> io::Result<()>
-    ensures { Puts (W.contents writer.old) (W.contents writer.new) outbox.old outbox.new result
-        (reply_text (record { revision = revision; stamp = None; body = body_of body.entry })) }
-{
-    let reply = wire::Reply {
-        revision,
-        stamp: None,
-        body,
-    };
-    reply_line(outbox, writer, &reply)
 }

@@ -7,11 +7,13 @@ mod ending;
 mod kept;
 mod obey;
 mod race;
+mod reasons;
 mod running;
 mod serve;
 mod served;
 #[cfg(test)]
 mod tests;
+mod told;
 mod words;
 
 use ending::{End, ending};

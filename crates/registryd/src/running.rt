@@ -14,14 +14,15 @@ ghost use Rattle.wire.specs.Shapes as shapes;
 ghost use Rattle.registryd.specs.Kept.{Answered, kept_line, kept_text};
 ghost use Rattle.registryd.specs.Racing.{GivesUp, IsSeatReply, SeatAnswers, SeatSession, race_capacity, reply_at};
 
-use crate::kept::{Kept, Told, put_found};
+use crate::kept::Kept;
+use crate::told::{Told, put_reply, told_of, verdict_on};
 use chronicle::{Mark, Seat, Stamp};
 use lines::{LINE_LIMIT, Outbox, count_lines, first_line};
 use registry::{Command, Request};
 use solver::Outcome;
 use std::alloc::Global;
 use versions::Refusal;
-use wire::{Asked, Body, Listing, Spot, read_request};
+use wire::{Asked, Body, Listing, NamedDerivation, Spot, read_request};
 
 /// What a thread of a race is given: a seat, the file whose lines it answers, and room for a reply a
 /// line.
@@ -112,7 +113,19 @@ fn answer(alloc: Global, seat: &mut Seat<'_>, line: &[u8]) -> Kept
     }
     match read_request(alloc, line) {
         Ok(Asked::Command(command)) => enter(seat, command),
-        Ok(Asked::Resolve { request, budget }) => resolve(seat, &request, budget),
+        Ok(
+            Asked::Resolve {
+                request,
+                explain,
+                budget,
+            },
+        ) => resolve(alloc, seat, &request, explain, budget),
+        Ok(
+            Asked::Check {
+                request,
+                derivation,
+            },
+        ) => judge(alloc, seat, &request, &derivation),
         Ok(Asked::Listing) => list(alloc, seat),
         Err(fault) => kept_at(seat, Told::Refusal(fault)),
     }
@@ -120,9 +133,9 @@ fn answer(alloc: Global, seat: &mut Seat<'_>, line: &[u8]) -> Kept
 
 /// A reply at the end of what the seat has seen.
 fn kept_at(seat: &Seat<'_>, told: Told) -> Kept
-    ensures { result ≡ record { stamp = record { place = length seat.now.journal; seat = seat.now.number }; revision = revision_of seat.now.journal; told = told } }
+    ensures { result ≡ Kept.Reply (record { place = length seat.now.journal; seat = seat.now.number }) (revision_of seat.now.journal) told }
 {
-    Kept {
+    Kept::Reply {
         stamp: spot_of(seat),
         revision: seat.revision(),
         told,
@@ -156,18 +169,26 @@ fn enter(seat: &mut Seat<'_>, command: Command) -> Kept
 }
 
 /// Answers a request. Nothing is learnt of the search yet.
-fn resolve(seat: &mut Seat<'_>, request: &Request, budget: Option<u32>) -> Kept
+fn resolve(
+    alloc: Global,
+    seat: &mut Seat<'_>,
+    request: &Request,
+    explain: bool,
+    budget: Option<u32>,
+) -> Kept
     requires { seat.old.row.capacity ≡ race_capacity }
     ensures row { seat.new.row ≡ seat.old.row }
     ensures number { seat.new.number ≡ seat.old.number }
     ensures reply { (reply : Reply)
         × (GivesUp seat.old.number seat.old.journal reply seat.new.journal
-        ⊎ SeatAnswers seat.old.number seat.old.journal (shapes.resolve request.now budget) reply seat.new.journal)
+        ⊎ SeatAnswers seat.old.number seat.old.journal (shapes.resolve request.now explain budget) reply seat.new.journal)
         × (kept_line result ≡ reply_text reply) }
 {
     match outcome_of(seat, request, budget) {
-        Ok((_, Outcome::Selection(list, _))) => kept_at(seat, Told::Selection(list)),
-        Ok((_, Outcome::Refused(_, _))) => kept_at(seat, Told::NoSelection),
+        Ok((_, outcome)) => {
+            let told = told_of(alloc, seat.registry(), request, explain, outcome);
+            kept_at(seat, told)
+        }
         Err(e) => kept_at(seat, Told::Refusal(e)),
     }
 }
@@ -191,6 +212,30 @@ fn outcome_of(
     }
 }
 
+/// Judges a derivation, after a look at the row.
+fn judge(
+    alloc: Global,
+    seat: &mut Seat<'_>,
+    request: &Request,
+    derivation: &NamedDerivation,
+) -> Kept
+    requires { seat.old.row.capacity ≡ race_capacity }
+    ensures row { seat.new.row ≡ seat.old.row }
+    ensures number { seat.new.number ≡ seat.old.number }
+    ensures reply { (reply : Reply)
+        × (GivesUp seat.old.number seat.old.journal reply seat.new.journal
+        ⊎ SeatAnswers seat.old.number seat.old.journal (shapes.check request.now derivation.now) reply seat.new.journal)
+        × (kept_line result ≡ reply_text reply) }
+{
+    match seat.catch_up() {
+        Ok(()) => {
+            let told = verdict_on(alloc, seat.registry(), request, derivation);
+            kept_at(seat, told)
+        }
+        Err(e) => kept_at(seat, Told::Refusal(e)),
+    }
+}
+
 /// Lists what is published, after a look at the row.
 fn list(alloc: Global, seat: &mut Seat<'_>) -> Kept
     requires { seat.old.row.capacity ≡ race_capacity }
@@ -206,7 +251,7 @@ fn list(alloc: Global, seat: &mut Seat<'_>) -> Kept
         Err(e) => return kept_at(seat, Told::Refusal(e)),
     }
     match listing_line(alloc, seat) {
-        Ok(line) => kept_at(seat, Told::Line(line)),
+        Ok(line) => Kept::Line(line),
         Err(e) => kept_at(seat, Told::Refusal(e)),
     }
 }
@@ -220,10 +265,10 @@ fn listing_line(alloc: Global, seat: &Seat<'_>) -> Result<Vec<u8>, Refusal>
     let listing = Listing::new(alloc, seat.registry())?;
     let mut outbox = Outbox::new(alloc)?;
     let mut line = Vec::new(alloc);
-    match put_found(
+    match put_reply(
         &mut outbox,
         &mut line,
-        spot_of(seat),
+        Some(spot_of(seat)),
         seat.revision(),
         Body::Listing(listing),
     ) {

@@ -1,4 +1,5 @@
 mod ending;
+mod explaining;
 mod failures;
 mod hostile;
 mod limits;

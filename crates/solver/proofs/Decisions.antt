@@ -1,8 +1,8 @@
 -- Decisions, and what comes of lines that speak against a package.
 use Rattle.std.proofs.Common.{◌≡◌, ◌<◌, ◌∙◌, ℕ, List, [], ◌∷◌, ◌++◌, refl, sym, ap, subst, true, false, true≢false, ◌&&◌, inl, inr, length, get_or}
 use Rattle.std.proofs.lemmas.Bool.{cases_eq, cases_lt, and_parts, eq-eqb, ne_eqb}
-use Rattle.std.proofs.lemmas.Option.{none-some, same_Some}
-use Rattle.std.specs.Prelude.{Option, None, Some, IfNone, IfSome, Contains}
+use Rattle.std.proofs.lemmas.Option.{get_or_from_slice_get, none-some, same_Some}
+use Rattle.std.specs.Prelude.{Option, None, Some, IfNone, IfSome, Contains, slice_get}
 use Rattle.terms.specs.Terms.{is_in, true_of}
 use Rattle.terms.specs.Incompats.{true_at}
 use Rattle.terms.specs.declared.term.Term.{Term}
@@ -103,3 +103,17 @@ decided_goes packages wanted made mid new known after p k level same kept h is f
 pub entry_used : (packages : Packages) (p k : ℕ) (publication : Publication) (i : ℕ) (x : Text × Text) → publication_at packages p k ≡ Some publication → i < length publication.needs → x ≡ get_or publication.needs i x
     → Contains (needs_of packages p k) x
 entry_used packages p k publication i x at lt read = subst (λ (o : Option Publication). Contains (needs_or_none o) x) (sym at) (i, lt, sym read)
+
+-- the entry that is read at an index is what the version needs there
+pub entry_there : (packages : Packages) (p k : ℕ) (publication : Publication) (i : ℕ) (x d : Text × Text) → publication_at packages p k ≡ Some publication → slice_get (needs_of packages p k) i ≡ Some d
+    → get_or publication.needs i x ≡ d
+entry_there packages p k publication i x d at needed =
+    get_or_from_slice_get publication.needs i d x (sym (ap (λ (o : Option Publication). slice_get (needs_or_none o) i) at) ∙ needed)
+
+-- an index of what is read from the publication is one of what the version needs
+pub index_within : (packages : Packages) (p k : ℕ) (publication : Publication) (i : ℕ) → publication_at packages p k ≡ Some publication → i < length publication.needs → i < length (needs_of packages p k)
+index_within packages p k publication i at lt = subst (λ (o : Option Publication). i < length (needs_or_none o)) (sym at) lt
+
+-- and the other way round
+pub index_read : (packages : Packages) (p k : ℕ) (publication : Publication) (i : ℕ) → publication_at packages p k ≡ Some publication → i < length (needs_of packages p k) → i < length publication.needs
+index_read packages p k publication i at lt = subst (λ (o : Option Publication). i < length (needs_or_none o)) at lt

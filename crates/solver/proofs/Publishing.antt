@@ -1,5 +1,5 @@
 -- The versions of a package that have a dependency, found one at a time.
-use Rattle.std.proofs.Common.{◌≡◌, ◌↔◌, ◌<◌, ◌≤◌, ◌+◌, ◌∙◌, inl, inr, ℕ, zero, suc, List, [], ◌∷◌, length, refl, sym, ap, subst, arith, true, true≢false, nat_eq}
+use Rattle.std.proofs.Common.{Bool, ◌≡◌, ◌↔◌, ◌<◌, ◌≤◌, ◌+◌, ◌∙◌, inl, inr, ℕ, zero, suc, List, [], ◌∷◌, length, refl, sym, ap, subst, arith, true, true≢false, nat_eq}
 use Rattle.std.proofs.lemmas.Bool.{cases_eq, cases_lt, eqb-true, eq-eqb, or_cases, or_left, or_right}
 use Rattle.std.specs.Prelude.{Option, None, Some, slice_get, is_some, Contains, IsTrue}
 use Rattle.std.specs.Option.{option_and_then}
@@ -71,6 +71,13 @@ have_same packages p entry set n h off k = (
     | inr apart ↦ (h k).1 (omega (arith, both.0, apart), both.1)
   ],
 )
+
+-- what is known of one version is known of the one before the next
+pub one_last : (packages : Packages) (p : ℕ) (entry : Text × Text) (b : Bool) (n : ℕ) → (IsTrue b ↔ Contains (needs_of packages p n) entry)
+    → (k : ℕ) → k + 1 ≡ n + 1 → IsTrue b ↔ Contains (needs_of packages p k) entry
+one_last packages p entry b n h k e =
+    let same : n ≡ k = omega (arith, e) in
+    subst (λ j. IsTrue b ↔ Contains (needs_of packages p j) entry) same h
 
 nothing : (x : Text × Text) → Contains [] x → ⊥
 nothing x h = omega (arith, h.1)

@@ -12,13 +12,12 @@ use crate::spent::Spent;
 use crate::spots::Spots;
 use crate::task::{ROOM, Task};
 use derivations::Known;
-use indexmap::IndexMap;
 use partial::Partial;
 use std::alloc::Global;
-use terms::{Pkg, Term};
+use terms::Pkg;
 use versions::Refusal;
 
-/// Which lines name a package, which packages changed, and which dependencies are known.
+/// What is kept of packages, which of them changed, and which lines are looked at.
 #[derive(Drop)]
 pub(crate) struct Agenda {
     /// What is kept of each package.
@@ -27,9 +26,6 @@ pub(crate) struct Agenda {
     pub changed: Vec<Pkg>,
     /// The lines that are looked at now, by their places.
     pub ripe: Vec<usize>,
-    /// The versions of a package whose dependency on another one stands among the lines, by the numbers
-    /// of both: a version has at most one.
-    covered: IndexMap<(Pkg, Pkg), Term>,
     /// The places of the lines that conflicts led to.
     pub learnt: Vec<usize>,
     /// The packages that are to be decided.
@@ -48,7 +44,6 @@ impl Agenda {
             spots: Spots::new(alloc)?,
             changed: Vec::with_capacity(alloc, ROOM)?,
             ripe: Vec::with_capacity(alloc, ROOM)?,
-            covered: IndexMap::with_capacity(alloc, ROOM)?,
             learnt: Vec::new(alloc),
             queue: Queue::new(alloc)?,
             used: Vec::new(alloc),
@@ -63,12 +58,10 @@ impl Agenda {
         self.spots.note(alloc, known, at)
     }
 
-    /// Whether the dependency of a version on another package is not among the lines.
+    /// Whether the dependency of a version on another package is not among the lines: a version has at
+    /// most one.
     pub fn is_new(&self, pkg: Pkg, ordinal: u32, target: Pkg) -> bool {
-        match self.covered.get(&(pkg, target)) {
-            None => true,
-            Some(versions) => !versions.allows(ordinal),
-        }
+        !self.spots.covers(pkg, ordinal, target)
     }
 
     /// Notes the line at a place, which is for a dependency of versions of a package on another one.
@@ -85,20 +78,7 @@ impl Agenda {
         self.note(alloc, known, at)?;
         if at < known.len() {
             if let Some(versions) = known[at].conclusion.term_on(pkg) {
-                self.cover(alloc, (pkg, target), versions)?;
-            }
-        }
-        Ok(())
-    }
-
-    /// Notes that the dependencies of these versions on a package stand among the lines.
-    fn cover(&mut self, alloc: Global, at: (Pkg, Pkg), versions: &Term) -> Result<(), Refusal>
-        ensures { IfErr result (λ e. e ≡ NoMemory) }
-    {
-        match self.covered.get_mut(&at) {
-            Some(before) => *before = before.or(alloc, versions)?,
-            None => {
-                self.covered.insert(at, versions.copy(alloc)?)?;
+                self.spots.cover(alloc, pkg, target, versions)?;
             }
         }
         Ok(())

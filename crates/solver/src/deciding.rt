@@ -18,7 +18,7 @@ use crate::task::Task;
 use derivations::Known;
 use partial::Partial;
 use terms::{Pkg, Term, VSet};
-use versions::{Name, Need, Published, Refusal};
+use versions::{Published, Refusal};
 
 /// What may be decided of a package.
 #[derive(Drop)]
@@ -33,7 +33,8 @@ pub(crate) enum Picked {
 
 /// The version of a package that the lock names.
 fn locked_version<'a>(task: &Task<'a>, pkg: Pkg) -> Option<&'a Published> {
-    if pkg == 0 || pkg as usize > task.registry.packages() {
+    // Most requests have no lock, and then no name is looked up.
+    if task.request.lock().is_empty() || pkg == 0 || pkg as usize > task.registry.packages() {
         return None;
     }
     task.request.locked(task.registry.name(pkg))
@@ -53,6 +54,7 @@ fn locked_within(task: &Task<'_>, pkg: Pkg, said: &Term) -> Option<u32>
 }
 
 /// Whether a version is allowed and within a term.
+#[inline(always)]
 fn is_choosable(task: &Task<'_>, pkg: Pkg, said: &Term, ordinal: u32) -> bool
     ensures { result ≡ is_choosable task.now pkg said.now ordinal }
 {
@@ -107,29 +109,29 @@ fn pick(task: &Task<'_>, partial: &Partial, pkg: Pkg) -> Result<Picked, Refusal>
 
 // ---- facts of the version
 
-/// Puts a dependency of a version behind the lines, unless it is there.
+/// Puts the dependency of a version at an index behind the lines, unless it is there.
 fn add_dependency(
     task: &Task<'_>,
     known: &mut Vec<Known>,
     agenda: &mut Agenda,
     pkg: Pkg,
     ordinal: u32,
-    entry: &(Name, Need),
+    index: usize,
 ) -> Result<(), Refusal>
-    requires { Contains (needs_of task.now.registry.now.packages pkg ordinal) entry.now }
+    requires { index < length (needs_of task.now.registry.now.packages pkg ordinal) }
     ensures extends { OnOk result (Extends task.now known.old.items known.new.items) }
     ensures only { IfErr result (λ e. e ≡ Refusal.NoMemory) }
 {
-    let Some(target) = task.registry.number(&entry.0) else {
-        return Ok(());
-    };
+    let (target, matching) = task.registry.dependency(pkg, ordinal, index)?;
     if target == pkg {
         return Ok(());
     }
     if !agenda.is_new(pkg, ordinal, target) {
         return Ok(());
     }
-    let at = push_dependency(task, known, pkg, entry, target)?;
+    let within = matching.set(task.alloc)?;
+    let entry = &task.registry.facts(pkg, ordinal).needs[index];
+    let at = push_dependency(task, known, pkg, entry, target, within)?;
     Ok(agenda.note_dependency(task.alloc, known, at, pkg, target)?)
 }
 
@@ -163,9 +165,9 @@ fn add_dependencies(
     ensures extends { OnOk result (Extends task.now known.old.items known.new.items) }
     ensures only { IfErr result (λ e. e ≡ Refusal.NoMemory) }
 {
-    let facts = task.registry.facts(pkg, ordinal);
-    for entry in facts.needs {
-        add_dependency(task, known, agenda, pkg, ordinal, entry)?;
+    let count = task.registry.facts(pkg, ordinal).needs.len();
+    for index in 0..count {
+        add_dependency(task, known, agenda, pkg, ordinal, index)?;
     }
     Ok(())
 }

@@ -1,9 +1,9 @@
 // What the registry and the request say, as lines.
 
-ghost use Rattle.std.specs.Prelude.{◌≡◌, ◌≢◌, ◌<◌, ◌↔◌, ◌∷◌, [], ℕ, true, Contains, Some, length, IfErr, IfOk, IsSome, IsTrue, OnOk};
+ghost use Rattle.std.specs.Prelude.{◌≡◌, ◌≢◌, ◌<◌, ◌↔◌, ◌∷◌, ◌+◌, [], ℕ, true, Contains, Some, length, IfErr, IfOk, IsSome, IsTrue, OnOk};
 ghost use Rattle.terms.specs.Sets.{has};
 ghost use Rattle.terms.specs.declared.term.Term.TheVariants.{In};
-ghost use Rattle.registry.specs.Registry.{meets_at, needs_of, number_of, package_at, versions_or_none};
+ghost use Rattle.registry.specs.Registry.{is_published, meets_at, needs_of, number_of, package_at, versions_or_none};
 ghost use Rattle.derivations.specs.Derivations.{IsFact, NoneAllowed};
 ghost use Rattle.derivations.specs.Facts.{premise_terms, Stands};
 ghost use Rattle.solver.specs.Pushing.{Extends, IsDependency, IsForDependency, IsForNeed, SaysAt};
@@ -63,14 +63,36 @@ fn has_entry(needs: &[(Name, Need)], name: &Name, need: &Need) -> bool
     false
 }
 
+/// Whether a version depends on a name with this requirement, given whether the one before it does.
+/// Most versions depend on what the one before does, which is known without a comparison.
+fn has_dependency(
+    task: &Task<'_>,
+    pkg: Pkg,
+    ordinal: u32,
+    name: &Name,
+    need: &Need,
+    before: bool,
+) -> bool
+    requires published { is_published task.now.registry.now.packages pkg ordinal ≡ true }
+    requires before { (k : ℕ) → k + 1 ≡ ordinal → IsTrue before ↔ Contains (needs_of task.now.registry.now.packages pkg k) (name.now, need.now) }
+    ensures { IsTrue result ↔ Contains (needs_of task.now.registry.now.packages pkg ordinal) (name.now, need.now) }
+{
+    if task.registry.repeats(pkg, ordinal) {
+        return before;
+    }
+    has_entry(task.registry.facts(pkg, ordinal).needs, name, need)
+}
+
 /// The versions of a package that depend on a name with this requirement: they share one line.
 fn versions_with(task: &Task<'_>, pkg: Pkg, name: &Name, need: &Need) -> Result<VSet, Refusal>
     ensures exactly { IfOk result (λ set. (k : ℕ) → IsTrue (has set k) ↔ Contains (needs_of task.now.registry.now.packages pkg k) (name.now, need.now)) }
     ensures only { IfErr result (λ e. e ≡ Refusal.NoMemory) }
 {
     let mut set = VSet::new(task.alloc);
+    let mut is_one = false;
     for ordinal in 0..version_count(task.registry, pkg) {
-        if has_entry(task.registry.facts(pkg, ordinal).needs, name, need) {
+        is_one = has_dependency(task, pkg, ordinal, name, need, is_one);
+        if is_one {
             set.insert(ordinal)?;
         }
     }
@@ -91,23 +113,24 @@ fn push_premise(task: &Task<'_>, known: &mut Vec<Known>, premise: Premise) -> Re
 }
 
 /// Puts a dependency behind the lines: the versions that have it need a version of the target that
-/// meets it. Where none does, they can't be chosen.
+/// meets it, which are those within a set. Where none does, they can't be chosen.
 pub(crate) fn push_dependency(
     task: &Task<'_>,
     known: &mut Vec<Known>,
     pkg: Pkg,
     entry: &(Name, Need),
     target: Pkg,
+    within: VSet,
 ) -> Result<usize, Refusal>
     requires apart { pkg ≢ target }
     requires numbered { number_of task.now.registry.now.packages entry.now.0 ≡ Some target }
     requires used { (k : ℕ) × Contains (needs_of task.now.registry.now.packages pkg k) entry.now }
+    requires within { (k : ℕ) → has within k ≡ meets_at task.now.registry.now.packages target k entry.now.1 }
     ensures extends { OnOk result (Extends task.now known.old.items known.new.items) }
     ensures place { IfOk result (IsForDependency task.now.registry.now.packages known.new.items pkg entry.now.0 entry.now.1 target) }
     ensures only { IfErr result (λ e. e ≡ Refusal.NoMemory) }
 {
     let versions = versions_with(task, pkg, &entry.0, &entry.1)?;
-    let within = task.registry.matching(target, &entry.1)?;
     let premise = Premise {
         package: pkg,
         versions,

@@ -10,7 +10,7 @@ ghost use Rattle.walk.specs.Choosing.{choice_of};
 ghost use Rattle.solver.specs.Answering.{IsAnswer};
 
 use crate::deciding::version_within;
-use crate::task::Task;
+use crate::task::{ROOM, Task};
 use indexmap::IndexMap;
 use registry::Matching;
 use std::cmp::Reverse;
@@ -22,12 +22,22 @@ use walk::{Asker, Chooser, Reached, reach};
 /// How many versions may be looked at, for each package of the registry, before it gives up.
 const PATIENCE: usize = 4;
 
+/// What is known of a package that is needed.
+#[derive(Drop)]
+struct Needed {
+    pkg: Pkg,
+    /// The allowed versions that meet each requirement so far.
+    left: Term,
+    decided: Option<u32>,
+}
+
 /// What is left of the packages that are needed, and what is decided of them.
 #[derive(Drop)]
 struct Greedy {
-    /// The allowed versions that meet each requirement so far.
-    left: IndexMap<Pkg, Term>,
-    decided: IndexMap<Pkg, u32>,
+    /// By number of the package, up to the highest that is needed: one more than the index of what is
+    /// known of it, or 0.
+    numbers: Vec<usize>,
+    needed: Vec<Needed>,
     /// Packages by the number of their versions that were left; some of it is out of date.
     queue: BinaryHeap<Reverse<(usize, Pkg)>>,
     /// What the dependencies of the version at hand leave of their packages.
@@ -52,6 +62,9 @@ impl Chooser for Decisions<'_> {
 fn allowed_of(task: &Task<'_>, pkg: Pkg, versions: VSet) -> Result<VSet, Refusal>
     ensures { IfErr result (λ e. e ≡ Refusal.NoMemory) }
 {
+    if !task.registry.has_yanks(pkg) {
+        return Ok(versions);
+    }
     if versions.iter().all(|ordinal| task.registry.allowed(task.request, pkg, ordinal)) {
         return Ok(versions);
     }
@@ -73,29 +86,45 @@ fn count_of(left: &Term) -> usize {
 }
 
 impl Greedy {
-    fn new(task: &Task<'_>) -> Greedy {
-        Greedy {
-            left: IndexMap::new(task.alloc),
-            decided: IndexMap::new(task.alloc),
-            queue: BinaryHeap::new(task.alloc),
-            beside: Vec::new(task.alloc),
-        }
-    }
-
-    /// What a requirement leaves of an undecided package.
-    fn left_beside(
-        &self,
-        task: &Task<'_>,
-        pkg: Pkg,
-        matching: &Matching<'_>,
-    ) -> Result<Term, Refusal>
+    fn new(task: &Task<'_>) -> Result<Greedy, Refusal>
         ensures { IfErr result (λ e. e ≡ Refusal.NoMemory) }
     {
-        let matching = matching.set(task.alloc)?;
-        match self.left.get(&pkg) {
-            Some(left) => Ok(left.and(task.alloc, &Term::In(matching))?),
-            None => Ok(Term::In(allowed_of(task, pkg, matching)?)),
+        Ok(Greedy {
+            numbers: Vec::with_capacity(task.alloc, ROOM)?,
+            needed: Vec::with_capacity(task.alloc, ROOM)?,
+            queue: BinaryHeap::with_capacity(task.alloc, ROOM)?,
+            beside: Vec::new(task.alloc),
+        })
+    }
+
+    /// What is known of a package, if it is needed.
+    fn get(&self, pkg: Pkg) -> Option<&Needed> {
+        let number = *self.numbers.as_slice().get(pkg as usize)?;
+        self.needed.as_slice().get(number.checked_sub(1)?)
+    }
+
+    /// As `get`, to write there.
+    fn get_mut(&mut self, pkg: Pkg) -> Option<&mut Needed> {
+        let number = *self.numbers.as_slice().get(pkg as usize)?;
+        self.needed.as_mut_slice().get_mut(number.checked_sub(1)?)
+    }
+
+    /// Adds a package that was not needed before.
+    fn add(&mut self, pkg: Pkg, left: Term) -> Result<(), Refusal>
+        ensures { IfErr result (λ e. e ≡ Refusal.NoMemory) }
+    {
+        for _ in self.numbers.len()..pkg as usize + 1 {
+            self.numbers.push(0)?;
         }
+        self.needed.push(Needed {
+            pkg,
+            left,
+            decided: None,
+        })?;
+        if let Some(number) = self.numbers.as_mut_slice().get_mut(pkg as usize) {
+            *number = self.needed.len();
+        }
+        Ok(())
     }
 
     /// Notes what a requirement leaves of a package, given the versions that meet it. Answers whether
@@ -103,10 +132,15 @@ impl Greedy {
     fn meet(&mut self, task: &Task<'_>, pkg: Pkg, matching: &Matching<'_>) -> Result<bool, Refusal>
         ensures { IfErr result (λ e. e ≡ Refusal.NoMemory) }
     {
-        if let Some(ordinal) = self.decided.get(&pkg).copied() {
-            return Ok(matching.has(ordinal));
-        }
-        let left = self.left_beside(task, pkg, matching)?;
+        let left = match self.get(pkg) {
+            None => Term::In(allowed_of(task, pkg, matching.set(task.alloc)?)?),
+            Some(needed) => match needed.decided {
+                Some(ordinal) => return Ok(matching.has(ordinal)),
+                None => needed
+                    .left
+                    .and(task.alloc, &Term::In(matching.set(task.alloc)?))?,
+            },
+        };
         if count_of(&left) == 0 {
             return Ok(false);
         }
@@ -158,8 +192,13 @@ impl Greedy {
         ensures { IfErr result (λ e. e ≡ Refusal.NoMemory) }
     {
         self.queue.push(Reverse((count_of(&left), pkg)))?;
-        self.left.insert(pkg, left)?;
-        Ok(())
+        match self.get_mut(pkg) {
+            None => self.add(pkg, left),
+            Some(needed) => {
+                needed.left = left;
+                Ok(())
+            }
+        }
     }
 
     /// Keeps what was noted.
@@ -178,10 +217,10 @@ impl Greedy {
     fn pass_over(&mut self, task: &Task<'_>, pkg: Pkg, ordinal: u32) -> Result<bool, Refusal>
         ensures { IfErr result (λ e. e ≡ Refusal.NoMemory) }
     {
-        let Some(left) = self.left.get(&pkg) else {
+        let Some(needed) = self.get(pkg) else {
             return Ok(false);
         };
-        let others = left.and(task.alloc, &Term::NotIn(VSet::single(task.alloc, ordinal)?))?;
+        let others = needed.left.and(task.alloc, &Term::NotIn(VSet::single(task.alloc, ordinal)?))?;
         if count_of(&others) == 0 {
             return Ok(false);
         }
@@ -191,9 +230,9 @@ impl Greedy {
 
     /// Whether an entry of the queue is of an undecided package and up to date.
     fn is_next(&self, count: usize, pkg: Pkg) -> bool {
-        match self.left.get(&pkg) {
+        match self.get(pkg) {
             None => false,
-            Some(left) => count_of(left) == count && !self.decided.contains_key(&pkg),
+            Some(needed) => count_of(&needed.left) == count && needed.decided.is_none(),
         }
     }
 
@@ -212,16 +251,18 @@ impl Greedy {
     fn decide(&mut self, task: &Task<'_>, pkg: Pkg) -> Result<bool, Refusal>
         ensures { IfErr result (λ e. e ≡ Refusal.NoMemory) }
     {
-        let Some(left) = self.left.get(&pkg) else {
+        let Some(needed) = self.get(pkg) else {
             return Ok(false);
         };
-        let Some(ordinal) = version_within(task, pkg, left) else {
+        let Some(ordinal) = version_within(task, pkg, &needed.left) else {
             return Ok(false);
         };
         if !self.meet_dependencies(task, pkg, ordinal)? {
             return Ok(self.pass_over(task, pkg, ordinal)?);
         }
-        self.decided.insert(pkg, ordinal)?;
+        if let Some(needed) = self.get_mut(pkg) {
+            needed.decided = Some(ordinal);
+        }
         self.keep_all()?;
         Ok(true)
     }
@@ -244,6 +285,19 @@ impl Greedy {
         }
         Ok(false)
     }
+
+    /// What is decided, by package.
+    fn decisions(&self, task: &Task<'_>) -> Result<IndexMap<Pkg, u32>, Refusal>
+        ensures { IfErr result (λ e. e ≡ Refusal.NoMemory) }
+    {
+        let mut decided = IndexMap::with_capacity(task.alloc, self.needed.len())?;
+        for needed in self.needed.as_slice() {
+            if let Some(ordinal) = needed.decided {
+                decided.insert(needed.pkg, ordinal)?;
+            }
+        }
+        Ok(decided)
+    }
 }
 
 /// A selection that is found without going back, if there is one.
@@ -251,13 +305,12 @@ pub(crate) fn search_greedily(task: &Task<'_>) -> Result<Option<Vec<(Pkg, u32)>>
     ensures meets { IfOk result (λ found. IfSome found (λ list. IsAnswer task.now list.items)) }
     ensures only { IfErr result (λ e. e ≡ Refusal.NoMemory) }
 {
-    let mut greedy = Greedy::new(task);
+    let mut greedy = Greedy::new(task)?;
     if !greedy.decide_all(task)? {
         return Ok(None);
     }
-    let chooser = Decisions {
-        decided: &greedy.decided,
-    };
+    let decided = greedy.decisions(task)?;
+    let chooser = Decisions { decided: &decided };
     match reach(task.alloc, task.registry, task.request, &chooser)? {
         Reached::Selection(list) => Ok(Some(list)),
         Reached::Unmet(_, _) | Reached::NotAllowed(_, _) => Ok(None),

@@ -6,6 +6,7 @@
 mod acting;
 mod agenda;
 mod conflict;
+mod covered;
 mod deciding;
 mod facts;
 mod greedy;

@@ -91,7 +91,8 @@ pub(crate) fn meet_dependency(
     let Some(target) = task.registry.number(&entry.0) else {
         unreachable!()
     };
-    let at = push_dependency(task, &mut search.known, pkg, entry, target)?;
+    let within = task.registry.matching(target, &entry.1)?;
+    let at = push_dependency(task, &mut search.known, pkg, entry, target, within)?;
     agenda.note(task.alloc, &search.known, at)?;
     let acted = act(task, search, at)?;
     match acted {

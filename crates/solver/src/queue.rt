@@ -28,6 +28,7 @@ pub(crate) struct Queue {
 }
 
 /// What is said of a package that is selected and has no decision.
+#[inline(always)]
 fn undecided(partial: &Partial, pkg: Pkg) -> Option<&Term> {
     let settled = partial.settled(pkg)?;
     if settled.decision.is_some() {

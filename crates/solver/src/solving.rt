@@ -83,22 +83,22 @@ fn tell(
 fn outcome_of(
     task: &Task<'_>,
     ended: Ended,
-    known: &[Known],
+    known: Vec<Known>,
     learnt: &[usize],
 ) -> Result<Outcome, Refusal>
-    requires { EndsBy task.now known.now ended }
+    requires { EndsBy task.now known.items ended }
     ensures lawful { IfOk result (IsLawful task.now.registry.now.packages task.now.request.now) }
     ensures only { IfErr result (MayRefuse task.now.budget) }
 {
     match ended {
         Ended::Selected(list) => {
             let pairs = tell(task.alloc, task.registry, list)?;
-            let offered = offers(task.alloc, known, learnt)?;
+            let offered = offers(task.alloc, &known, learnt)?;
             Ok(Outcome::Selection(pairs, offered))
         }
         Ended::Refused(end) => {
+            let offered = offers(task.alloc, &known, learnt)?;
             let derivation = cut(task.alloc, known, end)?;
-            let offered = offers(task.alloc, known, learnt)?;
             Ok(Outcome::Refused(derivation, offered))
         }
     }
@@ -112,7 +112,7 @@ fn search_fully(task: &Task<'_>) -> Result<Outcome, Refusal>
     let mut agenda = Agenda::new(task.alloc)?;
     let mut search = start(task, &mut agenda)?;
     let ended = run(task, &mut search, &mut agenda)?;
-    outcome_of(task, ended, &search.known, &agenda.learnt)
+    outcome_of(task, ended, search.known, &agenda.learnt)
 }
 
 /// Answers a task by a search, first by the one that does not go back.

@@ -5,6 +5,7 @@
 ghost use Rattle.std.specs.Prelude.{◌≡◌, IfErr};
 ghost use Rattle.versions.specs.declared.refusal.Refusal.TheVariants.{NoMemory};
 
+use crate::covered::{Covered, Targets};
 use crate::facts::version_count;
 use crate::spent::Spent;
 use crate::task::{ROOM, Task};
@@ -18,13 +19,18 @@ use versions::Refusal;
 struct Mention {
     at: usize,
     term: Term,
+    /// The number of the package's next mention, 0 at its last one.
+    next: usize,
 }
 
 /// What is kept of a package.
 #[derive(Drop)]
 struct Spot {
-    /// The lines that name it.
-    mentions: Vec<Mention>,
+    /// The numbers of the first and of the last mention of it, 0 where there is none.
+    first: usize,
+    last: usize,
+    /// The packages on which dependencies of its versions stand among the lines.
+    targets: Targets,
     /// The versions of which all dependencies are among the lines.
     entered: VSet,
     allowed: Allowed,
@@ -40,18 +46,26 @@ enum Allowed {
 }
 
 /// What is kept of the packages that lines name.
+///
+/// The mentions of all packages stand in one list: so a package takes no list of its own. There the
+/// number of an element is one more than its index.
 #[derive(Drop)]
 pub(crate) struct Spots {
     /// By number of the package, up to the highest that a line names: one more than the index of its
     /// spot, or 0. So a look costs two steps, and few packages take little memory.
     numbers: Vec<usize>,
     spots: Vec<Spot>,
+    mentions: Vec<Mention>,
+    covered: Covered,
 }
 
 /// Which versions of a package are allowed.
 fn allowed_of(task: &Task<'_>, pkg: Pkg) -> Result<Allowed, Refusal>
     ensures { IfErr result (λ e. e ≡ NoMemory) }
 {
+    if !task.registry.has_yanks(pkg) {
+        return Ok(Allowed::All);
+    }
     let count = version_count(task.registry, pkg);
     if (0..count).all(|ordinal| task.registry.allowed(task.request, pkg, ordinal)) {
         return Ok(Allowed::All);
@@ -66,6 +80,7 @@ fn allowed_of(task: &Task<'_>, pkg: Pkg) -> Result<Allowed, Refusal>
 }
 
 /// Whether a term is satisfied by what is said of its package.
+#[inline(always)]
 fn is_met(said: &Term, term: &Term) -> bool {
     match relation(said, term) {
         Relation::Satisfies => true,
@@ -74,15 +89,19 @@ fn is_met(said: &Term, term: &Term) -> bool {
 }
 
 impl Spot {
-    fn new(alloc: Global) -> Spot {
+    /// Of a package that was mentioned once, by the mention of this number.
+    fn new(alloc: Global, mention: usize) -> Spot {
         Spot {
-            mentions: Vec::new(alloc),
+            first: mention,
+            last: mention,
+            targets: Targets::none(),
             entered: VSet::new(alloc),
             allowed: Allowed::Unknown,
         }
     }
 
     /// How many of the allowed versions a positive term leaves; none of a negative one.
+    #[inline(always)]
     fn count(&mut self, task: &Task<'_>, pkg: Pkg, said: &Term) -> Result<usize, Refusal>
         ensures { IfErr result (λ e. e ≡ NoMemory) }
     {
@@ -106,6 +125,8 @@ impl Spots {
         Ok(Spots {
             numbers: Vec::with_capacity(alloc, ROOM)?,
             spots: Vec::with_capacity(alloc, ROOM)?,
+            mentions: Vec::with_capacity(alloc, 2 * ROOM)?,
+            covered: Covered::new(alloc)?,
         })
     }
 
@@ -139,17 +160,65 @@ impl Spots {
     fn mention(&mut self, alloc: Global, pkg: Pkg, at: usize, term: &Term) -> Result<(), Refusal>
         ensures { IfErr result (λ e. e ≡ NoMemory) }
     {
-        let mention = Mention {
+        self.mentions.push(Mention {
             at,
             term: term.copy(alloc)?,
-        };
-        if let Some(spot) = self.get_mut(pkg) {
-            spot.mentions.push(mention)?;
-            return Ok(());
+            next: 0,
+        })?;
+        let number = self.mentions.len();
+        match self.get_mut(pkg) {
+            None => self.add(pkg, Spot::new(alloc, number)),
+            Some(spot) => {
+                let before = spot.last;
+                spot.last = number;
+                self.link(before, number);
+                Ok(())
+            }
         }
-        let mut spot = Spot::new(alloc);
-        spot.mentions.push(mention)?;
-        self.add(pkg, spot)
+    }
+
+    /// Makes the mention of one number the next after that of another.
+    fn link(&mut self, before: usize, number: usize) {
+        if let Some(index) = before.checked_sub(1) {
+            if let Some(mention) = self.mentions.as_mut_slice().get_mut(index) {
+                mention.next = number;
+            }
+        }
+    }
+
+    /// The mention of this number, if there is one.
+    #[inline(always)]
+    fn mention_of(&self, number: usize) -> Option<&Mention> {
+        self.mentions.as_slice().get(number.checked_sub(1)?)
+    }
+
+    /// Whether the dependency of a version on another package stands among the lines.
+    pub fn covers(&self, pkg: Pkg, ordinal: u32, target: Pkg) -> bool {
+        match self.get(pkg) {
+            None => false,
+            Some(spot) => self.covered.has(spot.targets, pkg, ordinal, target),
+        }
+    }
+
+    /// Notes that the dependencies of these versions of a package on a target stand among the lines.
+    pub fn cover(
+        &mut self,
+        alloc: Global,
+        pkg: Pkg,
+        target: Pkg,
+        versions: &Term,
+    ) -> Result<(), Refusal>
+        ensures { IfErr result (λ e. e ≡ NoMemory) }
+    {
+        let before = match self.get(pkg) {
+            None => return Ok(()),
+            Some(spot) => spot.targets,
+        };
+        let after = self.covered.add(alloc, before, (pkg, target), versions)?;
+        if let Some(spot) = self.get_mut(pkg) {
+            spot.targets = after;
+        }
+        Ok(())
     }
 
     /// Notes the line at a place with each package that it names.
@@ -173,9 +242,11 @@ impl Spots {
         let Some(spot) = self.get_mut(pkg) else {
             return Ok(true);
         };
-        let enters = !spot.entered.has(ordinal);
+        if spot.entered.has(ordinal) {
+            return Ok(false);
+        }
         spot.entered.insert(ordinal)?;
-        Ok(enters)
+        Ok(true)
     }
 
     /// How many versions a positive term leaves of those of a package that are allowed; none of a package
@@ -204,10 +275,15 @@ impl Spots {
         let Some(spot) = self.get(pkg) else {
             return Ok(());
         };
-        for mention in spot.mentions.as_slice() {
+        let mut number = spot.first;
+        for _ in 0..self.mentions.len() {
+            let Some(mention) = self.mention_of(number) else {
+                return Ok(());
+            };
             if !spent.has(mention.at) && is_met(said, &mention.term) {
                 ripe.push(mention.at)?;
             }
+            number = mention.next;
         }
         Ok(())
     }

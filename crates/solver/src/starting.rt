@@ -31,9 +31,9 @@ fn begin(task: &Task<'_>) -> Result<Search, Refusal>
     ensures search { IfOk result (Searches task.now) }
     ensures only { IfErr result (λ e. e ≡ Refusal.NoMemory) }
 {
-    let mut known = Vec::with_capacity(task.alloc, ROOM)?;
+    let mut known = Vec::with_capacity(task.alloc, 2 * ROOM)?;
     known.push(root_line(task)?)?;
-    let mut partial = Partial::new(task.alloc);
+    let mut partial = Partial::with_room(task.alloc, 2 * ROOM)?;
     partial.derive(ROOT, Term::In(VSet::single(task.alloc, 0)?), 0)?;
     partial.decide(ROOT, 0)?;
     Ok(Search {

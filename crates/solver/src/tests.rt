@@ -227,15 +227,14 @@ fn asked(
     answered(alloc, registry, &request)
 }
 
-fn answer(alloc: Global, row: Row) -> Result<String, Refusal> {
-    let (commands, listed, locked, _) = row;
-    let registry = registry(alloc, commands)?;
-    asked(alloc, &registry, listed, locked)
+fn answer(alloc: Global, row: &Row) -> Result<String, Refusal> {
+    let registry = registry(alloc, row.0)?;
+    asked(alloc, &registry, row.1, row.2)
 }
 
 #[test]
 fn requests_are_answered(rt: HostRuntime) -> Result<(), Refusal> {
-    for row in ROWS {
+    for row in &ROWS {
         let text = answer(rt.alloc(), row)?;
         assert_eq!(rt; text.as_str(), row.3, "{} lock {}", row.1, row.2);
     }

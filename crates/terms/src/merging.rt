@@ -1,4 +1,7 @@
 // Two sets read side by side, word by word.
+//
+// Most sets have one word. Where two such meet, what is left of a function here are a few steps, so
+// it is inlined, and the rule is known where it is called.
 
 ghost use Rattle.std.specs.Prelude.{◌≡◌, ℕ, [], length, List, IfNone, IfOk, IfSome, OnOk, true};
 ghost use Rattle.terms.specs.Merges.{keeps, pushed, IsKept, IsOnlyWord};
@@ -18,6 +21,7 @@ pub enum Rule {
     FirstOnly,
 }
 
+#[inline(always)]
 fn kept_bits(rule: Rule, first: u64, second: u64) -> u64
     ensures { result ≡ spec.kept_bits rule first second }
 {
@@ -73,6 +77,7 @@ fn behind(words: &[Word], number: u32) -> &[Word]
 
 /// What the rule keeps of two sets that have one word each, with the same number, as most sets do.
 /// It may be zero.
+#[inline(always)]
 fn only_word(rule: Rule, first: &[Word], second: &[Word]) -> Option<Word>
     ensures { IfSome result (IsOnlyWord rule first.now second.now) }
 {
@@ -96,6 +101,7 @@ fn push_word(words: &mut Words, word: Word) -> Result<(), AllocError>
 }
 
 /// The words of what the rule keeps of two sets.
+#[inline(always)]
 pub(crate) fn combined(
     alloc: Global,
     rule: Rule,
@@ -126,6 +132,7 @@ pub(crate) fn combined(
 }
 
 /// The lowest ordinal that the rule keeps of two sets.
+#[inline(always)]
 pub(crate) fn first_kept(rule: Rule, first: &[Word], second: &[Word]) -> Option<u32>
     requires first { AreWords first.now }
     requires second { AreWords second.now }

@@ -44,6 +44,7 @@ fn behind_package(terms: &[(Pkg, Term)], pkg: Pkg) -> &[(Pkg, Term)]
 }
 
 /// What follows of two terms on one package: on the pivot one of both, elsewhere both.
+#[inline(always)]
 fn joined_term(
     alloc: Global,
     is_pivot: bool,
@@ -74,6 +75,7 @@ fn joined_term(
 }
 
 /// The same, left out where it always holds.
+#[inline(always)]
 fn kept_term(
     alloc: Global,
     is_pivot: bool,
@@ -92,6 +94,7 @@ fn kept_term(
 }
 
 /// The term, unless it always holds.
+#[inline(always)]
 fn unless_always(term: Term) -> Option<Term>
     ensures same { (choice : Option ℕ) → true_where result choice ≡ true_of term choice }
     ensures kept { IfSome result CanBeFalse }

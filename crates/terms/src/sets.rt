@@ -7,7 +7,9 @@ ghost use Rattle.terms.specs.Words.{AreWords, ordinals_of};
 
 use crate::merging::{Rule, combined, count_kept, first_kept};
 use crate::ordinals::{Ordinals, ordinals_in};
-use crate::words::{Word, Words, are_same, copied, count, has_ordinal, insert_ordinal, words_of};
+use crate::words::{
+    Word, Words, are_same, copied, count, has_ordinal, insert_ordinal, words_of, words_of_one,
+};
 use smallvec::SmallVec;
 use std::alloc::{AllocError, Global};
 use std::marker::Model;
@@ -43,9 +45,7 @@ impl VSet {
     pub fn single(alloc: Global, ordinal: u32) -> Result<VSet, AllocError>
         ensures { IfOk result (λ set. set ≡ ordinal ∷ []) }
     {
-        let mut set = VSet::new(alloc);
-        set.insert(ordinal)?;
-        Ok(set)
+        Ok(VSet::from_words(words_of_one(alloc, ordinal)))
     }
 
     /// The set of these ordinals, which may come in any order and several times. It is linear in
@@ -64,6 +64,7 @@ impl VSet {
     }
 
     /// Puts an ordinal in. It costs one step where none above it is there.
+    #[inline(always)]
     pub fn insert(&mut self, ordinal: u32) -> Result<(), AllocError>
         ensures added { OnOk result (AddsOrdinal self.old self.new ordinal) }
         ensures unchanged { OnErr result (self.new ≡ self.old) }
@@ -139,6 +140,7 @@ impl VSet {
     }
 
     /// An equal set.
+    #[inline(always)]
     pub fn copy(&self, alloc: Global) -> Result<VSet, AllocError>
         ensures same { IfOk result (λ set. set ≡ self.now) }
         ensures ascending { IfOk result IsAscending }
@@ -162,6 +164,7 @@ impl VSet {
     }
 
     /// The set of these words.
+    #[inline(always)]
     pub(crate) fn of_words(alloc: Global, words: &[Word]) -> Result<VSet, AllocError>
         requires { AreWords words.now }
         ensures same { IfOk result (λ set. set ≡ ordinals_of words.now) }
@@ -171,6 +174,7 @@ impl VSet {
     }
 
     /// What the rule keeps of two sets.
+    #[inline(always)]
     pub(crate) fn of_rule(
         alloc: Global,
         rule: Rule,
@@ -184,6 +188,7 @@ impl VSet {
     }
 
     /// The lowest ordinal that the rule keeps of this set and another.
+    #[inline(always)]
     pub(crate) fn first_of_rule(&self, rule: Rule, other: &VSet) -> Option<u32>
         ensures none { IfNone result (IsKept rule self.now other.now []) }
         ensures some { IfSome result (λ k. keeps rule (has self.now k) (has other.now k) ≡ true) }

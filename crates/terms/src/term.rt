@@ -19,6 +19,7 @@ pub enum Term {
 
 impl Term {
     /// The term that is true where both are. Linear in the sets.
+    #[inline(always)]
     pub fn and(&self, alloc: Global, other: &Term) -> Result<Term, AllocError>
         ensures exact { IfOk result (λ term. (choice : Option ℕ) →
             true_of term choice ≡ (true_of self.now choice && true_of other.now choice)) }
@@ -35,6 +36,7 @@ impl Term {
     }
 
     /// The term that is true where one of the two is. Linear in the sets.
+    #[inline(always)]
     pub fn or(&self, alloc: Global, other: &Term) -> Result<Term, AllocError>
         ensures exact { IfOk result (λ term. (choice : Option ℕ) →
             true_of term choice ≡ (true_of self.now choice || true_of other.now choice)) }
@@ -66,6 +68,7 @@ impl Term {
     }
 
     /// Whether the term is true of an ordinal.
+    #[inline(always)]
     pub fn allows(&self, ordinal: u32) -> bool
         ensures { result ≡ true_of self.now (Some ordinal) }
     {
@@ -121,6 +124,7 @@ impl Term {
     }
 
     /// An equal term.
+    #[inline(always)]
     pub fn copy(&self, alloc: Global) -> Result<Term, AllocError>
         ensures same { IfOk result (λ term. term ≡ self.now) }
         ensures ascending { IfOk result IsTerm }
@@ -133,6 +137,7 @@ impl Term {
 }
 
 /// A choice of which both terms are true.
+#[inline(always)]
 fn shared(first: &Term, second: &Term) -> Option<Option<u32>>
     ensures none { IfNone result (Excludes first.now second.now) }
     ensures some { IfSome result (λ choice.
@@ -147,6 +152,7 @@ fn shared(first: &Term, second: &Term) -> Option<Option<u32>>
 }
 
 /// A choice of which the first term is true and the second is not.
+#[inline(always)]
 fn exception(first: &Term, second: &Term) -> Option<Option<u32>>
     ensures none { IfNone result (Implies first.now second.now) }
     ensures some { IfSome result (λ choice.
@@ -161,6 +167,7 @@ fn exception(first: &Term, second: &Term) -> Option<Option<u32>>
 }
 
 /// How the first term stands to the second. Linear in the sets, without memory.
+#[inline(always)]
 pub fn relation(first: &Term, second: &Term) -> Relation
     ensures { Relates first.now second.now result }
 {

@@ -1,6 +1,6 @@
 // The words of a set: where one stands, and how an ordinal comes in.
 
-ghost use Rattle.std.specs.Prelude.{◌≡◌, ◌↔◌, ◌<◌, ◌≤◌, ◌+◌, ◌*◌, ◌/◌, ◌%◌, ◌^◌, length, IfOk, IsOk, IsTrue, OnErr, OnOk};
+ghost use Rattle.std.specs.Prelude.{◌≡◌, ◌↔◌, ◌<◌, ◌≤◌, ◌+◌, ◌*◌, ◌/◌, ◌%◌, ◌^◌, [], length, IfOk, IsOk, IsTrue, OnErr, OnOk};
 ghost use Rattle.smallvec.specs.SmallVec.{small_vec_len};
 ghost use Rattle.terms.specs.Sets.{has, AddsOrdinal, HasExactly};
 ghost use Rattle.terms.specs.Words.{AreWords, IsPlace, ordinals_of};
@@ -24,6 +24,7 @@ pub struct Word {
 pub type Words = SmallVec<Word, 1>;
 
 /// The word that has one ordinal.
+#[inline(always)]
 fn word_of(ordinal: u32) -> Word
     ensures number { result.number ≡ ordinal / WORD_BITS }
     ensures bits { result.bits ≡ 2 ^ (ordinal % WORD_BITS) }
@@ -36,6 +37,7 @@ fn word_of(ordinal: u32) -> Word
 
 /// The place of the word with this number, or the place where it would stand. It is found at once
 /// at the end, where a set mostly grows.
+#[inline(always)]
 fn place_of(words: &[Word], number: u32) -> Result<usize, usize>
     requires { AreWords words.now }
     ensures { IsPlace number words.now result }
@@ -62,6 +64,7 @@ fn bits_of(words: &[Word], number: u32) -> u64
 }
 
 /// Whether the ordinal is in the set.
+#[inline(always)]
 pub(crate) fn has_ordinal(words: &[Word], ordinal: u32) -> bool
     requires { AreWords words.now }
     ensures { result ≡ has (ordinals_of words.now) ordinal }
@@ -72,6 +75,7 @@ pub(crate) fn has_ordinal(words: &[Word], ordinal: u32) -> bool
 
 /// Puts an ordinal in. It costs one step where no ordinal of a higher word is there, and takes
 /// memory only where no ordinal of its word is.
+#[inline(always)]
 pub(crate) fn insert_ordinal(words: &mut Words, ordinal: u32) -> Result<(), AllocError>
     requires { AreWords words.old.items }
     ensures words { AreWords words.new.items }
@@ -90,6 +94,16 @@ pub(crate) fn insert_ordinal(words: &mut Words, ordinal: u32) -> Result<(), Allo
     Ok(())
 }
 
+/// The words of one ordinal, without memory.
+#[inline(always)]
+pub(crate) fn words_of_one(alloc: Global, ordinal: u32) -> Words
+    ensures words { AreWords result.items }
+    ensures added { AddsOrdinal [] (ordinals_of result.items) ordinal }
+{
+    let word = word_of(ordinal);
+    SmallVec::from_buf(alloc, [word])
+}
+
 /// The words of these ordinals. It is linear in ascending ones.
 pub(crate) fn words_of(alloc: Global, ordinals: &[u32]) -> Result<Words, AllocError>
     ensures words { IfOk result (λ words. AreWords words.items) }
@@ -103,6 +117,7 @@ pub(crate) fn words_of(alloc: Global, ordinals: &[u32]) -> Result<Words, AllocEr
 }
 
 /// A copy of the words, without memory where there is at most one.
+#[inline(always)]
 pub(crate) fn copied(alloc: Global, words: &[Word]) -> Result<Words, AllocError>
     ensures { IfOk result (λ copy. copy.items ≡ words.now) }
 {

@@ -15,7 +15,7 @@ mod refusal;
 #[cfg(test)]
 mod tests;
 
-pub use name::{NAME_LIMIT, Name};
+pub use name::{NAME_LIMIT, Name, is_name_text};
 pub use need::{Need, REQUIREMENT_LIMIT, pre_releases_are_named};
 pub use precedence::{equal_precedence_is_an_equivalence, order, precedence_is_a_total_preorder};
 pub use published::{Published, VERSION_LIMIT, versions_are_those_of_the_grammar};

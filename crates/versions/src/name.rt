@@ -112,7 +112,8 @@ fn has_name_bytes(text: &[u8]) -> bool
     text.iter().all(|b| is_name_byte(*b))
 }
 
-fn is_name_text(text: &str) -> bool
+/// Whether a text is a package name. Takes no memory.
+pub fn is_name_text(text: &str) -> bool
     ensures { result ≡ is_name text.now }
 {
     let bytes = text.as_bytes();

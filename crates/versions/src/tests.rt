@@ -1,7 +1,12 @@
 //! Rows of the published tables, the limits at their edges, and the numbers and names of refusals.
+//!
+//! The helpers are small for the prover's sake: a proof grows with the values that a function
+//! holds, times its ways out, since each way out lets go of them all.
 use super::*;
 use std::alloc::Global;
+use std::cmp::Ordering;
 use std::collections::HashSet;
+use std::process::Abort;
 
 /// Versions in rising precedence, after section 11 of Semantic Versioning 2.0.0.
 const RISING: [&str; 8] = [
@@ -105,6 +110,11 @@ const NO_NAMES: [&str; 11] = [
     "", "A", "aB", "1a", "-a", "_a", "a.b", "a b", "a/b", "é", "a\u{e9}",
 ];
 
+/// Asserts what is so of a row, which these two texts tell.
+fn holds(rt: &impl Abort, is_so: bool, row: &str, more: &str) {
+    assert!(rt; is_so, "at {row} and {more}");
+}
+
 /// `first`, then `more` so many times, then `last`.
 fn long_text(
     alloc: Global,
@@ -121,205 +131,298 @@ fn long_text(
     Ok(text)
 }
 
+/// How two versions stand in precedence.
+fn ordered(alloc: Global, first: &str, second: &str) -> Result<Ordering, Refusal> {
+    let first = Published::read(alloc, first)?;
+    let second = Published::read(alloc, second)?;
+    Ok(order(&first, &second))
+}
+
 #[test]
 fn precedence_rises(rt: HostRuntime) -> Result<(), Refusal> {
     for (i, low) in RISING.iter().enumerate() {
         for (j, high) in RISING.iter().enumerate() {
-            let (a, b) = (
-                Published::read(rt.alloc(), low)?,
-                Published::read(rt.alloc(), high)?,
-            );
-            assert!(rt; order(&a, &b) == i.cmp(&j), "at {low} and {high}");
+            let ordering = ordered(rt.alloc(), *low, *high)?;
+            holds(&rt, ordering == i.cmp(&j), *low, *high);
         }
     }
     Ok(())
 }
 
+/// Whether a version is read with its text.
+fn is_kept_version(alloc: Global, text: &str) -> Result<bool, Refusal> {
+    Ok(Published::read(alloc, text)?.text() == text)
+}
+
 #[test]
 fn build_metadata_does_not_count(rt: HostRuntime) -> Result<(), Refusal> {
-    let a = Published::read(rt.alloc(), "1.0.0+x")?;
-    let b = Published::read(rt.alloc(), "1.0.0+y.1")?;
-    assert!(rt; order(&a, &b).is_eq());
-    assert!(rt; a.text() == "1.0.0+x");
-    assert!(rt; b.text() == "1.0.0+y.1");
+    assert!(rt; ordered(rt.alloc(), "1.0.0+x", "1.0.0+y.1")?.is_eq());
+    assert!(rt; is_kept_version(rt.alloc(), "1.0.0+x")?);
+    assert!(rt; is_kept_version(rt.alloc(), "1.0.0+y.1")?);
     Ok(())
+}
+
+/// Whether a version meets a requirement.
+fn is_met(alloc: Global, requirement: &str, version: &str) -> Result<bool, Refusal> {
+    let need = Need::read(alloc, requirement)?;
+    Ok(need.admits(&Published::read(alloc, version)?))
 }
 
 #[test]
 fn requirements_meet_the_table(rt: HostRuntime) -> Result<(), Refusal> {
-    for (requirement, version, wanted) in ROWS {
-        let need = Need::read(rt.alloc(), requirement)?;
-        let version = Published::read(rt.alloc(), version)?;
-        assert!(rt;
-            need.admits(&version) == wanted,
-            "at {requirement} and {}",
-            version.text()
-        );
+    for (requirement, version, wanted) in &ROWS {
+        let met = is_met(rt.alloc(), *requirement, *version)?;
+        holds(&rt, met == *wanted, *requirement, *version);
     }
     Ok(())
 }
 
-/// Whether a requirement is read with its text, and a version meets it.
-fn is_kept_and_met(alloc: Global, requirement: &str, version: &str) -> Result<bool, Refusal> {
-    let need = Need::read(alloc, requirement)?;
-    Ok(need.text() == requirement && need.admits(&Published::read(alloc, version)?))
+/// Whether a requirement is read with its text.
+fn is_kept_need(alloc: Global, text: &str) -> Result<bool, Refusal> {
+    Ok(Need::read(alloc, text)?.text() == text)
 }
 
 #[test]
 fn further_forms_are_read(rt: HostRuntime) -> Result<(), Refusal> {
-    for (requirement, version) in FORMS {
-        let found = is_kept_and_met(rt.alloc(), requirement, version)?;
-        assert!(rt; found, "at {requirement} and {version}");
+    for (requirement, version) in &FORMS {
+        let kept = is_kept_need(rt.alloc(), *requirement)?;
+        let met = is_met(rt.alloc(), *requirement, *version)?;
+        holds(&rt, kept && met, *requirement, *version);
     }
     Ok(())
 }
 
+fn is_no_need(alloc: Global, text: &str) -> bool {
+    Need::read(alloc, text).err() == Some(Refusal::BadRequirement)
+}
+
+fn is_no_version(alloc: Global, text: &str) -> bool {
+    Published::read(alloc, text).err() == Some(Refusal::BadVersion)
+}
+
+fn is_no_name(alloc: Global, text: &str) -> bool {
+    Name::read(alloc, text).err() == Some(Refusal::BadName)
+}
+
 #[test]
 fn bad_texts_are_refused(rt: HostRuntime) {
-    for text in NO_REQUIREMENTS {
-        let refused = Need::read(rt.alloc(), text).err() == Some(Refusal::BadRequirement);
-        assert!(rt; refused, "at {text}");
+    for text in &NO_REQUIREMENTS {
+        holds(&rt, is_no_need(rt.alloc(), *text), *text, "requirements");
     }
-    for text in NO_VERSIONS {
-        let refused = Published::read(rt.alloc(), text).err() == Some(Refusal::BadVersion);
-        assert!(rt; refused, "at {text}");
+    for text in &NO_VERSIONS {
+        holds(&rt, is_no_version(rt.alloc(), *text), *text, "versions");
     }
-    for text in NO_NAMES {
-        let refused = Name::read(rt.alloc(), text).err() == Some(Refusal::BadName);
-        assert!(rt; refused, "at {text}");
+    for text in &NO_NAMES {
+        holds(&rt, is_no_name(rt.alloc(), *text), *text, "names");
     }
 }
 
 #[test]
 fn numbers_have_64_bits(rt: HostRuntime) -> Result<(), Refusal> {
-    let text = "18446744073709551615.18446744073709551615.18446744073709551615";
-    let greatest = Published::read(rt.alloc(), text)?;
-    assert!(rt;
-        order(
-            &greatest,
-            &Published::read(rt.alloc(), "18446744073709551615.0.0")?
-        )
-        .is_gt()
-    );
+    let greatest = "18446744073709551615.18446744073709551615.18446744073709551615";
+    assert!(rt; ordered(rt.alloc(), greatest, "18446744073709551615.0.0")?.is_gt());
     Ok(())
+}
+
+/// Whether a name is read with its text.
+fn is_kept_name(alloc: Global, text: &str) -> Result<bool, Refusal> {
+    Ok(Name::read(alloc, text)?.text() == text)
 }
 
 #[test]
 fn lengths_at_the_limits(rt: HostRuntime) -> Result<(), Refusal> {
     let alloc = rt.alloc();
-    let longest = long_text(alloc, "a", "b", 63, "")?;
-    assert!(rt; Name::read(alloc, longest.as_str())?.text() == longest.as_str());
-    let longer = long_text(alloc, "a", "b", 64, "")?;
-    assert!(rt; Name::read(alloc, longer.as_str()).err() == Some(Refusal::BadName));
+    assert!(rt; is_kept_name(alloc, long_text(alloc, "a", "b", 63, "")?.as_str())?);
+    assert!(rt; is_no_name(alloc, long_text(alloc, "a", "b", 64, "")?.as_str()));
+    assert!(rt; is_kept_version(alloc, long_text(alloc, "1.0.0-", "a", 250, "")?.as_str())?);
+    assert!(rt; is_no_version(alloc, long_text(alloc, "1.0.0-", "a", 251, "")?.as_str()));
+    assert!(rt; is_kept_need(alloc, long_text(alloc, "^1.0.0", " ", 250, "")?.as_str())?);
+    assert!(rt; is_no_need(alloc, long_text(alloc, "^1.0.0", " ", 251, "")?.as_str()));
+    Ok(())
+}
 
-    let longest = long_text(alloc, "1.0.0-", "a", 250, "")?;
-    assert!(rt; Published::read(alloc, longest.as_str())?.text() == longest.as_str());
-    let longer = long_text(alloc, "1.0.0-", "a", 251, "")?;
-    assert!(rt; Published::read(alloc, longer.as_str()).err() == Some(Refusal::BadVersion));
-
-    let longest = long_text(alloc, "^1.0.0", " ", 250, "")?;
-    assert!(rt; Need::read(alloc, longest.as_str())?.text() == longest.as_str());
-    let longer = long_text(alloc, "^1.0.0", " ", 251, "")?;
-    assert!(rt; Need::read(alloc, longer.as_str()).err() == Some(Refusal::BadRequirement));
+fn comparators_at_the_limit_in(
+    rt: &impl Abort,
+    alloc: Global,
+    most: &str,
+    more: &str,
+) -> Result<(), Refusal> {
+    assert!(rt; is_met(alloc, most, "1.5.0")?);
+    assert!(rt; !is_met(alloc, most, "2.0.0")?);
+    assert!(rt; is_no_need(alloc, more));
     Ok(())
 }
 
 #[test]
 fn comparators_at_the_limit(rt: HostRuntime) -> Result<(), Refusal> {
-    let alloc = rt.alloc();
-    let most = long_text(alloc, "", ">=1,", 31, "<2")?;
-    let need = Need::read(alloc, most.as_str())?;
-    assert!(rt; need.admits(&Published::read(alloc, "1.5.0")?));
-    assert!(rt; !need.admits(&Published::read(alloc, "2.0.0")?));
-    let more = long_text(alloc, "", ">=1,", 32, "<2")?;
-    assert!(rt; Need::read(alloc, more.as_str()).err() == Some(Refusal::BadRequirement));
+    let most = long_text(rt.alloc(), "", ">=1,", 31, "<2")?;
+    let more = long_text(rt.alloc(), "", ">=1,", 32, "<2")?;
+    comparators_at_the_limit_in(&rt, rt.alloc(), most.as_str(), more.as_str())
+}
+
+fn names(alloc: Global, texts: &[&str]) -> Result<Vec<Name>, Refusal> {
+    let mut names = Vec::new(alloc);
+    for text in texts {
+        names.push(Name::read(alloc, *text)?)?;
+    }
+    Ok(names)
+}
+
+fn sorted_names(alloc: Global, texts: &[&str]) -> Result<Vec<Name>, Refusal> {
+    let mut names = names(alloc, texts)?;
+    names.sort()?;
+    Ok(names)
+}
+
+/// Names, each with a space behind it.
+fn joined(alloc: Global, names: &[Name]) -> Result<String, Refusal> {
+    let mut text = String::new(alloc);
+    for name in names {
+        text.push_str(name.text())?;
+        text.push_str(" ")?;
+    }
+    Ok(text)
+}
+
+/// Whether these names are so once they are sorted.
+fn are_sorted(alloc: Global, texts: &[&str], wanted: &str) -> Result<bool, Refusal> {
+    let names = sorted_names(alloc, texts)?;
+    Ok(joined(alloc, &names)?.as_str() == wanted)
+}
+
+fn has_name(alloc: Global, set: &HashSet<Name>, text: &str) -> Result<bool, Refusal> {
+    let name = Name::read(alloc, text)?;
+    Ok(set.contains(&name))
+}
+
+fn names_are_equal_by_bytes_in(
+    rt: &impl Abort,
+    alloc: Global,
+    set: &mut HashSet<Name>,
+) -> Result<(), Refusal> {
+    set.insert(Name::read(alloc, "a-b")?)?;
+    assert!(rt; has_name(alloc, set, "a-b")?);
+    assert!(rt; !has_name(alloc, set, "a_b")?);
     Ok(())
 }
 
 #[test]
 fn names_are_equal_and_ordered_by_bytes(rt: HostRuntime) -> Result<(), Refusal> {
-    let alloc = rt.alloc();
-    let mut names = Vec::new(alloc);
-    for text in ["b", "a_b", "a-b", "a0", "ab", "a"] {
-        names.push(Name::read(alloc, text)?)?;
+    let texts = ["b", "a_b", "a-b", "a0", "ab", "a"];
+    assert!(rt; are_sorted(rt.alloc(), &texts, "a a-b a0 a_b ab b ")?);
+    let mut set = HashSet::new(rt.alloc());
+    names_are_equal_by_bytes_in(&rt, rt.alloc(), &mut set)
+}
+
+fn has_need(alloc: Global, set: &HashSet<Need>, text: &str) -> Result<bool, Refusal> {
+    let need = Need::read(alloc, text)?;
+    Ok(set.contains(&need))
+}
+
+/// Whether two requirements are equal, and whether they are unequal.
+fn compared(alloc: Global, first: &str, second: &str) -> Result<(bool, bool), Refusal> {
+    let first = Need::read(alloc, first)?;
+    let second = Need::read(alloc, second)?;
+    Ok((first == second, first != second))
+}
+
+fn requirements_are_equal_by_their_texts_in(
+    rt: &impl Abort,
+    alloc: Global,
+    set: &mut HashSet<Need>,
+) -> Result<(), Refusal> {
+    for text in &["^1", "^1.0", "1", " ^1"] {
+        assert!(rt; set.insert(Need::read(alloc, *text)?)?);
     }
-    names.sort()?;
-    let mut sorted = String::new(alloc);
-    for name in &names {
-        sorted.push_str(name.text())?;
-        sorted.push_str(" ")?;
-    }
-    assert!(rt; sorted.as_str() == "a a-b a0 a_b ab b ");
-    let mut set = HashSet::new(alloc);
-    set.insert(Name::read(alloc, "a-b")?)?;
-    assert!(rt; set.contains(&Name::read(alloc, "a-b")?));
-    assert!(rt; !set.contains(&Name::read(alloc, "a_b")?));
+    assert!(rt; set.len() == 4);
+    assert!(rt; has_need(alloc, set, "^1.0")?);
+    assert!(rt; !has_need(alloc, set, "^1.0.0")?);
     Ok(())
 }
 
 #[test]
 fn requirements_are_equal_by_their_texts(rt: HostRuntime) -> Result<(), Refusal> {
-    let alloc = rt.alloc();
-    let mut set = HashSet::new(alloc);
-    for text in ["^1", "^1.0", "1", " ^1"] {
-        assert!(rt; set.insert(Need::read(alloc, text)?)?);
-    }
-    assert_eq!(rt; set.len(), 4);
-    assert!(rt; set.contains(&Need::read(alloc, "^1.0")?));
-    assert!(rt; !set.contains(&Need::read(alloc, "^1.0.0")?));
-    assert!(rt; Need::read(alloc, "^1")? == Need::read(alloc, "^1")?);
-    assert!(rt; Need::read(alloc, "^1")? != Need::read(alloc, "^2")?);
+    let mut set = HashSet::new(rt.alloc());
+    requirements_are_equal_by_their_texts_in(&rt, rt.alloc(), &mut set)?;
+    assert!(rt; compared(rt.alloc(), "^1", "^1")? == (true, false));
+    assert!(rt; compared(rt.alloc(), "^1", "^2")? == (false, true));
     Ok(())
 }
 
 /// A value of this type may be handed to another thread, and looked at from several.
 fn is_shared<T: Send + Sync>(_value: &T) {}
 
-#[test]
-fn copies_outlive_what_they_were_made_of(rt: HostRuntime) -> Result<(), Refusal> {
-    let name = Name::read(rt.alloc(), "serde-json_2")?;
-    let version = Published::read(rt.alloc(), "1.2.3-rc.1+x")?;
-    let need = Need::read(rt.alloc(), " ^1.2.3-rc.1")?;
-    let copies = (name.copy()?, version.copy()?, need.copy()?);
-    drop((name, version, need));
-    assert!(rt; copies.0.text() == "serde-json_2");
-    assert!(rt; copies.1.text() == "1.2.3-rc.1+x");
-    assert!(rt; copies.2.text() == " ^1.2.3-rc.1");
-    assert!(rt; copies.2.admits(&copies.1));
-    is_shared(&copies.0);
-    is_shared(&copies.1);
-    is_shared(&copies.2);
-    Ok(())
+// What a copy was made of is gone when it is handed out.
+
+fn copied_name(alloc: Global, text: &str) -> Result<Name, Refusal> {
+    let name = Name::read(alloc, text)?;
+    name.copy()
+}
+
+fn copied_version(alloc: Global, text: &str) -> Result<Published, Refusal> {
+    let version = Published::read(alloc, text)?;
+    version.copy()
+}
+
+fn copied_need(alloc: Global, text: &str) -> Result<Need, Refusal> {
+    let need = Need::read(alloc, text)?;
+    need.copy()
+}
+
+fn copies_outlive_what_they_were_made_of_in(
+    rt: &impl Abort,
+    name: &Name,
+    version: &Published,
+    need: &Need,
+) {
+    assert!(rt; name.text() == "serde-json_2");
+    assert!(rt; version.text() == "1.2.3-rc.1+x");
+    assert!(rt; need.text() == " ^1.2.3-rc.1");
+    assert!(rt; need.admits(version));
+    is_shared(name);
+    is_shared(version);
+    is_shared(need);
 }
 
 #[test]
+fn copies_outlive_what_they_were_made_of(rt: HostRuntime) -> Result<(), Refusal> {
+    let name = copied_name(rt.alloc(), "serde-json_2")?;
+    let version = copied_version(rt.alloc(), "1.2.3-rc.1+x")?;
+    let need = copied_need(rt.alloc(), " ^1.2.3-rc.1")?;
+    copies_outlive_what_they_were_made_of_in(&rt, &name, &version, &need);
+    Ok(())
+}
+
+/// Each refusal with its number and its name.
+const REFUSALS: [(Refusal, u8, &str); 22] = [
+    (Refusal::BadName, 1, "BadName"),
+    (Refusal::BadVersion, 2, "BadVersion"),
+    (Refusal::BadRequirement, 3, "BadRequirement"),
+    (Refusal::RepeatedDependency, 4, "RepeatedDependency"),
+    (Refusal::SelfDependency, 5, "SelfDependency"),
+    (Refusal::TooManyDependencies, 6, "TooManyDependencies"),
+    (Refusal::AlreadyPublished, 7, "AlreadyPublished"),
+    (Refusal::TooManyVersions, 8, "TooManyVersions"),
+    (Refusal::TooManyPackages, 9, "TooManyPackages"),
+    (Refusal::JournalFull, 10, "JournalFull"),
+    (Refusal::NoSuchVersion, 11, "NoSuchVersion"),
+    (Refusal::AlreadyYanked, 12, "AlreadyYanked"),
+    (Refusal::NotYanked, 13, "NotYanked"),
+    (Refusal::Stale, 14, "Stale"),
+    (Refusal::Known, 15, "Known"),
+    (Refusal::StoreFull, 16, "StoreFull"),
+    (Refusal::Stray, 17, "Stray"),
+    (Refusal::NoMemory, 18, "NoMemory"),
+    (Refusal::BadLine, 19, "BadLine"),
+    (Refusal::TooLong, 20, "TooLong"),
+    (Refusal::NotADerivation, 21, "NotADerivation"),
+    (Refusal::BudgetSpent, 22, "BudgetSpent"),
+];
+
+#[test]
 fn refusals_have_their_numbers_and_names(rt: HostRuntime) {
-    let table = [
-        (Refusal::BadName, 1, "BadName"),
-        (Refusal::BadVersion, 2, "BadVersion"),
-        (Refusal::BadRequirement, 3, "BadRequirement"),
-        (Refusal::RepeatedDependency, 4, "RepeatedDependency"),
-        (Refusal::SelfDependency, 5, "SelfDependency"),
-        (Refusal::TooManyDependencies, 6, "TooManyDependencies"),
-        (Refusal::AlreadyPublished, 7, "AlreadyPublished"),
-        (Refusal::TooManyVersions, 8, "TooManyVersions"),
-        (Refusal::TooManyPackages, 9, "TooManyPackages"),
-        (Refusal::JournalFull, 10, "JournalFull"),
-        (Refusal::NoSuchVersion, 11, "NoSuchVersion"),
-        (Refusal::AlreadyYanked, 12, "AlreadyYanked"),
-        (Refusal::NotYanked, 13, "NotYanked"),
-        (Refusal::Stale, 14, "Stale"),
-        (Refusal::Known, 15, "Known"),
-        (Refusal::StoreFull, 16, "StoreFull"),
-        (Refusal::Stray, 17, "Stray"),
-        (Refusal::NoMemory, 18, "NoMemory"),
-        (Refusal::BadLine, 19, "BadLine"),
-        (Refusal::TooLong, 20, "TooLong"),
-        (Refusal::NotADerivation, 21, "NotADerivation"),
-        (Refusal::BudgetSpent, 22, "BudgetSpent"),
-    ];
-    for (refusal, number, name) in table {
-        assert!(rt; refusal.number() == number, "at {number}");
-        assert!(rt; refusal.name() == name, "at {number}");
+    for (refusal, number, name) in &REFUSALS {
+        holds(&rt, refusal.number() == *number, *name, "its number");
+        holds(&rt, refusal.name() == *name, *name, "its name");
     }
 }

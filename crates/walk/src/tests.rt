@@ -7,6 +7,7 @@ use crate::facts::{facts_of, name_of};
 use crate::*;
 use registry::{Command, Dependencies, Pkg, Registry, Request};
 use std::alloc::Global;
+use std::process::Abort;
 use versions::{Name, Need, Published, Refusal};
 
 /// A name, a version, what it depends on, such as "b ^1.0.0; c *", and whether it is yanked.
@@ -136,14 +137,19 @@ fn yank(alloc: Global, registry: &mut Registry, name: &str, version: &str) -> Re
     submit(registry, Command::Yank(name, version))
 }
 
-fn registry(alloc: Global) -> Result<Registry, Refusal> {
-    let mut registry = Registry::new(alloc);
-    for (name, version, listed, yanked) in PUBLISHED {
-        publish(alloc, &mut registry, name, version, listed)?;
-        if yanked {
-            yank(alloc, &mut registry, name, version)?;
+fn publish_rows(alloc: Global, registry: &mut Registry, rows: &[Row]) -> Result<(), Refusal> {
+    for (name, version, listed, yanked) in rows {
+        publish(alloc, registry, *name, *version, *listed)?;
+        if *yanked {
+            yank(alloc, registry, *name, *version)?;
         }
     }
+    Ok(())
+}
+
+fn registry(alloc: Global) -> Result<Registry, Refusal> {
+    let mut registry = Registry::new(alloc);
+    publish_rows(alloc, &mut registry, &PUBLISHED)?;
     Ok(registry)
 }
 
@@ -157,6 +163,24 @@ fn told(alloc: Global, registry: &Registry, pkg: Pkg, ordinal: u32) -> Result<St
     }
 }
 
+/// Who asks.
+fn who(alloc: Global, registry: &Registry, asker: Asker) -> Result<String, Refusal> {
+    match asker {
+        Asker::Request => Ok(String::from_str(alloc, "request")?),
+        Asker::Version(pkg, ordinal) => told(alloc, registry, pkg, ordinal),
+    }
+}
+
+/// That someone asks for this, or for nothing.
+fn asks(alloc: Global, who: &str, what: Option<&(Name, Need)>) -> Result<String, Refusal> {
+    match what {
+        None => Ok(String::from_str(alloc, "nothing")?),
+        Some((name, need)) => {
+            Ok(format!(in alloc; "{who} asks for {} {}", name.text(), need.text())?)
+        }
+    }
+}
+
 /// Who asks, and what is asked at an index.
 fn asked(
     alloc: Global,
@@ -165,28 +189,52 @@ fn asked(
     asker: Asker,
     index: usize,
 ) -> Result<String, Refusal> {
-    let who = match asker {
-        Asker::Request => String::from_str(alloc, "request")?,
-        Asker::Version(pkg, ordinal) => told(alloc, registry, pkg, ordinal)?,
-    };
-    match asker.needs(registry, request).get(index) {
-        None => Ok(String::from_str(alloc, "nothing")?),
-        Some((name, need)) => {
-            Ok(format!(in alloc; "{} asks for {} {}", who.as_str(), name.text(), need.text())?)
-        }
+    let who = who(alloc, registry, asker)?;
+    asks(
+        alloc,
+        who.as_str(),
+        asker.needs(registry, request).get(index),
+    )
+}
+
+/// Writes a version behind those that are told.
+fn tell(text: &mut String, version: &str) -> Result<(), Refusal> {
+    if !text.is_empty() {
+        text.push_str("; ")?;
     }
+    text.push_str(version)?;
+    Ok(())
+}
+
+/// Writes the versions of a list, in its order.
+fn list_in(
+    alloc: Global,
+    registry: &Registry,
+    list: &[(Pkg, u32)],
+    text: &mut String,
+) -> Result<(), Refusal> {
+    for (pkg, ordinal) in list {
+        tell(text, told(alloc, registry, *pkg, *ordinal)?.as_str())?;
+    }
+    Ok(())
 }
 
 /// The versions of a list, in its order.
 fn listed(alloc: Global, registry: &Registry, list: &[(Pkg, u32)]) -> Result<String, Refusal> {
     let mut text = String::new(alloc);
-    for (i, (pkg, ordinal)) in list.iter().enumerate() {
-        if i > 0 {
-            text.push_str("; ")?;
-        }
-        text.push_str(told(alloc, registry, *pkg, *ordinal)?.as_str())?;
-    }
+    list_in(alloc, registry, list, &mut text)?;
     Ok(text)
+}
+
+/// That a version is not allowed.
+fn not_allowed(
+    alloc: Global,
+    registry: &Registry,
+    pkg: Pkg,
+    ordinal: u32,
+) -> Result<String, Refusal> {
+    let version = told(alloc, registry, pkg, ordinal)?;
+    Ok(format!(in alloc; "{} is not allowed", version.as_str())?)
 }
 
 /// What a walk answers, in words; a selection in the order of names.
@@ -202,10 +250,7 @@ fn walked<C: Chooser>(
             listed(alloc, registry, &list)
         }
         Reached::Unmet(asker, index) => asked(alloc, registry, request, asker, index),
-        Reached::NotAllowed(pkg, ordinal) => {
-            let version = told(alloc, registry, pkg, ordinal)?;
-            Ok(format!(in alloc; "{} is not allowed", version.as_str())?)
-        }
+        Reached::NotAllowed(pkg, ordinal) => not_allowed(alloc, registry, pkg, ordinal),
     }
 }
 
@@ -244,12 +289,55 @@ fn chosen(
     walked(alloc, registry, &request, &Always { ordinal })
 }
 
+/// Whether the walk by the preferred versions answers as the row says.
+fn is_preferred(
+    alloc: Global,
+    registry: &Registry,
+    row: &(&str, &str, &str),
+) -> Result<bool, Refusal> {
+    let answer = preferred(alloc, registry, row.0, row.1)?;
+    Ok(answer.as_str() == row.2)
+}
+
+fn preferred_versions_are_walked_in(
+    rt: &impl Abort,
+    alloc: Global,
+    registry: &Registry,
+) -> Result<(), Refusal> {
+    for row in &PREFERRED {
+        assert!(rt;
+            is_preferred(alloc, registry, row)?,
+            "{} lock {}",
+            row.0,
+            row.1
+        );
+    }
+    Ok(())
+}
+
 #[test]
 fn preferred_versions_are_walked(rt: HostRuntime) -> Result<(), Refusal> {
     let registry = registry(rt.alloc())?;
-    for (needs, lock, want) in PREFERRED {
-        let answer = preferred(rt.alloc(), &registry, needs, lock)?;
-        assert_eq!(rt; answer.as_str(), want, "{needs} lock {lock}");
+    preferred_versions_are_walked_in(&rt, rt.alloc(), &registry)
+}
+
+/// Whether the walk by the same ordinal of each package answers as the row says.
+fn is_chosen(
+    alloc: Global,
+    registry: &Registry,
+    row: &(&str, Option<u32>, &str),
+) -> Result<bool, Refusal> {
+    let answer = chosen(alloc, registry, row.0, row.1)?;
+    Ok(answer.as_str() == row.2)
+}
+
+fn chosen_versions_are_walked_in(
+    rt: &impl Abort,
+    alloc: Global,
+    registry: &Registry,
+) -> Result<(), Refusal> {
+    for row in &CHOSEN {
+        assert!(rt; is_chosen(alloc, registry, row)?, "{}", row.0);
     }
     Ok(())
 }
@@ -257,26 +345,32 @@ fn preferred_versions_are_walked(rt: HostRuntime) -> Result<(), Refusal> {
 #[test]
 fn chosen_versions_are_walked(rt: HostRuntime) -> Result<(), Refusal> {
     let registry = registry(rt.alloc())?;
-    for (needs, ordinal, want) in CHOSEN {
-        let answer = chosen(rt.alloc(), &registry, needs, ordinal)?;
-        assert_eq!(rt; answer.as_str(), want, "{needs}");
+    chosen_versions_are_walked_in(&rt, rt.alloc(), &registry)
+}
+
+/// A package, and the ordinal of its preferred version.
+const PREFERENCES: [(Pkg, Option<u32>); 5] = [
+    (0, None),
+    (2, Some(0)),
+    (3, Some(0)),
+    (4, Some(1)),
+    (9, None),
+];
+
+fn packages_have_preferred_versions_in(rt: &impl Abort, registry: &Registry, request: &Request) {
+    for (pkg, want) in &PREFERENCES {
+        assert!(rt;
+            preferred_version(registry, request, *pkg) == *want,
+            "{pkg}"
+        );
     }
-    Ok(())
 }
 
 #[test]
 fn packages_have_preferred_versions(rt: HostRuntime) -> Result<(), Refusal> {
     let registry = registry(rt.alloc())?;
     let request = request(rt.alloc(), "alpha ^1", "gone 1.0.0")?;
-    for (pkg, want) in [
-        (0, None),
-        (2, Some(0)),
-        (3, Some(0)),
-        (4, Some(1)),
-        (9, None),
-    ] {
-        assert_eq!(rt; preferred_version(&registry, &request, pkg), want, "{pkg}");
-    }
+    packages_have_preferred_versions_in(&rt, &registry, &request);
     Ok(())
 }
 
@@ -287,21 +381,29 @@ fn publish_link(alloc: Global, registry: &mut Registry, number: u32) -> Result<(
     publish(alloc, registry, name.as_str(), "1.0.0", need.as_str())
 }
 
-/// A chain of packages, of which each depends on the next; the last one is not published.
-fn chain(alloc: Global, count: u32) -> Result<Registry, Refusal> {
-    let mut registry = Registry::new(alloc);
+/// Publishes a chain of packages, of which each depends on the next; the last one is not published.
+fn publish_chain(alloc: Global, registry: &mut Registry, count: u32) -> Result<(), Refusal> {
     for number in 0..count.saturating_sub(1) {
-        publish_link(alloc, &mut registry, number)?;
+        publish_link(alloc, registry, number)?;
     }
-    Ok(registry)
+    Ok(())
+}
+
+fn a_long_chain_is_walked_in(
+    rt: &impl Abort,
+    alloc: Global,
+    registry: &mut Registry,
+) -> Result<(), Refusal> {
+    publish_chain(alloc, registry, 10_000)?;
+    assert!(rt; reached(alloc, registry, "p0 *")? == 0);
+    publish(alloc, registry, "p9999", "1.0.0", "")?;
+    assert!(rt; reached(alloc, registry, "p0 *")? == 10_000);
+    assert!(rt; reached(alloc, registry, "p9980 *")? == 20);
+    Ok(())
 }
 
 #[test]
 fn a_long_chain_is_walked(rt: HostRuntime) -> Result<(), Refusal> {
-    let mut registry = chain(rt.alloc(), 10_000)?;
-    assert_eq!(rt; reached(rt.alloc(), &registry, "p0 *")?, 0);
-    publish(rt.alloc(), &mut registry, "p9999", "1.0.0", "")?;
-    assert_eq!(rt; reached(rt.alloc(), &registry, "p0 *")?, 10_000);
-    assert_eq!(rt; reached(rt.alloc(), &registry, "p9980 *")?, 20);
-    Ok(())
+    let mut registry = Registry::new(rt.alloc());
+    a_long_chain_is_walked_in(&rt, rt.alloc(), &mut registry)
 }

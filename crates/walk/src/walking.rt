@@ -16,6 +16,10 @@ use registry::{Pkg, Registry, Request};
 use std::alloc::{AllocError, Global};
 use versions::Need;
 
+/// For how many packages room is made before a walk, so that a short one need not move them again and
+/// again.
+const ROOM: usize = 128;
+
 /// Whether a version of a package is published and meets a requirement.
 fn meets(registry: &Registry, pkg: Pkg, ordinal: u32, need: &Need) -> bool
     ensures { result ≡ meets_at registry.now.packages pkg ordinal need.now }
@@ -167,7 +171,7 @@ pub fn reach<C: Chooser>(
 ) -> Result<Reached, AllocError>
     ensures { IfOk result (ReachesBy registry.now.packages request.now (C.chooses chooser.now)) }
 {
-    let mut found = IndexMap::new(alloc);
+    let mut found = IndexMap::with_capacity(alloc, ROOM)?;
     if let Some(index) = follow_all(registry, request, chooser, Asker::Request, &mut found)? {
         return Ok(Reached::Unmet(Asker::Request, index));
     }

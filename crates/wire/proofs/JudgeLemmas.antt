@@ -1,9 +1,9 @@
 -- Texts that are judged one after another.
 use Rattle.std.proofs.Common.{◌≡◌, ℕ, zero, suc, ◌+◌, add-one, List, [], ◌∷◌, ◌++◌, take, drop, map, Bool, true, false, ◌&&◌, if◌then◌else◌, Option, Some, None, Result, Ok, Err, refl, sym, ap, ◌∙◌, subst}
-use Rattle.std.specs.List.{list_all, slice_get}
-use Rattle.std.proofs.lemmas.List.{take_more}
+use Rattle.std.specs.List.{flat_map, list_all, slice_get}
+use Rattle.std.proofs.lemmas.List.Concat.{flat_map-append}
+use Rattle.wire.proofs.ItemLemmas.{take_one_more}
 use Rattle.std.proofs.lemmas.List.Folds.{list_all-append}
-use Rattle.std.proofs.lemmas.Option.{slice_get_within, get_or_from_slice_get}
 use Rattle.versions.specs.Refusals.{Refuses}
 use Rattle.versions.specs.Words.{Text, is_name, is_requirement, is_version}
 use Rattle.versions.specs.declared.refusal.Refusal.{Refusal}
@@ -12,7 +12,13 @@ use Rattle.registry.specs.Needs.{names_of}
 use Rattle.registry.specs.Requests as kept
 use Rattle.registry.specs.Requests.{Wanted, request_refusal}
 use Rattle.wire.specs.Requests.{checked, judged, locked_versions, requirements_of, unless_refused}
-use Rattle.wire.specs.Shapes.{Request, resolve}
+use Rattle.wire.specs.NamedShapes.{line_requirements, premise_requirements, requirement_of}
+use Rattle.wire.specs.Shapes.{Request, check, resolve}
+use Rattle.wire.specs.declared.by_name.NamedLine.{NamedLine}
+
+-- want of memory is no answer
+pub refuses_memory : {Y : Type 0} (e : Refusal) (said : Result Y Refusal) → e ≡ NoMemory → Refuses e said
+refuses_memory e said is = rw is tt
 
 -- where a test decides what was read, its refusal is the one that is said
 pub refuses_by : {X Y : Type 0} (b : Bool) (x : X) (bad e : Refusal) (said : Result Y Refusal) → Refuses e (if b then Ok x else Err bad)
@@ -26,16 +32,17 @@ pub given_by : {X : Type 0} (b : Bool) (x y : X) (bad : Refusal) → (if b then 
 given_by true x y bad is = (refl, cc)
 given_by false x y bad is = absurd (cc)
 
+-- a test and one that fails
+pub never : (b : Bool) → (b && false) ≡ false
+never true = refl
+never false = refl
+
 module _ {A B : Type 0} (part : A → B) (test : B → Bool) where
   -- the test fails of all where it fails at one place
   pub fails_at : (xs : List A) (i : ℕ) (x : A) → slice_get xs i ≡ Some x → test (part x) ≡ false → list_all test (map part xs) ≡ false
   fails_at [] i x here bad = absurd (cc)
   fails_at (y ∷ xs) zero x here bad = let same : y ≡ x = cc in rw (same, bad) refl
-  fails_at (y ∷ xs) (suc i) x here bad = rw (fails_at xs i x here bad) (both (test (part y)))
-    where
-      both : (b : Bool) → (b && false) ≡ false
-      both true = refl
-      both false = refl
+  fails_at (y ∷ xs) (suc i) x here bad = rw (fails_at xs i x here bad) (never (test (part y)))
 
   next_suc : (xs : List A) (i : ℕ) (x : A) → slice_get xs i ≡ Some x → map part (take (suc i) xs) ≡ map part (take i xs) ++ part x ∷ []
   next_suc [] i x here = absurd (cc)
@@ -50,6 +57,17 @@ module _ {A B : Type 0} (part : A → B) (test : B → Bool) where
   pub holds_more : (xs : List A) (i : ℕ) (x : A) → slice_get xs i ≡ Some x → list_all test (map part (take i xs)) ≡ true → test (part x) ≡ true
       → list_all test (map part (take (i + 1) xs)) ≡ true
   holds_more xs i x here before now = rw (take_next xs i x here, list_all-append, before, now) refl
+
+-- the same where each gives a list
+module _ {A B : Type 0} (parts : A → List B) (test : B → Bool) where
+  pub fails_within : (xs : List A) (i : ℕ) (x : A) → slice_get xs i ≡ Some x → list_all test (parts x) ≡ false → list_all test (flat_map parts xs) ≡ false
+  fails_within [] i x here bad = absurd (cc)
+  fails_within (y ∷ xs) zero x here bad = let same : y ≡ x = cc in rw (same, list_all-append, bad) refl
+  fails_within (y ∷ xs) (suc i) x here bad = rw (list_all-append, fails_within xs i x here bad) (never (list_all test (parts y)))
+
+  pub holds_within : (xs : List A) (i : ℕ) (x : A) → slice_get xs i ≡ Some x → list_all test (flat_map parts (take i xs)) ≡ true → list_all test (parts x) ≡ true
+      → list_all test (flat_map parts (take (i + 1) xs)) ≡ true
+  holds_within xs i x here before now = rw (take_one_more xs i x here, flat_map-append, list_all-append, before, list_all-append, now) refl
 
 -- what is left of a list after one more
 pub drop_next : {A B : Type 0} (part : A → B) (xs : List A) (i : ℕ) (x : A) → slice_get xs i ≡ Some x → map part (drop i xs) ≡ part x ∷ map part (drop (i + 1) xs)
@@ -76,12 +94,9 @@ read_more test pairs left later done n name other pair before taken here kept go
     record {
       left_is = cc;
       done_is = let same : name ≡ pair.0 = cc in
-          rw (same, kept) (ap (λ l. l ++ pair ∷ []) before.done_is ∙ sym (take_more_at pairs n pair here));
+          rw (same, kept) (ap (λ l. l ++ pair ∷ []) before.done_is ∙ sym (take_one_more pairs n pair here));
       good = holds_more (λ (d : Text × Text). d.1) test pairs n pair here before.good good;
     }
-  where
-    take_more_at : (xs : List (Text × Text)) (i : ℕ) (x : Text × Text) → slice_get xs i ≡ Some x → take (i + 1) xs ≡ take i xs ++ x ∷ []
-    take_more_at xs i x here = take_more xs i x (slice_get_within xs i x here) ∙ ap (λ y. take i xs ++ y ∷ []) (get_or_from_slice_get xs i x x here)
 
 refuses_alike : (X Y : Type 0) (bad e : Refusal) → Refuses {Y = X} e (Err bad) → Refuses {Y = Y} e (Err bad)
 refuses_alike X Y bad NoMemory refuses = tt
@@ -99,7 +114,7 @@ refuses_marking false versioned marking request e refuses = refuses_alike _ _ Ba
 refuses_marking true false marking request e refuses = refuses_alike _ _ BadVersion e refuses
 refuses_marking true true marking request e refuses = refuses_none _ e marking _ refuses
 
--- ---- the request of a resolve line
+-- ---- the requests of resolve and check lines
 
 -- the names of both lists are judged one list after the other
 pub both_named : (needs lock : List (Text × Text)) → list_all is_name (names_of needs) ≡ true → list_all is_name (names_of lock) ≡ true
@@ -112,48 +127,77 @@ misnamed_needs needs lock bad = rw (list_all-append, bad) refl
 
 -- a bad name among the lock lines
 pub misnamed_lock : (needs lock : List (Text × Text)) → list_all is_name (names_of lock) ≡ false → list_all is_name (names_of needs ++ names_of lock) ≡ false
-misnamed_lock needs lock bad = rw (list_all-append, bad) (either (list_all is_name (names_of needs)))
-  where
-    either : (b : Bool) → (b && false) ≡ false
-    either true = refl
-    either false = refl
+misnamed_lock needs lock bad = rw (list_all-append, bad) (never (list_all is_name (names_of needs)))
 
--- what a request is refused for, its line is
-refuses_line : (wanted : Wanted) (budget : Option ℕ) (refusal : Option Refusal) (e : Refusal) → Refuses e (kept.unless_refused refusal wanted) → Refuses e (unless_refused refusal (resolve wanted budget))
-refuses_line wanted budget None e refuses = refuses_none _ e wanted _ refuses
-refuses_line wanted budget (Some bad) e refuses = refuses_alike _ _ bad e refuses
+-- what a request is refused for, the line that asks it is
+refuses_line : (ask : Wanted → Request) (wanted : Wanted) (refusal : Option Refusal) (e : Refusal) → Refuses e (kept.unless_refused refusal wanted) → Refuses e (unless_refused refusal (ask wanted))
+refuses_line ask wanted None e refuses = refuses_none _ e wanted _ refuses
+refuses_line ask wanted (Some bad) e refuses = refuses_alike _ _ bad e refuses
 
 -- what a request is made of, its line asks
-asks_line : (wanted made : Wanted) (budget : Option ℕ) (refusal : Option Refusal) → kept.unless_refused refusal wanted ≡ Ok made → unless_refused refusal (resolve wanted budget) ≡ Ok (resolve made budget)
-asks_line wanted made budget None is = let same : wanted ≡ made = cc in ap (λ (w : Wanted). Ok (resolve w budget)) same
-asks_line wanted made budget (Some bad) is = absurd (cc)
+asks_line : (ask : Wanted → Request) (wanted made : Wanted) (refusal : Option Refusal) → kept.unless_refused refusal wanted ≡ Ok made → unless_refused refusal (ask wanted) ≡ Ok (ask made)
+asks_line ask wanted made None is = let same : wanted ≡ made = cc in ap (λ (w : Wanted). Ok (ask w)) same
+asks_line ask wanted made (Some bad) is = absurd (cc)
 
 -- what needs and a lock ask for
 abbrev pub wanted_of : List (Text × Text) → List (Text × Text) → Wanted
 wanted_of needs lock = record { needs = needs; lock = lock }
 
--- the texts of a resolve line are names, versions and requirements
+-- the texts of needs and a lock are names, versions and requirements
 pub record AreTexts (needs lock : List (Text × Text)) : Type 0 where
   pub named : list_all is_name (names_of needs ++ names_of lock) ≡ true
   pub versioned : list_all is_version (locked_versions lock) ≡ true
   pub required : list_all is_requirement (requirements_of needs) ≡ true
 
--- then the line is judged as its request is
-judged_texts : (needs lock : List (Text × Text)) (budget : Option ℕ) → AreTexts needs lock
-    → judged (resolve (wanted_of needs lock) budget) ≡ unless_refused (request_refusal (wanted_of needs lock)) (resolve (wanted_of needs lock) budget)
-judged_texts needs lock budget texts = rw (texts.named, texts.versioned, texts.required) refl
+-- the line that asks for them is judged as its request is
+abbrev pub IsJudged : (Wanted → Request) → List (Text × Text) → List (Text × Text) → Type 0
+IsJudged ask needs lock = judged (ask (wanted_of needs lock)) ≡ unless_refused (request_refusal (wanted_of needs lock)) (ask (wanted_of needs lock))
 
-module _ (needs lock kept_needs kept_lock : List (Text × Text)) (budget : Option ℕ) (texts : AreTexts needs lock) (same_needs : kept_needs ≡ needs) (same_lock : kept_lock ≡ lock) where
+-- a resolve line is
+pub judged_resolution : (needs lock : List (Text × Text)) (explain : Bool) (budget : Option ℕ) → AreTexts needs lock → IsJudged (λ wanted. resolve wanted explain budget) needs lock
+judged_resolution needs lock explain budget texts = rw (texts.named, texts.versioned, texts.required) refl
+
+-- a check line is, where the requirements of its derivation are such
+pub judged_checking : (needs lock : List (Text × Text)) (lines : List NamedLine) → AreTexts needs lock → list_all is_requirement (premise_requirements lines) ≡ true
+    → IsJudged (λ wanted. check wanted lines) needs lock
+judged_checking needs lock lines texts derived =
+    let both : list_all is_requirement (requirements_of needs ++ premise_requirements lines) ≡ true = rw (list_all-append, texts.required, derived) refl in
+    rw (texts.named, texts.versioned, both) refl
+
+-- a bad requirement among the needs
+pub unrequired_needs : (needs : List (Text × Text)) (lines : List NamedLine) → list_all is_requirement (requirements_of needs) ≡ false
+    → list_all is_requirement (requirements_of needs ++ premise_requirements lines) ≡ false
+unrequired_needs needs lines bad = rw (list_all-append, bad) refl
+
+-- a bad requirement among the premises
+pub unrequired_lines : (needs : List (Text × Text)) (lines : List NamedLine) → list_all is_requirement (premise_requirements lines) ≡ false
+    → list_all is_requirement (requirements_of needs ++ premise_requirements lines) ≡ false
+unrequired_lines needs lines bad = rw (list_all-append, bad) (never (list_all is_requirement (requirements_of needs)))
+
+-- a bad requirement of a line's first cause
+pub unrequired_one : (line : NamedLine) → list_all is_requirement (requirement_of line.causes.0) ≡ false → list_all is_requirement (line_requirements line) ≡ false
+unrequired_one line bad = rw (list_all-append, bad) refl
+
+-- a bad requirement of its second
+pub unrequired_two : (line : NamedLine) → list_all is_requirement (requirement_of line.causes.1) ≡ false → list_all is_requirement (line_requirements line) ≡ false
+unrequired_two line bad = rw (list_all-append, bad) (never (list_all is_requirement (requirement_of line.causes.0)))
+
+-- the requirements of both causes
+pub good_line : (line : NamedLine) → list_all is_requirement (requirement_of line.causes.0) ≡ true → list_all is_requirement (requirement_of line.causes.1) ≡ true
+    → list_all is_requirement (line_requirements line) ≡ true
+good_line line one two = rw (list_all-append, one, two) refl
+
+module _ (ask : Wanted → Request) (needs lock kept_needs kept_lock : List (Text × Text)) (is_judged : IsJudged ask needs lock) (same_needs : kept_needs ≡ needs) (same_lock : kept_lock ≡ lock) where
   -- the request, of what was read of these texts, is refused
-  pub refuses_judged : (e : Refusal) → Refuses e (kept.request_in kept_needs kept_lock) → Refuses e (judged (resolve (wanted_of needs lock) budget))
+  pub refuses_judged : (e : Refusal) → Refuses e (kept.request_in kept_needs kept_lock) → Refuses e (judged (ask (wanted_of needs lock)))
   refuses_judged e refuses =
       let of_needs : Refuses e (kept.request_in needs kept_lock) = subst (λ (l : List (Text × Text)). Refuses e (kept.request_in l kept_lock)) same_needs refuses in
       let of_both : Refuses e (kept.request_in needs lock) = subst (λ (l : List (Text × Text)). Refuses e (kept.request_in needs l)) same_lock of_needs in
-      subst (λ (said : Result Request Refusal). Refuses e said) (sym (judged_texts needs lock budget texts)) (refuses_line (wanted_of needs lock) budget (request_refusal (wanted_of needs lock)) e of_both)
+      subst (λ (said : Result Request Refusal). Refuses e said) (sym is_judged) (refuses_line ask (wanted_of needs lock) (request_refusal (wanted_of needs lock)) e of_both)
 
   -- or it is made
-  pub asks_judged : (made : Wanted) → kept.request_in kept_needs kept_lock ≡ Ok made → judged (resolve (wanted_of needs lock) budget) ≡ Ok (resolve made budget)
+  pub asks_judged : (made : Wanted) → kept.request_in kept_needs kept_lock ≡ Ok made → judged (ask (wanted_of needs lock)) ≡ Ok (ask made)
   asks_judged made is =
       let of_needs : kept.request_in needs kept_lock ≡ Ok made = subst (λ (l : List (Text × Text)). kept.request_in l kept_lock ≡ Ok made) same_needs is in
       let of_both : kept.request_in needs lock ≡ Ok made = subst (λ (l : List (Text × Text)). kept.request_in needs l ≡ Ok made) same_lock of_needs in
-      judged_texts needs lock budget texts ∙ asks_line (wanted_of needs lock) made budget (request_refusal (wanted_of needs lock)) of_both
+      is_judged ∙ asks_line ask (wanted_of needs lock) made (request_refusal (wanted_of needs lock)) of_both

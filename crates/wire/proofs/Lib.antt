@@ -1,5 +1,4 @@
 pub mod RequestLemmas
-pub mod PairLemmas
 pub mod JudgeLemmas
 pub mod PlainLemmas
 pub mod RequirementLemmas
@@ -8,3 +7,9 @@ pub mod PutLemmas
 pub mod ListingLemmas
 pub mod JournalLemmas
 pub mod JournalRows
+pub mod NumberLemmas
+pub mod WrittenLemmas
+pub mod DerivedNames
+pub mod PlainJson
+pub mod ItemLemmas
+pub mod OrdinalLemmas

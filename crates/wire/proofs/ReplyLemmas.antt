@@ -12,13 +12,15 @@ use Rattle.versions.specs.declared.refusal.Refusal.{Refusal}
 use Rattle.versions.specs.declared.refusal.Refusal.TheVariants.{BadName, BadVersion, BadRequirement, RepeatedDependency, SelfDependency, TooManyDependencies, AlreadyPublished, TooManyVersions, TooManyPackages, JournalFull, NoSuchVersion, AlreadyYanked, NotYanked, Stale, Known, StoreFull, Stray, NoMemory, BadLine, TooLong, NotADerivation, BudgetSpent}
 use Rattle.wire.proofs.PlainLemmas.{escape-plain, is_plain, name-plain}
 use Rattle.versions.specs.Words.{Text, is_name}
-use Rattle.wire.specs.Joined.{closing, found_text, joined, joined_after}
+use Rattle.wire.specs.Joined.{closing, found_text, joined, joined_after, verdict}
 use Rattle.registry.specs.Registry.{Packages, Publication, package_at, versions_or_none}
 use Rattle.wire.specs.Entries.{entry_json, publication_json, row_at}
 use Rattle.wire.specs.declared.listing.Entry.{Entry}
 use Rattle.wire.specs.Listings.{Row, versions_in}
 use Rattle.wire.specs.declared.reply.Spot.{Spot}
-use Rattle.wire.specs.Replies.{accepted, listed, no_selection, pair_json, refused, reply_text, row_json, selected, version_json}
+use Rattle.wire.specs.NamedJson.{derivation_json}
+use Rattle.wire.specs.declared.by_name.NamedLine.{NamedLine}
+use Rattle.wire.specs.Replies.{accepted, explained, follows, listed, no_selection, pair_json, refused, reply_text, row_json, selected, texts_json, version_json}
 
 pub accepted_text : (stamp : Option Spot) (revision : ℕ) → (codes "{\"ok\":true," ++ []) ++ (found_text stamp revision [] ++ codes "}\n")
     ≡ reply_text (record { revision = revision; stamp = stamp; body = accepted })
@@ -62,6 +64,38 @@ pub no_selection_text : (stamp : Option Spot) (revision : ℕ) → (codes "{" ++
 unfolding serde_json_on_literals reply_text
 no_selection_text None revision = simp append_assoc
 no_selection_text (Some spot) revision = simp append_assoc
+
+-- what ends the line of a refusal with its reason, whose two texts are these
+reason_nowhere : (derivation explanation : List ℕ) (revision : ℕ)
+    → (codes "{\"derivation\":" ++ (derivation ++ (codes ",\"explanation\":" ++ (explanation ++ (codes "," ++ []))))) ++ (found_text None revision (codes "\"refused\":true,") ++ codes "}\n")
+    ≡ (codes "{\"derivation\":" ++ (derivation ++ (codes ",\"explanation\":" ++ (explanation ++ (codes ",\"refused\":true,\"revision\":" ++ (decimal revision ++ 125 ∷ [])))))) ++ 10 ∷ []
+unfolding serde_json_on_literals
+reason_nowhere derivation explanation revision = simp append_assoc
+
+reason_at : (derivation explanation : List ℕ) (spot : Spot) (revision : ℕ)
+    → (codes "{\"derivation\":" ++ (derivation ++ (codes ",\"explanation\":" ++ (explanation ++ (codes "," ++ []))))) ++ (found_text (Some spot) revision (codes "\"refused\":true,") ++ codes "}\n")
+    ≡ (codes "{\"derivation\":" ++ (derivation ++ (codes ",\"explanation\":" ++ (explanation ++ (codes ",\"place\":" ++ (decimal spot.place
+    ++ (codes ",\"refused\":true,\"revision\":" ++ (decimal revision ++ (codes ",\"seat\":" ++ (decimal spot.seat ++ 125 ∷ [])))))))))) ++ 10 ∷ []
+unfolding serde_json_on_literals
+reason_at derivation explanation spot revision = simp append_assoc
+
+-- a refusal with its reason
+pub explained_text : (lines : List NamedLine) (texts : List Text) (stamp : Option Spot) (revision : ℕ)
+    → (codes "{\"derivation\":" ++ (compact_text (derivation_json lines) ++ (codes ",\"explanation\":" ++ (compact_text (texts_json texts) ++ (codes "," ++ [])))))
+    ++ (found_text stamp revision (codes "\"refused\":true,") ++ codes "}\n")
+    ≡ reply_text (record { revision = revision; stamp = stamp; body = explained lines texts })
+unfolding serde_json_on_literals reply_text
+explained_text lines texts None revision = reason_nowhere (compact_text (derivation_json lines)) (compact_text (texts_json texts)) revision
+explained_text lines texts (Some spot) revision = reason_at (compact_text (derivation_json lines)) (compact_text (texts_json texts)) spot revision
+
+-- whether a derivation follows
+pub follows_text : (yes : Bool) (stamp : Option Spot) (revision : ℕ) → (verdict yes ++ []) ++ (found_text stamp revision [] ++ codes "}\n")
+    ≡ reply_text (record { revision = revision; stamp = stamp; body = follows yes })
+unfolding serde_json_on_literals reply_text
+follows_text true None revision = simp append_assoc
+follows_text true (Some spot) revision = simp append_assoc
+follows_text false None revision = simp append_assoc
+follows_text false (Some spot) revision = simp append_assoc
 
 -- ---- listings
 

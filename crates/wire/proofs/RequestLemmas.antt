@@ -1,15 +1,19 @@
--- Lines that ask nothing, and arrays that are no pairs.
-use Rattle.std.proofs.Common.{◌≡◌, ◌≢◌, ℕ, ◌+◌, List, Bool, true, false, refl, Option, None, Some, Err, length, ◌==◌, codes, rules}
+-- Lines that ask nothing, and arrays of another length.
+use Rattle.std.proofs.Common.{◌≡◌, ◌≢◌, ℕ, ◌+◌, List, Bool, true, false, refl, Option, None, Some, Err, length, ◌==◌, if◌then◌else◌, ne_eqb, codes, rules}
 use Rattle.std.specs.Str.{IsUtf8, is_utf8}
 use Rattle.std.proofs.lemmas.Str.{IsUtf8-from_is_utf8, is_utf8-from_IsUtf8}
 use Rattle.serde_json.specs.Data.{Data}
 use Rattle.serde_json.specs.Read.{read}
+use Rattle.serde_json.specs.Events.{items_len}
 use Rattle.serde_json.specs.View.{items_view}
 use Rattle.serde_json.proofs.Views.{items_len-items_view}
 use Rattle.serde_json.specs.declared.value.Value.{Value}
 use Rattle.versions.specs.declared.refusal.Refusal.TheVariants.{BadLine}
 use Rattle.versions.specs.Words.{Text}
-use Rattle.wire.specs.Shapes.{budget_in, has_member, lock_in, member_count, pair_of_items, pairs_at, resolution_in, resolve}
+use Rattle.wire.specs.Members.{has_member, member_count}
+use Rattle.wire.specs.NamedShapes.{derivation_at}
+use Rattle.wire.specs.declared.by_name.NamedLine.{NamedLine}
+use Rattle.wire.specs.Shapes.{budget_in, check, checking_in, explain_in, lock_in, pairs_at, resolution_in, resolve}
 use Rattle.wire.specs.Requests.{request_in, request_of}
 
 bad_by : (line : List ℕ) (b : Bool) → is_utf8 line ≡ b → (IsUtf8 line → read line ≡ None) → request_of line ≡ Err BadLine
@@ -21,18 +25,28 @@ bad_by line true is none = rw (is, none (IsUtf8-from_is_utf8 line is)) refl
 pub request_of-bad : (line : List ℕ) → (IsUtf8 line → read line ≡ None) → request_of line ≡ Err BadLine
 request_of-bad line none = bad_by line _ refl none
 
--- an array of another length is no pair
-pub pair_of_items-other : (vs : List Value) → length vs ≢ 2 → None ≡ pair_of_items (items_view vs)
-pair_of_items-other vs other = rw items_len-items_view (let no : (length vs == 2) ≡ false = search rules in rw no refl)
+-- nothing is read of an array of another length
+pub other_length : {A : Type 0} (n : ℕ) (vs : List Value) (found : Option A) → length vs ≢ n → None ≡ (if items_len (items_view vs) == n then found else None)
+other_length n vs found other = rw items_len-items_view (let no : (length vs == n) ≡ false = ne_eqb (length vs) n other in rw no refl)
 
 -- a line that is JSON
 pub request_of-read : (line : List ℕ) (d : Data) → IsUtf8 line → read line ≡ Some d → request_of line ≡ request_in d
 unfolding request_of
 request_of-read line d text is = rw (is_utf8-from_IsUtf8 line text, is) refl
 
--- where the members are counted, and a lock, a budget and needs are found, they are asked
-pub resolution_of : (d : Data) (lock needs : List (Text × Text)) (budget : Option ℕ) → member_count d ≡ 2 + has_member (codes "lock") d + has_member (codes "budget") d
-    → Some lock ≡ lock_in d → Some budget ≡ budget_in d → Some needs ≡ pairs_at (codes "needs") d → Some (resolve (record { needs = needs; lock = lock }) budget) ≡ resolution_in d
-resolution_of d lock needs budget counted locked limited needed =
-    let same : (member_count d == 2 + has_member (codes "lock") d + has_member (codes "budget") d) ≡ true = search rules in
-    rw (same, ← locked, ← limited, ← needed) refl
+-- where the members are counted, and a lock, needs, whether to explain and a budget are found, they are asked
+pub resolution_of : (d : Data) (lock needs : List (Text × Text)) (explain : Bool) (budget : Option ℕ)
+    → member_count d ≡ 2 + has_member (codes "lock") d + has_member (codes "budget") d + has_member (codes "explain") d
+    → Some lock ≡ lock_in d → Some needs ≡ pairs_at (codes "needs") d → Some explain ≡ explain_in d → Some budget ≡ budget_in d
+    → Some (resolve (record { needs = needs; lock = lock }) explain budget) ≡ resolution_in d
+resolution_of d lock needs explain budget counted locked needed told limited =
+    let same : (member_count d == 2 + has_member (codes "lock") d + has_member (codes "budget") d + has_member (codes "explain") d) ≡ true = search rules in
+    rw (same, ← locked, ← needed, ← told, ← limited) refl
+
+-- where the members are counted, and a lock, needs and a derivation are found, that is to be checked
+pub checking_of : (d : Data) (lock needs : List (Text × Text)) (lines : List NamedLine) → member_count d ≡ 3 + has_member (codes "lock") d
+    → Some lock ≡ lock_in d → Some needs ≡ pairs_at (codes "needs") d → Some lines ≡ derivation_at (codes "derivation") d
+    → Some (check (record { needs = needs; lock = lock }) lines) ≡ checking_in d
+checking_of d lock needs lines counted locked needed derived =
+    let same : (member_count d == 3 + has_member (codes "lock") d) ≡ true = search rules in
+    rw (same, ← locked, ← needed, ← derived) refl

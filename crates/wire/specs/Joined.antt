@@ -25,6 +25,11 @@ found_text None revision between = between ++ (codes "\"revision\":" ++ decimal 
 found_text (Some spot) revision between =
     codes "\"place\":" ++ (decimal spot.place ++ (codes "," ++ (between ++ (codes "\"revision\":" ++ (decimal revision ++ (codes ",\"seat\":" ++ decimal spot.seat))))))
 
+-- what begins the reply to a check line, up to where and when it was found
+abbrev pub verdict : Bool → List ℕ
+verdict true = codes "{\"follows\":true,"
+verdict false = codes "{\"follows\":false,"
+
 -- where there is room behind what waited, the put does not fail, and the text waits there
 abbrev pub Waits : {E : Type 0} → List ℕ → List ℕ → Result Unit E → List ℕ → Type 0
 Waits before after r text = length before + length text ≤ outbox_room → IsOk r × (after ≡ before ++ text)

@@ -1,5 +1,5 @@
 -- Replies as they are kept, by what they tell.
-use Rattle.wire.specs.Replies.{Body, Reply, accepted, listed, no_selection, refused, selected}
+use Rattle.wire.specs.Replies.{Body, Reply, accepted, explained, follows, listed, no_selection, refused, selected}
 use Rattle.wire.specs.declared.reply.Body.{Body as Kept}
 use Rattle.wire.specs.declared.reply.Body.TheVariants as kept
 use Rattle.wire.specs.declared.reply.Reply.{Reply as KeptReply}
@@ -9,6 +9,8 @@ body_of kept.Accepted = accepted
 body_of (kept.Refusal refusal) = refused refusal
 body_of (kept.Selection pairs) = selected pairs.now
 body_of kept.NoSelection = no_selection
+body_of (kept.Explained reason) = explained reason.now.lines reason.now.texts
+body_of (kept.Follows holds) = follows holds
 body_of (kept.Listing rows) = listed rows
 
 abbrev pub reply_of : KeptReply → Reply

@@ -10,7 +10,8 @@ use Rattle.versions.specs.declared.refusal.Refusal.TheVariants.{BadName, BadVers
 use Rattle.registry.specs.Needs.{names_of}
 use Rattle.registry.specs.Requests.{request_refusal}
 use Rattle.registry.specs.Step.{Publish, Yank, Unyank}
-use Rattle.wire.specs.Shapes.{Request, command, listing, resolve, shape_of}
+use Rattle.wire.specs.NamedShapes.{premise_requirements}
+use Rattle.wire.specs.Shapes.{Request, check, command, listing, resolve, shape_of}
 
 -- the requirements of the needs, in order
 abbrev pub requirements_of : List (Text × Text) → List Text
@@ -20,12 +21,13 @@ requirements_of needs = map (λ (need : Text × Text). need.1) needs
 abbrev pub locked_versions : List (Text × Text) → List Text
 locked_versions lock = map (λ (line : Text × Text). line.1) lock
 
--- all names of a request
+-- all names of a request; those of a derivation belong to its shape
 abbrev pub names_in : Request → List Text
 names_in (command (Publish name version needs)) = name ∷ names_of needs
 names_in (command (Yank name version)) = name ∷ []
 names_in (command (Unyank name version)) = name ∷ []
-names_in (resolve wanted budget) = names_of wanted.needs ++ names_of wanted.lock
+names_in (resolve wanted explain budget) = names_of wanted.needs ++ names_of wanted.lock
+names_in (check wanted lines) = names_of wanted.needs ++ names_of wanted.lock
 names_in listing = []
 
 -- all versions of a request
@@ -33,15 +35,17 @@ abbrev pub versions_in : Request → List Text
 versions_in (command (Publish name version needs)) = version ∷ []
 versions_in (command (Yank name version)) = version ∷ []
 versions_in (command (Unyank name version)) = version ∷ []
-versions_in (resolve wanted budget) = locked_versions wanted.lock
+versions_in (resolve wanted explain budget) = locked_versions wanted.lock
+versions_in (check wanted lines) = locked_versions wanted.lock
 versions_in listing = []
 
--- all requirements of a request
+-- all requirements of a request, those of a derivation's premises among them
 abbrev pub requirements_in : Request → List Text
 requirements_in (command (Publish name version needs)) = requirements_of needs
 requirements_in (command (Yank name version)) = []
 requirements_in (command (Unyank name version)) = []
-requirements_in (resolve wanted budget) = requirements_of wanted.needs
+requirements_in (resolve wanted explain budget) = requirements_of wanted.needs
+requirements_in (check wanted lines) = requirements_of wanted.needs ++ premise_requirements lines
 requirements_in listing = []
 
 -- what was tested, where the test holds, or else the refusal
@@ -52,10 +56,11 @@ abbrev pub unless_refused : Option Refusal → Request → Result Request Refusa
 unless_refused None request = Ok request
 unless_refused (Some refusal) request = Err refusal
 
--- What a resolve line names twice, and how much it asks, is judged with it; of a command that is the registry's to judge.
+-- What a resolve or a check line names twice, and how much it asks, is judged with it; of a command that is the registry's to judge.
 abbrev pub counted : Request → Result Request Refusal
 counted (command change) = Ok (command change)
-counted (resolve wanted budget) = unless_refused (request_refusal wanted) (resolve wanted budget)
+counted (resolve wanted explain budget) = unless_refused (request_refusal wanted) (resolve wanted explain budget)
+counted (check wanted lines) = unless_refused (request_refusal wanted) (check wanted lines)
 counted listing = Ok listing
 
 -- the request, or its lowest refusal: names come before versions, versions before requirements, and these before repeats and numbers

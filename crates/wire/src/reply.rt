@@ -2,12 +2,13 @@
 ghost use Rattle.std.specs.Prelude.{◌≡◌, ◌≢◌, ◌++◌, [], flat_map, IfErr, OnErr};
 ghost use Rattle.std.specs.IoError.{error_kind};
 ghost use Rattle.lines.specs.Texts.{Puts};
-ghost use Rattle.wire.specs.Joined.{Waits, found_text};
+ghost use Rattle.wire.specs.Joined.{Waits, found_text, verdict};
 ghost use Rattle.wire.specs.Replied.{reply_of};
-ghost use Rattle.wire.specs.Replies.{accepted, listed, no_selection, refused, reply_text, selected};
+ghost use Rattle.wire.specs.Replies.{accepted, explained, follows, listed, no_selection, refused, reply_text, selected};
 
 use crate::listing::{Listing, put_packages};
 use crate::selection::put_selected;
+use crate::told::Explained;
 use itoa::Buffer;
 use lines::Outbox;
 use std::io;
@@ -42,12 +43,16 @@ pub enum Body<'r> {
     Selection(&'r [(Name, Published)]),
     /// No selection meets the request.
     NoSelection,
+    /// No selection meets the request, by this derivation.
+    Explained(&'r Explained),
+    /// Whether a derivation follows.
+    Follows(bool),
     /// What is published.
     Listing(Listing<'r>),
 }
 
-/// Puts the line of a reply behind what waits. It takes no memory, however long a listing or a
-/// selection is.
+/// Puts the line of a reply behind what waits. It takes no memory, however long a listing, a
+/// selection or an explanation is.
 pub fn reply_line<W: Write>(
     outbox: &mut Outbox,
     writer: &mut W,
@@ -64,6 +69,8 @@ pub fn reply_line<W: Write>(
         Body::Refusal(refusal) => put_refusal(outbox, writer, *refusal, revision, stamp),
         Body::Selection(pairs) => put_selection(outbox, writer, *pairs, revision, stamp),
         Body::NoSelection => put_no_selection(outbox, writer, revision, stamp),
+        Body::Explained(reason) => put_explained(outbox, writer, *reason, revision, stamp),
+        Body::Follows(yes) => put_follows(outbox, writer, *yes, revision, stamp),
         Body::Listing(listing) => put_listing(outbox, writer, listing, revision, stamp),
     }
 }
@@ -171,6 +178,73 @@ fn put_no_selection<W: Write>(
         revision,
         stamp,
         "\"refused\":true,",
+        b"}\n",
+    )
+}
+
+fn put_explained<W: Write>(
+    outbox: &mut Outbox,
+    writer: &mut W,
+    reason: &Explained,
+    revision: u64,
+    stamp: Option<Spot>,
+) -> io::Result<()>
+    ensures text { Puts (W.contents writer.old) (W.contents writer.new) outbox.old outbox.new result
+        (reply_text (record { revision = revision; stamp = stamp; body = explained reason.now.lines reason.now.texts })) }
+    ensures waits { Waits outbox.old outbox.new result
+        (reply_text (record { revision = revision; stamp = stamp; body = explained reason.now.lines reason.now.texts })) }
+    ensures err { OnErr result (outbox.new ≡ []) }
+    ensures retried { IfErr result (λ e. error_kind e ≢ ErrorKind.Interrupted) }
+{
+    put_around(
+        outbox,
+        writer,
+        &[
+            b"{\"derivation\":",
+            reason.derivation_text().as_bytes(),
+            b",\"explanation\":",
+            reason.lines_text().as_bytes(),
+            b",",
+        ],
+        revision,
+        stamp,
+        "\"refused\":true,",
+        b"}\n",
+    )
+}
+
+/// What begins the reply to a check line, up to where and when it was found.
+fn verdict(yes: bool) -> &'static str
+    ensures { result.now ≡ verdict yes }
+{
+    if yes {
+        "{\"follows\":true,"
+    } else {
+        "{\"follows\":false,"
+    }
+}
+
+fn put_follows<W: Write>(
+    outbox: &mut Outbox,
+    writer: &mut W,
+    yes: bool,
+    revision: u64,
+    stamp: Option<Spot>,
+) -> io::Result<()>
+    ensures text { Puts (W.contents writer.old) (W.contents writer.new) outbox.old outbox.new result
+        (reply_text (record { revision = revision; stamp = stamp; body = follows yes })) }
+    ensures waits { Waits outbox.old outbox.new result
+        (reply_text (record { revision = revision; stamp = stamp; body = follows yes })) }
+    ensures err { OnErr result (outbox.new ≡ []) }
+    ensures retried { IfErr result (λ e. error_kind e ≢ ErrorKind.Interrupted) }
+{
+    put_around(
+        outbox,
+        writer,
+        &[verdict(yes).as_bytes()],
+        revision,
+        stamp,
+        "",
         b"}\n",
     )
 }

@@ -1,8 +1,9 @@
 //! Request lines.
 //!
 //! A line is first held against the shapes of the requests. Then its texts are judged in passes over the whole line,
-//! all names, then versions, then requirements, so that the lowest refusal is met first. Of a resolve line come then a
-//! package that is named twice, and needs or lock lines that are too many.
+//! all names, then versions, then requirements, so that the lowest refusal is met first. Of a resolve or a check line
+//! come then a package that is named twice, and needs or lock lines that are too many. The names, numbers and sets of a
+//! derivation belong to its shape.
 ghost use Rattle.std.specs.Prelude.{ok_or};
 ghost use Rattle.serde_json.specs.View.{view};
 ghost use Rattle.versions.specs.Refusals.{Gives};
@@ -10,10 +11,17 @@ ghost use Rattle.versions.specs.declared.refusal.Refusal.TheVariants.{BadLine};
 ghost use Rattle.wire.specs.Requests.{request_of, request_in};
 ghost use Rattle.wire.specs.Asked.{asked_of};
 
+mod cause_shapes;
+mod derived;
 mod judging;
+mod line_shapes;
+mod members;
+mod ordinals;
 mod pairs;
 mod shape;
+mod term_shapes;
 
+use crate::by_name::NamedDerivation;
 use judging::judge;
 use registry::{Command, Request};
 use serde_json::Value;
@@ -27,10 +35,16 @@ pub enum Asked {
     /// That the registry be changed.
     Command(Command),
     /// Which versions meet these needs under this lock, met with no more than this many conflicts where there is a
-    /// budget of them.
+    /// budget of them; and whether a refusal is to be explained.
     Resolve {
         request: Request,
+        explain: bool,
         budget: Option<u32>,
+    },
+    /// Whether a derivation shows that no versions meet these needs under this lock.
+    Check {
+        request: Request,
+        derivation: NamedDerivation,
     },
     /// What is published.
     Listing,
@@ -39,8 +53,9 @@ pub enum Asked {
 /// Reads what a line asks.
 ///
 /// A line that is not of its form is [`Refusal::BadLine`] and is judged for nothing else. Of the refusals of its names,
-/// versions and requirements, and of what a resolve line repeats or asks too much, it is given the lowest. Whether the
-/// registry takes a command is not judged here. The cost grows with n log n of the line.
+/// versions and requirements, and of what a resolve or a check line repeats or asks too much, it is given the lowest.
+/// Whether the registry takes a command is not judged here, nor whether a derivation follows. The cost grows with
+/// n log n of the line.
 pub fn read_request(alloc: Global, line: &[u8]) -> Result<Asked, Refusal>
     ensures { Gives asked_of result (request_of line.now) }
 {

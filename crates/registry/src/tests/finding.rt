@@ -20,22 +20,25 @@ fn found(
     Ok(registry.find(pkg, &version))
 }
 
+/// A package, a version, and the ordinal that it is found at.
+const FINDS: [(Pkg, &str, Option<u32>); 7] = [
+    (1, "2.0.0", Some(0)),
+    (1, "1.0.0+y", Some(1)),
+    (1, "1.0.0-rc.1", Some(2)),
+    (1, "10.0.0", Some(3)),
+    (1, "1.0.0-rc.2", None),
+    (2, "1.0.0", None),
+    (0, "1.0.0", None),
+];
+
 fn a_version_is_found_by_equal_precedence_in(
     rt: &impl Abort,
     alloc: Global,
     registry: &Registry,
 ) -> Result<(), Refusal> {
-    let rows = [
-        (1, "2.0.0", Some(0)),
-        (1, "1.0.0+y", Some(1)),
-        (1, "1.0.0-rc.1", Some(2)),
-        (1, "10.0.0", Some(3)),
-        (1, "1.0.0-rc.2", None),
-        (2, "1.0.0", None),
-        (0, "1.0.0", None),
-    ];
-    for (pkg, version, ordinal) in rows {
-        assert_eq!(rt; found(registry, alloc, pkg, version)?, ordinal, "{version}");
+    for (pkg, version, ordinal) in &FINDS {
+        let found = found(registry, alloc, *pkg, *version)?;
+        holds(rt, found == *ordinal, *version, "is found");
     }
     Ok(())
 }

@@ -69,20 +69,21 @@ const NAMED: [Row; 7] = [
     (Op::Publish, "a", "2.0.0", "", 0),
 ];
 
+const MATCHED: [Matched; 6] = [
+    ("^1", true, &[0, 2]),
+    (">=2.0.0-alpha", true, &[1, 3]),
+    (">=1, <2", false, &[0, 2]),
+    (" ^1", false, &[0, 2]),
+    ("*", false, &[0, 2, 3]),
+    ("=3.0.0", false, &[]),
+];
+
 fn named_requirements_are_kept_up_in(
     rt: &impl Abort,
     alloc: Global,
     registry: &Registry,
 ) -> Result<(), Refusal> {
-    let rows: [Matched; 6] = [
-        ("^1", true, &[0, 2]),
-        (">=2.0.0-alpha", true, &[1, 3]),
-        (">=1, <2", false, &[0, 2]),
-        (" ^1", false, &[0, 2]),
-        ("*", false, &[0, 2, 3]),
-        ("=3.0.0", false, &[]),
-    ];
-    matched(rt, alloc, registry, 2, &rows)?;
+    matched(rt, alloc, registry, 2, &MATCHED)?;
     matched(rt, alloc, registry, 3, &[("*", true, &[])])
 }
 
@@ -106,15 +107,16 @@ fn depends(rt: &impl Abort, registry: &Registry, row: &Depending) -> Result<bool
     Ok(target == *named && is_kept(&set) && has_exactly(&set, ordinals))
 }
 
+const DEPENDING: [Depending; 4] = [
+    (0, 0, 2, &[0, 2]),
+    (0, 1, 3, &[]),
+    (1, 0, 2, &[1, 3]),
+    (1, 1, 3, &[]),
+];
+
 fn dependencies_are_read_by_number_in(rt: &impl Abort, registry: &Registry) -> Result<(), Refusal> {
-    let rows: [Depending; 4] = [
-        (0, 0, 2, &[0, 2]),
-        (0, 1, 3, &[]),
-        (1, 0, 2, &[1, 3]),
-        (1, 1, 3, &[]),
-    ];
-    for row in rows {
-        assert!(rt; depends(rt, registry, &row)?);
+    for row in &DEPENDING {
+        assert!(rt; depends(rt, registry, row)?);
     }
     Ok(())
 }
@@ -142,10 +144,10 @@ fn no_version_of_other_numbers_matches_in(
     alloc: Global,
     registry: &Registry,
 ) -> Result<(), Refusal> {
-    for pkg in [0, 4, u32::MAX] {
-        matched(rt, alloc, registry, pkg, &[("*", false, &[])])?;
-        assert!(rt; has_no_highest(alloc, registry, pkg)?);
-        assert!(rt; registry.highest_where(pkg, |_| true).is_none());
+    for pkg in &[0, 4, u32::MAX] {
+        matched(rt, alloc, registry, *pkg, &[("*", false, &[])])?;
+        assert!(rt; has_no_highest(alloc, registry, *pkg)?);
+        assert!(rt; registry.highest_where(*pkg, |_| true).is_none());
     }
     Ok(())
 }
@@ -170,9 +172,8 @@ fn a_reservation_changes_no_answer_in(
     registry: &mut Registry,
 ) -> Result<(), Refusal> {
     reserve_in_vain(alloc, registry)?;
-    assert_eq!(rt; registry.packages(), 3);
-    let another = submit_on_a(registry, alloc, Op::Publish, "1.6.0")?;
-    assert_eq!(rt; another, 0);
+    assert!(rt; registry.packages() == 3);
+    assert!(rt; submit_on_a(registry, alloc, Op::Publish, "1.6.0")? == 0);
     matched(rt, alloc, registry, 2, &[("<2", true, &[0, 2, 4])])
 }
 
@@ -187,19 +188,22 @@ fn highest_of(alloc: Global, registry: &Registry, text: &str) -> Result<Option<u
     Ok(registry.highest(2, &set))
 }
 
+/// A requirement, and the highest ordinal that meets it.
+const HIGHEST: [(&str, Option<u32>); 4] = [
+    ("^1", Some(2)),
+    ("*", Some(3)),
+    ("=1.0.0", Some(0)),
+    (">2", None),
+];
+
 fn the_highest_goes_by_precedence_in(
     rt: &impl Abort,
     alloc: Global,
     registry: &Registry,
 ) -> Result<(), Refusal> {
-    for (text, wanted) in [
-        ("^1", Some(2)),
-        ("*", Some(3)),
-        ("=1.0.0", Some(0)),
-        (">2", None),
-    ] {
-        let highest = highest_of(alloc, registry, text)?;
-        assert!(rt; highest == wanted, "{text}");
+    for (text, wanted) in &HIGHEST {
+        let highest = highest_of(alloc, registry, *text)?;
+        holds(rt, highest == *wanted, *text, "has its highest");
     }
     assert!(rt; registry.highest_where(2, |ordinal| ordinal < 2) == Some(1));
     Ok(())
@@ -216,12 +220,11 @@ fn patch_of(ordinal: u32, step: u32) -> u32 {
     ordinal.wrapping_mul(step) % 1_024
 }
 
-fn in_steps(alloc: Global, step: u32) -> Result<Registry, Refusal> {
-    let mut registry = Registry::new(alloc);
+fn publish_in_steps(registry: &mut Registry, alloc: Global, step: u32) -> Result<(), Refusal> {
     for ordinal in 0..1_024 {
-        publish_patch(&mut registry, alloc, patch_of(ordinal, step))?;
+        publish_patch(registry, alloc, patch_of(ordinal, step))?;
     }
-    Ok(registry)
+    Ok(())
 }
 
 /// The numbers of the refusals of a version that is there: a publication, the undoing of a yank that
@@ -256,21 +259,28 @@ fn is_found(
     )
 }
 
-fn are_found(rt: &impl Abort, alloc: Global, step: u32) -> Result<(), Refusal> {
-    let mut registry = in_steps(alloc, step)?;
-    assert_eq!(rt; registry.versions(1), 1_024);
-    for patch in [1, 2, 63, 64, 500, 1_023] {
-        assert!(rt; is_found(alloc, &mut registry, step, patch)?, "{patch}");
+fn are_found(
+    rt: &impl Abort,
+    alloc: Global,
+    registry: &mut Registry,
+    step: u32,
+) -> Result<(), Refusal> {
+    publish_in_steps(registry, alloc, step)?;
+    assert!(rt; registry.versions(1) == 1_024);
+    for patch in &[1, 2, 63, 64, 500, 1_023] {
+        assert!(rt; is_found(alloc, registry, step, *patch)?, "{patch}");
     }
     Ok(())
 }
 
 #[test]
 fn many_versions_in_falling_order(rt: HostRuntime) -> Result<(), Refusal> {
-    are_found(&rt, rt.alloc(), 1_023)
+    let mut registry = Registry::new(rt.alloc());
+    are_found(&rt, rt.alloc(), &mut registry, 1_023)
 }
 
 #[test]
 fn many_versions_in_mixed_order(rt: HostRuntime) -> Result<(), Refusal> {
-    are_found(&rt, rt.alloc(), 389)
+    let mut registry = Registry::new(rt.alloc());
+    are_found(&rt, rt.alloc(), &mut registry, 389)
 }

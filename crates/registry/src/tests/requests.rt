@@ -1,5 +1,5 @@
 //! Rows of requests: which are refused, and which versions they may have.
-use super::{Op, Row, many, needs, numbered_name, repeated, texts, told};
+use super::{Op, Row, are, holds, many, needs, numbered_name, repeated, told};
 use crate::*;
 use std::alloc::Global;
 use std::process::Abort;
@@ -18,7 +18,16 @@ const REFUSED: [(&str, &str, u8); 7] = [
 
 /// Needs, lines of a lock, a package with a version, whether the lock names that version, and
 /// whether it meets the need on its package.
-const SAID: [(&str, &str, &str, &str, bool, bool); 8] = [
+type Said = (
+    &'static str,
+    &'static str,
+    &'static str,
+    &'static str,
+    bool,
+    bool,
+);
+
+const SAID: [Said; 8] = [
     ("", "", "a", "1.0.0", false, true),
     ("a ^1.0.0", "a 1.0.0+x", "a", "1.0.0", true, true),
     ("a ^1.0.0", "a 1.0.0", "a", "1.1.0-alpha", false, false),
@@ -109,17 +118,20 @@ fn numbered_line(alloc: Global, number: usize) -> Result<(Name, Published), Refu
     Ok((name, Published::read(alloc, version.as_str())?))
 }
 
+/// The number that stands `step` after this one, from the beginning again after the last.
+fn next_of(number: usize, count: usize, step: usize) -> usize {
+    let next = number.saturating_add(step);
+    if next >= count { next - count } else { next }
+}
+
 /// This many lines with the names "n0", "n1" and so on, where each stands `step` after the one
-/// before, from the beginning again after the last.
+/// before.
 fn lines(alloc: Global, count: usize, step: usize) -> Result<Vec<(Name, Published)>, Refusal> {
     let mut lines = Vec::new(alloc);
-    let mut number: usize = 0;
+    let mut number = 0;
     for _ in 0..count {
         lines.push(numbered_line(alloc, number)?)?;
-        number = number.saturating_add(step);
-        if number >= count {
-            number -= count;
-        }
+        number = next_of(number, count, step);
     }
     Ok(lines)
 }
@@ -144,9 +156,9 @@ fn answer_to_texts(alloc: Global, listed: &str, locked: &str) -> Result<u8, Refu
 
 #[test]
 fn no_package_is_named_twice(rt: HostRuntime) -> Result<(), Refusal> {
-    for (listed, locked, want) in REFUSED {
-        let number = answer_to_texts(rt.alloc(), listed, locked)?;
-        assert_eq!(rt; number, want, "{listed} lock {locked}");
+    for (listed, locked, want) in &REFUSED {
+        let number = answer_to_texts(rt.alloc(), *listed, *locked)?;
+        holds(&rt, number == *want, *listed, *locked);
     }
     Ok(())
 }
@@ -157,12 +169,10 @@ fn answer_to_needs(alloc: Global, needs: Vec<(Name, Need)>) -> Result<u8, Refusa
 
 #[test]
 fn a_request_has_at_most_64_needs(rt: HostRuntime) -> Result<(), Refusal> {
-    for (count, want) in [(64, 0), (65, 6)] {
-        let needs = many(rt.alloc(), 'n', 0, count)?;
-        assert_eq!(rt; answer_to_needs(rt.alloc(), needs)?, want, "{count}");
-    }
-    let twice = repeated(rt.alloc(), 65, "*")?;
-    assert_eq!(rt; answer_to_needs(rt.alloc(), twice)?, 4);
+    let alloc = rt.alloc();
+    assert!(rt; answer_to_needs(alloc, many(alloc, 'n', 0, 64)?)? == 0);
+    assert!(rt; answer_to_needs(alloc, many(alloc, 'n', 0, 65)?)? == 6);
+    assert!(rt; answer_to_needs(alloc, repeated(alloc, 65, "*")?)? == 4);
     Ok(())
 }
 
@@ -179,12 +189,10 @@ fn repeated_lines(alloc: Global, count: usize) -> Result<Vec<(Name, Published)>,
 
 #[test]
 fn a_lock_has_at_most_65535_lines(rt: HostRuntime) -> Result<(), Refusal> {
-    for (count, want) in [(65_535, 0), (65_536, 6)] {
-        let lock = lines(rt.alloc(), count, 7)?;
-        assert_eq!(rt; answer_to_lock(rt.alloc(), lock)?, want, "{count}");
-    }
-    let twice = repeated_lines(rt.alloc(), 65_536)?;
-    assert_eq!(rt; answer_to_lock(rt.alloc(), twice)?, 4);
+    let alloc = rt.alloc();
+    assert!(rt; answer_to_lock(alloc, lines(alloc, 65_535, 7)?)? == 0);
+    assert!(rt; answer_to_lock(alloc, lines(alloc, 65_536, 7)?)? == 6);
+    assert!(rt; answer_to_lock(alloc, repeated_lines(alloc, 65_536)?)? == 4);
     Ok(())
 }
 
@@ -194,28 +202,29 @@ fn crowded(alloc: Global, step: usize) -> Result<Request, Refusal> {
     Request::new(alloc, needs, lines(alloc, 1_000, step)?)
 }
 
-/// The line of this number is found by its name, and no need is.
-fn finds_line(
-    rt: &impl Abort,
-    alloc: Global,
-    request: &Request,
-    number: usize,
-) -> Result<(), Refusal> {
-    let name = numbered_name(alloc, 'n', number)?;
-    let want = format!(in alloc; "1.0.{number}")?;
-    let found = request.locked(&name).expect(rt, "a line of the name");
-    assert_eq!(rt; found.text(), want.as_str());
-    assert!(rt; request.need_on(&name).is_none());
-    Ok(())
+/// Whether a line is found by this name, at this version.
+fn has_line_at(request: &Request, name: &Name, version: &str) -> bool {
+    request
+        .locked(name)
+        .is_some_and(|found| found.text() == version)
 }
 
-/// The need on "m2" is found by its name, and no line is.
-fn finds_need(rt: &impl Abort, alloc: Global, request: &Request) -> Result<(), Refusal> {
+/// Whether the line of this number is found by its name, and no need is.
+fn finds_line(alloc: Global, request: &Request, number: usize) -> Result<bool, Refusal> {
+    let name = numbered_name(alloc, 'n', number)?;
+    let want = format!(in alloc; "1.0.{number}")?;
+    Ok(has_line_at(request, &name, want.as_str()) && request.need_on(&name).is_none())
+}
+
+/// Whether the need on "m2" is found by its name, and no line is.
+fn finds_need(alloc: Global, request: &Request) -> Result<bool, Refusal> {
     let name = Name::read(alloc, "m2")?;
-    let found = request.need_on(&name).expect(rt, "a need on the name");
-    assert_eq!(rt; found.text(), "*");
-    assert!(rt; request.locked(&name).is_none());
-    Ok(())
+    Ok(
+        request
+            .need_on(&name)
+            .is_some_and(|found| found.text() == "*")
+            && request.locked(&name).is_none(),
+    )
 }
 
 fn has_line(alloc: Global, request: &Request, name: &str) -> Result<bool, Refusal> {
@@ -223,17 +232,22 @@ fn has_line(alloc: Global, request: &Request, name: &str) -> Result<bool, Refusa
     Ok(request.locked(&name).is_some())
 }
 
+fn lines_are_found_in(rt: &impl Abort, alloc: Global, request: &Request) -> Result<(), Refusal> {
+    assert!(rt; request.needs().len() == 3);
+    assert!(rt; request.lock().len() == 1_000);
+    for number in 0..1_000 {
+        assert!(rt; finds_line(alloc, request, number)?);
+    }
+    assert!(rt; finds_need(alloc, request)?);
+    assert!(rt; !has_line(alloc, request, "n1000")?);
+    Ok(())
+}
+
 #[test]
 fn lines_are_found_in_any_order(rt: HostRuntime) -> Result<(), Refusal> {
-    for step in [1, 7, 999] {
-        let request = crowded(rt.alloc(), step)?;
-        assert_eq!(rt; request.needs().len(), 3);
-        assert_eq!(rt; request.lock().len(), 1_000);
-        for number in 0..1_000 {
-            finds_line(&rt, rt.alloc(), &request, number)?;
-        }
-        finds_need(&rt, rt.alloc(), &request)?;
-        assert!(rt; !has_line(rt.alloc(), &request, "n1000")?);
+    for step in &[1, 7, 999] {
+        let request = crowded(rt.alloc(), *step)?;
+        lines_are_found_in(&rt, rt.alloc(), &request)?;
     }
     Ok(())
 }
@@ -258,13 +272,18 @@ fn said(
     ))
 }
 
+/// What is said of the version of a row.
+fn said_of(alloc: Global, row: &Said) -> Result<(bool, bool), Refusal> {
+    let request = request_of(alloc, row.0, row.1)?;
+    said(alloc, &request, row.2, row.3)
+}
+
 #[test]
 fn a_version_goes_by_the_lines_of_its_package(rt: HostRuntime) -> Result<(), Refusal> {
-    for (listed, locked, name, version, named, met) in SAID {
-        let request = request_of(rt.alloc(), listed, locked)?;
-        let (is_named, is_met) = said(rt.alloc(), &request, name, version)?;
-        assert_eq!(rt; is_named, named, "{name} {version}");
-        assert_eq!(rt; is_met, met, "{name} {version}");
+    for row in &SAID {
+        let (is_named, is_met) = said_of(rt.alloc(), row)?;
+        holds(&rt, is_named == row.4, row.2, row.3);
+        holds(&rt, is_met == row.5, row.2, row.3);
     }
     Ok(())
 }
@@ -281,14 +300,35 @@ fn lock_texts<'a>(
     Ok(texts)
 }
 
+/// Whether these lines have these names and versions, in their order.
+fn are_locked(
+    alloc: Global,
+    lock: &[(Name, Published)],
+    wanted: &[(&str, &str)],
+) -> Result<bool, Refusal> {
+    Ok(lock_texts(alloc, lock)?.as_slice() == wanted)
+}
+
+fn lines_stay_in_the_order_that_was_given_in(
+    rt: &impl Abort,
+    alloc: Global,
+    request: &Request,
+) -> Result<(), Refusal> {
+    let needs = [("c", "^1"), ("a", "*"), ("b", "=2.0.0")];
+    assert!(rt; are(alloc, request.needs(), &needs)?);
+    assert!(rt; are_locked(alloc, request.lock(), &[("b", "2.0.0+x"), ("a", "1.0.0")])?);
+    Ok(())
+}
+
 #[test]
 fn lines_stay_in_the_order_that_was_given(rt: HostRuntime) -> Result<(), Refusal> {
     let request = request_of(rt.alloc(), "c ^1; a *; b =2.0.0", "b 2.0.0+x; a 1.0.0")?;
-    let needs = texts(rt.alloc(), request.needs())?;
-    assert!(rt; needs.as_slice() == [("c", "^1"), ("a", "*"), ("b", "=2.0.0")].as_slice());
-    let lock = lock_texts(rt.alloc(), request.lock())?;
-    assert!(rt; lock.as_slice() == [("b", "2.0.0+x"), ("a", "1.0.0")].as_slice());
-    Ok(())
+    lines_stay_in_the_order_that_was_given_in(&rt, rt.alloc(), &request)
+}
+
+/// The request of no needs under this lock.
+fn request_under(alloc: Global, locked: &str) -> Result<Request, Refusal> {
+    Request::new(alloc, Vec::new(alloc), lock(alloc, locked)?)
 }
 
 /// Whether this version is allowed under this lock.
@@ -299,7 +339,7 @@ fn allowed(
     pkg: Pkg,
     ordinal: u32,
 ) -> Result<bool, Refusal> {
-    let request = Request::new(alloc, Vec::new(alloc), lock(alloc, locked)?)?;
+    let request = request_under(alloc, locked)?;
     Ok(registry.allowed(&request, pkg, ordinal))
 }
 
@@ -308,9 +348,9 @@ fn a_yanked_version_is_allowed_by_a_lock_alone_in(
     alloc: Global,
     registry: &Registry,
 ) -> Result<(), Refusal> {
-    for (locked, pkg, ordinal, want) in ALLOWED {
-        let is_allowed = allowed(alloc, registry, locked, pkg, ordinal)?;
-        assert_eq!(rt; is_allowed, want, "{pkg} {ordinal} lock {locked}");
+    for (locked, pkg, ordinal, want) in &ALLOWED {
+        let is_allowed = allowed(alloc, registry, *locked, *pkg, *ordinal)?;
+        assert!(rt; is_allowed == *want, "{pkg} {ordinal} lock {locked}");
     }
     Ok(())
 }

@@ -16,6 +16,15 @@ const LINES: &str =
 const PRINTED: &str =
     "{\"error\":19,\"name\":\"BadLine\",\"place\":0,\"revision\":0,\"seat\":1}\n{\"ok\":true,\"place\":1,\"revision\":1,\"seat\":1}\n{\"error\":7,\"name\":\"AlreadyPublished\",\"place\":1,\"revision\":1,\"seat\":1}\n{\"place\":1,\"revision\":1,\"seat\":1,\"selected\":[[\"a\",\"1.0.0\"]]}\n{\"ok\":true,\"place\":2,\"revision\":2,\"seat\":1}\n{\"place\":2,\"refused\":true,\"revision\":2,\"seat\":1}\n{\"error\":19,\"name\":\"BadLine\",\"place\":2,\"revision\":2,\"seat\":1}\n{\"packages\":[[\"a\",[[\"1.0.0\",true]]]],\"place\":2,\"revision\":2,\"seat\":1}\nregistry-journal 1\n{\"name\":\"a\",\"needs\":[],\"op\":\"publish\",\"version\":\"1.0.0\"}\n{\"name\":\"a\",\"op\":\"yank\",\"version\":\"1.0.0\"}\nend 2\n";
 
+/// Lines of one file that ask why nothing meets a request and send the reason back, before and after
+/// it ceases to hold.
+const ASKED: &str =
+    "{\"op\":\"publish\",\"name\":\"a\",\"version\":\"1.0.0\",\"needs\":[]}\n{\"op\":\"yank\",\"name\":\"a\",\"version\":\"1.0.0\"}\n{\"op\":\"resolve\",\"needs\":[[\"a\",\"^1\"]],\"explain\":true}\n{\"op\":\"check\",\"needs\":[[\"a\",\"^1\"]],\"derivation\":[{\"causes\":[{\"fact\":\"disallowed\",\"name\":\"a\",\"versions\":[0]},{\"fact\":\"need\",\"index\":0}],\"conclusion\":[[\"\",true,[0]]],\"pivot\":\"a\"}]}\n{\"op\":\"unyank\",\"name\":\"a\",\"version\":\"1.0.0\"}\n{\"op\":\"check\",\"needs\":[[\"a\",\"^1\"]],\"derivation\":[{\"causes\":[{\"fact\":\"disallowed\",\"name\":\"a\",\"versions\":[0]},{\"fact\":\"need\",\"index\":0}],\"conclusion\":[[\"\",true,[0]]],\"pivot\":\"a\"}]}\n";
+
+/// What a race of that file prints.
+const EXPLAINED: &str =
+    "{\"ok\":true,\"place\":1,\"revision\":1,\"seat\":1}\n{\"ok\":true,\"place\":2,\"revision\":2,\"seat\":1}\n{\"derivation\":[{\"causes\":[{\"fact\":\"disallowed\",\"name\":\"a\",\"versions\":[0]},{\"fact\":\"need\",\"index\":0}],\"conclusion\":[[\"\",true,[0]]],\"pivot\":\"a\"}],\"explanation\":[\"1. never (the request), because a {1.0.0} is not allowed and the request needs a \\\"^1\\\" in {1.0.0}\",\"So no selection meets the request.\"],\"place\":2,\"refused\":true,\"revision\":2,\"seat\":1}\n{\"follows\":true,\"place\":2,\"revision\":2,\"seat\":1}\n{\"ok\":true,\"place\":3,\"revision\":3,\"seat\":1}\n{\"follows\":false,\"place\":3,\"revision\":3,\"seat\":1}\nregistry-journal 1\n{\"name\":\"a\",\"needs\":[],\"op\":\"publish\",\"version\":\"1.0.0\"}\n{\"name\":\"a\",\"op\":\"yank\",\"version\":\"1.0.0\"}\n{\"name\":\"a\",\"op\":\"unyank\",\"version\":\"1.0.0\"}\nend 3\n";
+
 /// One publication, which two files have.
 const PUBLICATION: &str =
     "{\"op\":\"publish\",\"name\":\"a\",\"version\":\"1.0.0\",\"needs\":[]}\n";
@@ -75,6 +84,15 @@ fn one_file_is_answered_line_by_line(rt: HostRuntime) -> Result<(), Fail> {
     let files = one(rt.alloc(), LINES)?;
     race(&rt, rt.alloc(), files, &mut written)?;
     assert!(rt; written.as_slice() == PRINTED.as_bytes());
+    Ok(())
+}
+
+#[test]
+fn a_seat_explains_and_judges_where_it_stands(rt: HostRuntime) -> Result<(), Fail> {
+    let mut written = Vec::new(rt.alloc());
+    let files = one(rt.alloc(), ASKED)?;
+    race(&rt, rt.alloc(), files, &mut written)?;
+    assert!(rt; written.as_slice() == EXPLAINED.as_bytes());
     Ok(())
 }
 

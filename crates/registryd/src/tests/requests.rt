@@ -321,7 +321,7 @@ const FAULTS: Session = &[
         "{\"error\":1,\"name\":\"BadName\",\"revision\":0}",
     ),
     (
-        "{\"op\":\"resolve\",\"needs\":[],\"explain\":true}",
+        "{\"op\":\"resolve\",\"needs\":[],\"explain\":1}",
         "{\"error\":19,\"name\":\"BadLine\",\"revision\":0}",
     ),
     (

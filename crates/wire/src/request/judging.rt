@@ -8,9 +8,11 @@ ghost use Rattle.versions.specs.Words.{is_name, is_requirement, is_version};
 ghost use Rattle.versions.specs.declared.refusal.Refusal.TheVariants.{BadName, BadRequirement, BadVersion};
 ghost use Rattle.wire.specs.Asked.{asked_of, texts_of};
 ghost use Rattle.wire.specs.Requests.{checked, judged, judged_marking, locked_versions, requirements_of};
-ghost use Rattle.wire.specs.Shapes.{command, resolve};
+ghost use Rattle.wire.specs.Shapes.{check, command, resolve};
 
 use super::Asked;
+use super::derived::derivation_in;
+use super::line_shapes::Lines;
 use super::pairs::Pairs;
 use super::shape::Shape;
 use registry::{Command, Dependencies, Request};
@@ -31,7 +33,10 @@ pub fn judge(alloc: Global, shape: &Shape<'_>) -> Result<Asked, Refusal>
             let (name, version) = marking(alloc, *name, *version)?;
             Ok(Asked::Command(Command::Unyank(name, version)))
         }
-        Shape::Resolve(needs, lock, budget) => resolution(alloc, needs, lock, *budget),
+        Shape::Resolve(needs, lock, explain, budget) => resolution(
+            alloc, needs, lock, *explain, *budget,
+        ),
+        Shape::Check(needs, lock, lines) => checking(alloc, needs, lock, lines),
         Shape::Listing => Ok(Asked::Listing),
     }
 }
@@ -62,16 +67,41 @@ fn resolution(
     alloc: Global,
     needs: &Pairs<'_>,
     lock: &Pairs<'_>,
+    explain: bool,
     budget: Option<u32>,
 ) -> Result<Asked, Refusal>
-    ensures { Gives asked_of result (judged (resolve (record { needs = needs.now; lock = lock.now }) budget)) }
+    ensures { Gives asked_of result (judged (resolve (record { needs = needs.now; lock = lock.now }) explain budget)) }
 {
     let needed = names_in(alloc, needs)?;
     let locked = names_in(alloc, lock)?;
     let lock = lock_in(alloc, locked, lock)?;
     let needs = needs_in(alloc, needed, needs)?;
     let request = Request::new(alloc, needs, lock)?;
-    Ok(Asked::Resolve { request, budget })
+    Ok(Asked::Resolve {
+        request,
+        explain,
+        budget,
+    })
+}
+
+fn checking(
+    alloc: Global,
+    needs: &Pairs<'_>,
+    lock: &Pairs<'_>,
+    lines: &Lines<'_>,
+) -> Result<Asked, Refusal>
+    ensures { Gives asked_of result (judged (check (record { needs = needs.now; lock = lock.now }) lines.now)) }
+{
+    let needed = names_in(alloc, needs)?;
+    let locked = names_in(alloc, lock)?;
+    let kept = lock_in(alloc, locked, lock)?;
+    let wanted = needs_in(alloc, needed, needs)?;
+    let derivation = derivation_in(alloc, lines)?;
+    let request = Request::new(alloc, wanted, kept)?;
+    Ok(Asked::Check {
+        request,
+        derivation,
+    })
 }
 
 /// The names of these needs or lock lines.

@@ -1,10 +1,12 @@
 //! The shapes of request lines.
 ghost use Rattle.std.specs.Prelude.{◌≡◌, option_map};
 ghost use Rattle.serde_json.specs.View.{view};
-ghost use Rattle.wire.specs.Shapes.{budget_in, conflicts_of, has_member, lock_in, marking_in, member_count, pairs_at, publication_in, resolution_in, shape_of, text_at};
+ghost use Rattle.wire.specs.Shapes.{budget_in, checking_in, explain_in, lock_in, marking_in, pairs_at, publication_in, resolution_in, shape_of};
 ghost use Rattle.wire.specs.Asked.{texts_of};
 ghost use Rattle.registry.specs.Step.{Yank, Unyank};
 
+use super::line_shapes::{Lines, derivation_at};
+use super::members::{has_member, member_count, text_at, whole_of};
 use super::pairs::Pairs;
 use serde_json::Value;
 
@@ -14,8 +16,10 @@ pub enum Shape<'v> {
     Publish(&'v str, &'v str, Pairs<'v>),
     Yank(&'v str, &'v str),
     Unyank(&'v str, &'v str),
-    /// The needs, the lock and the budget.
-    Resolve(Pairs<'v>, Pairs<'v>, Option<u32>),
+    /// The needs, the lock, whether to explain, and the budget.
+    Resolve(Pairs<'v>, Pairs<'v>, bool, Option<u32>),
+    /// The needs, the lock and the derivation.
+    Check(Pairs<'v>, Pairs<'v>, Lines<'v>),
     Listing,
 }
 
@@ -34,6 +38,7 @@ pub fn shape_of(value: &Value) -> Option<Shape<'_>>
             Some(Shape::Unyank(name, version))
         }
         "resolve" => resolution_in(value),
+        "check" => checking_in(value),
         "list" if member_count(value) == 1 => Some(Shape::Listing),
         _ => None,
     }
@@ -64,17 +69,42 @@ fn marking_in(value: &Value) -> Option<(&str, &str)>
 fn resolution_in(value: &Value) -> Option<Shape<'_>>
     ensures { option_map texts_of result ≡ resolution_in (view value.now) }
 {
-    let optional = has_member(value, "lock") + has_member(value, "budget");
+    let optional = has_member(value, "lock")
+        + has_member(value, "budget")
+        + has_member(value, "explain");
     if member_count(value) != 2 + optional {
         return None;
     }
     let lock = lock_in(value)?;
-    let budget = budget_in(value)?;
     let needs = pairs_at(value, "needs")?;
-    Some(Shape::Resolve(needs, lock, budget))
+    let explain = explain_in(value)?;
+    let budget = budget_in(value)?;
+    Some(Shape::Resolve(needs, lock, explain, budget))
 }
 
-/// The lock of a resolve line, which may be left out.
+fn checking_in(value: &Value) -> Option<Shape<'_>>
+    ensures { option_map texts_of result ≡ checking_in (view value.now) }
+{
+    if member_count(value) != 3 + has_member(value, "lock") {
+        return None;
+    }
+    let lock = lock_in(value)?;
+    let needs = pairs_at(value, "needs")?;
+    let lines = derivation_at(value, "derivation")?;
+    Some(Shape::Check(needs, lock, lines))
+}
+
+/// Whether a resolve line asks to explain a refusal, which may be left out.
+fn explain_in(value: &Value) -> Option<bool>
+    ensures { result ≡ explain_in (view value.now) }
+{
+    match value.get("explain") {
+        Some(explain) => explain.as_bool(),
+        None => Some(false),
+    }
+}
+
+/// The lock of a resolve or a check line, which may be left out.
 fn lock_in(value: &Value) -> Option<Pairs<'_>>
     ensures { result ≡ lock_in (view value.now) }
 {
@@ -89,46 +119,9 @@ fn budget_in(value: &Value) -> Option<Option<u32>>
     ensures { result ≡ budget_in (view value.now) }
 {
     match value.get("budget") {
-        Some(budget) => Some(Some(conflicts_of(budget)?)),
+        Some(budget) => Some(Some(whole_of(budget)?)),
         None => Some(None),
     }
-}
-
-/// The number of conflicts that a value is: a whole number of 32 bits, written without a fraction and without an
-/// exponent.
-fn conflicts_of(value: &Value) -> Option<u32>
-    ensures { result ≡ conflicts_of (view value.now) }
-{
-    let conflicts = value.as_u64()?;
-    if conflicts <= u32::MAX as u64 {
-        Some(conflicts as u32)
-    } else {
-        None
-    }
-}
-
-/// 1 for a member that an object has, and else 0.
-fn has_member(value: &Value, name: &str) -> usize
-    ensures { result ≡ has_member name.now (view value.now) }
-{
-    if value.get(name).is_some() { 1 } else { 0 }
-}
-
-/// How many members an object has.
-fn member_count(value: &Value) -> usize
-    ensures { result ≡ member_count (view value.now) }
-{
-    match value.as_object() {
-        Some(members) => members.len(),
-        None => 0,
-    }
-}
-
-/// The text of a member.
-fn text_at<'v>(value: &'v Value, name: &str) -> Option<&'v str>
-    ensures { option_map (λ s. s.now) result ≡ text_at name.now (view value.now) }
-{
-    value.get(name).and_then(Value::as_str)
 }
 
 /// The pairs of a member.

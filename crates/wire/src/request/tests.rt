@@ -1,14 +1,16 @@
 //! Lines and what they ask, and the refusals of lines that are at fault.
 use super::*;
+use crate::asking::command_of;
 use registry::Dependencies;
 use std::test::Fail;
-use versions::{Name, Published};
+use versions::{Name, Need, Published};
 
 mod budgets;
+mod check_lines;
 mod resolutions;
 
 /// Lines that are not of their form.
-const BAD_LINES: [&str; 44] = [
+const BAD_LINES: [&str; 47] = [
     "",
     " ",
     "{\"op\":\"resolve\",\"nee",
@@ -29,8 +31,11 @@ const BAD_LINES: [&str; 44] = [
     "{\"op\":\"List\"}",
     "{\"op\":\"lists\"}",
     "{\"Op\":\"list\"}",
-    // A stage to come reads this.
-    "{\"op\":\"check\",\"needs\":[],\"derivation\":[]}",
+    // A check line has a derivation, which is an array, and needs.
+    "{\"op\":\"check\",\"needs\":[]}",
+    "{\"op\":\"check\",\"derivation\":[]}",
+    "{\"op\":\"check\",\"needs\":[],\"derivation\":{}}",
+    "{\"op\":\"check\",\"needs\":[],\"derivation\":[],\"explain\":true}",
     // A member too many.
     "{\"op\":\"list\",\"name\":\"a\"}",
     "{\"op\":\"list\",\"\":null}",
@@ -132,19 +137,17 @@ const REFUSED: [(&str, Refusal); 16] = [
     ),
 ];
 
-fn refusal_of(alloc: Global, line: &[u8]) -> Option<Refusal> {
+/// Whether a line is refused so.
+fn is_refused(alloc: Global, line: &[u8], refusal: Refusal) -> bool {
     match read_request(alloc, line) {
-        Ok(_) => None,
-        Err(refusal) => Some(refusal),
+        Ok(_) => false,
+        Err(found) => found == refusal,
     }
 }
 
-/// The command that a line asks.
-fn command_of(alloc: Global, line: &str) -> Result<Command, Fail> {
-    match read_request(alloc, line.as_bytes())? {
-        Asked::Command(command) => Ok(command),
-        _ => Err(Fail::from(Refusal::BadLine)),
-    }
+/// Whether a line is read.
+fn is_read(alloc: Global, line: &[u8]) -> bool {
+    read_request(alloc, line).is_ok()
 }
 
 /// A publication as it was asked.
@@ -157,37 +160,33 @@ fn publication_of(alloc: Global, line: &str) -> Result<(Name, Published, Depende
 
 #[test]
 fn bad_lines_are_bad_lines(rt: HostRuntime) {
-    for line in BAD_LINES {
-        assert_eq!(rt;
-            refusal_of(rt.alloc(), line.as_bytes()),
-            Some(Refusal::BadLine),
+    for line in &BAD_LINES {
+        assert!(rt;
+            is_refused(rt.alloc(), line.as_bytes(), Refusal::BadLine),
             "at {line}"
         );
     }
 }
 
+/// Lines that are no text.
+const NO_TEXTS: [&[u8]; 3] = [
+    b"\xff",
+    b"{\"op\":\"list\"}\xff",
+    b"{\"op\":\"yank\",\"name\":\"\xc3\x28\",\"version\":\"1.0.0\"}",
+];
+
 #[test]
 fn lines_that_are_no_text_are_bad_lines(rt: HostRuntime) {
-    assert_eq!(rt; refusal_of(rt.alloc(), b"\xff"), Some(Refusal::BadLine));
-    assert_eq!(rt;
-        refusal_of(rt.alloc(), b"{\"op\":\"list\"}\xff"),
-        Some(Refusal::BadLine)
-    );
-    assert_eq!(rt;
-        refusal_of(
-            rt.alloc(),
-            b"{\"op\":\"yank\",\"name\":\"\xc3\x28\",\"version\":\"1.0.0\"}"
-        ),
-        Some(Refusal::BadLine)
-    );
+    for line in &NO_TEXTS {
+        assert!(rt; is_refused(rt.alloc(), *line, Refusal::BadLine));
+    }
 }
 
 #[test]
 fn the_lowest_refusal_is_told(rt: HostRuntime) {
-    for (line, refusal) in REFUSED {
-        assert_eq!(rt;
-            refusal_of(rt.alloc(), line.as_bytes()),
-            Some(refusal),
+    for (line, refusal) in &REFUSED {
+        assert!(rt;
+            is_refused(rt.alloc(), line.as_bytes(), *refusal),
             "at {line}"
         );
     }
@@ -206,30 +205,28 @@ fn nested_line(alloc: Global, depth: usize) -> Result<String, Fail> {
     Ok(line)
 }
 
+fn nested_is_read(alloc: Global, depth: usize) -> Result<bool, Fail> {
+    let line = nested_line(alloc, depth)?;
+    Ok(is_read(alloc, line.as_bytes()))
+}
+
+fn nested_is_bad(alloc: Global, depth: usize) -> Result<bool, Fail> {
+    let line = nested_line(alloc, depth)?;
+    Ok(is_refused(alloc, line.as_bytes(), Refusal::BadLine))
+}
+
 #[test]
 fn a_member_that_is_overwritten_is_read(rt: HostRuntime) -> Result<(), Fail> {
     // The object and 126 arrays nest 127 deep, which is read.
-    let (read, deep, deeper) = (
-        nested_line(rt.alloc(), 126)?,
-        nested_line(rt.alloc(), 127)?,
-        nested_line(rt.alloc(), 200)?,
-    );
-    assert_eq!(rt; refusal_of(rt.alloc(), read.as_bytes()), None);
-    assert_eq!(rt;
-        refusal_of(rt.alloc(), deep.as_bytes()),
-        Some(Refusal::BadLine)
-    );
-    assert_eq!(rt;
-        refusal_of(rt.alloc(), deeper.as_bytes()),
-        Some(Refusal::BadLine)
-    );
+    assert!(rt; nested_is_read(rt.alloc(), 126)?);
+    assert!(rt; nested_is_bad(rt.alloc(), 127)?);
+    assert!(rt; nested_is_bad(rt.alloc(), 200)?);
     for line in [
         "{\"op\":1e400,\"op\":\"list\"}",
         "{\"op\":\"\\udc00\",\"op\":\"list\"}",
     ] {
-        assert_eq!(rt;
-            refusal_of(rt.alloc(), line.as_bytes()),
-            Some(Refusal::BadLine),
+        assert!(rt;
+            is_refused(rt.alloc(), line.as_bytes(), Refusal::BadLine),
             "at {line}"
         );
     }
@@ -249,24 +246,41 @@ fn long_line(alloc: Global, name: &str, requirement: &str) -> Result<String, Fai
     Ok(line)
 }
 
+fn long_line_is_refused(
+    alloc: Global,
+    name: &str,
+    requirement: &str,
+    refusal: Refusal,
+) -> Result<bool, Fail> {
+    let line = long_line(alloc, name, requirement)?;
+    Ok(is_refused(alloc, line.as_bytes(), refusal))
+}
+
+/// How many needs are read of such a line.
+fn long_line_has(alloc: Global, name: &str, requirement: &str) -> Result<usize, Fail> {
+    let line = long_line(alloc, name, requirement)?;
+    let (_, _, needs) = publication_of(alloc, line.as_str())?;
+    Ok(needs.needs().len())
+}
+
 #[test]
 fn all_needs_are_judged(rt: HostRuntime) -> Result<(), Fail> {
-    let (bad_need, bad_name, good) = (
-        long_line(rt.alloc(), "b", "none")?,
-        long_line(rt.alloc(), "B", "none")?,
-        long_line(rt.alloc(), "b", "^1")?,
-    );
-    assert_eq!(rt;
-        refusal_of(rt.alloc(), bad_need.as_bytes()),
-        Some(Refusal::BadRequirement)
-    );
-    assert_eq!(rt;
-        refusal_of(rt.alloc(), bad_name.as_bytes()),
-        Some(Refusal::BadName)
-    );
-    let (_, _, needs) = publication_of(rt.alloc(), good.as_str())?;
-    assert_eq!(rt; needs.needs().len(), 66);
+    assert!(rt; long_line_is_refused(rt.alloc(), "b", "none", Refusal::BadRequirement)?);
+    assert!(rt; long_line_is_refused(rt.alloc(), "B", "none", Refusal::BadName)?);
+    assert!(rt; long_line_has(rt.alloc(), "b", "^1")? == 66);
     Ok(())
+}
+
+/// Whether the needs are these two.
+fn are_needs(needs: &[(Name, Need)], one: (&str, &str), two: (&str, &str)) -> bool {
+    match needs {
+        [first, second] => is_need(first, one) && is_need(second, two),
+        _ => false,
+    }
+}
+
+fn is_need(need: &(Name, Need), texts: (&str, &str)) -> bool {
+    need.0.text() == texts.0 && need.1.text() == texts.1
 }
 
 #[test]
@@ -274,13 +288,9 @@ fn a_publication_keeps_its_texts(rt: HostRuntime) -> Result<(), Fail> {
     let line =
         "{\"op\":\"publish\",\"name\":\"a\",\"version\":\"1.0.0+x\",\"needs\":[[\"b\",\" >=1.2.0, <1.5.0\"],[\"a\",\"*\"]]}";
     let (name, version, needs) = publication_of(rt.alloc(), line)?;
-    assert_eq!(rt; name.text(), "a");
-    assert_eq!(rt; version.text(), "1.0.0+x");
-    assert_eq!(rt; needs.needs().len(), 2);
-    assert_eq!(rt; needs.needs()[0].0.text(), "b");
-    assert_eq!(rt; needs.needs()[0].1.text(), " >=1.2.0, <1.5.0");
-    assert_eq!(rt; needs.needs()[1].0.text(), "a");
-    assert_eq!(rt; needs.needs()[1].1.text(), "*");
+    assert!(rt; name.text() == "a");
+    assert!(rt; version.text() == "1.0.0+x");
+    assert!(rt; are_needs(needs.needs(), ("b", " >=1.2.0, <1.5.0"), ("a", "*")));
     Ok(())
 }
 
@@ -289,45 +299,47 @@ fn members_come_in_any_order_with_white_space(rt: HostRuntime) -> Result<(), Fai
     let line =
         " {\t\"needs\" : [ ] , \"version\":\"0.2.3\",\n\"name\" :\"\\u0061-\\u005f9\", \"op\":\"pub\\u006cish\"}\r";
     let (name, version, needs) = publication_of(rt.alloc(), line)?;
-    assert_eq!(rt; name.text(), "a-_9");
-    assert_eq!(rt; version.text(), "0.2.3");
+    assert!(rt; name.text() == "a-_9");
+    assert!(rt; version.text() == "0.2.3");
     assert!(rt; needs.needs().is_empty());
     Ok(())
 }
 
+/// Whether a line yanks that version of that package.
+fn yanks(alloc: Global, line: &str, name: &str, version: &str) -> Result<bool, Fail> {
+    match command_of(alloc, line)? {
+        Command::Yank(found, of) => Ok(found.text() == name && of.text() == version),
+        _ => Ok(false),
+    }
+}
+
+/// Whether a line undoes the yank of that version of that package.
+fn unyanks(alloc: Global, line: &str, name: &str, version: &str) -> Result<bool, Fail> {
+    match command_of(alloc, line)? {
+        Command::Unyank(found, of) => Ok(found.text() == name && of.text() == version),
+        _ => Ok(false),
+    }
+}
+
 #[test]
 fn yanks_and_unyanks_are_told_apart(rt: HostRuntime) -> Result<(), Fail> {
-    match command_of(
-        rt.alloc(),
-        "{\"op\":\"yank\",\"name\":\"a\",\"version\":\"1.0.0\"}",
-    )? {
-        Command::Yank(name, version) => {
-            assert_eq!(rt; name.text(), "a");
-            assert_eq!(rt; version.text(), "1.0.0");
-        }
-        _ => panic!(rt; "it is no yank"),
-    }
-    match command_of(
-        rt.alloc(),
-        "{\"version\":\"1.0.0-rc.1\",\"name\":\"b\",\"op\":\"unyank\"}",
-    )? {
-        Command::Unyank(name, version) => {
-            assert_eq!(rt; name.text(), "b");
-            assert_eq!(rt; version.text(), "1.0.0-rc.1");
-        }
-        _ => panic!(rt; "it is no unyank"),
-    }
+    let line = "{\"op\":\"yank\",\"name\":\"a\",\"version\":\"1.0.0\"}";
+    assert!(rt; yanks(rt.alloc(), line, "a", "1.0.0")?);
+    let line = "{\"version\":\"1.0.0-rc.1\",\"name\":\"b\",\"op\":\"unyank\"}";
+    assert!(rt; unyanks(rt.alloc(), line, "b", "1.0.0-rc.1")?);
     Ok(())
 }
 
 #[test]
 fn the_last_of_two_members_counts(rt: HostRuntime) -> Result<(), Fail> {
     let line = "{\"op\":\"list\",\"op\":\"yank\",\"name\":1,\"version\":\"1.0.0\",\"name\":\"c\"}";
-    match command_of(rt.alloc(), line)? {
-        Command::Yank(name, _) => assert_eq!(rt; name.text(), "c"),
-        _ => panic!(rt; "it is no yank"),
-    }
+    assert!(rt; yanks(rt.alloc(), line, "c", "1.0.0")?);
     Ok(())
+}
+
+/// Whether a line asks for the listing.
+fn asks_listing(alloc: Global, line: &str) -> bool {
+    matches!(read_request(alloc, line.as_bytes()), Ok(Asked::Listing))
 }
 
 #[test]
@@ -337,9 +349,6 @@ fn a_listing_is_asked(rt: HostRuntime) {
         " { \"op\" : \"list\" } ",
         "{\"op\":\"list\"}\r",
     ] {
-        match read_request(rt.alloc(), line.as_bytes()) {
-            Ok(Asked::Listing) => {}
-            _ => panic!(rt; "it asks no listing"),
-        }
+        assert!(rt; asks_listing(rt.alloc(), line), "at {line}");
     }
 }

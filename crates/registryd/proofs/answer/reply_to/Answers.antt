@@ -2,7 +2,8 @@ use Rattle.std.proofs.Common.{subst}
 use Rattle.wire.specs.Listings.{IsListing}
 use Rattle.wire.specs.Replies.{refused}
 use Rattle.registryd.specs.Session.{reply_after}
-use Rattle.registryd.proofs.SessionLemmas.{lawful_memory, lawful_bad, lawful_listed, lawful_accepted, lawful_refused, lawful_resolved}
+use Rattle.registryd.specs.Told.{told_body}
+use Rattle.registryd.proofs.SessionLemmas.{lawful_memory, lawful_bad, lawful_judged, lawful_listed, lawful_accepted, lawful_refused, lawful_resolved}
 use Rattle.registryd.proofs.answer.reply_to.Goals as goal
 
 pub returns-in-Ok : goal.returns-in-Ok
@@ -21,12 +22,17 @@ pub returns-in-Ok-Resolve : goal.returns-in-Ok-Resolve
 returns-in-Ok-Resolve g c =
     let said = rw c.in-Ok-Resolve.field-0-is at c.in-Ok-Resolve.ensures in
     let replied = c.reply_to_request.ensures in
-    (replied.0, lawful_resolved _ _ _ _ _ c.requires said replied.1, replied.2)
+    (replied.0, lawful_resolved _ _ _ _ _ _ c.requires said replied.1, replied.2)
+
+pub returns-in-Ok-Check : goal.returns-in-Ok-Check
+returns-in-Ok-Check g c =
+    let said = rw c.in-Ok-Check.field-0-is at c.in-Ok-Check.ensures in
+    (_, lawful_judged _ _ _ _ _ (told_body c.verdict_on-told.result) c.requires said c.registry.ensures c.verdict_on-told.ensures, rw c.revision-in-Ok-Check.ensures at c.put_told.ensures)
 
 pub returns-in-Ok-new : goal.returns-in-Ok-new
 returns-in-Ok-new g c =
     let said = rw c.in-Ok-Listing.field-0-is at c.in-Ok-Listing.ensures in
-    let listing = subst (λ p. IsListing p c.in-Ok-new.listing) c.registry.ensures c.in-Ok-new.ensures.listed in
+    let listing = subst (λ p. IsListing p c.in-Ok-new.listing) c.registry-in-Ok-Listing.ensures c.in-Ok-new.ensures.listed in
     (_, lawful_listed _ _ _ c.requires said listing, rw c.revision-in-Ok-new.ensures at c.put_reply-in-Ok-new.ensures)
 
 pub returns-in-Err-new : goal.returns-in-Err-new

@@ -1,5 +1,5 @@
 use Rattle.solver.specs.Pushing.{Extends}
 use Rattle.solver.proofs.deciding.add_dependencies.Given as goal
 
-abbrev pub invariant-loop-entry : goal.invariant-loop-entry
-invariant-loop-entry l = Extends l.task l.fn.known.items l.known.items
+abbrev pub invariant-loop-index : goal.invariant-loop-index
+invariant-loop-index l = Extends l.task l.fn.known.items l.known.items

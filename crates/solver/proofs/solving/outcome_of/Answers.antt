@@ -1,25 +1,38 @@
+use Rattle.std.proofs.Common.{List, subst, sym}
+use Rattle.derivations.specs.Known.{AreLawful}
+use Rattle.derivations.specs.declared.cutting.Known.{Known}
 use Rattle.solver.proofs.solving.outcome_of.Goals as goal
 
 pub offers-requires-clause-lawful : goal.offers-requires-clause-lawful
 offers-requires-clause-lawful c =
+    let packages = c.args.task.now.registry.now.packages in
+    let wanted = c.args.task.now.request.now in
     let ends = rw c.in-Selected.is at c.requires in
-    record { packages = c.args.task.now.registry.now.packages; wanted = c.args.task.now.request.now; lawful = ends.0.lawful }
+    record { packages = packages; wanted = wanted; lawful = subst (λ (lines : List Known). AreLawful packages wanted lines) (sym c.deref.ensures.value) ends.0.lawful }
 
 pub offers-requires-in-Refused-clause-lawful : goal.offers-requires-in-Refused-clause-lawful
 offers-requires-in-Refused-clause-lawful c =
+    let packages = c.args.task.now.registry.now.packages in
+    let wanted = c.args.task.now.request.now in
     let ends = rw c.in-Refused.is at c.requires in
-    record { packages = c.args.task.now.registry.now.packages; wanted = c.args.task.now.request.now; lawful = ends.lawful }
+    record { packages = packages; wanted = wanted; lawful = subst (λ (lines : List Known). AreLawful packages wanted lines) (sym c.deref-in-Refused.ensures.value) ends.lawful }
 
 pub returns-in_ok-offered-in-Selected-clause-lawful : goal.returns-in_ok-offered-in-Selected-clause-lawful
 returns-in_ok-offered-in-Selected-clause-lawful c =
-    let ends = rw c.in-Selected.is at c.requires in (
+    let packages = c.args.task.now.registry.now.packages in
+    let wanted = c.args.task.now.request.now in
+    let ends = rw c.in-Selected.is at c.requires in
+    let lawful = subst (λ (lines : List Known). AreLawful packages wanted lines) (sym c.deref.ensures.value) ends.0.lawful in (
       record { selection = _; meets = ends.1.meets; tells = c.in_ok-pairs-in-Selected.ensures.tells },
-      c.in_ok-offered-in-Selected.ensures.stand c.args.task.now.registry.now.packages c.args.task.now.request.now ends.0.lawful,
+      c.in_ok-offered-in-Selected.ensures.stand packages wanted lawful,
     )
 
-pub returns-in_ok-offered-in-Refused-clause-lawful : goal.returns-in_ok-offered-in-Refused-clause-lawful
-returns-in_ok-offered-in-Refused-clause-lawful c =
-    let ends = rw c.in-Refused.is at c.requires in (
-      c.in_ok-derivation-in-Refused.ensures.derived c.args.task.now.registry.now.packages c.args.task.now.request.now ends.lawful,
-      c.in_ok-offered-in-Refused.ensures.stand c.args.task.now.registry.now.packages c.args.task.now.request.now ends.lawful,
+pub returns-in_ok-derivation-in-Refused-clause-lawful : goal.returns-in_ok-derivation-in-Refused-clause-lawful
+returns-in_ok-derivation-in-Refused-clause-lawful c =
+    let packages = c.args.task.now.registry.now.packages in
+    let wanted = c.args.task.now.request.now in
+    let ends = rw c.in-Refused.is at c.requires in
+    let lawful = subst (λ (lines : List Known). AreLawful packages wanted lines) (sym c.deref-in-Refused.ensures.value) ends.lawful in (
+      c.in_ok-derivation-in-Refused.ensures.derived packages wanted ends.lawful,
+      c.in_ok-offered-in-Refused.ensures.stand packages wanted lawful,
     )

@@ -11,8 +11,8 @@ returns-in-Some g c =
 pub walk-init : goal.walk-init
 walk-init g c =
     let met = rw c.in_default.is at c.in_ok-index.ensures.met in
-    walk_start c.args.registry.now.packages c.args.request.now (g.C.Chooser.chooses c.args.chooser.now) c.new-found.result.entries c.follow_all.new.found.entries
-    c.new-found.ensures.empty c.in_ok-index.ensures.follows c.in_ok-index.ensures.come met
+    walk_start c.args.registry.now.packages c.args.request.now (g.C.Chooser.chooses c.args.chooser.now) c.in_ok-found.found.entries c.follow_all.new.found.entries
+    c.in_ok-found.ensures.empty c.in_ok-index.ensures.follows c.in_ok-index.ensures.come met
 
 pub returns-then-not-allowed : goal.returns-then-not-allowed
 returns-then-not-allowed g c =

@@ -1,5 +1,5 @@
 //! The budgets of resolve lines.
-use super::refusal_of;
+use super::is_refused;
 use crate::request::{Asked, read_request};
 use std::alloc::Global;
 use std::test::Fail;
@@ -62,10 +62,9 @@ const BUDGETS: [(&str, Option<u32>); 8] = [
 
 #[test]
 fn bad_budgets_are_bad_lines(rt: HostRuntime) {
-    for line in BAD_LINES {
-        assert_eq!(rt;
-            refusal_of(rt.alloc(), line.as_bytes()),
-            Some(Refusal::BadLine),
+    for line in &BAD_LINES {
+        assert!(rt;
+            is_refused(rt.alloc(), line.as_bytes(), Refusal::BadLine),
             "at {line}"
         );
     }
@@ -74,24 +73,25 @@ fn bad_budgets_are_bad_lines(rt: HostRuntime) {
 #[test]
 fn a_budget_is_no_excuse(rt: HostRuntime) {
     let line = "{\"op\":\"resolve\",\"needs\":[[\"a\",\"none\"]],\"budget\":0}";
-    assert_eq!(rt;
-        refusal_of(rt.alloc(), line.as_bytes()),
-        Some(Refusal::BadRequirement)
-    );
+    assert!(rt; is_refused(rt.alloc(), line.as_bytes(), Refusal::BadRequirement));
 }
 
 /// The budget of a resolve line.
 fn budget_of(alloc: Global, line: &str) -> Result<Option<u32>, Fail> {
     match read_request(alloc, line.as_bytes())? {
-        Asked::Resolve { request: _, budget } => Ok(budget),
+        Asked::Resolve {
+            request: _,
+            explain: _,
+            budget,
+        } => Ok(budget),
         _ => Err(Fail::from(Refusal::BadLine)),
     }
 }
 
 #[test]
 fn budgets_are_read(rt: HostRuntime) -> Result<(), Fail> {
-    for (line, budget) in BUDGETS {
-        assert_eq!(rt; budget_of(rt.alloc(), line)?, budget, "at {line}");
+    for (line, budget) in &BUDGETS {
+        assert!(rt; budget_of(rt.alloc(), *line)? == *budget, "at {line}");
     }
     Ok(())
 }

@@ -1,5 +1,5 @@
 //! Resolve lines: what they ask, and the refusals of those that are at fault.
-use super::refusal_of;
+use super::{is_read, is_refused};
 use crate::request::{Asked, read_request};
 use registry::Request;
 use std::alloc::Global;
@@ -24,11 +24,12 @@ const BAD_LINES: [&str; 20] = [
     "{\"op\":\"resolve\",\"needs\":[],\"lock\":[[\"a\",\"1.0.0\",false]]}",
     // Of a lock that comes twice the last counts.
     "{\"op\":\"resolve\",\"needs\":[],\"lock\":[],\"lock\":1}",
-    // Another member. A stage to come reads one of them.
+    // Whether to explain is true or false.
+    "{\"op\":\"resolve\",\"needs\":[],\"explain\":1}",
+    "{\"op\":\"resolve\",\"needs\":[],\"explain\":null}",
+    "{\"op\":\"resolve\",\"needs\":[],\"explain\":\"true\"}",
+    // Another member.
     "{\"op\":\"resolve\",\"needs\":[],\"locks\":[]}",
-    "{\"op\":\"resolve\",\"needs\":[],\"explain\":true}",
-    "{\"op\":\"resolve\",\"needs\":[],\"lock\":[],\"explain\":false}",
-    "{\"op\":\"resolve\",\"needs\":[],\"lock\":[],\"budget\":0,\"explain\":false}",
     "{\"op\":\"resolve\",\"needs\":[],\"lock\":[],\"name\":\"a\"}",
     "{\"op\":\"list\",\"needs\":[]}",
     // Nothing else is judged of such a line.
@@ -76,10 +77,9 @@ const REFUSED: [(&str, Refusal); 8] = [
 
 #[test]
 fn bad_resolve_lines_are_bad_lines(rt: HostRuntime) {
-    for line in BAD_LINES {
-        assert_eq!(rt;
-            refusal_of(rt.alloc(), line.as_bytes()),
-            Some(Refusal::BadLine),
+    for line in &BAD_LINES {
+        assert!(rt;
+            is_refused(rt.alloc(), line.as_bytes(), Refusal::BadLine),
             "at {line}"
         );
     }
@@ -87,10 +87,9 @@ fn bad_resolve_lines_are_bad_lines(rt: HostRuntime) {
 
 #[test]
 fn the_lowest_refusal_of_a_resolve_line_is_told(rt: HostRuntime) {
-    for (line, refusal) in REFUSED {
-        assert_eq!(rt;
-            refusal_of(rt.alloc(), line.as_bytes()),
-            Some(refusal),
+    for (line, refusal) in &REFUSED {
+        assert!(rt;
+            is_refused(rt.alloc(), line.as_bytes(), *refusal),
             "at {line}"
         );
     }
@@ -99,7 +98,11 @@ fn the_lowest_refusal_of_a_resolve_line_is_told(rt: HostRuntime) {
 /// The request that a line asks.
 fn request_of(alloc: Global, line: &str) -> Result<Request, Fail> {
     match read_request(alloc, line.as_bytes())? {
-        Asked::Resolve { request, budget: _ } => Ok(request),
+        Asked::Resolve {
+            request,
+            explain: _,
+            budget: _,
+        } => Ok(request),
         _ => Err(Fail::from(Refusal::BadLine)),
     }
 }
@@ -191,33 +194,66 @@ fn needy_line(alloc: Global, count: u8, name: &str, requirement: &str) -> Result
     Ok(line)
 }
 
-/// The refusal of such a line.
-fn refusal_of_needy(
+/// Whether such a line is refused so, or read where there is no refusal.
+fn needy_line_is(
     alloc: Global,
     count: u8,
-    name: &str,
-    requirement: &str,
-) -> Result<Option<Refusal>, Fail> {
-    let line = needy_line(alloc, count, name, requirement)?;
-    Ok(refusal_of(alloc, line.as_bytes()))
+    need: (&str, &str),
+    refusal: Option<Refusal>,
+) -> Result<bool, Fail> {
+    let line = needy_line(alloc, count, need.0, need.1)?;
+    match refusal {
+        Some(refusal) => Ok(is_refused(alloc, line.as_bytes(), refusal)),
+        None => Ok(is_read(alloc, line.as_bytes())),
+    }
 }
+
+/// How many needs, the last of them, and what refuses the line.
+const NEEDY: [(u8, (&str, &str), Option<Refusal>); 6] = [
+    (63, ("c", "^1"), None),
+    (64, ("c", "^1"), Some(Refusal::TooManyDependencies)),
+    // The needs past the 64th are judged too.
+    (64, ("b0", "^1"), Some(Refusal::RepeatedDependency)),
+    (65, ("b64", "^1"), Some(Refusal::RepeatedDependency)),
+    (65, ("b64", "none"), Some(Refusal::BadRequirement)),
+    (65, ("B", "none"), Some(Refusal::BadName)),
+];
 
 #[test]
 fn a_request_has_at_most_64_needs(rt: HostRuntime) -> Result<(), Fail> {
-    for (count, name, requirement, refusal) in [
-        (63, "c", "^1", None),
-        (64, "c", "^1", Some(Refusal::TooManyDependencies)),
-        // The needs past the 64th are judged too.
-        (64, "b0", "^1", Some(Refusal::RepeatedDependency)),
-        (65, "b64", "^1", Some(Refusal::RepeatedDependency)),
-        (65, "b64", "none", Some(Refusal::BadRequirement)),
-        (65, "B", "none", Some(Refusal::BadName)),
-    ] {
-        assert_eq!(rt;
-            refusal_of_needy(rt.alloc(), count, name, requirement)?,
-            refusal,
-            "at {count} needs and {name} {requirement}"
+    for (count, need, refusal) in &NEEDY {
+        assert!(rt;
+            needy_line_is(rt.alloc(), *count, *need, *refusal)?,
+            "at {count} needs"
         );
+    }
+    Ok(())
+}
+
+/// Whether a resolve line asks to explain a refusal.
+fn explains(alloc: Global, line: &str) -> Result<bool, Fail> {
+    match read_request(alloc, line.as_bytes())? {
+        Asked::Resolve {
+            request: _,
+            explain,
+            budget: _,
+        } => Ok(explain),
+        _ => Err(Fail::from(Refusal::BadLine)),
+    }
+}
+
+#[test]
+fn a_refusal_is_explained_where_that_is_asked(rt: HostRuntime) -> Result<(), Fail> {
+    for (line, explain) in [
+        ("{\"op\":\"resolve\",\"needs\":[]}", false),
+        ("{\"op\":\"resolve\",\"needs\":[],\"explain\":false}", false),
+        ("{\"op\":\"resolve\",\"needs\":[],\"explain\":true}", true),
+        (
+            "{\"explain\":true,\"op\":\"resolve\",\"lock\":[],\"budget\":0,\"needs\":[]}",
+            true,
+        ),
+    ] {
+        assert!(rt; explains(rt.alloc(), line)? == explain, "at {line}");
     }
     Ok(())
 }

@@ -1,8 +1,16 @@
-use Rattle.std.proofs.Common.{◌∙◌, ap, false, sym, true}
-use Rattle.registry.specs.Publications.{PublicationList, publications_of}
+use Rattle.std.proofs.Common.{◌∙◌, ap, false, length, subst, sym, true}
+use Rattle.registry.specs.Publications.{PublicationList, publications_of, AreOffered}
 use Rattle.registry.specs.Step.{set_yanked}
 use Rattle.registry.proofs.PublicationLemmas.{set_yanked-found, set_yanked-none}
+use Rattle.registry.proofs.Yanks.{length-marked, offered-undone}
 use Rattle.registry.proofs.publications.Publications.set_yanked.Goals as goal
+
+pub invariant_of-self-else-yanked : goal.invariant_of-self-else-yanked
+invariant_of-self-else-yanked c = (
+  c.self.invariant.0 ∙ sym (ap length c.unyank.ensures.releases ∙ length-marked c.self.inside.releases.releases c.in-Some.ordinal false),
+  c.self.invariant.1,
+  subst (AreOffered c.self.inside.yanks) (sym c.unyank.ensures.releases) (offered-undone c.self.inside.yanks c.self.inside.releases.releases c.in-Some.ordinal c.self.invariant.2),
+)
 
 pub returns-in_default : goal.returns-in_default
 returns-in_default c =
@@ -11,7 +19,7 @@ returns-in_default c =
 pub returns-then-yanked : goal.returns-then-yanked
 returns-then-yanked c =
     ap (λ l. publications_of l c.self.inside.needs.items) c.yank.ensures.releases
-    ∙ set_yanked-found c.self.inside.releases.releases c.self.inside.needs.items c.args.version.now c.in-Some.ordinal true c.self.invariant
+    ∙ set_yanked-found c.self.inside.releases.releases c.self.inside.needs.items c.args.version.now c.in-Some.ordinal true c.self.invariant.0
     (record { found = c.in-Some.ensures.found; only = c.in-Some.ensures.only })
     ∙ ap (λ b. set_yanked c.args.version.now b (publications_of c.self.inside.releases.releases c.self.inside.needs.items)) (sym c.if-yanked.true)
     ∙ ap (λ (l : PublicationList). set_yanked c.args.version.now c.args.yanked l.publications) c.self.view_is
@@ -19,7 +27,7 @@ returns-then-yanked c =
 pub returns-else-yanked : goal.returns-else-yanked
 returns-else-yanked c =
     ap (λ l. publications_of l c.self.inside.needs.items) c.unyank.ensures.releases
-    ∙ set_yanked-found c.self.inside.releases.releases c.self.inside.needs.items c.args.version.now c.in-Some.ordinal false c.self.invariant
+    ∙ set_yanked-found c.self.inside.releases.releases c.self.inside.needs.items c.args.version.now c.in-Some.ordinal false c.self.invariant.0
     (record { found = c.in-Some.ensures.found; only = c.in-Some.ensures.only })
     ∙ ap (λ b. set_yanked c.args.version.now b (publications_of c.self.inside.releases.releases c.self.inside.needs.items)) (sym c.if-yanked.false)
     ∙ ap (λ (l : PublicationList). set_yanked c.args.version.now c.args.yanked l.publications) c.self.view_is

@@ -16,6 +16,6 @@ returns-in_err-ordinal c =
 pub returns : goal.returns
 returns c =
     ap (λ (l : List Release). Some (get_or l c.in_ok-ordinal.ordinal c.index-as_slice-ordinal.result).yanked) c.as_slice.ensures
-    ∙ sym (yank_of-found c.self.inside.releases.releases c.self.inside.needs.items c.args.version.now c.in_ok-ordinal.ordinal c.index-as_slice-ordinal.result c.self.invariant
+    ∙ sym (yank_of-found c.self.inside.releases.releases c.self.inside.needs.items c.args.version.now c.in_ok-ordinal.ordinal c.index-as_slice-ordinal.result c.self.invariant.0
     (record { found = c.in_ok-ordinal.ensures.found; only = c.in_ok-ordinal.ensures.only }))
     ∙ ap (λ (l : PublicationList). yank_of l.publications c.args.version.now) c.self.view_is

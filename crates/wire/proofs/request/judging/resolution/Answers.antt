@@ -1,6 +1,8 @@
 use Rattle.std.proofs.lemmas.Result.{err_from_is_err_and}
 use Rattle.versions.specs.declared.refusal.Refusal.TheVariants.{BadName, BadRequirement, BadVersion}
-use Rattle.wire.proofs.JudgeLemmas.{asks_judged, both_named, given_by, misnamed_lock, misnamed_needs, refuses_by, refuses_judged}
+use Rattle.registry.specs.Requests.{Wanted}
+use Rattle.wire.specs.Shapes.{resolve}
+use Rattle.wire.proofs.JudgeLemmas.{AreTexts, asks_judged, both_named, given_by, judged_resolution, misnamed_lock, misnamed_needs, refuses_by, refuses_judged}
 use Rattle.wire.proofs.request.judging.resolution.Goals as goal
 
 pub returns-in_err-needed : goal.returns-in_err-needed
@@ -37,8 +39,9 @@ returns-in_err-request c =
     let locked = given_by _ _ _ BadName c.in_ok-locked.ensures in
     let lock = given_by _ _ _ BadVersion c.in_ok-lock.ensures in
     let needs = given_by _ _ _ BadRequirement c.in_ok-needs.ensures in
-    rw (p.1, p.2) (refuses_judged c.args.needs.now c.args.lock.now _ _ _
-    (record { named = both_named c.args.needs.now c.args.lock.now needed.0 locked.0; versioned = lock.0; required = needs.0 }) needs.1 lock.1 _ c.in_err-request.ensures)
+    let texts : AreTexts c.args.needs.now c.args.lock.now = record { named = both_named c.args.needs.now c.args.lock.now needed.0 locked.0; versioned = lock.0; required = needs.0 } in
+    let ask = λ (wanted : Wanted). resolve wanted c.args.explain c.args.budget in
+    rw (p.1, p.2) (refuses_judged ask _ _ _ _ (judged_resolution c.args.needs.now c.args.lock.now c.args.explain c.args.budget texts) needs.1 lock.1 _ c.in_err-request.ensures)
 
 pub returns : goal.returns
 returns c =
@@ -46,5 +49,6 @@ returns c =
     let locked = given_by _ _ _ BadName c.in_ok-locked.ensures in
     let lock = given_by _ _ _ BadVersion c.in_ok-lock.ensures in
     let needs = given_by _ _ _ BadRequirement c.in_ok-needs.ensures in
-    asks_judged c.args.needs.now c.args.lock.now _ _ _
-    (record { named = both_named c.args.needs.now c.args.lock.now needed.0 locked.0; versioned = lock.0; required = needs.0 }) needs.1 lock.1 _ c.in_ok-request.ensures
+    let texts : AreTexts c.args.needs.now c.args.lock.now = record { named = both_named c.args.needs.now c.args.lock.now needed.0 locked.0; versioned = lock.0; required = needs.0 } in
+    let ask = λ (wanted : Wanted). resolve wanted c.args.explain c.args.budget in
+    asks_judged ask _ _ _ _ (judged_resolution c.args.needs.now c.args.lock.now c.args.explain c.args.budget texts) needs.1 lock.1 _ c.in_ok-request.ensures

@@ -1,5 +1,5 @@
-use Rattle.wire.proofs.RequestLemmas.{pair_of_items-other}
+use Rattle.wire.proofs.RequestLemmas.{other_length}
 use Rattle.wire.proofs.request.pairs.pair_in.Goals as goal
 
 pub returns-then-items-ne2 : goal.returns-then-items-ne2
-returns-then-items-ne2 c = pair_of_items-other _ c.if-items-ne2.true
+returns-then-items-ne2 c = other_length 2 c.args.items.now _ c.if-items-ne2.true

@@ -1,5 +1,6 @@
-use Rattle.wire.proofs.PairLemmas.{array_of_view, length-pairs}
+use Rattle.wire.specs.Shapes.{pair_of}
+use Rattle.wire.proofs.ItemLemmas.{length-each, list_of_view}
 use Rattle.wire.proofs.request.pairs.Pairs.len.Goals as goal
 
 pub returns : goal.returns
-returns c = length-pairs _ _ (array_of_view _ _ c.self.invariant c.self.view_is)
+returns c = length-each pair_of _ _ (list_of_view _ _ c.self.invariant c.self.view_is)

@@ -1,8 +1,0 @@
-use Rattle.std.proofs.Common.{refl}
-use Rattle.derivations.proofs.Walking.{line_by}
-use Rattle.derivations.proofs.cutting.line_for.Goals as goal
-
-pub returns-clause-same : goal.returns-clause-same
-returns-clause-same c =
-    line_by c.args.known.now c.args.numbers.now c.args.at c.cites-i.result.0 c.cites-i.result.1 c.cites-i.result.2 c.index-known-at.result c.index-known-i.result c.index-known-j.result _
-    c.requires.ready c.index-known-at.is c.cites-i.ensures c.index-known-i.is c.index-known-j.is c.in_ok-conclusion.ensures refl c.in_ok-first.ensures.same c.in_ok-second.ensures.same

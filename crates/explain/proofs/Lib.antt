@@ -1,0 +1,4 @@
+mod ChoiceTexts
+mod ListedTexts
+mod WrittenLines
+mod WorkedRows

@@ -1,8 +1,0 @@
-use Rattle.std.proofs.Common.{◌≡◌, drop}
-use Rattle.registry.proofs.ready.are_same.Given as goal
-
-abbrev pub invariant-loop-need : goal.invariant-loop-need
-invariant-loop-need l = record {
-  whole : l.rest ≡ drop l.need-index l.second → l.first ≡ l.second;
-  rest : l.first ≡ l.second → l.rest ≡ drop l.need-index l.second;
-}

@@ -1,0 +1,139 @@
+//! What is told in reply to a line, by a session and by the seats of a race alike.
+ghost use Rattle.lines.specs.Texts.{Puts};
+ghost use Rattle.registry.specs.Preference.{IsPreferredSelection};
+ghost use Rattle.registry.specs.Selections.{Choices, Meets};
+ghost use Rattle.derivations.specs.Derivations.{IsDerivation};
+ghost use Rattle.solver.specs.Outcomes as outcomes;
+ghost use Rattle.wire.specs.Replied.{body_of};
+ghost use Rattle.registryd.specs.Outcomes.{MayTell, TellsFound, TellsNone, TellsVerdict};
+ghost use Rattle.registryd.specs.Told.{line_of, told_body};
+
+use crate::reasons::{explained, follows};
+use derivations::Derivation;
+use lines::Outbox;
+use registry::{Registry, Request};
+use solver::Outcome;
+use std::alloc::Global;
+use std::io;
+use std::io::Write;
+use versions::{Name, Published, Refusal};
+use wire::{Body, Explained, NamedDerivation, Spot, reply_line};
+
+/// What is told in reply to a line. A listing is not among it, since it is lent by the registry.
+#[derive(Drop)]
+pub enum Told {
+    Accepted,
+    Refusal(Refusal),
+    Selection(Vec<(Name, Published)>),
+    NoSelection,
+    Explained(Explained),
+    Follows(bool),
+}
+
+/// What is told of a request for which the solver found this. What it offers to be learnt is dropped.
+pub fn told_of(
+    alloc: Global,
+    registry: &Registry,
+    request: &Request,
+    explain: bool,
+    outcome: Outcome,
+) -> Told
+    requires lawful { outcomes.IsLawful registry.now.packages request.now outcome }
+    requires preferred { (s : Choices) → IsPreferredSelection registry.now.packages request.now s → Meets registry.now.packages request.now s
+        → outcomes.Answers registry.now.packages s outcome }
+    ensures { MayTell (TellsFound registry.now.packages request.now explain) (told_body result) }
+{
+    match outcome {
+        Outcome::Selection(list, _) => Told::Selection(list),
+        Outcome::Refused(derivation, _) => {
+            told_refused(alloc, registry, request, explain, &derivation)
+        }
+    }
+}
+
+/// What is told of a request that no selection meets: that, and why where it is asked.
+fn told_refused(
+    alloc: Global,
+    registry: &Registry,
+    request: &Request,
+    explain: bool,
+    derivation: &Derivation,
+) -> Told
+    requires { IsDerivation registry.now.packages request.now derivation.now }
+    ensures { MayTell (TellsNone registry.now.packages request.now explain) (told_body result) }
+{
+    if !explain {
+        return Told::NoSelection;
+    }
+    match explained(alloc, registry, request, derivation) {
+        Ok(reason) => Told::Explained(reason),
+        Err(e) => Told::Refusal(e),
+    }
+}
+
+/// What is told of a derivation that a request is given with.
+pub fn verdict_on(
+    alloc: Global,
+    registry: &Registry,
+    request: &Request,
+    derivation: &NamedDerivation,
+) -> Told
+    ensures { MayTell (TellsVerdict registry.now.packages request.now derivation.now) (told_body result) }
+{
+    match follows(alloc, registry, request, derivation) {
+        Ok(verdict) => Told::Follows(verdict),
+        Err(e) => Told::Refusal(e),
+    }
+}
+
+/// Puts the line of what is told. It takes no memory.
+pub fn put_told<W: Write>(
+    outbox: &mut Outbox,
+    writer: &mut W,
+    stamp: Option<Spot>,
+    revision: u64,
+    told: &Told,
+) -> io::Result<()>
+    ensures { Puts (W.contents writer.old) (W.contents writer.new) outbox.old outbox.new result
+        (line_of stamp revision (told_body told.now)) }
+{
+    match told {
+        Told::Accepted => put_reply(outbox, writer, stamp, revision, Body::Accepted),
+        Told::Refusal(refusal) => {
+            put_reply(outbox, writer, stamp, revision, Body::Refusal(*refusal))
+        }
+        Told::Selection(list) => put_reply(
+            outbox,
+            writer,
+            stamp,
+            revision,
+            Body::Selection(list.as_slice()),
+        ),
+        Told::NoSelection => put_reply(outbox, writer, stamp, revision, Body::NoSelection),
+        Told::Explained(reason) => {
+            put_reply(outbox, writer, stamp, revision, Body::Explained(reason))
+        }
+        Told::Follows(verdict) => {
+            put_reply(outbox, writer, stamp, revision, Body::Follows(*verdict))
+        },
+    }
+}
+
+/// Puts the line of a reply, with where it was found in a race.
+pub fn put_reply<W: Write>(
+    outbox: &mut Outbox,
+    writer: &mut W,
+    stamp: Option<Spot>,
+    revision: u64,
+    body: Body<'_>,
+) -> io::Result<()>
+    ensures { Puts (W.contents writer.old) (W.contents writer.new) outbox.old outbox.new result
+        (line_of stamp revision (body_of body.entry)) }
+{
+    let reply = wire::Reply {
+        revision,
+        stamp,
+        body,
+    };
+    reply_line(outbox, writer, &reply)
+}

@@ -1,0 +1,198 @@
+"""Explanations that the program gives.
+
+They follow, by the program's own checker and by the tool that shares nothing with it; a second writer of the words
+agrees with them; and their lines are few, and stand in the order in which a person tells them. Damaged, none follows.
+"""
+import json
+import os
+import random
+import subprocess
+import tempfile
+import unittest
+
+from damages import KINDS, Damage
+from program import publish, run, serve, unyank, yank
+from refuter import Known
+from test_check_derivation import CHAIN, TOOL, WORKED, asked, said_of, tangle
+
+MOST_LINES = {"chain": 3, "either": 5}  # of the worked refusals; each other one takes a single line
+
+
+def told(known, request, rows):
+    """The text of an explanation, written once more."""
+    def members(name, ordinals):
+        held = known.releases(name)
+        return "{" + ", ".join(held[it][0] if it < len(held) else f"#{it}" for it in ordinals) + "}"
+
+    def term(name, inside, ordinals):
+        shown = "the request" if name == "" and ordinals == [0] else f"{name or 'the request'} {members(name, ordinals)}"
+        return shown if inside else "not " + shown
+
+    def cause(it):
+        if "line" in it:
+            return f"line {it['line']}"
+        if it["fact"] == "root":
+            return "the request must be met"
+        if it["fact"] == "disallowed":
+            return f"{it['name']} {members(it['name'], it['versions'])} is not allowed"
+        if it["fact"] == "need":
+            target, requirement = request["needs"][it["index"]]
+            return f'the request needs {target} "{requirement}" in {members(target, known.matching(target, requirement))}'
+        return (f'{it["name"]} {members(it["name"], it["versions"])} needs {it["target"]} "{it["need"]}" '
+                f'in {members(it["target"], it["within"])}')
+
+    lines = [f"{number}. never ({', '.join(term(*it) for it in row['conclusion'])}), because {cause(row['causes'][0])} "
+             f"and {cause(row['causes'][1])}" for number, row in enumerate(rows, 1)]
+    return [*lines, "So no selection meets the request."]
+
+
+def checking(request, rows):
+    """The line that asks the program whether a derivation follows."""
+    kept = {member: request[member] for member in ("needs", "lock") if member in request}
+    return json.dumps({"op": "check", **kept, "derivation": rows})
+
+
+def distances(cited, order):
+    """How far each line stands from the first that cites it, where the lines stand in this order, all together."""
+    at = {line: place for place, line in enumerate(order)}
+    first = {}
+    for line in order:
+        for cause in cited[line]:
+            first.setdefault(cause, line)
+    return sum(at[user] - at[line] for line, user in first.items())
+
+
+class Explained(unittest.TestCase):
+    def explained(self, lines, requests):
+        """The program's refusals of these requests after these lines, each with its request; the tool says of all that they follow."""
+        every = [*map(json.loads, lines), *requests]
+        replies = [json.loads(it) for it in serve([json.dumps(it) for it in every])]
+        status, printed = said_of(every, replies)
+        self.assertEqual(status, 0, printed)
+        found = [(request, reply) for request, reply in zip(requests, replies[len(lines):]) if "refused" in reply]
+        self.assertEqual(printed.count(" follows\n"), len(found))
+        return found
+
+    def well_told(self, known, request, reply):
+        """The members are those of an explained refusal, and the text is that of the lines, which are well ordered."""
+        self.assertEqual(list(reply), ["derivation", "explanation", "refused", "revision"])
+        rows = reply["derivation"]
+        self.assertEqual(reply["explanation"], told(known, request, rows))
+        self.assertEqual(len({json.dumps(row["conclusion"]) for row in rows}), len(rows), "two conclusions are equal")
+        self.well_ordered([[it["line"] - 1 for it in row["causes"] if "line" in it] for row in rows])
+
+    def well_ordered(self, cited):
+        """Each line but the last is cited, and stands as near as it can to the first that cites it, with nothing between that this one does not rest on."""
+        rests, first = [], {}
+        for place, places in enumerate(cited):
+            rests.append(set(places).union(*(rests[it] for it in places)))
+            for it in places:
+                first.setdefault(it, place)
+        self.assertEqual(sorted(first), list(range(len(cited) - 1)), "a line is never cited")
+        least = distances(cited, range(len(cited)))
+        for place, user in first.items():
+            self.assertLessEqual(set(range(place + 1, user)), rests[user])
+            moved = [line for line in range(len(cited)) if line != place]
+            moved.insert(moved.index(user), place)
+            self.assertGreaterEqual(distances(cited, moved), least, "a line could stand nearer to the first that cites it")
+
+    def test_worked(self):
+        for name, (lines, request, by_hand) in WORKED.items():
+            (request, reply), = self.explained(lines, [asked(request)])
+            self.well_told(Known(map(json.loads, lines)), request, reply)
+            rows = reply["derivation"]
+            self.assertLessEqual(len(rows), MOST_LINES.get(name, 1))
+            plain, *verdicts = serve([*lines, json.dumps({**request, "explain": False}), checking(request, rows),
+                                      checking(request, json.loads(by_hand)), checking(request, rows[:-1]),
+                                      checking({"needs": []}, rows)])[len(lines):]
+            self.assertEqual(json.loads(plain), {"refused": True, "revision": len(lines)})
+            self.assertEqual([json.loads(it) for it in verdicts],
+                             [{"follows": it, "revision": len(lines)} for it in (True, True, False, False)], name)
+
+    def random_refusals(self, seeds):
+        for seed in seeds:
+            rng = random.Random(seed)
+            commands, _ = tangle(rng)
+            requests = [tangle(rng)[1] for _ in range(12)]
+            known = Known(commands)
+            for request, reply in self.explained(list(map(json.dumps, commands)), requests):
+                yield commands, known, request, reply, rng
+
+    def test_random(self):
+        count = 0
+        for commands, known, request, reply, _ in self.random_refusals(range(100)):
+            self.well_told(known, request, reply)
+            answer = json.loads(serve([*map(json.dumps, commands), checking(request, reply["derivation"])])[-1])
+            self.assertEqual(answer, {"follows": True, "revision": len(commands)})
+            count += 1
+        self.assertGreater(count, 300)
+
+    def test_damaged(self):
+        fresh = lambda value: json.loads(json.dumps(value))
+        for commands, known, request, reply, rng in self.random_refusals(range(1000, 1030)):
+            lines, accepted = [], [{"ok": True, "revision": number} for number in range(1, len(commands) + 1)]
+            for kind in KINDS:
+                rows, said = fresh(reply["derivation"]), known.said(reply["derivation"], request)
+                damage = Damage(known, fresh(request), rows, said, rng)
+                if getattr(damage, kind)():
+                    replies = [*accepted, {**reply, "derivation": damage.rows}]
+                    status, printed = said_of([*commands, damage.request], replies)
+                    self.assertEqual(status, 1, (kind, printed, damage.request, damage.rows))
+                    lines.append(checking(damage.request, damage.rows))
+            for line, answer in zip(lines, serve([*map(json.dumps, commands), *lines])[len(commands):]):
+                self.assertNotEqual(json.loads(answer).get("follows"), True, line)
+
+
+class Files(unittest.TestCase):
+    def setUp(self):
+        folder = tempfile.TemporaryDirectory()
+        self.addCleanup(folder.cleanup)
+        self.folder = folder.name
+
+    def file(self, name, lines):
+        path = os.path.join(self.folder, name)
+        with open(path, "w", encoding="utf-8") as out:
+            out.write("".join(line + "\n" for line in lines))
+        return path
+
+    def tool(self, *words):
+        done = subprocess.run([TOOL, *words], stdout=subprocess.PIPE, text=True, timeout=100)
+        return done.returncode, done.stdout
+
+    def test_a_session(self):
+        lines = [*CHAIN[0], json.dumps(asked(CHAIN[1]))]
+        self.assertEqual(self.tool(self.file("asked", lines), self.file("told", serve(lines))),
+                         (0, "request 5: the refusal at revision 4 follows\n"))
+
+    def test_a_race(self):
+        # Each file asks why at a place of its own; the tool judges each seat's replies by the journal that was printed.
+        request = {"op": "resolve", "needs": [["a", "^1"], ["b", "^1"]], "explain": True}
+        rows = [{"causes": [{"fact": "need", "index": 0}, {"fact": "root"}], "conclusion": [], "pivot": ""}]
+        files = [[publish("a", "1.0.0", ["b ^2"]), publish("b", "1.0.0"), json.dumps(request), checking(request, rows)],
+                 [publish("c", "1.0.0"), json.dumps(request), yank("c", "1.0.0"), checking(request, rows), json.dumps(request)],
+                 [json.dumps(request), publish("b", "2.0.0"), unyank("b", "2.0.0"), json.dumps(request), checking(request, rows)]]
+        for _ in range(20):
+            done = run(["race", *(self.file(str(number), lines) for number, lines in enumerate(files))])
+            self.assertEqual((done.returncode, done.stderr), (0, b""))
+            printed = done.stdout.decode().splitlines()
+            journal = self.file("journal", printed[sum(map(len, files)):])
+            for number, lines in enumerate(files):
+                replies, printed = printed[:len(lines)], printed[len(lines):]
+                status, said = self.tool("--journal", journal, self.file("asked", lines), self.file("told", replies))
+                explained = [it for it in map(json.loads, replies) if "derivation" in it]
+                self.assertEqual((status, said.count(" follows\n")), (0, len(explained)), said)
+                for line, reply in zip(lines, map(json.loads, replies)):
+                    self.assertEqual(reply["seat"], number + 1)
+                    if "follows" in reply:
+                        # the derivation says that nothing meets the need on `a`, so it follows until `a` is published
+                        before = [json.loads(it)["name"] for it in printed_journal(journal)[:reply["revision"]]]
+                        self.assertEqual(reply["follows"], "a" not in before)
+
+
+def printed_journal(path):
+    with open(path, encoding="utf-8") as lines:
+        return lines.read().splitlines()[1:-1]
+
+
+if __name__ == "__main__":
+    unittest.main()
