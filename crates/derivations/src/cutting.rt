@@ -136,7 +136,7 @@ fn step_for(alloc: Global, known: &[Known], numbers: &[usize], at: usize) -> Res
 
 /// For how many lines room is made before they are written, so that a short derivation is not moved
 /// again and again while it grows.
-const ROOM: usize = 64;
+const ROOM: usize = 128;
 
 /// A list of so many zeros.
 pub fn zeros(alloc: Global, count: usize) -> Result<Vec<usize>, AllocError>

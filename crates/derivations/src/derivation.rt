@@ -5,7 +5,7 @@ ghost use Rattle.std.specs.Bool.{OnTrue};
 ghost use Rattle.derivations.specs.Derivations.{AreIncompats, IsDerivation, NoSelection};
 
 use crate::following::are_derived;
-use crate::line::{Line, are_lawful, copied, is_end, last_conclusion};
+use crate::line::{Line, conclusions_are_lawful, copied, is_end, last_conclusion};
 use registry::{Registry, Request};
 use std::alloc::Global;
 use std::marker::Model;
@@ -41,11 +41,12 @@ impl Derivation {
         self.lines.as_slice()
     }
 
-    /// Each conclusion is an incompatibility, as the type of conclusions has it.
-    pub fn is_lawful(&self)
+    /// Tells a caller that each conclusion is an incompatibility, as its type has it. What it reads
+    /// decides nothing.
+    pub fn conclusions_are_lawful(&self)
         ensures { AreIncompats self.now }
     {
-        are_lawful(self.lines.as_slice());
+        conclusions_are_lawful(self.lines.as_slice());
     }
 
     /// An equal derivation.

@@ -45,8 +45,9 @@ pub fn copied(alloc: Global, lines: &[Line]) -> Result<Vec<Line>, Refusal>
     Ok(copy)
 }
 
-/// Each conclusion is an incompatibility, as its type has it.
-pub fn are_lawful(lines: &[Line])
+/// Tells a caller that each conclusion is an incompatibility, as its type has it. What it reads decides
+/// nothing.
+pub fn conclusions_are_lawful(lines: &[Line])
     ensures { AreIncompats lines.now }
 {
     for line in lines {

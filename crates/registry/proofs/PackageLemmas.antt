@@ -222,7 +222,7 @@ listed-at [] i k v lt at = absurd (omega arith)
 listed-at (w ∷ lists) zero k v lt at = ap (λ (u : PublicationList). slice_get u.publications k) (sym at)
 listed-at (w ∷ lists) (suc i) k v lt at = listed-at lists i k v (omega arith) at
 
-publication-within : (publications : List Publication) (k : ℕ) → is_some (slice_get publications k) ≡ true → k < length publications
+pub publication-within : (publications : List Publication) (k : ℕ) → is_some (slice_get publications k) ≡ true → k < length publications
 publication-within [] k e = absurd (true≢false (sym e))
 publication-within (r ∷ rest) zero e = omega arith
 publication-within (r ∷ rest) (suc k) e = let less = publication-within rest k e in omega (arith, less)

@@ -1,30 +1,33 @@
--- Releases of which none was ever yanked.
-use Rattle.std.proofs.Common.{◌≡◌, ℕ, zero, suc, List, [], ◌∷◌, length, refl, sym, ap, Bool, false}
-use Rattle.std.specs.Prelude.{IfSome, slice_get}
+-- Releases of which one is yanked, or none.
+use Rattle.std.proofs.Common.{◌≡◌, ◌<◌, ◌∙◌, ◌||◌, ℕ, zero, suc, List, [], ◌∷◌, ◌++◌, length, refl, sym, ap, arith, Bool, true, false}
 use Rattle.releases.specs.declared.release.Release.{Release}
 use Rattle.releases.specs.Releases.{marked}
 use Rattle.versions.specs.Words.{Text}
-use Rattle.registry.specs.Publications.{publications_of, AreOffered}
-use Rattle.registry.specs.Registry.{Publication}
+use Rattle.registry.specs.Publications.{any_yanked, publications_of}
+use Rattle.registry.specs.Registry.{has_yank}
 
 pub length-marked : (releases : List Release) (place : ℕ) (yanked : Bool) → length (marked releases place yanked) ≡ length releases
 length-marked [] place yanked = refl
 length-marked (r ∷ rs) zero yanked = refl
 length-marked (r ∷ rs) (suc place) yanked = ap suc (length-marked rs place yanked)
 
--- one of which the yank is undone
-pub offered-undone : (ever : Bool) (releases : List Release) (place : ℕ) → AreOffered ever releases → AreOffered ever (marked releases place false)
-offered-undone ever [] place h none k x at = h none k x at
-offered-undone ever (r ∷ rs) zero h none zero x at =
-    let same : (record { version = r.version; yanked = false }) ≡ x = cc at in ap (λ (y : Release). y.yanked) (sym same)
-offered-undone ever (r ∷ rs) zero h none (suc k) x at = h none (suc k) x at
-offered-undone ever (r ∷ rs) (suc place) h none zero x at = h none zero x at
-offered-undone ever (r ∷ rs) (suc place) h none (suc k) x at = offered-undone ever rs place (λ e j y there. h e (suc j) y there) none k x at
+or_true : (b : Bool) → (b || true) ≡ true
+or_true true = refl
+or_true false = refl
 
--- then none of the publications is yanked
-pub offered-publications : (releases : List Release) (needs : List (List (Text × Text))) → AreOffered false releases
-    → (k : ℕ) → IfSome (slice_get (publications_of releases needs) k) (λ (publication : Publication). publication.yanked ≡ false)
-offered-publications [] needs h k = tt
-offered-publications (r ∷ rs) [] h k = tt
-offered-publications (r ∷ rs) (n ∷ ns) h zero = h refl zero r refl
-offered-publications (r ∷ rs) (n ∷ ns) h (suc k) = offered-publications rs ns (λ e j x at. h e (suc j) x at) k
+-- one that is yanked now
+pub yanked-marked : (releases : List Release) (place : ℕ) → place < length releases → any_yanked (marked releases place true) ≡ true
+yanked-marked [] place lt = absurd (omega (arith, lt))
+yanked-marked (r ∷ rs) zero lt = refl
+yanked-marked (r ∷ rs) (suc place) lt = ap (λ b. r.yanked || b) (yanked-marked rs place (omega (arith, lt))) ∙ or_true r.yanked
+
+-- one more that is not yanked
+pub yanked-more : (releases : List Release) (version : Text) → any_yanked (releases ++ (record { version = version; yanked = false }) ∷ []) ≡ any_yanked releases
+yanked-more [] version = refl
+yanked-more (r ∷ rs) version = ap (λ b. r.yanked || b) (yanked-more rs version)
+
+-- then one of the publications is
+pub yanked-publications : (releases : List Release) (needs : List (List (Text × Text))) → length needs ≡ length releases → any_yanked releases ≡ has_yank (publications_of releases needs)
+yanked-publications [] needs e = refl
+yanked-publications (r ∷ rs) [] e = absurd (omega (arith, e))
+yanked-publications (r ∷ rs) (n ∷ ns) e = ap (λ b. r.yanked || b) (yanked-publications rs ns (omega (arith, e)))

@@ -1,5 +1,6 @@
 -- What a contract sees of the publications of a package as they are stored, and of the lists of them.
-use Rattle.std.specs.Prelude.{◌≡◌, ◌<◌, ◌+◌, ℕ, Bool, true, false, List, [], ◌∷◌, length, map, slice_get, Option, None, Some}
+use Rattle.std.specs.Prelude.{◌≡◌, ◌↔◌, ◌<◌, ◌+◌, ℕ, Bool, true, false, List, [], ◌∷◌, length, map, slice_get, Option, None, Some}
+use Rattle.std.specs.List.{list_any}
 use Rattle.releases.specs.declared.release.Release.{Release}
 use Rattle.versions.specs.Words.{Text}
 use Rattle.registry.specs.Registry.{Packages, Publication}
@@ -16,13 +17,21 @@ publications_of (release ∷ releases) [] = []
 publications_of (release ∷ releases) (needs ∷ others) =
     (record { version = release.version; needs = needs; yanked = release.yanked }) ∷ publications_of releases others
 
--- a publication that has a mark needs what the one before it does
-abbrev pub AreAlike : List Bool → List (List (Text × Text)) → Type 0
-AreAlike marks needs = (k : ℕ) → slice_get marks k ≡ Some true → (k < length needs) × (j : ℕ) × (j + 1 ≡ k) × (slice_get needs k ≡ slice_get needs j)
+-- needs that are the same as those before them
+abbrev pub IsAlike : List (List (Text × Text)) → ℕ → Type 0
+IsAlike needs k = (k < length needs) × (j : ℕ) × (j + 1 ≡ k) × (slice_get needs k ≡ slice_get needs j)
 
--- none of the releases is yanked, unless one ever was
-abbrev pub AreOffered : Bool → List Release → Type 0
-AreOffered ever releases = ever ≡ false → (k : ℕ) (release : Release) → slice_get releases k ≡ Some release → release.yanked ≡ false
+-- the last of these needs are the same as others
+abbrev pub EndsWith : List (List (Text × Text)) → List (Text × Text) → Type 0
+EndsWith needs next = (j : ℕ) × (j + 1 ≡ length needs) × (slice_get needs j ≡ Some next)
+
+-- beside each publication a mark, whether it needs what the one before it does
+abbrev pub AreAlike : List Bool → List (List (Text × Text)) → Type 0
+AreAlike marks needs = (length marks ≡ length needs) × ((k : ℕ) → slice_get marks k ≡ Some true ↔ IsAlike needs k)
+
+-- whether one of the releases is yanked
+abbrev pub any_yanked : List Release → Bool
+any_yanked releases = list_any (λ (release : Release). release.yanked) releases
 
 -- the publications that a list has, where there is one
 abbrev pub publications_in : Option PublicationList → List Publication

@@ -1,5 +1,5 @@
 -- The registry: packages in order of first mention, each with its publications in order.
-use Rattle.std.specs.Prelude.{ℕ, suc, zero, Bool, false, List, [], ◌∷◌, is_some, slice_get, Option, Some, None, if◌then◌else◌}
+use Rattle.std.specs.Prelude.{◌≡◌, ◌+◌, ℕ, suc, zero, Bool, true, false, List, [], ◌∷◌, is_some, slice_get, Option, Some, None, if◌then◌else◌}
 use Rattle.std.specs.Option.{option_and_then}
 use Rattle.std.specs.List.{list_any}
 use Rattle.std.specs.Str.{bytes_eq}
@@ -71,6 +71,14 @@ needs_or_none (Some publication) = publication.needs
 -- what the version depends on: names with requirements
 abbrev pub needs_of : Packages → ℕ → ℕ → List (Text × Text)
 needs_of packages p k = needs_or_none (publication_at packages p k)
+
+-- a version that is published and needs what the one before it does
+abbrev pub Repeats : Packages → ℕ → ℕ → Type 0
+Repeats packages p k = (is_published packages p k ≡ true) × (j : ℕ) × (j + 1 ≡ k) × (needs_of packages p k ≡ needs_of packages p j)
+
+-- whether one of these publications is yanked
+abbrev pub has_yank : List Publication → Bool
+has_yank versions = list_any (λ (v : Publication). v.yanked) versions
 
 abbrev pub publication_meets : Option Publication → Text → Bool
 publication_meets None need = false

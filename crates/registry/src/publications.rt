@@ -1,12 +1,12 @@
 // The publications of one package.
 
-ghost use Rattle.std.specs.Prelude.{◌≡◌, ◌<◌, ◌+◌, ◌∷◌, ◌++◌, [], ℕ, false, length, slice_get, None, Some, IfErr, IfNone, IfOk, IfSome, IsOk, OnOk, is_some, true};
+ghost use Rattle.std.specs.Prelude.{◌≡◌, ◌↔◌, ◌<◌, ◌+◌, ◌∷◌, ◌++◌, [], ℕ, false, length, slice_get, None, Some, IfErr, IfNone, IfOk, IfSome, IsOk, IsTrue, OnOk, is_some, true};
 ghost use Rattle.std.specs.Option.{option_copied};
 ghost use Rattle.releases.specs.Matching.{ordinals_of};
 ghost use Rattle.terms.specs.Sets.{has};
 ghost use Rattle.registry.specs.Highest.{IsHighest};
-ghost use Rattle.registry.specs.Publications.{publications_in, AreAlike};
-ghost use Rattle.registry.specs.Registry.{has_version, needs_or_none, publication_equals, publication_meets};
+ghost use Rattle.registry.specs.Publications.{any_yanked, publications_in, EndsWith};
+ghost use Rattle.registry.specs.Registry.{has_version, has_yank, needs_or_none, publication_equals, publication_meets};
 ghost use Rattle.registry.specs.Step.{set_yanked, unyank_refusal, yank_of, yank_refusal};
 
 use crate::dependencies::{Dependencies, are_same};
@@ -21,27 +21,27 @@ use versions::{Need, Published, Refusal};
 pub struct Publications {
     releases: Releases,
     needs: Vec<Dependencies>,
-    /// Whether each publication is known to need what the one before it does. It may end early.
-    alike: Vec<bool>,
-    /// Whether one of them was ever yanked.
+    /// Whether each publication needs what the one before it does.
+    repeats: Vec<bool>,
+    /// Whether one of them is yanked.
     yanks: bool,
 }
 
 impl Model for Publications {
     ghost use Rattle.std.specs.Prelude.{◌≡◌, ◌-◌, length, min, vec_capacity, vec_len};
-    ghost use Rattle.registry.specs.Publications.{PublicationList, publications_of, AreAlike, AreOffered};
+    ghost use Rattle.registry.specs.Publications.{PublicationList, publications_of, any_yanked, AreAlike};
 
     ghost Value = { PublicationList };
 
     ghost view = { λ p. record {
       publications = publications_of p.releases.releases p.needs.items;
-      room = min p.releases.room (vec_capacity p.needs - vec_len p.needs);
+      room = min p.releases.room (min (vec_capacity p.needs - vec_len p.needs) (vec_capacity p.repeats - vec_len p.repeats));
     } };
 
     ghost invariant = { λ p.
         (length p.needs.items ≡ length p.releases.releases)
-        × AreAlike p.alike.items p.needs.items
-        × AreOffered p.yanks p.releases.releases };
+        × AreAlike p.repeats.items p.needs.items
+        × (p.yanks ≡ any_yanked p.releases.releases) };
 }
 
 impl Publications {
@@ -52,7 +52,7 @@ impl Publications {
         Publications {
             releases: Releases::new(alloc),
             needs: Vec::new(alloc),
-            alike: Vec::new(alloc),
+            repeats: Vec::new(alloc),
             yanks: false,
         }
     }
@@ -77,16 +77,18 @@ impl Publications {
         (&self.releases.as_slice()[place], &self.needs[place])
     }
 
-    /// Whether the one with this ordinal is known to need what the one before it does.
-    pub fn is_alike(&self, ordinal: u32) -> bool
-        ensures { result ≡ true → (k : ℕ) × (k + 1 ≡ ordinal) × (needs_or_none (slice_get self.now.publications ordinal) ≡ needs_or_none (slice_get self.now.publications k)) }
+    /// Beside each, whether it needs what the one before it does.
+    pub fn repeats(&self) -> &[bool]
+        ensures length { length result.now ≡ length self.now.publications }
+        ensures marks { (k : ℕ) → slice_get result.now k ≡ Some true ↔ ((k < length self.now.publications) × (j : ℕ) × (j + 1 ≡ k)
+            × (needs_or_none (slice_get self.now.publications k) ≡ needs_or_none (slice_get self.now.publications j))) }
     {
-        is_marked(&self.alike, ordinal as usize)
+        &self.repeats
     }
 
-    /// Whether one of them was ever yanked. Else none is.
+    /// Whether one of them is yanked.
     pub fn has_yanks(&self) -> bool
-        ensures { result ≡ false → (k : ℕ) → IfSome (slice_get self.now.publications k) (λ publication. publication.yanked ≡ false) }
+        ensures { result ≡ has_yank self.now.publications }
     {
         self.yanks
     }
@@ -167,7 +169,7 @@ impl Publications {
         ensures ok { OnOk result (0 < self.new.room) }
     {
         self.needs.reserve(1)?;
-        self.alike.reserve(1)?;
+        self.repeats.reserve(1)?;
         self.releases.reserve()
     }
 
@@ -178,12 +180,13 @@ impl Publications {
         requires few { length self.old.publications < 1024 }
         ensures { self.new.publications ≡ self.old.publications ++ (record { version = version; needs = needs; yanked = false }) ∷ [] }
     {
-        mark_next(&mut self.alike, &self.needs, &needs);
+        self.repeats.push(end_with(&self.needs, &needs)).unwrap();
         self.releases.push(version);
         self.needs.push(needs).unwrap();
     }
 
-    /// Marks the one of equal precedence as yanked or not, if there is one.
+    /// Marks the one of equal precedence as yanked or not, if there is one. Where a yank is undone, it
+    /// looks at each whether it is yanked.
     pub fn set_yanked(&mut self, version: &Published, yanked: bool)
         ensures { self.new.publications ≡ set_yanked version.now yanked self.old.publications }
     {
@@ -191,28 +194,18 @@ impl Publications {
             return;
         };
         if yanked {
-            self.yanks = true;
             self.releases.yank(ordinal);
+            self.yanks = true;
         } else {
             self.releases.unyank(ordinal);
+            self.yanks = any_yanked(self.releases.as_slice());
         }
     }
 }
 
-/// Whether there is a mark at a place.
-fn is_marked(marks: &[bool], place: usize) -> bool
-    ensures { result ≡ true → slice_get marks.now place ≡ Some true }
-{
-    match marks.get(place) {
-        Some(mark) => *mark,
-        None => false,
-    }
-}
-
-/// Whether these end with the same needs as another's.
+/// Whether the last of these needs are the same as others.
 fn end_with(needs: &[Dependencies], next: &Dependencies) -> bool
-    ensures some { result ≡ true → 0 < length needs.now }
-    ensures same { result ≡ true → (k : ℕ) → k + 1 ≡ length needs.now → slice_get needs.now k ≡ Some next.now }
+    ensures { IsTrue result ↔ EndsWith needs.now next.now }
 {
     match needs {
         [] => false,
@@ -220,19 +213,11 @@ fn end_with(needs: &[Dependencies], next: &Dependencies) -> bool
     }
 }
 
-/// Marks the next publication where it needs what the last one does. Once a mark found no memory, no
-/// more are made.
-fn mark_next(marks: &mut Vec<bool>, needs: &[Dependencies], next: &Dependencies)
-    requires { AreAlike marks.old.items needs.now }
-    ensures { AreAlike marks.new.items (needs.now ++ next.now ∷ []) }
+/// Whether one of the releases is yanked.
+fn any_yanked(releases: &[Release]) -> bool
+    ensures { result ≡ any_yanked releases.now }
 {
-    if marks.len() != needs.len() {
-        return;
-    }
-    let mark = end_with(needs, next);
-    match marks.push(mark) {
-        Ok(()) | Err(_) => {}
-    }
+    releases.iter().any(|release| release.yanked)
 }
 
 /// Whether there is a publication of equal precedence.

@@ -1,6 +1,6 @@
 // The registry.
 
-ghost use Rattle.std.specs.Prelude.{◌≡◌, ◌<◌, ◌≤◌, ◌+◌, ◌^◌, [], ℕ, false, length, nat_lt, None, Some, IfErr, IfNone, IfOk, IfSome, IsOk, IsTrue, OnErr, OnOk, is_some, true};
+ghost use Rattle.std.specs.Prelude.{◌≡◌, ◌↔◌, ◌<◌, ◌≤◌, ◌+◌, ◌^◌, [], ℕ, false, length, nat_lt, None, Some, IfErr, IfNone, IfOk, IfSome, IsOk, IsTrue, OnErr, OnOk, is_some, slice_get, true};
 ghost use Rattle.std.specs.Option.{option_copied, option_map};
 ghost use Rattle.releases.specs.Matching.{ordinals_of};
 ghost use Rattle.terms.specs.Sets.{has, IsAscending};
@@ -10,7 +10,7 @@ ghost use Rattle.registry.specs.Highest.{IsHighest};
 ghost use Rattle.registry.specs.Lawful.{IsRegistry};
 ghost use Rattle.registry.specs.Needs.{has_name, repeats_name};
 ghost use Rattle.registry.specs.Publications.{publications_in};
-ghost use Rattle.registry.specs.Registry.{equals_at, has_version, is_published, meets_at, needs_of, number_of, package_at, publication_at, versions_of, versions_or_none};
+ghost use Rattle.registry.specs.Registry.{Repeats, equals_at, has_version, has_yank, is_published, meets_at, needs_of, number_of, package_at, publication_at, versions_of, versions_or_none};
 ghost use Rattle.registry.specs.Requests.{is_allowed};
 ghost use Rattle.registry.specs.Rooms.{HasRoomFor};
 ghost use Rattle.registry.specs.Step as step;
@@ -155,20 +155,22 @@ impl Registry {
         }
     }
 
-    /// Whether a version is known to depend on what the one before it does, by a look at a mark.
-    pub fn repeats(&self, pkg: Pkg, ordinal: u32) -> bool
-        ensures { result ≡ true → (k : ℕ) × (k + 1 ≡ ordinal) × (needs_of self.now.packages pkg ordinal ≡ needs_of self.now.packages pkg k) }
+    /// Beside each version of a package, whether it depends on what the one before it does: the same
+    /// names and requirements, in the same order. Each mark is made when its version is published.
+    pub fn repeats(&self, pkg: Pkg) -> &[bool]
+        ensures length { length result.now ≡ length (versions_or_none (package_at self.now.packages pkg)) }
+        ensures marks { (k : ℕ) → slice_get result.now k ≡ Some true ↔ Repeats self.now.packages pkg k }
     {
         match self.publications_at(pkg) {
-            None => false,
-            Some(publications) => publications.is_alike(ordinal),
+            None => &[],
+            Some(publications) => publications.repeats(),
         }
     }
 
-    /// Whether some version of a package was ever yanked, by a look at a note. Else each is allowed
-    /// to every request.
+    /// Whether some version of a package is yanked, by a look at a note. Else each is allowed to every
+    /// request.
     pub fn has_yanks(&self, pkg: Pkg) -> bool
-        ensures { result ≡ false → (k : ℕ) → IfSome (publication_at self.now.packages pkg k) (λ publication. publication.yanked ≡ false) }
+        ensures { result ≡ has_yank (versions_or_none (package_at self.now.packages pkg)) }
     {
         match self.publications_at(pkg) {
             None => false,

@@ -25,7 +25,7 @@ pub fn explained(
     ensures only { IfErr result (λ e. e ≡ Refusal.NoMemory) }
 {
     // Known of every derivation, and asked by `named`: each of its packages has a name.
-    derivation.is_lawful();
+    derivation.conclusions_are_lawful();
     derived_packages_have_names();
     let by_name = named(alloc, registry, derivation)?;
     let lines = explanation(alloc, registry, request, derivation)?;

@@ -3,6 +3,7 @@ use Rattle.std.proofs.Common.{◌≡◌, ◌<◌, ◌∙◌, ℕ, List, [], ◌�
 use Rattle.std.proofs.lemmas.Bool.{cases_eq, cases_lt, and_parts, eq-eqb, ne_eqb}
 use Rattle.std.proofs.lemmas.Option.{get_or_from_slice_get, none-some, same_Some}
 use Rattle.std.specs.Prelude.{Option, None, Some, IfNone, IfSome, Contains, slice_get}
+use Rattle.terms.specs.Sets.{has}
 use Rattle.terms.specs.Terms.{is_in, true_of}
 use Rattle.terms.specs.Incompats.{true_at}
 use Rattle.terms.specs.declared.term.Term.{Term}
@@ -43,6 +44,13 @@ highest_is_within task p said k h = record {
   within = (and_parts (true_of said (Some k)) (is_allowed task.registry.now.packages task.request.now p k) h.passes).0;
 }
 
+-- the highest of the versions in a set is one
+pub highest_is_in : (task : Task) (p : ℕ) (versions : List ℕ) (k : ℕ) → IsHighest (λ j b. has versions j ≡ b) (versions_or_none (package_at task.registry.now.packages p)) k → IsWithin task p (In versions) k
+highest_is_in task p versions k h = record {
+  published = published-below task.registry.now.packages p k h.published;
+  within = h.passes;
+}
+
 -- an ordinal that is not published is not allowed
 unpublished_barred : (task : Task) (p k : ℕ) → publication_at task.registry.now.packages p k ≡ None → is_allowed task.registry.now.packages task.request.now p k ≡ false
 unfolding is_allowed
@@ -57,6 +65,13 @@ unpublished_barred task p k gone = by (package_at task.registry.now.packages p) 
 pub none_barred : (task : Task) (p : ℕ) (said : Term) → ((k : ℕ) → k < length (versions_or_none (package_at task.registry.now.packages p)) → is_choosable task p said k ≡ false) → AreBarred task p said
 none_barred task p said h k within = elim (cases_lt k (count task.registry.now.packages p)) [
   | inl lt ↦ sym (ap (λ b. b && is_allowed task.registry.now.packages task.request.now p k) within) ∙ h k lt
+  | inr from ↦ unpublished_barred task p k (unpublished-from task.registry.now.packages p k from)
+]
+
+-- where no version is in a set, none in it is allowed
+pub none_in : (task : Task) (p : ℕ) (versions : List ℕ) → ((k : ℕ) → k < length (versions_or_none (package_at task.registry.now.packages p)) → has versions k ≡ false) → AreBarred task p (In versions)
+none_in task p versions h k within = elim (cases_lt k (count task.registry.now.packages p)) [
+  | inl lt ↦ absurd (true≢false (sym within ∙ h k lt))
   | inr from ↦ unpublished_barred task p k (unpublished-from task.registry.now.packages p k from)
 ]
 

@@ -46,8 +46,8 @@ impl Agenda {
             ripe: Vec::with_capacity(alloc, ROOM)?,
             learnt: Vec::new(alloc),
             queue: Queue::new(alloc)?,
-            used: Vec::new(alloc),
-            spent: Spent::new(alloc),
+            used: Vec::with_capacity(alloc, ROOM)?,
+            spent: Spent::new(alloc)?,
         })
     }
 
@@ -103,7 +103,9 @@ impl Agenda {
         self.queue.offer(task, &mut self.spots, partial, pkg)?;
         match partial.said(pkg) {
             None => Ok(()),
-            Some(said) => self.spots.gather(pkg, said, &self.spent, &mut self.ripe),
+            Some(said) => self
+                .spots
+                .gather(partial, pkg, said, &mut self.spent, &mut self.ripe),
         }
     }
 

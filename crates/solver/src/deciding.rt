@@ -4,6 +4,7 @@ ghost use Rattle.std.specs.Prelude.{◌≡◌, ◌<◌, ℕ, true, false, not, C
 ghost use Rattle.registry.specs.Highest.{IsHighest};
 ghost use Rattle.registry.specs.Registry.{is_published, needs_of, package_at, versions_or_none};
 ghost use Rattle.terms.specs.Terms.{is_in, true_of};
+ghost use Rattle.terms.specs.declared.term.Term.TheVariants.{In};
 ghost use Rattle.derivations.specs.Derivations.{NoneAllowed};
 ghost use Rattle.partial.specs.Assignments.{is_decided, says};
 ghost use Rattle.solver.specs.Picking.{is_choosable, AreBarred, IsToDecide, IsWithin, PicksBy};
@@ -70,12 +71,24 @@ fn highest_within(task: &Task<'_>, pkg: Pkg, said: &Term) -> Option<u32>
         .highest_where(pkg, |ordinal| is_choosable(task, pkg, said, ordinal))
 }
 
+/// The highest version of a set, where it is not asked which are allowed.
+fn highest_in(task: &Task<'_>, pkg: Pkg, versions: &VSet) -> Option<u32>
+    ensures some { IfSome result (IsWithin task.now pkg (In versions.now)) }
+    ensures none { IfNone result (AreBarred task.now pkg (In versions.now)) }
+{
+    task.registry.highest(pkg, versions)
+}
+
 /// The highest version that is allowed and within a term, if one is.
 fn best_within(task: &Task<'_>, pkg: Pkg, said: &Term) -> Option<u32>
     ensures some { IfSome result (IsWithin task.now pkg said.now) }
     ensures none { IfNone result (AreBarred task.now pkg said.now) }
 {
-    highest_within(task, pkg, said)
+    match said {
+        // Where none is yanked, each is allowed.
+        Term::In(versions) if !task.registry.has_yanks(pkg) => highest_in(task, pkg, versions),
+        Term::In(_) | Term::NotIn(_) => highest_within(task, pkg, said),
+    }
 }
 
 /// The version to decide for: the lock's, else the highest that is allowed and within a term.

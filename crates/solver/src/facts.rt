@@ -3,7 +3,7 @@
 ghost use Rattle.std.specs.Prelude.{◌≡◌, ◌≢◌, ◌<◌, ◌↔◌, ◌∷◌, ◌+◌, [], ℕ, true, Contains, Some, length, IfErr, IfOk, IsSome, IsTrue, OnOk};
 ghost use Rattle.terms.specs.Sets.{has};
 ghost use Rattle.terms.specs.declared.term.Term.TheVariants.{In};
-ghost use Rattle.registry.specs.Registry.{is_published, meets_at, needs_of, number_of, package_at, versions_or_none};
+ghost use Rattle.registry.specs.Registry.{Repeats, is_published, meets_at, needs_of, number_of, package_at, versions_or_none};
 ghost use Rattle.derivations.specs.Derivations.{IsFact, NoneAllowed};
 ghost use Rattle.derivations.specs.Facts.{premise_terms, Stands};
 ghost use Rattle.solver.specs.Pushing.{Extends, IsDependency, IsForDependency, IsForNeed, SaysAt};
@@ -63,21 +63,23 @@ fn has_entry(needs: &[(Name, Need)], name: &Name, need: &Need) -> bool
     false
 }
 
-/// Whether a version depends on a name with this requirement, given whether the one before it does.
-/// Most versions depend on what the one before does, which is known without a comparison.
+/// Whether a version depends on a name with this requirement, given whether it repeats what the one
+/// before it depends on, and whether that one does. Most versions do, and then nothing is compared.
 fn has_dependency(
     task: &Task<'_>,
     pkg: Pkg,
     ordinal: u32,
     name: &Name,
     need: &Need,
+    repeats: bool,
     before: bool,
 ) -> bool
     requires published { is_published task.now.registry.now.packages pkg ordinal ≡ true }
+    requires repeats { IsTrue repeats → Repeats task.now.registry.now.packages pkg ordinal }
     requires before { (k : ℕ) → k + 1 ≡ ordinal → IsTrue before ↔ Contains (needs_of task.now.registry.now.packages pkg k) (name.now, need.now) }
     ensures { IsTrue result ↔ Contains (needs_of task.now.registry.now.packages pkg ordinal) (name.now, need.now) }
 {
-    if task.registry.repeats(pkg, ordinal) {
+    if repeats {
         return before;
     }
     has_entry(task.registry.facts(pkg, ordinal).needs, name, need)
@@ -88,10 +90,12 @@ fn versions_with(task: &Task<'_>, pkg: Pkg, name: &Name, need: &Need) -> Result<
     ensures exactly { IfOk result (λ set. (k : ℕ) → IsTrue (has set k) ↔ Contains (needs_of task.now.registry.now.packages pkg k) (name.now, need.now)) }
     ensures only { IfErr result (λ e. e ≡ Refusal.NoMemory) }
 {
+    let repeats = task.registry.repeats(pkg);
     let mut set = VSet::new(task.alloc);
     let mut is_one = false;
     for ordinal in 0..version_count(task.registry, pkg) {
-        is_one = has_dependency(task, pkg, ordinal, name, need, is_one);
+        let same = repeats[ordinal as usize];
+        is_one = has_dependency(task, pkg, ordinal, name, need, same, is_one);
         if is_one {
             set.insert(ordinal)?;
         }

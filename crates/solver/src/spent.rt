@@ -5,16 +5,17 @@
 ghost use Rattle.std.specs.Prelude.{◌≡◌, IfErr};
 ghost use Rattle.versions.specs.declared.refusal.Refusal.TheVariants.{NoMemory};
 
+use crate::task::ROOM;
 use std::alloc::Global;
 use versions::Refusal;
 
-/// Lines by which something was derived. As long as it stands, their term on its package is
-/// contradicted.
+/// Lines of which a term is contradicted as long as what was settled stands: those by which something
+/// was derived, and those that were found so.
 #[derive(Drop)]
 pub(crate) struct Spent {
     /// By place of the line, up to the highest that was ever spent.
     is_spent: Vec<bool>,
-    /// The places of the lines that are spent, each with the level of what it derived, in order.
+    /// The places of the lines that are spent, each with the level at which it was, in order.
     order: Vec<(usize, usize)>,
 }
 
@@ -25,11 +26,13 @@ fn mark(lines: &mut [bool], at: usize, is_spent: bool) {
 }
 
 impl Spent {
-    pub fn new(alloc: Global) -> Spent {
-        Spent {
-            is_spent: Vec::new(alloc),
-            order: Vec::new(alloc),
-        }
+    pub fn new(alloc: Global) -> Result<Spent, Refusal>
+        ensures { IfErr result (λ e. e ≡ NoMemory) }
+    {
+        Ok(Spent {
+            is_spent: Vec::with_capacity(alloc, 2 * ROOM)?,
+            order: Vec::with_capacity(alloc, 2 * ROOM)?,
+        })
     }
 
     /// Whether the line at a place is spent.
@@ -37,7 +40,7 @@ impl Spent {
         self.is_spent.as_slice().get(at).copied() == Some(true)
     }
 
-    /// Notes that something was derived at a level by the line at a place.
+    /// Notes that the line at a place is spent at a level.
     pub fn add(&mut self, at: usize, level: usize) -> Result<(), Refusal>
         ensures { IfErr result (λ e. e ≡ NoMemory) }
     {

@@ -10,25 +10,37 @@ use crate::facts::version_count;
 use crate::spent::Spent;
 use crate::task::{ROOM, Task};
 use derivations::Known;
+use partial::Partial;
 use std::alloc::Global;
 use terms::{Pkg, Relation, Term, VSet, relation};
 use versions::Refusal;
 
-/// A line that names a package, by its place, and what it says of that package.
-#[derive(Drop)]
+/// A line that names a package. These are read far more often than what the lines say, so they stand by
+/// themselves, and as numbers of 32 bits. A line beyond those is not noted, though none ever fitted a
+/// memory.
+#[derive(Clone, Copy)]
 struct Mention {
-    at: usize,
-    term: Term,
+    /// The line's place.
+    at: u32,
     /// The number of the package's next mention, 0 at its last one.
-    next: usize,
+    next: u32,
+}
+
+/// What a line says of a package that it names.
+#[derive(Drop)]
+struct Saying {
+    pkg: Pkg,
+    term: Term,
+    /// The number of the line's other mention, 0 where there are not two.
+    other: u32,
 }
 
 /// What is kept of a package.
 #[derive(Drop)]
 struct Spot {
     /// The numbers of the first and of the last mention of it, 0 where there is none.
-    first: usize,
-    last: usize,
+    first: u32,
+    last: u32,
     /// The packages on which dependencies of its versions stand among the lines.
     targets: Targets,
     /// The versions of which all dependencies are among the lines.
@@ -47,8 +59,8 @@ enum Allowed {
 
 /// What is kept of the packages that lines name.
 ///
-/// The mentions of all packages stand in one list: so a package takes no list of its own. There the
-/// number of an element is one more than its index.
+/// The mentions of all packages stand in one list, and what is said there in another: so a package takes
+/// no list of its own. The number of a mention is one more than its index in both.
 #[derive(Drop)]
 pub(crate) struct Spots {
     /// By number of the package, up to the highest that a line names: one more than the index of its
@@ -56,6 +68,7 @@ pub(crate) struct Spots {
     numbers: Vec<usize>,
     spots: Vec<Spot>,
     mentions: Vec<Mention>,
+    sayings: Vec<Saying>,
     covered: Covered,
 }
 
@@ -79,18 +92,20 @@ fn allowed_of(task: &Task<'_>, pkg: Pkg) -> Result<Allowed, Refusal>
     Ok(Allowed::Only(allowed))
 }
 
-/// Whether a term is satisfied by what is said of its package.
-#[inline(always)]
-fn is_met(said: &Term, term: &Term) -> bool {
-    match relation(said, term) {
-        Relation::Satisfies => true,
-        Relation::Contradicts | Relation::Inconclusive => false,
-    }
+/// Of what use a line is now.
+#[derive(Clone, Copy)]
+enum Use {
+    /// Something may follow from it.
+    Ripe,
+    /// Nothing follows from it until more is settled.
+    Unripe,
+    /// One of its terms is contradicted, so that nothing follows from it until the search goes back.
+    Shut,
 }
 
 impl Spot {
     /// Of a package that was mentioned once, by the mention of this number.
-    fn new(alloc: Global, mention: usize) -> Spot {
+    fn new(alloc: Global, mention: u32) -> Spot {
         Spot {
             first: mention,
             last: mention,
@@ -126,6 +141,7 @@ impl Spots {
             numbers: Vec::with_capacity(alloc, ROOM)?,
             spots: Vec::with_capacity(alloc, ROOM)?,
             mentions: Vec::with_capacity(alloc, 2 * ROOM)?,
+            sayings: Vec::with_capacity(alloc, 2 * ROOM)?,
             covered: Covered::new(alloc)?,
         })
     }
@@ -156,16 +172,34 @@ impl Spots {
         Ok(())
     }
 
-    /// Puts a line behind those that name a package.
-    fn mention(&mut self, alloc: Global, pkg: Pkg, at: usize, term: &Term) -> Result<(), Refusal>
+    /// The number of the next mention.
+    fn next_number(&self) -> u32 {
+        u32::try_from(self.mentions.len())
+            .unwrap_or(u32::MAX)
+            .saturating_add(1)
+    }
+
+    /// Puts the line at a place behind those that name a package, given the number of its other mention.
+    fn mention(
+        &mut self,
+        alloc: Global,
+        at: usize,
+        entry: &(Pkg, Term),
+        other: u32,
+    ) -> Result<(), Refusal>
         ensures { IfErr result (λ e. e ≡ NoMemory) }
     {
-        self.mentions.push(Mention {
-            at,
-            term: term.copy(alloc)?,
-            next: 0,
+        let Ok(at) = u32::try_from(at) else {
+            return Ok(());
+        };
+        let pkg = entry.0;
+        let number = self.next_number();
+        self.mentions.push(Mention { at, next: 0 })?;
+        self.sayings.push(Saying {
+            pkg,
+            term: entry.1.copy(alloc)?,
+            other,
         })?;
-        let number = self.mentions.len();
         match self.get_mut(pkg) {
             None => self.add(pkg, Spot::new(alloc, number)),
             Some(spot) => {
@@ -178,9 +212,9 @@ impl Spots {
     }
 
     /// Makes the mention of one number the next after that of another.
-    fn link(&mut self, before: usize, number: usize) {
+    fn link(&mut self, before: u32, number: u32) {
         if let Some(index) = before.checked_sub(1) {
-            if let Some(mention) = self.mentions.as_mut_slice().get_mut(index) {
+            if let Some(mention) = self.mentions.as_mut_slice().get_mut(index as usize) {
                 mention.next = number;
             }
         }
@@ -188,8 +222,16 @@ impl Spots {
 
     /// The mention of this number, if there is one.
     #[inline(always)]
-    fn mention_of(&self, number: usize) -> Option<&Mention> {
-        self.mentions.as_slice().get(number.checked_sub(1)?)
+    fn mention_of(&self, number: u32) -> Option<Mention> {
+        let index = number.checked_sub(1)?;
+        self.mentions.as_slice().get(index as usize).copied()
+    }
+
+    /// What is said at the mention of this number, if there is one.
+    #[inline(always)]
+    fn saying_of(&self, number: u32) -> Option<&Saying> {
+        let index = number.checked_sub(1)?;
+        self.sayings.as_slice().get(index as usize)
     }
 
     /// Whether the dependency of a version on another package stands among the lines.
@@ -228,8 +270,14 @@ impl Spots {
         if at >= known.len() {
             return Ok(());
         }
-        for entry in known[at].conclusion.terms() {
-            self.mention(alloc, entry.0, at, &entry.1)?;
+        let terms = known[at].conclusion.terms();
+        if let [one, another] = terms {
+            let number = self.next_number();
+            self.mention(alloc, at, one, number.saturating_add(1))?;
+            return self.mention(alloc, at, another, number);
+        }
+        for entry in terms {
+            self.mention(alloc, at, entry, 0)?;
         }
         Ok(())
     }
@@ -260,14 +308,50 @@ impl Spots {
         }
     }
 
+    /// Whether what is said contradicts the term at the mention of this number, if there is one.
+    #[inline(always)]
+    fn is_refuted(&self, partial: &Partial, number: u32) -> bool {
+        let Some(saying) = self.saying_of(number) else {
+            return false;
+        };
+        match partial.said(saying.pkg) {
+            None => false,
+            Some(said) => match relation(said, &saying.term) {
+                Relation::Contradicts => true,
+                Relation::Satisfies | Relation::Inconclusive => false,
+            },
+        }
+    }
+
+    /// Of what use a line is, by its term on a package of which this is said, and by its other term, where
+    /// it has two.
+    #[inline(always)]
+    fn use_of(&self, partial: &Partial, number: u32, said: &Term) -> Use {
+        let Some(saying) = self.saying_of(number) else {
+            return Use::Unripe;
+        };
+        match relation(said, &saying.term) {
+            Relation::Contradicts => Use::Shut,
+            Relation::Inconclusive => Use::Unripe,
+            Relation::Satisfies => {
+                if self.is_refuted(partial, saying.other) {
+                    Use::Shut
+                } else {
+                    Use::Ripe
+                }
+            }
+        }
+    }
+
     /// Gathers the places of those lines that are not spent and whose term on a package is satisfied by
     /// what is said of it. Of the others nothing new follows: their term on the package is contradicted,
-    /// or is the one that is left.
+    /// or is the one that is left. Those that are shut are spent at this level.
     pub fn gather(
         &self,
+        partial: &Partial,
         pkg: Pkg,
         said: &Term,
-        spent: &Spent,
+        spent: &mut Spent,
         ripe: &mut Vec<usize>,
     ) -> Result<(), Refusal>
         ensures { IfErr result (λ e. e ≡ NoMemory) }
@@ -275,13 +359,19 @@ impl Spots {
         let Some(spot) = self.get(pkg) else {
             return Ok(());
         };
+        let level = partial.level();
         let mut number = spot.first;
         for _ in 0..self.mentions.len() {
             let Some(mention) = self.mention_of(number) else {
                 return Ok(());
             };
-            if !spent.has(mention.at) && is_met(said, &mention.term) {
-                ripe.push(mention.at)?;
+            let at = mention.at as usize;
+            if !spent.has(at) {
+                match self.use_of(partial, number, said) {
+                    Use::Ripe => ripe.push(at)?,
+                    Use::Unripe => {}
+                    Use::Shut => spent.add(at, level)?,
+                }
             }
             number = mention.next;
         }

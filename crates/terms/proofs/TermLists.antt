@@ -39,6 +39,11 @@ unless_always-none pkg (NotIn (k ∷ rest)) h = absurd (h (Some k, ap not (has-f
 pub left_out : (terms : List (ℕ × Term)) (pkg : ℕ) (term : Term) → (CanBeFalse term → IsTrue false) → terms ≡ terms ++ unless_always pkg term
 left_out terms pkg term h = sym (append-nil terms) ∙ ap (λ l. terms ++ l) (sym (unless_always-none pkg term (λ can. let e : false ≡ true = h can in absurd (true≢false (sym e)))))
 
+pub kept-alone : (pkg : ℕ) (term : Term) → CanBeFalse term → unless_always pkg term ≡ (pkg, term) ∷ []
+kept-alone pkg (In set) can = refl
+kept-alone pkg (NotIn []) can = absurd (true≢false (sym (all-outside-none can.0) ∙ can.1))
+kept-alone pkg (NotIn (k ∷ rest)) can = refl
+
 OrderedFrom-unless_always : (low pkg : ℕ) (term : Term) (rest : List (ℕ × Term)) → low ≤ pkg → OrderedFrom (suc pkg) rest → OrderedFrom low rest → OrderedFrom low (unless_always pkg term ++ rest)
 OrderedFrom-unless_always low pkg (In set) rest le after before = (le, (None, refl), after)
 OrderedFrom-unless_always low pkg (NotIn []) rest le after before = before

@@ -6,3 +6,4 @@ pub mod Words
 pub mod Growing
 pub mod Merges
 pub mod Fronts
+pub mod TermLists

@@ -7,6 +7,7 @@ ghost use Rattle.terms.specs.Incompats.{has_term, pair_of, term_on, unless_alway
 ghost use Rattle.terms.specs.Terms.{CanBeFalse, IsTerm};
 
 use crate::term::Term;
+use crate::term_list::TermList;
 use std::alloc::{AllocError, Global};
 use std::marker::Model;
 
@@ -17,19 +18,20 @@ pub type Pkg = u32;
 /// which always holds (doc/solver.md, "Incompatibility").
 #[derive(Drop)]
 pub struct Incompat {
-    terms: Vec<(Pkg, Term)>,
+    terms: TermList,
 }
 
 impl Model for Incompat {
     ghost use Rattle.std.specs.Prelude.{List, ℕ};
     ghost use Rattle.terms.specs.Incompats.{AreTerms, IsIncompat};
+    ghost use Rattle.terms.specs.TermLists.{listed};
     ghost use Rattle.terms.specs.declared.term.Term.{Term};
 
     ghost Value = { List (ℕ × Term) };
 
-    ghost view = { λ i. i.terms.items };
+    ghost view = { λ i. listed i.terms };
 
-    ghost invariant = { λ i. IsIncompat i.terms.items × AreTerms i.terms.items };
+    ghost invariant = { λ i. IsIncompat (listed i.terms) × AreTerms (listed i.terms) };
 }
 
 impl Incompat {
@@ -41,7 +43,9 @@ impl Incompat {
         ensures ascending { IfSome result AreTerms }
     {
         if is_incompat(&terms) {
-            Some(Incompat { terms })
+            Some(Incompat {
+                terms: TermList::of(terms),
+            })
         } else {
             None
         }
@@ -53,7 +57,9 @@ impl Incompat {
     {
         let mut terms = Vec::with_capacity(alloc, 1)?;
         push_unless_always(&mut terms, pkg, term)?;
-        Ok(Incompat { terms })
+        Ok(Incompat {
+            terms: TermList::Others(terms),
+        })
     }
 
     /// The incompatibility of terms on two packages. A term that always holds is left out.
@@ -87,7 +93,7 @@ impl Incompat {
     pub fn term_on(&self, pkg: Pkg) -> Option<&Term>
         ensures { option_copied result ≡ term_on self.now pkg }
     {
-        find_term(&self.terms, pkg)
+        find_term(self.terms.as_slice(), pkg)
     }
 
     /// Whether there is a term on a package.
@@ -101,7 +107,7 @@ impl Incompat {
     pub fn is_same(&self, other: &Incompat) -> bool
         ensures { IsTrue result ↔ (self.now ≡ other.now) }
     {
-        are_same(&self.terms, &other.terms)
+        are_same(self.terms.as_slice(), other.terms.as_slice())
     }
 
     /// An equal incompatibility.
@@ -109,7 +115,7 @@ impl Incompat {
         ensures { IfOk result (λ copy. copy ≡ self.now) }
     {
         Ok(Incompat {
-            terms: copied(alloc, &self.terms)?,
+            terms: self.terms.copy(alloc)?,
         })
     }
 }
@@ -127,10 +133,17 @@ impl Incompat {
         ensures { IfOk result (λ incompat.
             incompat ≡ unless_always low first ++ unless_always high second) }
     {
-        let mut terms = Vec::with_capacity(alloc, 2)?;
+        if can_be_false(&first) && can_be_false(&second) {
+            return Ok(Incompat {
+                terms: TermList::Two([(low, first), (high, second)]),
+            });
+        }
+        let mut terms = Vec::with_capacity(alloc, 1)?;
         push_unless_always(&mut terms, low, first)?;
         push_unless_always(&mut terms, high, second)?;
-        Ok(Incompat { terms })
+        Ok(Incompat {
+            terms: TermList::Others(terms),
+        })
     }
 
     pub(crate) fn of_terms(terms: Vec<(Pkg, Term)>) -> Incompat
@@ -138,7 +151,9 @@ impl Incompat {
         requires ascending { AreTerms terms.items }
         ensures { result ≡ terms.items }
     {
-        Incompat { terms }
+        Incompat {
+            terms: TermList::of(terms),
+        }
     }
 }
 
@@ -205,14 +220,4 @@ fn are_same(first: &[(Pkg, Term)], second: &[(Pkg, Term)]) -> bool
         right = others;
     }
     left.is_empty() && right.is_empty()
-}
-
-fn copied(alloc: Global, terms: &[(Pkg, Term)]) -> Result<Vec<(Pkg, Term)>, AllocError>
-    ensures { IfOk result (λ copy. copy.items ≡ terms.now) }
-{
-    let mut copy = Vec::with_capacity(alloc, terms.len())?;
-    for (pkg, term) in terms {
-        copy.push((*pkg, term.copy(alloc)?))?;
-    }
-    Ok(copy)
 }

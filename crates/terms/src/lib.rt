@@ -14,6 +14,7 @@ mod relations;
 mod resolving;
 mod sets;
 mod term;
+mod term_list;
 mod words;
 
 pub use growing::GrowingSet;

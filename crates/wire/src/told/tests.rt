@@ -107,7 +107,7 @@ fn is_named_again(
     if !check(alloc, registry, request, derivation)? {
         return Ok(false);
     }
-    derivation.is_lawful();
+    derivation.conclusions_are_lawful();
     derived_packages_have_names();
     let again = named(alloc, registry, derivation)?;
     is_the_reason(alloc, registry, again)

@@ -4,5 +4,5 @@ use Rattle.solver.proofs.facts.has_dependency.Goals as goal
 
 pub returns-then-repeats : goal.returns-then-repeats
 returns-then-repeats c =
-    let same = c.repeats.ensures c.if-repeats.true in
-    subst (λ l. IsTrue c.args.before ↔ Contains l (c.args.name.now, c.args.need.now)) (sym same.2) (c.requires.before same.0 same.1)
+    let same = c.requires.repeats c.if-repeats.true in
+    subst (λ l. IsTrue c.args.before ↔ Contains l (c.args.name.now, c.args.need.now)) (sym same.3) (c.requires.before same.1 same.2)

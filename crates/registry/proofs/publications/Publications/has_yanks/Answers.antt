@@ -1,9 +1,11 @@
-use Rattle.std.proofs.Common.{subst}
-use Rattle.registry.specs.Publications.{AreOffered}
-use Rattle.registry.proofs.Yanks.{offered-publications}
+use Rattle.std.proofs.Common.{◌∙◌, ap}
+use Rattle.registry.specs.Publications.{PublicationList}
+use Rattle.registry.specs.Registry.{has_yank}
+use Rattle.registry.proofs.Yanks.{yanked-publications}
 use Rattle.registry.proofs.publications.Publications.has_yanks.Goals as goal
 
 pub returns : goal.returns
-returns c = λ none.
-    rw (← c.self.view_is) (offered-publications c.self.inside.releases.releases c.self.inside.needs.items
-    (subst (λ ever. AreOffered ever c.self.inside.releases.releases) none c.self.invariant.2))
+returns c =
+    c.self.invariant.2
+    ∙ yanked-publications c.self.inside.releases.releases c.self.inside.needs.items c.self.invariant.0
+    ∙ ap (λ (l : PublicationList). has_yank l.publications) c.self.view_is

@@ -1,15 +1,26 @@
-use Rattle.std.proofs.Common.{◌∙◌, ap, false, length, subst, sym, true}
-use Rattle.registry.specs.Publications.{PublicationList, publications_of, AreOffered}
+use Rattle.std.proofs.Common.{◌∙◌, ap, arith, false, length, sym, true}
+use Rattle.std.proofs.lemmas.List.{length-map}
+use Rattle.releases.specs.declared.release.Release.{Release}
+use Rattle.registry.specs.Publications.{PublicationList, any_yanked, publications_of}
 use Rattle.registry.specs.Step.{set_yanked}
 use Rattle.registry.proofs.PublicationLemmas.{set_yanked-found, set_yanked-none}
-use Rattle.registry.proofs.Yanks.{length-marked, offered-undone}
+use Rattle.registry.proofs.Yanks.{length-marked, yanked-marked}
 use Rattle.registry.proofs.publications.Publications.set_yanked.Goals as goal
+
+pub invariant_of-self : goal.invariant_of-self
+invariant_of-self c = (
+  c.self.invariant.0 ∙ sym (ap length c.yank.ensures.releases ∙ length-marked c.self.inside.releases.releases c.in-Some.ordinal true),
+  c.self.invariant.1,
+  sym (ap any_yanked c.yank.ensures.releases
+      ∙ yanked-marked c.self.inside.releases.releases c.in-Some.ordinal
+      (omega (arith, c.in-Some.ensures.found.0, length-map c.self.inside.releases.releases (λ (r : Release). r.version)))),
+)
 
 pub invariant_of-self-else-yanked : goal.invariant_of-self-else-yanked
 invariant_of-self-else-yanked c = (
   c.self.invariant.0 ∙ sym (ap length c.unyank.ensures.releases ∙ length-marked c.self.inside.releases.releases c.in-Some.ordinal false),
   c.self.invariant.1,
-  subst (AreOffered c.self.inside.yanks) (sym c.unyank.ensures.releases) (offered-undone c.self.inside.yanks c.self.inside.releases.releases c.in-Some.ordinal c.self.invariant.2),
+  c.any_yanked-self-inside.ensures ∙ ap any_yanked c.as_slice.ensures,
 )
 
 pub returns-in_default : goal.returns-in_default
