@@ -194,6 +194,22 @@ class Resolving(unittest.TestCase):
                               (4_294_967_295, refused(85))):
             self.check(published, (resolve(*needs, budget=budget), reply))
 
+    def test_what_many_versions_have_in_common_waits_for_no_decision(self):
+        # As above, with four versions of `x` and of `y` each: what they need follows at once, so that the first
+        # conflict ends the search.
+        minors = [f"1.{k}.0" for k in range(4)]
+        names = [f"p{k}" for k in range(1, 9)]
+        published = [*(publish(name, version) for name in names for version in ("1.0.0", "1.1.0")),
+                     *(publish("x", version, ["y *"]) for version in minors),
+                     *(publish("y", version, ["t ^2.0.0"]) for version in minors), publish("t", "1.0.0"), publish("t", "2.0.0")]
+        needs = [*(f"{name} *" for name in names), "x *", "t ^1.0.0"]
+        for budget, reply in ((None, refused(26)), (1, refused(26)), (0, error(22, "BudgetSpent", 26))):
+            self.check(published, (resolve(*needs, budget=budget), reply))
+        # Where the highest version needs something else, `x` is decided, and the search goes back.
+        published[19] = publish("x", "1.3.0", ["y >=1.0.0"])
+        for budget, reply in ((2, refused(26)), (1, error(22, "BudgetSpent", 26))):
+            self.check(published, (resolve(*needs, budget=budget), reply))
+
     def test_a_reply_of_a_long_selection_is_json(self):
         reply = serve([publish("a", "1.0.0-x.7+build.1"), resolve("a ^1.0.0-x")])[1]
         self.assertEqual(json.loads(reply), {"revision": 1, "selected": [["a", "1.0.0-x.7+build.1"]]})

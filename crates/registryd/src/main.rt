@@ -4,6 +4,7 @@
 mod answer;
 mod command_line;
 mod ending;
+mod freed;
 mod kept;
 mod obey;
 mod race;
@@ -17,6 +18,7 @@ mod told;
 mod words;
 
 use ending::{End, ending};
+use freed::keep_what_is_freed;
 use obey::obey;
 use std::alloc::Alloc;
 use std::env::Env;
@@ -24,7 +26,7 @@ use std::process::ExitCode;
 use std::{env, io};
 
 fn main(rt: HostRuntime) -> ExitCode {
-    let end = match words_given(&rt) {
+    let end = match begin(&rt) {
         Ok(words) => obey(
             &rt,
             rt.alloc(),
@@ -37,6 +39,12 @@ fn main(rt: HostRuntime) -> ExitCode {
         Err(_) => End::Words,
     };
     ExitCode::from(ending(&end, &mut rt.stderr()))
+}
+
+// Settles what is done with freed memory, and gives the words after the program's name.
+fn begin<R: Env + AllocGlobal>(rt: &R) -> io::Result<Vec<String>> {
+    keep_what_is_freed(rt.alloc())?;
+    words_given(rt)
 }
 
 // The words after the program's name.

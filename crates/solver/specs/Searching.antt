@@ -87,6 +87,10 @@ ActsBy task old new neither acted.Neither = neither
 abbrev pub IsUnchanged : Search → Search → Type 0
 IsUnchanged old new = (new.partial ≡ old.partial) × (new.known.items ≡ old.known.items)
 
+-- nothing was assigned, and it is still a search
+abbrev pub IsIdle : Task → Search → Search → Type 0
+IsIdle task old new = (new.partial ≡ old.partial) × Searches task new
+
 -- nothing was changed, since the line at this place is neither satisfied nor almost satisfied
 abbrev pub IsUnused : Search → Search → ℕ → Type 0
 IsUnused old new at = IsUnchanged old new × AtLine old.known.items at (λ line. IsNeither old.partial line.conclusion)

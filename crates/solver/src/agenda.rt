@@ -53,7 +53,8 @@ impl Agenda {
 
     /// Notes the line at a place with each package that it names.
     pub fn note(&mut self, alloc: Global, known: &[Known], at: usize) -> Result<(), Refusal>
-        ensures { IfErr result (λ e. e ≡ NoMemory) }
+        ensures changed { self.new.changed.items ≡ self.old.changed.items }
+        ensures only { IfErr result (λ e. e ≡ NoMemory) }
     {
         self.spots.note(alloc, known, at)
     }
@@ -73,7 +74,8 @@ impl Agenda {
         pkg: Pkg,
         target: Pkg,
     ) -> Result<(), Refusal>
-        ensures { IfErr result (λ e. e ≡ NoMemory) }
+        ensures changed { self.new.changed.items ≡ self.old.changed.items }
+        ensures only { IfErr result (λ e. e ≡ NoMemory) }
     {
         self.note(alloc, known, at)?;
         if at < known.len() {
@@ -90,6 +92,14 @@ impl Agenda {
         ensures { IfErr result (λ e. e ≡ NoMemory) }
     {
         self.spots.enters(pkg, ordinal)
+    }
+
+    /// Whether the dependencies of a package are to be put among the lines before it is decided: it has
+    /// several versions, all have the same, and this is asked for the first time.
+    pub fn enters_alike(&mut self, task: &Task<'_>, pkg: Pkg) -> bool
+        ensures { self.new.changed.items ≡ self.old.changed.items }
+    {
+        self.spots.enters_alike(task, pkg)
     }
 
     /// Looks at a package of which something was settled: puts it into the queue, if it is to be

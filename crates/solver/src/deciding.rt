@@ -13,7 +13,7 @@ ghost use Rattle.solver.specs.Searching.{ActsBy, MayRefuse, Searches};
 
 use crate::acting::{Acted, Search, act};
 use crate::agenda::Agenda;
-use crate::facts::{push_barred, push_dependency};
+use crate::facts::{push_barred, push_dependency, version_count};
 use crate::propagating::use_from;
 use crate::task::Task;
 use derivations::Known;
@@ -133,6 +133,7 @@ fn add_dependency(
 ) -> Result<(), Refusal>
     requires { index < length (needs_of task.now.registry.now.packages pkg ordinal) }
     ensures extends { OnOk result (Extends task.now known.old.items known.new.items) }
+    ensures changed { OnOk result (agenda.new.changed.items ≡ agenda.old.changed.items) }
     ensures only { IfErr result (λ e. e ≡ Refusal.NoMemory) }
 {
     let (target, matching) = task.registry.dependency(pkg, ordinal, index)?;
@@ -146,6 +147,29 @@ fn add_dependency(
     let entry = &task.registry.facts(pkg, ordinal).needs[index];
     let at = push_dependency(task, known, pkg, entry, target, within)?;
     Ok(agenda.note_dependency(task.alloc, known, at, pkg, target)?)
+}
+
+/// Puts the dependencies of a package that is needed behind the lines, if all its versions have the same:
+/// they follow before one is decided.
+pub(crate) fn enter_alike(
+    task: &Task<'_>,
+    partial: &Partial,
+    known: &mut Vec<Known>,
+    agenda: &mut Agenda,
+    pkg: Pkg,
+) -> Result<(), Refusal>
+    ensures extends { OnOk result (Extends task.now known.old.items known.new.items) }
+    ensures changed { OnOk result (agenda.new.changed.items ≡ agenda.old.changed.items) }
+    ensures only { IfErr result (λ e. e ≡ Refusal.NoMemory) }
+{
+    if !is_open(partial, pkg) {
+        return Ok(());
+    }
+    let count = version_count(task.registry, pkg);
+    if count == 0 || !agenda.enters_alike(task, pkg) {
+        return Ok(());
+    }
+    Ok(add_dependencies(task, known, agenda, pkg, 0)?)
 }
 
 /// Puts the dependencies of a version behind the lines, all of them before it is first decided.
@@ -176,6 +200,7 @@ fn add_dependencies(
 ) -> Result<(), Refusal>
     requires { is_published task.now.registry.now.packages pkg ordinal ≡ true }
     ensures extends { OnOk result (Extends task.now known.old.items known.new.items) }
+    ensures changed { OnOk result (agenda.new.changed.items ≡ agenda.old.changed.items) }
     ensures only { IfErr result (λ e. e ≡ Refusal.NoMemory) }
 {
     let count = task.registry.facts(pkg, ordinal).needs.len();

@@ -1,15 +1,18 @@
 // A greedy search, tried before the one that goes back.
 //
 // It decides in the same order, and keeps of each package the versions that its dependents leave, but
-// no lines. A version whose dependencies don't fit beside what is decided is passed over for the next
-// one of its package; where none is left, it gives up. What it decides is validated by the walk, so no
-// proof rests on it.
+// no lines. Where all versions of a package depend on the same, that is met as soon as the package is
+// needed. Else a version whose dependencies don't fit beside what is decided is passed over for the
+// next one of its package; where none is left, it gives up. What it decides is validated by the walk,
+// so no proof rests on it.
 
 ghost use Rattle.std.specs.Prelude.{◌≡◌, IfErr, IfOk, IfSome};
 ghost use Rattle.walk.specs.Choosing.{choice_of};
 ghost use Rattle.solver.specs.Answering.{IsAnswer};
 
+use crate::alike::depend_alike;
 use crate::deciding::version_within;
+use crate::obstacle::Obstacle;
 use crate::task::{ROOM, Task};
 use indexmap::IndexMap;
 use registry::Matching;
@@ -29,6 +32,8 @@ struct Needed {
     /// The allowed versions that meet each requirement so far.
     left: Term,
     decided: Option<u32>,
+    /// Whether all its versions depend on the same, which is met before one is decided.
+    alike: bool,
 }
 
 /// What is left of the packages that are needed, and what is decided of them.
@@ -40,8 +45,13 @@ struct Greedy {
     needed: Vec<Needed>,
     /// Packages by the number of their versions that were left; some of it is out of date.
     queue: BinaryHeap<Reverse<(usize, Pkg)>>,
+    /// Packages whose versions all depend on the same, and how many of them are met.
+    alike: Vec<Pkg>,
+    met: usize,
     /// What the dependencies of the version at hand leave of their packages.
     beside: Vec<(Pkg, Term)>,
+    /// What is taken to be needed beforehand.
+    obstacle: Option<Obstacle>,
 }
 
 /// Chooses what is decided.
@@ -86,14 +96,17 @@ fn count_of(left: &Term) -> usize {
 }
 
 impl Greedy {
-    fn new(task: &Task<'_>) -> Result<Greedy, Refusal>
+    fn new(task: &Task<'_>, obstacle: Option<Obstacle>) -> Result<Greedy, Refusal>
         ensures { IfErr result (λ e. e ≡ Refusal.NoMemory) }
     {
         Ok(Greedy {
             numbers: Vec::with_capacity(task.alloc, ROOM)?,
             needed: Vec::with_capacity(task.alloc, ROOM)?,
             queue: BinaryHeap::with_capacity(task.alloc, ROOM)?,
+            alike: Vec::with_capacity(task.alloc, ROOM)?,
+            met: 0,
             beside: Vec::new(task.alloc),
+            obstacle,
         })
     }
 
@@ -110,9 +123,13 @@ impl Greedy {
     }
 
     /// Adds a package that was not needed before.
-    fn add(&mut self, pkg: Pkg, left: Term) -> Result<(), Refusal>
+    fn add(&mut self, task: &Task<'_>, pkg: Pkg, left: Term) -> Result<(), Refusal>
         ensures { IfErr result (λ e. e ≡ Refusal.NoMemory) }
     {
+        let alike = depend_alike(task, pkg);
+        if alike {
+            self.alike.push(pkg)?;
+        }
         for _ in self.numbers.len()..pkg as usize + 1 {
             self.numbers.push(0)?;
         }
@@ -120,11 +137,22 @@ impl Greedy {
             pkg,
             left,
             decided: None,
+            alike,
         })?;
         if let Some(number) = self.numbers.as_mut_slice().get_mut(pkg as usize) {
             *number = self.needed.len();
         }
         Ok(())
+    }
+
+    /// What the obstacle leaves of a package beside a requirement.
+    fn beside_obstacle(&self, task: &Task<'_>, pkg: Pkg, left: Term) -> Result<Term, Refusal>
+        ensures { IfErr result (λ e. e ≡ Refusal.NoMemory) }
+    {
+        match &self.obstacle {
+            Some(obstacle) if obstacle.target == pkg => Ok(left.and(task.alloc, &obstacle.within)?),
+            Some(_) | None => Ok(left),
+        }
     }
 
     /// Notes what a requirement leaves of a package, given the versions that meet it. Answers whether
@@ -133,7 +161,10 @@ impl Greedy {
         ensures { IfErr result (λ e. e ≡ Refusal.NoMemory) }
     {
         let left = match self.get(pkg) {
-            None => Term::In(allowed_of(task, pkg, matching.set(task.alloc)?)?),
+            None => {
+                let allowed = allowed_of(task, pkg, matching.set(task.alloc)?)?;
+                self.beside_obstacle(task, pkg, Term::In(allowed))?
+            }
             Some(needed) => match needed.decided {
                 Some(ordinal) => return Ok(matching.has(ordinal)),
                 None => needed
@@ -188,12 +219,12 @@ impl Greedy {
     }
 
     /// Keeps what is left of a package, and puts it into the queue.
-    fn keep(&mut self, pkg: Pkg, left: Term) -> Result<(), Refusal>
+    fn keep(&mut self, task: &Task<'_>, pkg: Pkg, left: Term) -> Result<(), Refusal>
         ensures { IfErr result (λ e. e ≡ Refusal.NoMemory) }
     {
         self.queue.push(Reverse((count_of(&left), pkg)))?;
         match self.get_mut(pkg) {
-            None => self.add(pkg, left),
+            None => self.add(task, pkg, left),
             Some(needed) => {
                 needed.left = left;
                 Ok(())
@@ -202,12 +233,12 @@ impl Greedy {
     }
 
     /// Keeps what was noted.
-    fn keep_all(&mut self) -> Result<(), Refusal>
+    fn keep_all(&mut self, task: &Task<'_>) -> Result<(), Refusal>
         ensures { IfErr result (λ e. e ≡ Refusal.NoMemory) }
     {
         for _ in 0..self.beside.len() {
             if let Some((pkg, left)) = self.beside.pop() {
-                self.keep(pkg, left)?;
+                self.keep(task, pkg, left)?;
             }
         }
         Ok(())
@@ -224,7 +255,7 @@ impl Greedy {
         if count_of(&others) == 0 {
             return Ok(false);
         }
-        self.keep(pkg, others)?;
+        self.keep(task, pkg, others)?;
         Ok(true)
     }
 
@@ -257,14 +288,56 @@ impl Greedy {
         let Some(ordinal) = version_within(task, pkg, &needed.left) else {
             return Ok(false);
         };
+        if needed.alike {
+            self.settle(pkg, ordinal);
+            return Ok(true);
+        }
         if !self.meet_dependencies(task, pkg, ordinal)? {
             return Ok(self.pass_over(task, pkg, ordinal)?);
         }
+        self.settle(pkg, ordinal);
+        self.keep_all(task)?;
+        Ok(true)
+    }
+
+    /// Decides for a version.
+    fn settle(&mut self, pkg: Pkg, ordinal: u32) {
         if let Some(needed) = self.get_mut(pkg) {
             needed.decided = Some(ordinal);
         }
-        self.keep_all()?;
+    }
+
+    /// The next package whose versions all depend on the same, if one has not been met.
+    fn next_alike(&mut self) -> Option<Pkg> {
+        let pkg = *self.alike.as_slice().get(self.met)?;
+        self.met = self.met.saturating_add(1);
+        Some(pkg)
+    }
+
+    /// Keeps what all versions of a package depend on. Answers whether it can be met beside what is
+    /// decided.
+    fn meet_alike(&mut self, task: &Task<'_>, pkg: Pkg) -> Result<bool, Refusal>
+        ensures { IfErr result (λ e. e ≡ Refusal.NoMemory) }
+    {
+        if !self.meet_dependencies(task, pkg, 0)? {
+            return Ok(false);
+        }
+        self.keep_all(task)?;
         Ok(true)
+    }
+
+    /// A step towards what is needed: what is alike in all versions is met, and else a package is decided
+    /// on. Answers whether it could be made, and nothing where nothing is left to do.
+    fn step(&mut self, task: &Task<'_>) -> Result<Option<bool>, Refusal>
+        ensures { IfErr result (λ e. e ≡ Refusal.NoMemory) }
+    {
+        if let Some(pkg) = self.next_alike() {
+            return Ok(Some(self.meet_alike(task, pkg)?));
+        }
+        match self.next() {
+            None => Ok(None),
+            Some(pkg) => Ok(Some(self.decide(task, pkg)?)),
+        }
     }
 
     /// Decides on all packages that are needed. Answers whether each could be met.
@@ -274,16 +347,23 @@ impl Greedy {
         if !self.meet_needs(task)? {
             return Ok(false);
         }
-        self.keep_all()?;
+        self.keep_all(task)?;
         for _ in 0..task.registry.packages().saturating_mul(PATIENCE) {
-            let Some(pkg) = self.next() else {
-                return Ok(true);
-            };
-            if !self.decide(task, pkg)? {
-                return Ok(false);
+            match self.step(task)? {
+                None => return Ok(true),
+                Some(true) => {}
+                Some(false) => return Ok(false),
             }
         }
         Ok(false)
+    }
+
+    /// Whether an obstacle was minded that no package has which is needed.
+    fn is_misled(&self) -> bool {
+        match &self.obstacle {
+            None => false,
+            Some(obstacle) => self.get(obstacle.pkg).is_none(),
+        }
     }
 
     /// What is decided, by package.
@@ -300,16 +380,46 @@ impl Greedy {
     }
 }
 
-/// A selection that is found without going back, if there is one.
-pub(crate) fn search_greedily(task: &Task<'_>) -> Result<Option<Vec<(Pkg, u32)>>, Refusal>
-    ensures meets { IfOk result (λ found. IfSome found (λ list. IsAnswer task.now list.items)) }
-    ensures only { IfErr result (λ e. e ≡ Refusal.NoMemory) }
+/// Decisions on all packages that are needed, if each could be met.
+fn decide_greedily(
+    task: &Task<'_>,
+    obstacle: Option<Obstacle>,
+) -> Result<Option<IndexMap<Pkg, u32>>, Refusal>
+    ensures { IfErr result (λ e. e ≡ Refusal.NoMemory) }
 {
-    let mut greedy = Greedy::new(task)?;
+    let mut greedy = Greedy::new(task, obstacle)?;
     if !greedy.decide_all(task)? {
         return Ok(None);
     }
-    let decided = greedy.decisions(task)?;
+    if greedy.is_misled() {
+        // The obstacle's package is not needed, so it must not bind another one.
+        return Ok(decide_greedily_anew(task)?);
+    }
+    Ok(Some(greedy.decisions(task)?))
+}
+
+/// As `decide_greedily`, without an obstacle.
+fn decide_greedily_anew(task: &Task<'_>) -> Result<Option<IndexMap<Pkg, u32>>, Refusal>
+    ensures { IfErr result (λ e. e ≡ Refusal.NoMemory) }
+{
+    let mut greedy = Greedy::new(task, None)?;
+    if !greedy.decide_all(task)? {
+        return Ok(None);
+    }
+    Ok(Some(greedy.decisions(task)?))
+}
+
+/// A selection that is found without going back, if there is one.
+pub(crate) fn search_greedily(
+    task: &Task<'_>,
+    obstacle: Option<Obstacle>,
+) -> Result<Option<Vec<(Pkg, u32)>>, Refusal>
+    ensures meets { IfOk result (λ found. IfSome found (λ list. IsAnswer task.now list.items)) }
+    ensures only { IfErr result (λ e. e ≡ Refusal.NoMemory) }
+{
+    let Some(decided) = decide_greedily(task, obstacle)? else {
+        return Ok(None);
+    };
     let chooser = Decisions { decided: &decided };
     match reach(task.alloc, task.registry, task.request, &chooser)? {
         Reached::Selection(list) => Ok(Some(list)),

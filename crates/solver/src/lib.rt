@@ -5,6 +5,7 @@
 
 mod acting;
 mod agenda;
+mod alike;
 mod conflict;
 mod covered;
 mod deciding;
@@ -12,6 +13,7 @@ mod facts;
 mod greedy;
 mod lines;
 mod meeting;
+mod obstacle;
 mod propagating;
 mod queue;
 mod search;

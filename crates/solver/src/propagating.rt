@@ -1,10 +1,11 @@
 // Unit propagation (doc/solver.md, "Unit Propagation").
 
 ghost use Rattle.std.specs.Prelude.{◌≡◌, ◌<◌, Ok, length, IfErr, IfOk};
-ghost use Rattle.solver.specs.Searching.{ActsBy, IsUnchanged, MayRefuse, Searches};
+ghost use Rattle.solver.specs.Searching.{ActsBy, IsIdle, IsUnchanged, MayRefuse, Searches};
 
 use crate::acting::{Acted, Search, act};
 use crate::agenda::Agenda;
+use crate::deciding::enter_alike;
 use crate::task::Task;
 use partial::Standing;
 use terms::Pkg;
@@ -56,13 +57,14 @@ pub(crate) fn propagate(
     agenda: &mut Agenda,
 ) -> Result<Acted, Refusal>
     requires { Searches task.now search.old }
-    ensures acts { IfOk result (ActsBy task.now search.old search.new (IsUnchanged search.old search.new)) }
+    ensures acts { IfOk result (ActsBy task.now search.old search.new (IsIdle task.now search.old search.new)) }
     ensures only { IfErr result (MayRefuse task.now.budget) }
 {
     'packages: loop {
         let Some(pkg) = agenda.changed.pop() else {
             return Ok(Acted::Neither);
         };
+        enter_alike(task, &search.partial, &mut search.known, agenda, pkg)?;
         agenda.look(task, &search.partial, pkg)?;
         match use_places(
             task,

@@ -13,6 +13,7 @@ ghost use Rattle.solver.specs.Searching.{MayRefuse};
 
 use crate::agenda::Agenda;
 use crate::greedy::search_greedily;
+use crate::obstacle::{Obstacle, obstacle_at};
 use crate::search::{Ended, run};
 use crate::starting::start;
 use crate::task::Task;
@@ -115,12 +116,12 @@ fn search_fully(task: &Task<'_>) -> Result<Outcome, Refusal>
     outcome_of(task, ended, search.known, &agenda.learnt)
 }
 
-/// Answers a task by a search, first by the one that does not go back.
-fn search_for(task: &Task<'_>) -> Result<Outcome, Refusal>
+/// Answers a task by a search, first by the one that does not go back, which minds an obstacle.
+fn search_for(task: &Task<'_>, obstacle: Option<Obstacle>) -> Result<Outcome, Refusal>
     ensures lawful { IfOk result (IsLawful task.now.registry.now.packages task.now.request.now) }
     ensures only { IfErr result (MayRefuse task.now.budget) }
 {
-    match search_greedily(task)? {
+    match search_greedily(task, obstacle)? {
         Some(list) => {
             let pairs = tell(task.alloc, task.registry, list)?;
             Ok(Outcome::Selection(pairs, Vec::new(task.alloc)))
@@ -141,7 +142,11 @@ fn answer(task: &Task<'_>) -> Result<Outcome, Refusal>
             let pairs = tell(task.alloc, task.registry, list)?;
             Ok(Outcome::Selection(pairs, Vec::new(task.alloc)))
         }
-        Reached::Unmet(_, _) | Reached::NotAllowed(_, _) => Ok(search_for(task)?),
+        Reached::Unmet(asker, index) => {
+            let obstacle = obstacle_at(task, asker, index)?;
+            Ok(search_for(task, obstacle)?)
+        }
+        Reached::NotAllowed(_, _) => Ok(search_for(task, None)?),
     }
 }
 

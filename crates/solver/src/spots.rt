@@ -5,6 +5,7 @@
 ghost use Rattle.std.specs.Prelude.{◌≡◌, IfErr};
 ghost use Rattle.versions.specs.declared.refusal.Refusal.TheVariants.{NoMemory};
 
+use crate::alike::several_depend_alike;
 use crate::covered::{Covered, Targets};
 use crate::facts::version_count;
 use crate::spent::Spent;
@@ -45,6 +46,8 @@ struct Spot {
     targets: Targets,
     /// The versions of which all dependencies are among the lines.
     entered: VSet,
+    /// Whether it was asked if all its versions depend on the same.
+    asked: bool,
     allowed: Allowed,
 }
 
@@ -111,6 +114,7 @@ impl Spot {
             last: mention,
             targets: Targets::none(),
             entered: VSet::new(alloc),
+            asked: false,
             allowed: Allowed::Unknown,
         }
     }
@@ -295,6 +299,19 @@ impl Spots {
         }
         spot.entered.insert(ordinal)?;
         Ok(true)
+    }
+
+    /// Whether several versions of a package, which are all, depend on the same, and this is asked for the
+    /// first time.
+    pub fn enters_alike(&mut self, task: &Task<'_>, pkg: Pkg) -> bool {
+        let Some(spot) = self.get_mut(pkg) else {
+            return false;
+        };
+        if spot.asked {
+            return false;
+        }
+        spot.asked = true;
+        several_depend_alike(task, pkg)
     }
 
     /// How many versions a positive term leaves of those of a package that are allowed; none of a package

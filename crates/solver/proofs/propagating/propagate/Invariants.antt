@@ -1,9 +1,10 @@
 use Rattle.std.proofs.Common.{length}
-use Rattle.solver.specs.Searching.{IsUnchanged, Searches}
+use Rattle.std.proofs.Common.{◌≡◌}
+use Rattle.solver.specs.Searching.{Searches}
 use Rattle.solver.proofs.propagating.propagate.Given as goal
 
 abbrev pub invariant-packages : goal.invariant-packages
-invariant-packages l = record { search : Searches l.task l.search; same : IsUnchanged l.fn.search l.search }
+invariant-packages l = record { search : Searches l.task l.search; same : l.search.partial ≡ l.fn.search.partial }
 
 abbrev pub decreases-packages : goal.decreases-packages
 decreases-packages l = length l.agenda.changed.items

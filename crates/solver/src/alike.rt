@@ -1,0 +1,28 @@
+// Packages whose versions all depend on the same.
+//
+// No proof rests on it: it tells what can be met before a version is decided.
+
+use crate::task::Task;
+use registry::Registry;
+use terms::Pkg;
+use walk::Asker;
+
+/// From how many versions on the dependencies of a package are put among the lines before one is
+/// decided. Packages with fewer are decided early, since those with the fewest versions come first.
+const SEVERAL: usize = 4;
+
+/// Whether all versions of a package depend on the same. It costs a look at each of them at most.
+pub(crate) fn are_alike(registry: &Registry, pkg: Pkg) -> bool {
+    registry.repeats(pkg).iter().skip(1).all(|repeats| *repeats)
+}
+
+/// Whether all versions of a package have the same dependencies, and some.
+pub(crate) fn depend_alike(task: &Task<'_>, pkg: Pkg) -> bool {
+    let first = Asker::Version(pkg, 0).needs(task.registry, task.request);
+    !first.is_empty() && are_alike(task.registry, pkg)
+}
+
+/// Whether several versions of a package, which are all, have the same dependencies, and some.
+pub(crate) fn several_depend_alike(task: &Task<'_>, pkg: Pkg) -> bool {
+    task.registry.versions(pkg) >= SEVERAL && depend_alike(task, pkg)
+}
