@@ -1,6 +1,6 @@
 // The lines of a search, cut down to a derivation.
 
-ghost use Rattle.std.specs.Prelude.{◌≡◌, ◌≢◌, ◌<◌, ◌↔◌, ℕ, length, slice_index, IfErr, IfOk, IfSome, IfNone, IsTrue};
+ghost use Rattle.std.specs.Prelude.{◌≡◌, ◌≢◌, ◌<◌, ◌↔◌, ℕ, None, false, true, length, slice_index, IfErr, IfOk, IfSome, IfNone, IsTrue};
 ghost use Rattle.registry.specs.Registry.{Packages};
 ghost use Rattle.registry.specs.Requests.{Wanted};
 ghost use Rattle.derivations.specs.Derivations.{IsDerivation};
@@ -176,21 +176,45 @@ fn cleared(numbers: Vec<usize>, steps: &[Step]) -> Vec<usize>
     list
 }
 
-/// The steps to the lines that the one at a place rests on, with the numbers of the search's lines.
+/// The steps of a walk from a line to those that it rests on.
+#[derive(Drop)]
+struct Walked {
+    steps: Vec<Step>,
+    /// By the places of the search's lines, the numbers of those that are written.
+    numbers: Vec<usize>,
+    /// Whether the line is reached, so that these are all steps.
+    is_whole: bool,
+}
+
+/// Whether a line more, besides those that are written, those that wait for it and the one that cites
+/// it, is more than the limit.
+fn is_beyond(limit: Option<usize>, written: usize, waiting: usize) -> bool
+    ensures { limit ≡ None → result ≡ false }
+{
+    match limit {
+        None => false,
+        Some(limit) => written.saturating_add(waiting).saturating_add(2) > limit,
+    }
+}
+
+/// The steps to the lines that the one at a place rests on. With a limit the walk is given up as soon
+/// as it has met more lines than that, each of which would have to be written.
 fn numbered_steps(
     alloc: Global,
     known: &[Known],
     weights: &[usize],
     zeros: Vec<usize>,
     place: usize,
-) -> Result<(Vec<Step>, Vec<usize>), Refusal>
+    limit: Option<usize>,
+) -> Result<Walked, Refusal>
     requires ordered { AreOrdered known.now }
     requires resolved { IsResolvedAt known.now place }
     requires clear { AreClear known.now zeros.items }
-    ensures shows { IfOk result (λ made. ShowsLine known.now place (lines_at known.now made.0.items)) }
-    ensures placed { IfOk result (λ made. ArePlaced (length known.now) made.0.items) }
-    ensures length { IfOk result (λ made. length made.1.items ≡ length known.now) }
-    ensures numbered { IfOk result (λ made. AreNumberedAt made.1.items (places_of made.0.items)) }
+    ensures shows { IfOk result (λ made. made.is_whole ≡ true → ShowsLine known.now place (lines_at known.now made.steps.items)) }
+    ensures whole { IfOk result (λ made. limit ≡ None → made.is_whole ≡ true) }
+    ensures placed { IfOk result (λ made. ArePlaced (length known.now) made.steps.items) }
+    ensures length { IfOk result (λ made. length made.numbers.items ≡ length known.now) }
+    ensures numbered { IfOk result (λ made. AreNumberedAt made.numbers.items (places_of made.steps.items)) }
     ensures only { IfErr result (λ e. e ≡ Refusal.NoMemory) }
 {
     let mut numbers = zeros;
@@ -201,6 +225,13 @@ fn numbered_steps(
     'walk: loop {
         match open_cause(known, weights, &numbers, at) {
             Some(cause) => {
+                if is_beyond(limit, steps.as_slice().len(), users.as_slice().len()) {
+                    return Ok(Walked {
+                        steps,
+                        numbers,
+                        is_whole: false,
+                    });
+                }
                 users.push(at)?;
                 at = cause;
             }
@@ -209,7 +240,13 @@ fn numbered_steps(
                 steps.push(step)?;
                 numbers[at] = steps.as_slice().len();
                 match users.pop() {
-                    None => return Ok((steps, numbers)),
+                    None => {
+                        return Ok(Walked {
+                            steps,
+                            numbers,
+                            is_whole: true,
+                        });
+                    }
                     Some(user) => at = user,
                 }
             }
@@ -217,24 +254,29 @@ fn numbered_steps(
     }
 }
 
-/// As [`lines_of`], with a zero for each line of the search, which are handed back: so it costs no
-/// more than what it writes.
-pub fn lines_by(
+/// The lines that the one at a place rests on, with itself as the last, where they are no more than a
+/// limit: from facts, each written once and before the lines that cite it. A zero for each line of the
+/// search is given and handed back, so that it costs no more than as many lines as the limit.
+pub fn few_lines_of(
     alloc: Global,
     known: &[Known],
     zeros: Vec<usize>,
     place: usize,
-) -> Result<(Vec<Line>, Vec<usize>), Refusal>
+    limit: usize,
+) -> Result<(Option<Vec<Line>>, Vec<usize>), Refusal>
     requires ordered { AreOrdered known.now }
     requires resolved { IsResolvedAt known.now place }
     requires clear { AreClear known.now zeros.items }
-    ensures shows { IfOk result (λ made. ShowsLine known.now place made.0.items) }
+    ensures shows { IfOk result (λ made. IfSome made.0 (λ lines. ShowsLine known.now place lines.items)) }
     ensures clear { IfOk result (λ made. AreClear known.now made.1.items) }
     ensures only { IfErr result (λ e. e ≡ Refusal.NoMemory) }
 {
-    let (steps, numbers) = numbered_steps(alloc, known, &[], zeros, place)?;
-    let zeros = cleared(numbers, &steps);
-    Ok((lines_copied(alloc, known, steps)?, zeros))
+    let walked = numbered_steps(alloc, known, &[], zeros, place, Some(limit))?;
+    let zeros = cleared(walked.numbers, &walked.steps);
+    if !walked.is_whole {
+        return Ok((None, zeros));
+    }
+    Ok((Some(lines_copied(alloc, known, walked.steps)?), zeros))
 }
 
 /// The steps to the lines of [`lines_of`].
@@ -247,8 +289,8 @@ fn steps_of(alloc: Global, known: &[Known], place: usize) -> Result<Vec<Step>, R
 {
     let numbers = zeros(alloc, known.len())?;
     let weights = weights_of(alloc, known)?;
-    let (steps, _) = numbered_steps(alloc, known, &weights, numbers, place)?;
-    Ok(steps)
+    let walked = numbered_steps(alloc, known, &weights, numbers, place, None)?;
+    Ok(walked.steps)
 }
 
 /// The lines that the one at a place rests on, with itself as the last: from facts, each written

@@ -6,46 +6,36 @@ ghost use Rattle.derivations.specs.Known.{AreClear, AreOrdered, IsResolvedAt, Sh
 ghost use Rattle.derivations.specs.Learning.{IsLearnt};
 ghost use Rattle.derivations.specs.Offering.{AreLawfulSomewhere, MayRestOn, RestOnPremises, ShowsOne, StandWhereLawful};
 
-use crate::cutting::{Known, Reason, is_resolved, lines_by, zeros};
+use crate::cutting::{Known, Reason, few_lines_of, is_resolved, zeros};
 use crate::facts::Cause;
 use crate::learnt::{LINE_LIMIT, Learnt};
 use crate::line::Line;
 use std::alloc::{AllocError, Global};
 use versions::Refusal;
 
-/// The count of a line that may not be learnt, or that may rest on more lines than can be.
-const TOO_MANY: usize = LINE_LIMIT + 1;
-
-/// The count of the line at a place, too many where there is none yet.
-fn count_at(counts: &[usize], place: usize) -> usize {
-    if place < counts.len() {
-        counts[place]
-    } else {
-        TOO_MANY
-    }
+/// Whether the line at a place rests on premises alone, if there is one.
+fn is_marked(marks: &[bool], place: usize) -> bool {
+    marks.get(place).copied() == Some(true)
 }
 
-/// At least the number of lines that one with this reason rests on, itself included: none for a
-/// premise, too many for another fact.
-fn count_of(counts: &[usize], reason: &Reason) -> usize {
+/// Whether a line with this reason rests on premises alone, given which of the lines before it do.
+fn rests_on_premises(marks: &[bool], reason: &Reason) -> bool {
     match reason {
-        Reason::Fact(Cause::Premise(_)) => 0,
-        Reason::Fact(_) => TOO_MANY,
-        Reason::Resolved(i, j, _) => count_at(counts, *i)
-            .saturating_add(count_at(counts, *j))
-            .saturating_add(1),
+        Reason::Fact(Cause::Premise(_)) => true,
+        Reason::Fact(_) => false,
+        Reason::Resolved(i, j, _) => is_marked(marks, *i) && is_marked(marks, *j),
     }
 }
 
-/// The count of each line: those above the limit need not be cut. Nothing but the cost of a search's
-/// offers, and which are left out, rests on the counts.
-fn counts_of(alloc: Global, known: &[Known]) -> Result<Vec<usize>, AllocError> {
-    let mut counts = Vec::with_capacity(alloc, known.len())?;
+/// Beside each line, whether it rests on premises alone: the others need not be cut. Nothing but the
+/// cost of a search's offers, and which are left out, rests on the marks.
+fn marks_of(alloc: Global, known: &[Known]) -> Result<Vec<bool>, AllocError> {
+    let mut marks = Vec::with_capacity(alloc, known.len())?;
     for line in known {
-        let count = count_of(&counts, &line.reason);
-        counts.push(count)?;
+        let mark = rests_on_premises(&marks, &line.reason);
+        marks.push(mark)?;
     }
-    Ok(counts)
+    Ok(marks)
 }
 
 /// Whether the line at the place, if there is one, follows from others.
@@ -91,12 +81,13 @@ fn learnable(alloc: Global, lines: Vec<Line>) -> Result<Option<Learnt>, Refusal>
     Ok(Some(Learnt::of_derived(alloc, lines)?))
 }
 
-/// What may be learnt of the line at a place: nothing of a fact, nor of one that is counted above the
-/// limit, nor where there is no line. The zeros, one for each line of the search, are handed back.
+/// What may be learnt of the line at a place: nothing of a fact, nor of one that rests on more than
+/// premises or on too many lines, nor where there is no line. The zeros, one for each line of the
+/// search, are handed back.
 fn offer(
     alloc: Global,
     known: &[Known],
-    counts: &[usize],
+    marks: &[bool],
     zeros: Vec<usize>,
     place: usize,
 ) -> Result<(Option<Learnt>, Vec<usize>), Refusal>
@@ -107,19 +98,22 @@ fn offer(
     ensures clear { IfOk result (λ made. AreClear known.now made.1.items) }
     ensures only { IfErr result (λ e. e ≡ Refusal.NoMemory) }
 {
-    if count_at(counts, place) > LINE_LIMIT || !is_resolved_at(known, place) {
+    if !is_marked(marks, place) || !is_resolved_at(known, place) {
         return Ok((None, zeros));
     }
-    let (lines, cleared) = lines_by(alloc, known, zeros, place)?;
-    Ok((learnable(alloc, lines)?, cleared))
+    let (found, cleared) = few_lines_of(alloc, known, zeros, place, LINE_LIMIT)?;
+    match found {
+        None => Ok((None, cleared)),
+        Some(lines) => Ok((learnable(alloc, lines)?, cleared)),
+    }
 }
 
 /// What may be learnt of the lines at these places, each with its whole derivation: of those that
-/// rest on premises alone, by no more than [`LINE_LIMIT`](crate::LINE_LIMIT) lines where a line is
-/// counted as often as it is cited. Places that hold a fact, or nothing, are passed over.
+/// rest on premises alone, by no more than [`LINE_LIMIT`](crate::LINE_LIMIT) lines. Places that hold a
+/// fact, or nothing, are passed over.
 ///
 /// What a search's lines say is taken on its word, which a caller proves: they are cut and looked
-/// over, and not judged again. Linear in the lines of the search and in those that are offered.
+/// over, and not judged again. Linear in the lines of the search and in the limit for each place.
 pub fn offers(alloc: Global, known: &[Known], places: &[usize]) -> Result<Vec<Learnt>, Refusal>
     requires ordered { AreOrdered known.now }
     requires lawful { AreLawfulSomewhere known.now }
@@ -130,11 +124,11 @@ pub fn offers(alloc: Global, known: &[Known], places: &[usize]) -> Result<Vec<Le
     if places.is_empty() {
         return Ok(Vec::new(alloc));
     }
-    let counts = counts_of(alloc, known)?;
+    let marks = marks_of(alloc, known)?;
     let mut numbers = zeros(alloc, known.len())?;
     let mut offered = Vec::new(alloc);
     for at in 0..places.len() {
-        let (found, cleared) = offer(alloc, known, &counts, numbers, places[at])?;
+        let (found, cleared) = offer(alloc, known, &marks, numbers, places[at])?;
         numbers = cleared;
         if let Some(learnt) = found {
             offered.push(learnt)?;

@@ -380,6 +380,17 @@ impl Greedy {
     }
 }
 
+/// A greedy search that has come to its end, if none of its steps failed.
+fn finished(task: &Task<'_>, obstacle: Option<Obstacle>) -> Result<Option<Greedy>, Refusal>
+    ensures { IfErr result (λ e. e ≡ Refusal.NoMemory) }
+{
+    let mut greedy = Greedy::new(task, obstacle)?;
+    if !greedy.decide_all(task)? {
+        return Ok(None);
+    }
+    Ok(Some(greedy))
+}
+
 /// Decisions on all packages that are needed, if each could be met.
 fn decide_greedily(
     task: &Task<'_>,
@@ -387,26 +398,17 @@ fn decide_greedily(
 ) -> Result<Option<IndexMap<Pkg, u32>>, Refusal>
     ensures { IfErr result (λ e. e ≡ Refusal.NoMemory) }
 {
-    let mut greedy = Greedy::new(task, obstacle)?;
-    if !greedy.decide_all(task)? {
+    let Some(greedy) = finished(task, obstacle)? else {
         return Ok(None);
+    };
+    if !greedy.is_misled() {
+        return Ok(Some(greedy.decisions(task)?));
     }
-    if greedy.is_misled() {
-        // The obstacle's package is not needed, so it must not bind another one.
-        return Ok(decide_greedily_anew(task)?);
+    // The obstacle's package is not needed, so it must not bind another one.
+    match finished(task, None)? {
+        None => Ok(None),
+        Some(greedy) => Ok(Some(greedy.decisions(task)?)),
     }
-    Ok(Some(greedy.decisions(task)?))
-}
-
-/// As `decide_greedily`, without an obstacle.
-fn decide_greedily_anew(task: &Task<'_>) -> Result<Option<IndexMap<Pkg, u32>>, Refusal>
-    ensures { IfErr result (λ e. e ≡ Refusal.NoMemory) }
-{
-    let mut greedy = Greedy::new(task, None)?;
-    if !greedy.decide_all(task)? {
-        return Ok(None);
-    }
-    Ok(Some(greedy.decisions(task)?))
 }
 
 /// A selection that is found without going back, if there is one.

@@ -4,7 +4,7 @@
 //! holds, times its ways out, since each way out lets go of them all.
 
 use crate::*;
-use derivations::{Derivation, Learnt, Store, check};
+use derivations::{Cause, Derivation, LINE_LIMIT, Learnt, Store, check};
 use registry::{Command, Dependencies, Registry, Request};
 use std::alloc::Global;
 use terms::{Incompat, Pkg, Term};
@@ -232,11 +232,29 @@ fn answer(alloc: Global, row: &Row) -> Result<String, Refusal> {
     asked(alloc, &registry, row.1, row.2)
 }
 
+/// Whether all that is offered for a row stands in its registry.
+fn offers_what_stands(alloc: Global, row: &Row) -> Result<bool, Refusal> {
+    let registry = registry(alloc, row.0)?;
+    let request = request(alloc, row.1, row.2)?;
+    let outcome = solved(alloc, &registry, &request)?;
+    Ok(
+        offered(&outcome)
+            .iter()
+            .all(|learnt| learnt.stands(&registry)),
+    )
+}
+
 #[test]
 fn requests_are_answered(rt: HostRuntime) -> Result<(), Refusal> {
     for row in &ROWS {
         let text = answer(rt.alloc(), row)?;
         assert_eq!(rt; text.as_str(), row.3, "{} lock {}", row.1, row.2);
+        assert!(rt;
+            offers_what_stands(rt.alloc(), row)?,
+            "{} lock {}",
+            row.1,
+            row.2
+        );
     }
     Ok(())
 }
@@ -292,5 +310,122 @@ fn what_conflicts_led_to_is_offered(rt: HostRuntime) -> Result<(), Refusal> {
 fn what_needs_led_to_is_not_offered(rt: HostRuntime) -> Result<(), Refusal> {
     let outcome = outcome_of(rt.alloc(), "", "zed *")?;
     assert!(rt; offered(&outcome).is_empty());
+    Ok(())
+}
+
+// ---- how many lines what is offered has
+
+/// A package "top" that needs "x" in one version, and a row of packages each of which needs the next
+/// one, up to one that needs "x" in the other. So "top" can't be chosen in its higher version, which
+/// takes a line for each package of the row and one more.
+fn row_of_packages(alloc: Global, count: usize) -> Result<String, Refusal> {
+    let mut text = String::from_str(
+        alloc,
+        "x 1.0.0 | x 2.0.0 | top 0.9.0 | top 1.0.0 needs x ^1; p1 *",
+    )?;
+    for number in 1..count {
+        let next = number.saturating_add(1);
+        text.push_str(&format!(in alloc; " | p{number} 1.0.0 needs p{next} *")?)?;
+    }
+    text.push_str(&format!(in alloc; " | p{count} 1.0.0 needs x ^2")?)?;
+    Ok(text)
+}
+
+/// The number of lines of what is offered of a row of so many packages, 0 where nothing is.
+fn lines_offered(alloc: Global, count: usize) -> Result<Option<usize>, Refusal> {
+    let commands = row_of_packages(alloc, count)?;
+    let outcome = outcome_of(alloc, &commands, "top *")?;
+    match offered(&outcome) {
+        [] => Ok(Some(0)),
+        [only] => Ok(Some(only.lines().len())),
+        _ => Ok(None),
+    }
+}
+
+#[test]
+fn as_many_lines_as_may_be_learnt_are_offered(rt: HostRuntime) -> Result<(), Refusal> {
+    assert_eq!(rt; lines_offered(rt.alloc(), 3)?, Some(4));
+    assert_eq!(rt; lines_offered(rt.alloc(), 255)?, Some(256));
+    assert_eq!(rt; lines_offered(rt.alloc(), 256)?, Some(0));
+    Ok(())
+}
+
+/// Puts a row of so many packages, each of which needs the next one, up to one that needs a version
+/// of "x".
+fn put_row(alloc: Global, text: &mut String, row: usize, count: usize) -> Result<(), Refusal> {
+    for number in 1..count {
+        let next = number.saturating_add(1);
+        text.push_str(&format!(in alloc; " | c{row}n{number} 1.0.0 needs c{row}n{next} *")?)?;
+    }
+    text.push_str(&format!(in alloc; " | c{row}n{count} 1.0.0 needs x ~1.{row}.0")?)?;
+    Ok(())
+}
+
+/// Puts a version of "l" and one of "r", which need the same one of "k", and rows of packages that end
+/// in different versions of "x".
+fn put_feet(alloc: Global, text: &mut String, row: usize) -> Result<(), Refusal> {
+    let next = row.saturating_add(1);
+    text.push_str(&format!(in alloc; " | l 1.{row}.0 needs c{row}n1 *; k ~1.{row}.0")?)?;
+    text.push_str(&format!(in alloc; " | r 1.{row}.0 needs c{next}n1 *; k ~1.{row}.0")?)?;
+    text.push_str(&format!(in alloc; " | k 1.{row}.0")?)?;
+    Ok(())
+}
+
+/// A package "top" that needs "l" and "r", of which no two versions go together. That is shown by
+/// conflicts that rest on one another.
+fn feet(alloc: Global, rows: usize, count: usize) -> Result<String, Refusal> {
+    let mut text = String::from_str(alloc, "top 0.9.0 | top 1.0.0 needs l *; r *")?;
+    for row in 0..rows {
+        put_feet(alloc, &mut text, row)?;
+    }
+    for row in 0..rows.saturating_add(1) {
+        text.push_str(&format!(in alloc; " | x 1.{row}.0 | x 1.{row}.1 | x 1.{row}.2")?)?;
+        put_row(alloc, &mut text, row, count)?;
+    }
+    Ok(text)
+}
+
+/// How many lines a cause takes where one is counted as often as it is cited.
+fn counted(counts: &[usize], cause: &Cause) -> usize {
+    match cause {
+        Cause::Line(number) => counts.get(number.saturating_sub(1)).copied().unwrap_or(0),
+        _ => 0,
+    }
+}
+
+/// How many lines what is learnt takes where one is counted as often as it is cited.
+fn count_as_cited(alloc: Global, learnt: &Learnt) -> Result<usize, Refusal> {
+    let mut counts = Vec::new(alloc);
+    let mut last = 1;
+    for line in learnt.lines() {
+        let both = counted(&counts, &line.causes.0).saturating_add(counted(
+            &counts,
+            &line.causes.1,
+        ));
+        last = both.saturating_add(1);
+        counts.push(last)?;
+    }
+    Ok(last)
+}
+
+/// The most lines of what is offered of those feet, counted as often as they are cited, and once each.
+fn most_offered(alloc: Global, rows: usize, count: usize) -> Result<(usize, usize), Refusal> {
+    let commands = feet(alloc, rows, count)?;
+    let outcome = outcome_of(alloc, &commands, "top *")?;
+    let mut most = (0, 0);
+    for learnt in offered(&outcome) {
+        let cited = count_as_cited(alloc, learnt)?;
+        if cited > most.0 {
+            most = (cited, learnt.lines().len());
+        }
+    }
+    Ok(most)
+}
+
+#[test]
+fn a_line_that_is_cited_again_counts_once(rt: HostRuntime) -> Result<(), Refusal> {
+    let (as_cited, once) = most_offered(rt.alloc(), 7, 14)?;
+    assert!(rt; as_cited > LINE_LIMIT, "{as_cited}");
+    assert!(rt; once <= LINE_LIMIT, "{once}");
     Ok(())
 }

@@ -1,5 +1,4 @@
-use Rattle.std.proofs.Common.{length}
-use Rattle.std.proofs.Common.{◌≡◌}
+use Rattle.std.proofs.Common.{◌≡◌, length}
 use Rattle.solver.specs.Searching.{Searches}
 use Rattle.solver.proofs.propagating.propagate.Given as goal
 
