@@ -1,10 +1,12 @@
 /* Loaded before the C library: refuses one request for memory, the one whose
    number the environment variable REFUSE_REQUEST gives, and tells on descriptor
-   REFUSE_TELL, if given, whether it came to that. */
+   REFUSE_TELL, if given, whether it came to that. On descriptor REFUSE_COUNT, if
+   given, it tells at the end how many requests there were. */
 #define _GNU_SOURCE
 #include <dlfcn.h>
 #include <errno.h>
 #include <stdatomic.h>
+#include <stdio.h>
 #include <stdlib.h>
 #include <unistd.h>
 
@@ -24,6 +26,13 @@ static int is_refused(void) {
         _exit(99);
     errno = ENOMEM;
     return 1;
+}
+
+__attribute__((destructor)) static void tell_count(void) {
+    long whole = atomic_load(&count);
+    const char *to = getenv("REFUSE_COUNT");
+    if (to && dprintf(atoi(to), "%ld\n", whole) < 0)
+        _exit(99);
 }
 
 void *malloc(size_t size) {

@@ -15,42 +15,12 @@ class Hostile(unittest.TestCase):
         self.assertEqual((done.returncode, done.stderr), (0, b""))
         return done.stdout.decode().split("\n")[:-1]
 
-    def test_lines_that_are_at_fault(self):
-        bad = [
-            b"",
-            b"\xff\xfe",
-            b"[" * 200 + b"]" * 200,
-            b'{"op":"list","x":1}',
-            b'{"op":"list"} x',
-            b'{"op":["list"]}',
-            b"[]",
-            b"1",
-            b'{"op":"publish","name":"a","version":"1.0.0"}',
-            b'{"op":"publish","name":"a","version":"1.0.0","needs":[["b"]]}',
-            b'{"op":"publish","name":"a","version":"1.0.0","needs":[["b","^1","c"]]}',
-            b'{"op":"publish","name":"a","version":"1.0.0","needs":{"b":"^1"}}',
-            b'{"op":"publish","name":1,"version":"1.0.0","needs":[]}',
-            b'{"op":"publish","name":"\\ud800","version":"1.0.0","needs":[]}',
-            b'{"op":"yank","name":"a","version":"1.0.0","needs":[]}',
-            b'{"op":"walk"}',
-        ]
-        self.assertEqual(self.replies(b"".join(line + b"\n" for line in bad)), [BAD_LINE] * len(bad))
-
     def test_a_line_over_the_limit_is_read_over(self):
         fits = b'{"op":"list"}' + b" " * (LIMIT - 13)
         self.assertEqual(len(fits), LIMIT)
         self.assertEqual(self.replies(fits + b"\n" + fits + b" \n" + LIST.encode()), [EMPTY, BAD_LINE, EMPTY])
         self.assertEqual(self.replies(b"x" * 5_000_000 + b"\n" + LIST.encode() + b"\n"), [BAD_LINE, EMPTY])
         self.assertEqual(self.replies(b"x" * 5_000_000), [BAD_LINE])
-
-    def test_white_space_escapes_and_order(self):
-        done = self.replies(
-            b' { "needs" : [ ] , "version":"1.0.0", "name":"\\u0061" , "op":"publish" } \r\n'
-            b'{"op":"publish","name":"zz","name":"b","version":"1.0.0","needs":[]}\n'
-            b'{"op":"list"}'
-        )
-        self.assertEqual(done, ['{"ok":true,"revision":1}', '{"ok":true,"revision":2}',
-                                '{"packages":[["a",[["1.0.0",false]]],["b",[["1.0.0",false]]]],"revision":2}'])
 
     def test_a_megabyte_of_needs(self):
         needs = [["%x" % (n + 0xa00000), "1"] for n in range(75_000)]

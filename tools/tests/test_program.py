@@ -35,24 +35,6 @@ class Program(unittest.TestCase):
         self.ends(done, 0, b"")
         self.assertEqual(done.stdout, b"")
 
-    def test_bad_words(self):
-        for words in ([], ["walk"], ["serve"], ["serve", "--workers", "0"], ["serve", "--workers", "65"],
-                      ["serve", "--workers", "x"], ["serve", "--workers", "1", "--walk"], ["--help"],
-                      ["serve", "--help"], ["race"], ["race", *["f"] * 64]):
-            done = run(words)
-            self.ends(done, 2, b"registryd: bad words\n")
-        self.assertIn(b"serve", run(["--help"]).stdout)
-
-    def test_words_of_later_stages(self):
-        for words in (["serve", "--workers", "1", "--load", "f"], ["serve", "--workers", "1", "--save", "f"]):
-            self.ends(run(words), 2, b"registryd: bad words\n")
-
-    def test_every_number_of_workers_serves(self):
-        for workers in ("1", "2", "64"):
-            done = run(["serve", "--workers", workers], LIST.encode())
-            self.ends(done, 0, b"")
-            self.assertEqual(done.stdout, b'{"packages":[],"revision":0}\n')
-
     def test_a_failed_read(self):
         # a folder can be opened and not read
         folder = os.open(tempfile.gettempdir(), os.O_RDONLY)

@@ -148,15 +148,6 @@ class Race(unittest.TestCase):
         self.assertEqual([json.loads(reply[0])["seat"] for reply in replies], list(range(1, 64)))
         self.assertEqual(journal[-1], "end 63")
 
-    def test_bad_words(self):
-        for words in (["race"], ["race", *["f"] * 64], ["race", "--workers", "1", "f"], ["race", "--help"]):
-            done = run(words)
-            self.assertEqual((done.returncode, done.stderr), (2, b"registryd: bad words\n"))
-
-    def test_a_file_that_is_not_there(self):
-        done = run([*self.files(LIST.encode()), os.path.join(self.folder, "none")])
-        self.assertEqual((done.returncode, done.stderr, done.stdout), (1, b"registryd: input failed\n", b""))
-
     def test_a_failed_write(self):
         with open("/dev/full", "wb") as full:
             done = run(self.files(LIST.encode()), stdout=full)

@@ -16,8 +16,6 @@ mod offering;
 mod standing;
 mod store;
 mod taking;
-#[cfg(test)]
-mod tests;
 
 pub use causes::need_incompat;
 pub use cutting::{Known, Reason, cut, lines_of};

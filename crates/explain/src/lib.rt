@@ -8,7 +8,5 @@ mod causes;
 mod choices;
 mod conclusions;
 mod explaining;
-#[cfg(test)]
-mod tests;
 
 pub use explaining::{explanation, write_lines};

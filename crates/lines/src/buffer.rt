@@ -202,6 +202,3 @@ fn move_to_front(held: &mut Vec<u8>, start: usize, end: usize)
         held.as_mut_slice().copy_within(start..end, 0);
     }
 }
-
-#[cfg(test)]
-mod tests;

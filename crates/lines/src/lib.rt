@@ -5,8 +5,6 @@
 #![tactic(auto)]
 
 mod buffer;
-#[cfg(test)]
-mod fakes;
 mod outbox;
 mod read;
 mod retry;

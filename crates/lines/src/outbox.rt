@@ -103,6 +103,3 @@ fn append(waiting: &mut Vec<u8>, text: &[u8])
         unreachable!()
     };
 }
-
-#[cfg(test)]
-mod tests;

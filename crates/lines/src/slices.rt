@@ -31,6 +31,3 @@ pub fn count_lines(bytes: &[u8]) -> usize
     }
     count
 }
-
-#[cfg(test)]
-mod tests;

@@ -21,6 +21,3 @@ pub use laws::{
 };
 pub use solution::{Partial, Settled};
 pub use standing::Standing;
-
-#[cfg(test)]
-mod tests;

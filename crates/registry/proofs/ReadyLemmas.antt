@@ -14,7 +14,6 @@ use Rattle.versions.specs.Words.{Text}
 use Rattle.registry.specs.Publications.{PublicationList}
 use Rattle.registry.specs.Rooms.{AreEmpty, IsReady, IsReadyIfAny, names_in, publication_for, unknown_names}
 use Rattle.registry.specs.declared.ready.Ready.{Ready}
-use Rattle.registry.proofs.PackageLemmas.{map-push}
 
 -- ---- the needs, one by one
 
@@ -22,21 +21,18 @@ module _ (known : Text → Bool) (needs : List (Text × Text)) (i : ℕ) (d : Te
   this : unknown_names known (drop i needs) ≡ (if known d.0 then unknown_names known (drop (i + 1) needs) else d.0 ∷ unknown_names known (drop (i + 1) needs))
   this = ap (unknown_names known) (drop-cons needs i d lt ∙ ap (λ x. x ∷ drop (suc i) needs) (sym at)) ∙ ap (λ n. unknown_names known (d ∷ drop n needs)) (sym (add-one i))
 
-  -- a name that is known is passed over
-  pub unknown-known : (added : List (Text × PublicationList)) → known d.0 ≡ true → names_in added ++ unknown_names known (drop i needs) ≡ unknown_names known needs
-      → names_in added ++ unknown_names known (drop (i + 1) needs) ≡ unknown_names known needs
-  unknown-known added t all =
-      sym (ap (λ l. names_in added ++ l) (this ∙ ap (λ b. if b then unknown_names known (drop (i + 1) needs) else d.0 ∷ unknown_names known (drop (i + 1) needs)) t)) ∙ all
-
-  -- a name that is new is added
-  pub unknown-new : (added : List (Text × PublicationList)) (new : Text × PublicationList) → known d.0 ≡ false → new.0 ≡ d.0
-      → names_in added ++ unknown_names known (drop i needs) ≡ unknown_names known needs
-      → names_in (added ++ new ∷ []) ++ unknown_names known (drop (i + 1) needs) ≡ unknown_names known needs
-  unknown-new added new f same all =
-      ap (λ l. l ++ unknown_names known (drop (i + 1) needs)) (map-push (λ (p : Text × PublicationList). p.0) added new)
-      ∙ append_assoc (names_in added) (new.0 ∷ []) (unknown_names known (drop (i + 1) needs))
-      ∙ ap (λ (n : Text). names_in added ++ (n ∷ unknown_names known (drop (i + 1) needs))) same
-      ∙ sym (ap (λ l. names_in added ++ l) (this ∙ ap (λ b. if b then unknown_names known (drop (i + 1) needs) else d.0 ∷ unknown_names known (drop (i + 1) needs)) f)) ∙ all
+  -- a need more
+  pub unknown-more : (old new : List (Text × PublicationList)) → names_in new ≡ names_in old ++ unknown_names known (d ∷ []) → names_in old ++ unknown_names known (drop i needs) ≡ unknown_names known needs
+      → names_in new ++ unknown_names known (drop (i + 1) needs) ≡ unknown_names known needs
+  unknown-more old new grown all =
+      ap (λ l. l ++ unknown_names known (drop (i + 1) needs)) grown
+      ∙ append_assoc (names_in old) (unknown_names known (d ∷ [])) (unknown_names known (drop (i + 1) needs))
+      ∙ ap (λ l. names_in old ++ l) (either (known d.0) d.0 (unknown_names known (drop (i + 1) needs)) ∙ sym this)
+      ∙ all
+    where
+      either : (b : Bool) (name : Text) (rest : List Text) → (if b then [] else name ∷ []) ++ rest ≡ (if b then rest else name ∷ rest)
+      either true name rest = refl
+      either false name rest = refl
 
 pub AreEmpty-push : (added : List (Text × PublicationList)) (new : Text × PublicationList) → AreEmpty added → new.1.publications ≡ [] → AreEmpty (added ++ new ∷ [])
 AreEmpty-push added new all empty =

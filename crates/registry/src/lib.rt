@@ -10,8 +10,6 @@ mod publications;
 mod ready;
 mod registry;
 mod requests;
-#[cfg(test)]
-mod tests;
 
 pub use commands::Command;
 pub use dependencies::Dependencies;

@@ -1,6 +1,6 @@
 // What is made ready for a publication, so that it takes no memory.
 
-ghost use Rattle.std.specs.Prelude.{◌≡◌, ◌<◌, ◌-◌, ◌↔◌, ◌≢◌, ◌∷◌, ℕ, List, [], length, vec_capacity, vec_len, None, Some, IfErr, IfNone, IfOk, IfSome, IsTrue, OnOk, is_some, position};
+ghost use Rattle.std.specs.Prelude.{◌≡◌, ◌<◌, ◌≤◌, ◌-◌, ◌↔◌, ◌≢◌, ◌∷◌, ◌++◌, ℕ, List, [], length, vec_capacity, vec_len, None, Some, IfErr, IfNone, IfOk, IfSome, IsTrue, OnOk, is_some, position};
 ghost use Rattle.std.specs.List.{list_any};
 ghost use Rattle.std.specs.Option.{ForSome, option_map};
 ghost use Rattle.std.specs.Str.{bytes_eq};
@@ -118,6 +118,66 @@ fn next_place(names: &IndexSet<Name>, own: Option<usize>) -> usize {
     }
 }
 
+/// Adds a need of a package that stands at an index, and names its requirement there.
+fn add_known(
+    list: &mut Publications,
+    index: usize,
+    name: &Name,
+    need: &Need,
+    same: &mut Listed,
+) -> Result<(), Refusal>
+    ensures publications { list.new.publications ≡ list.old.publications }
+    ensures same { OnOk result (same.new ≡ same.old ++ (name.now, need.now) ∷ []) }
+    ensures err { IfErr result (λ e. e ≡ Refusal.NoMemory) }
+{
+    let (shared, place) = kept(list, name, need)?;
+    same.push(shared, Place::new(index, place))
+}
+
+/// Adds a need of a package that is new.
+fn add_new(
+    alloc: Global,
+    need: &(Name, Need),
+    next: usize,
+    named: &mut Named,
+) -> Result<(), Refusal>
+    ensures same { OnOk result (named.new.needs ≡ named.old.needs ++ need.now ∷ []) }
+    ensures added { OnOk result (names_in named.new.added.items ≡ names_in named.old.added.items ++ need.now.0 ∷ []) }
+    ensures empty { OnOk result (AreEmpty named.old.added.items → AreEmpty named.new.added.items) }
+    ensures err { IfErr result (λ e. e ≡ Refusal.NoMemory) }
+{
+    // The first requirement that is named on a package has the place 0.
+    let place = Place::new(next.saturating_add(named.added.len()), 0);
+    named.added.push(new_package(alloc, need)?)?;
+    named.needs.push(copied(need)?, place)
+}
+
+/// Adds a need, and names its requirement on the package that it is on.
+fn add_need(
+    alloc: Global,
+    names: &IndexSet<Name>,
+    lists: &mut Vec<Publications>,
+    need: &(Name, Need),
+    next: usize,
+    named: &mut Named,
+) -> Result<(), Refusal>
+    requires paired { length names.now.keys ≡ length lists.old.items }
+    ensures lists { lists_of lists.new.items ≡ lists_of lists.old.items }
+    ensures length { length lists.new.items ≡ length lists.old.items }
+    ensures same { OnOk result (named.new.needs ≡ named.old.needs ++ need.now ∷ []) }
+    ensures added { OnOk result (names_in named.new.added.items ≡ names_in named.old.added.items ++ unknown_names (λ name. list_any (bytes_eq name) names.now.keys) (need.now ∷ [])) }
+    ensures empty { OnOk result (AreEmpty named.old.added.items → AreEmpty named.new.added.items) }
+    ensures err { IfErr result (λ e. e ≡ Refusal.NoMemory) }
+{
+    match kept_in(names, &need.0) {
+        Some((index, name)) => {
+            let list = &mut lists[index];
+            add_known(list, index, name, &need.1, &mut named.needs)
+        }
+        None => add_new(alloc, need, next, named),
+    }
+}
+
 /// Names the requirements on the packages that they are on. The names that are new come in from a
 /// place on, in order.
 fn name_needs(
@@ -135,24 +195,37 @@ fn name_needs(
     ensures empty { IfOk result (λ named. AreEmpty named.added.items) }
     ensures err { IfErr result (λ e. e ≡ Refusal.NoMemory) }
 {
-    let mut same = Listed::with_capacity(alloc, needs.len())?;
-    let mut added = Vec::new(alloc);
+    let mut named = Named {
+        needs: Listed::with_capacity(alloc, needs.len())?,
+        added: Vec::new(alloc),
+    };
     for need in needs {
-        match kept_in(names, &need.0) {
-            Some((index, name)) => {
-                let list = &mut lists[index];
-                let (shared, place) = kept(list, name, &need.1)?;
-                same.push(shared, Place::new(index, place))?;
-            }
-            None => {
-                // The first requirement that is named on a package has the place 0.
-                let place = Place::new(next.saturating_add(added.len()), 0);
-                added.push(new_package(alloc, need)?)?;
-                same.push(copied(need)?, place)?;
-            }
-        }
+        add_need(alloc, names, lists, need, next, &mut named)?;
     }
-    Ok(Named { needs: same, added })
+    Ok(named)
+}
+
+/// The same needs, in texts that the registry keeps where it has equal ones, and the names that are
+/// new, each with its list of publications. Their requirements are named on the packages.
+fn named_needs(
+    alloc: Global,
+    names: &IndexSet<Name>,
+    lists: &mut Vec<Publications>,
+    needs: &Dependencies,
+    place: Option<usize>,
+) -> Result<(Dependencies, Vec<(Name, Publications)>), Refusal>
+    requires paired { length names.now.keys ≡ length lists.old.items }
+    ensures lists { lists_of lists.new.items ≡ lists_of lists.old.items }
+    ensures length { length lists.new.items ≡ length lists.old.items }
+    ensures same { IfOk result (λ named. named.0 ≡ needs.now) }
+    ensures named { IfOk result (λ named. names_in named.1.items ≡ unknown_names (λ name. list_any (bytes_eq name) names.now.keys) needs.now) }
+    ensures empty { IfOk result (λ named. AreEmpty named.1.items) }
+    ensures err { IfErr result (λ e. e ≡ Refusal.NoMemory) }
+{
+    let next = next_place(names, place);
+    let named = name_needs(alloc, names, lists, needs.needs(), next)?;
+    let same = needs.with_handles(alloc, named.needs)?;
+    Ok((same, named.added))
 }
 
 /// Makes room for one publication: in the list at this place, or else in that of a new package.
@@ -177,6 +250,29 @@ fn make_list_room(
         }
     }
     Ok(())
+}
+
+/// Makes room for one publication, and for so many packages.
+fn make_room(
+    names: &mut IndexSet<Name>,
+    lists: &mut Vec<Publications>,
+    own: &mut Publications,
+    place: Option<usize>,
+    count: usize,
+) -> Result<(), Refusal>
+    requires within { ForSome place (λ i. i < length lists.old.items) }
+    ensures keys { names.new.keys ≡ names.old.keys }
+    ensures lists { lists_of lists.new.items ≡ lists_of lists.old.items }
+    ensures length { length lists.new.items ≡ length lists.old.items }
+    ensures own { own.new.publications ≡ own.old.publications }
+    ensures names_room { OnOk result (count ≤ spare names.new) }
+    ensures lists_room { OnOk result (count ≤ vec_capacity lists.new - vec_len lists.new) }
+    ensures room { OnOk result (0 < room_where (rooms_of lists.new.items) own.new.room place) }
+    ensures err { IfErr result (λ e. e ≡ Refusal.NoMemory) }
+{
+    names.reserve(count)?;
+    lists.reserve(count)?;
+    make_list_room(lists, own, place)
 }
 
 /// Where a name stands, if it does, and an equal name: the one that stands there, where there is one.
@@ -208,14 +304,9 @@ pub fn make_ready(
     ensures err { IfErr result (λ e. e ≡ Refusal.NoMemory) }
 {
     let (place, name) = kept_name(names, name)?;
-    let next = next_place(names, place);
-    let named = name_needs(alloc, names, lists, needs.needs(), next)?;
-    let needs = needs.with_handles(alloc, named.needs)?;
-    let added = named.added;
+    let (needs, added) = named_needs(alloc, names, lists, needs, place)?;
     let mut own = Publications::new(alloc);
-    names.reserve(added.len() + 1)?;
-    lists.reserve(added.len() + 1)?;
-    make_list_room(lists, &mut own, place)?;
+    make_room(names, lists, &mut own, place, added.len() + 1)?;
     Ok(Ready {
         name,
         needs,

@@ -72,10 +72,45 @@ lawful_bad e old line short said = elim (told e (request_of line) said) [
   | inr bad ↦ as_asked old line _ old _ (asked-short line short ∙ bad) (refl, refl)
 ]
 
+-- a line that was answered as what it asks, or for which no memory was there
+pub lawful_answered : (old : List Change) (line : List ℕ) (request : Request) (reply : Reply) (new : List Change) → length line ≤ line_limit → request_of line ≡ Ok request
+    → IsRefused NoMemory old reply new ⊎ Answers old request reply new → IsLawful old line reply new
+lawful_answered old line request reply new short said answered = elim answered [
+  | inl memory ↦ inl memory
+  | inr answers ↦ as_asked old line reply new _ (asked-short line short ∙ said) answers
+]
+
+-- ---- what answers a request
+
+-- want of memory
+refused_memory : (e : Refusal) (old : List Change) → e ≡ NoMemory → IsRefused NoMemory old (reply_after old (refused e)) old
+refused_memory e old memory = (ap (λ (r : Refusal). reply_after old (refused r)) memory, refl)
+
+-- a command that was accepted
+pub command_accepted : (old new : List Change) (change : Change) → with_command old change ≡ Ok new
+    → IsRefused NoMemory old (reply_after new accepted) new ⊎ Answers old (command change) (reply_after new accepted) new
+command_accepted old new change does = inr
+    (subst (λ (r : Result (List Change) Refusal). MatchResult r (λ changes. (reply_after new accepted ≡ reply_after changes accepted) × (new ≡ changes)) (λ e. IsRefused e old (reply_after new accepted) new))
+    (sym does) (refl, refl))
+
+-- a command that was refused
+pub command_refused : (e : Refusal) (old : List Change) (change : Change) → Refuses e (with_command old change)
+    → IsRefused NoMemory old (reply_after old (refused e)) old ⊎ Answers old (command change) (reply_after old (refused e)) old
+command_refused e old change does = elim (told e (with_command old change) does) [
+  | inl memory ↦ inl (refused_memory e old memory)
+  | inr is ↦ inr
+      (subst (λ (r : Result (List Change) Refusal). MatchResult r (λ changes. (reply_after old (refused e) ≡ reply_after changes accepted) × (old ≡ changes)) (λ e'. IsRefused e' old (reply_after old (refused e)) old))
+      (sym is) (refl, refl))
+]
+
 -- a listing
-pub lawful_listed : (old : List Change) (line : List ℕ) (rows : List Row) → length line ≤ line_limit → request_of line ≡ Ok listing → IsListing (at old) rows
-    → IsLawful old line (reply_after old (listed rows)) old
-lawful_listed old line rows short said is = as_asked old line _ old _ (asked-short line short ∙ said) ((listed rows, (rows, is, refl), refl), refl)
+pub listed_all : (old : List Change) (packages : Packages) (rows : List Row) → packages ≡ at old → IsListing packages rows
+    → IsRefused NoMemory old (reply_after old (listed rows)) old ⊎ Answers old listing (reply_after old (listed rows)) old
+listed_all old packages rows is lists = inr ((listed rows, (rows, subst (λ (p : Packages). IsListing p rows) is lists, refl), refl), refl)
+
+-- no listing
+pub listed_none : (e : Refusal) (old : List Change) → e ≡ NoMemory → IsRefused NoMemory old (reply_after old (refused e)) old ⊎ Answers old listing (reply_after old (refused e)) old
+listed_none e old memory = inl (refused_memory e old memory)
 
 -- what may be told of a request is a reply to it
 pub replied : (old : List Change) (wanted : Wanted) (explain : Bool) (budget : Option ℕ) (packages : Packages) (body : Body) → packages ≡ at old → MayTell (TellsOutcome packages wanted explain budget) body
@@ -83,38 +118,13 @@ pub replied : (old : List Change) (wanted : Wanted) (explain : Bool) (budget : O
 replied old wanted explain budget packages body is (inl memory) = inl (ap (λ (b : Body). reply_after old b) memory, refl)
 replied old wanted explain budget packages body is (inr told) = inr ((body, subst (λ (p : Packages). TellsOutcome p wanted explain budget body) is told, refl), refl)
 
--- a request that was answered, or for which no memory was there
-pub lawful_resolved : (old : List Change) (line : List ℕ) (wanted : Wanted) (explain : Bool) (budget : Option ℕ) (reply : Reply) → length line ≤ line_limit → request_of line ≡ Ok (resolve wanted explain budget)
-    → IsRefused NoMemory old reply old ⊎ Answers old (resolve wanted explain budget) reply old → IsLawful old line reply old
-lawful_resolved old line wanted explain budget reply short said answered = elim answered [
-  | inl memory ↦ inl memory
-  | inr answers ↦ as_asked old line reply old _ (asked-short line short ∙ said) answers
-]
+-- what may be told of a derivation is a reply to it
+pub judged : (old : List Change) (wanted : Wanted) (lines : List NamedLine) (packages : Packages) (body : Body) → packages ≡ at old → MayTell (TellsVerdict packages wanted lines) body
+    → IsRefused NoMemory old (reply_after old body) old ⊎ Answers old (check wanted lines) (reply_after old body) old
+judged old wanted lines packages body is (inl memory) = inl (ap (λ (b : Body). reply_after old b) memory, refl)
+judged old wanted lines packages body is (inr told) = inr ((body, subst (λ (p : Packages). TellsVerdict p wanted lines body) is told, refl), refl)
 
--- a derivation that was judged, or for which no memory was there
-pub lawful_judged : (old : List Change) (line : List ℕ) (wanted : Wanted) (lines : List NamedLine) (packages : Packages) (body : Body) → length line ≤ line_limit
-    → request_of line ≡ Ok (check wanted lines) → packages ≡ at old → MayTell (TellsVerdict packages wanted lines) body → IsLawful old line (reply_after old body) old
-lawful_judged old line wanted lines packages body short said is (inl memory) = inl (ap (λ (b : Body). reply_after old b) memory, refl)
-lawful_judged old line wanted lines packages body short said is (inr told) =
-    as_asked old line _ old _ (asked-short line short ∙ said) ((body, subst (λ (p : Packages). TellsVerdict p wanted lines body) is told, refl), refl)
-
--- a command that was accepted
-pub lawful_accepted : (old : List Change) (line : List ℕ) (change : Change) (new : List Change) → length line ≤ line_limit → request_of line ≡ Ok (command change)
-    → with_command old change ≡ Ok new → IsLawful old line (reply_after new accepted) new
-lawful_accepted old line change new short said does =
-    as_asked old line _ new _ (asked-short line short ∙ said)
-    (subst (λ (r : Result (List Change) Refusal). MatchResult r (λ changes. (reply_after new accepted ≡ reply_after changes accepted) × (new ≡ changes)) (λ e. IsRefused e old (reply_after new accepted) new))
-    (sym does) (refl, refl))
-
--- a command that was refused
-pub lawful_refused : (e : Refusal) (old : List Change) (line : List ℕ) (change : Change) → length line ≤ line_limit → request_of line ≡ Ok (command change)
-    → Refuses e (with_command old change) → IsLawful old line (reply_after old (refused e)) old
-lawful_refused e old line change short said does = elim (told e (with_command old change) does) [
-  | inl memory ↦ lawful_memory e old line memory
-  | inr is ↦ as_asked old line _ old _ (asked-short line short ∙ said)
-      (subst (λ (r : Result (List Change) Refusal). MatchResult r (λ changes. (reply_after old (refused e) ≡ reply_after changes accepted) × (old ≡ changes)) (λ e'. IsRefused e' old (reply_after old (refused e)) old))
-      (sym is) (refl, refl))
-]
+-- ---- the lines of a text
 
 -- a last line that is there
 pub found_last : (r : Next) (text : List ℕ) (u : Unread) → (r ≡ More → ⊥) → FindsLast r text u → (0 < length text) × IsFound r u text

@@ -1,6 +1,7 @@
 //! The reply to one line of a session.
 ghost use Rattle.std.specs.Prelude.{◌⊎◌, ℕ, ◌≤◌, List, length, IfErr, IfOk};
 ghost use Rattle.versions.specs.declared.refusal.Refusal.TheVariants.{NoMemory};
+ghost use Rattle.registry.specs.Commands.{change_of};
 ghost use Rattle.registry.specs.Preference.{IsPreferredSelection};
 ghost use Rattle.registry.specs.Selections.{Choices, Meets};
 ghost use Rattle.solver.specs.Outcomes as outcomes;
@@ -8,20 +9,20 @@ ghost use Rattle.chronicle.specs.Answers.{MayStop};
 ghost use Rattle.lines.specs.Texts.{Puts};
 ghost use Rattle.lines.specs.Unread.{IsFound, line_limit};
 ghost use Rattle.wire.specs.Replies.{Reply, reply_text};
-ghost use Rattle.wire.specs.Shapes.{resolve};
+ghost use Rattle.wire.specs.Shapes.{check, command as commands, listing, resolve};
 ghost use Rattle.registryd.specs.Session.{Answers, IsLawful, IsRefused};
 
 use crate::served::Served;
 use crate::told::{put_reply, put_told, told_of, verdict_on};
 use derivations::Store;
 use lines::{LineBuffer, Next, Outbox};
-use registry::{Registry, Request};
+use registry::{Command, Registry, Request};
 use solver::{Outcome, solve, solve_within};
 use std::alloc::Global;
 use std::io;
 use std::io::Write;
 use versions::Refusal;
-use wire::{Asked, Body, Listing, read_request};
+use wire::{Asked, Body, Listing, NamedDerivation, read_request};
 
 /// Replies to the line that was found. The reply waits in the outbox where there is room.
 pub fn reply_to_found<W: Write>(
@@ -63,10 +64,7 @@ fn reply_to<W: Write>(
         × Puts (W.contents writer.old) (W.contents writer.new) outbox.old outbox.new result (reply_text reply) }
 {
     match read_request(alloc, line) {
-        Ok(Asked::Command(command)) => match served.accept(command) {
-            Ok(()) => put_reply(outbox, writer, None, served.revision(), Body::Accepted),
-            Err(e) => put_reply(outbox, writer, None, served.revision(), Body::Refusal(e)),
-        },
+        Ok(Asked::Command(command)) => reply_to_command(served, outbox, writer, command),
         Ok(
             Asked::Resolve {
                 request,
@@ -79,20 +77,25 @@ fn reply_to<W: Write>(
                 request,
                 derivation,
             },
-        ) => {
-            let told = verdict_on(alloc, served.registry(), &request, &derivation);
-            put_told(outbox, writer, None, served.revision(), &told)
-        }
-        Ok(Asked::Listing) => match Listing::new(alloc, served.registry()) {
-            Ok(listing) => put_reply(
-                outbox,
-                writer,
-                None,
-                served.revision(),
-                Body::Listing(listing),
-            ),
-            Err(e) => put_reply(outbox, writer, None, served.revision(), Body::Refusal(e)),
-        },
+        ) => reply_to_derivation(alloc, served, outbox, writer, &request, &derivation),
+        Ok(Asked::Listing) => reply_to_listing(alloc, served, outbox, writer),
+        Err(e) => put_reply(outbox, writer, None, served.revision(), Body::Refusal(e)),
+    }
+}
+
+// Replies to a command, which is carried out unless it is refused.
+fn reply_to_command<W: Write>(
+    served: &mut Served,
+    outbox: &mut Outbox,
+    writer: &mut W,
+    command: Command,
+) -> io::Result<()>
+    ensures { (reply : Reply)
+        × (IsRefused NoMemory served.old reply served.new ⊎ Answers served.old (commands (change_of command)) reply served.new)
+        × Puts (W.contents writer.old) (W.contents writer.new) outbox.old outbox.new result (reply_text reply) }
+{
+    match served.accept(command) {
+        Ok(()) => put_reply(outbox, writer, None, served.revision(), Body::Accepted),
         Err(e) => put_reply(outbox, writer, None, served.revision(), Body::Refusal(e)),
     }
 }
@@ -118,6 +121,41 @@ fn reply_to_request<W: Write>(
             let told = told_of(alloc, registry, request, explain, outcome);
             put_told(outbox, writer, None, revision, &told)
         }
+        Err(e) => put_reply(outbox, writer, None, revision, Body::Refusal(e)),
+    }
+}
+
+// Replies to a derivation with whether it shows that no selection meets the request.
+fn reply_to_derivation<W: Write>(
+    alloc: Global,
+    served: &Served,
+    outbox: &mut Outbox,
+    writer: &mut W,
+    request: &Request,
+    derivation: &NamedDerivation,
+) -> io::Result<()>
+    ensures { (reply : Reply)
+        × (IsRefused NoMemory served.now reply served.now ⊎ Answers served.now (check request.now derivation.now) reply served.now)
+        × Puts (W.contents writer.old) (W.contents writer.new) outbox.old outbox.new result (reply_text reply) }
+{
+    let told = verdict_on(alloc, served.registry(), request, derivation);
+    put_told(outbox, writer, None, served.revision(), &told)
+}
+
+// Replies with what is published.
+fn reply_to_listing<W: Write>(
+    alloc: Global,
+    served: &Served,
+    outbox: &mut Outbox,
+    writer: &mut W,
+) -> io::Result<()>
+    ensures { (reply : Reply)
+        × (IsRefused NoMemory served.now reply served.now ⊎ Answers served.now listing reply served.now)
+        × Puts (W.contents writer.old) (W.contents writer.new) outbox.old outbox.new result (reply_text reply) }
+{
+    let revision = served.revision();
+    match Listing::new(alloc, served.registry()) {
+        Ok(listing) => put_reply(outbox, writer, None, revision, Body::Listing(listing)),
         Err(e) => put_reply(outbox, writer, None, revision, Body::Refusal(e)),
     }
 }

@@ -14,41 +14,33 @@ pub fn program<'a>(alloc: Global) -> Result<Command<'a>, AllocError>
     ensures { IfOk result (λ c. app_of c ≡ program_app) }
 {
     let serve = serve_command(alloc)?;
-    let race = race_command(alloc)?;
-    let plain = Command::new(alloc, "registryd")
+    let with_serve = Command::new(alloc, "registryd")
         .about("A package registry that reads request lines and writes reply lines")
         .no_binary_name(true)
         .disable_help_subcommand(true)
-        .subcommand_required(true);
-    let with_serve = plain.subcommand(serve)?;
-    let with_race = with_serve.subcommand(race)?;
-    Ok(with_race)
+        .subcommand_required(true)
+        .subcommand(serve)?;
+    let race = race_command(alloc)?;
+    with_serve.subcommand(race)
 }
 
 fn serve_command<'a>(alloc: Global) -> Result<Command<'a>, AllocError>
     ensures app { IfOk result (λ c. app_of c ≡ serve_app) }
     ensures local { IfOk result (λ c. (fields_of c).has_globals ≡ false) }
 {
-    let workers = workers_option(alloc);
-    let load = file_option(alloc, "load", "A journal to begin from");
-    let save = file_option(alloc, "save", "Where to write the journal at the end");
-    let plain = Command::new(alloc, "serve").about("Answers the request lines of standard input");
-    let with_workers = plain.arg(workers)?;
-    let with_load = with_workers.arg(load)?;
-    let with_save = with_load.arg(save)?;
-    Ok(with_save)
+    let bare = Command::new(alloc, "serve").about("Answers the request lines of standard input");
+    let with_workers = bare.arg(workers_option(alloc))?;
+    let with_load = with_workers.arg(file_option(alloc, "load", "A journal to begin from"))?;
+    with_load.arg(file_option(alloc, "save", "Where to write the journal at the end"))
 }
 
 fn race_command<'a>(alloc: Global) -> Result<Command<'a>, AllocError>
     ensures app { IfOk result (λ c. app_of c ≡ race_app) }
     ensures local { IfOk result (λ c. (fields_of c).has_globals ≡ false) }
 {
-    let files = files_argument(alloc);
-    let plain = Command::new(alloc, "race").about(
-        "Answers the request lines of files, a thread to each",
-    );
-    let with_files = plain.arg(files)?;
-    Ok(with_files)
+    Command::new(alloc, "race")
+        .about("Answers the request lines of files, a thread to each")
+        .arg(files_argument(alloc))
 }
 
 fn workers_option<'a>(alloc: Global) -> Arg<'a>

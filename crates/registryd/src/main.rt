@@ -12,8 +12,6 @@ mod reasons;
 mod running;
 mod serve;
 mod served;
-#[cfg(test)]
-mod tests;
 mod told;
 mod words;
 

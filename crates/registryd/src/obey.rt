@@ -59,14 +59,7 @@ pub fn obey<H: Wait + Threads + Sync + Files + AllocGlobal, R: Read, W: Write>(
                 load: None,
                 save: None,
             },
-        ) => match run(rt, alloc, reader, writer, Vec::new(alloc), workers) {
-            Ok(commands) => {
-                // The program ends here, so what they hold needs no walk to be given back.
-                mem::forget(commands);
-                End::Done
-            }
-            Err(fault) => End::from(fault),
-        },
+        ) => serve(rt, alloc, reader, writer, workers),
         // A journal is not read or written yet.
         Ok(
             Words::Serve {
@@ -81,6 +74,36 @@ pub fn obey<H: Wait + Threads + Sync + Files + AllocGlobal, R: Read, W: Write>(
             End::Words
         }
         Err(WordFault::Memory) => End::Memory,
+    }
+}
+
+/// Serves the lines of a reader, from no commands on.
+fn serve<H: Wait, R: Read, W: Write>(
+    rt: &H,
+    alloc: Global,
+    reader: &mut R,
+    writer: &mut W,
+    workers: usize,
+) -> End
+    requires { (1 ≤ workers) × (workers ≤ 64) }
+    ensures done { result ≡ End.Done → IsAtEnd (R.remaining reader.new) × ((changes : List Change)
+        × Serves (R.remaining reader.old) (R.remaining reader.new) (W.contents writer.old) (W.contents writer.new) lines_of [] changes) }
+    ensures input { result ≡ End.Input → (changes : List Change)
+        × Serves (R.remaining reader.old) (R.remaining reader.new) (W.contents writer.old) (W.contents writer.new) whole_lines_of [] changes }
+    ensures output { result ≡ End.Output
+        → Breaks (R.remaining reader.old) (R.remaining reader.new) (W.contents writer.old) (W.contents writer.new) [] }
+    ensures memory { result ≡ End.Memory
+        → Keeps (R.remaining reader.old) (R.remaining reader.new) × Keeps (W.contents writer.old) (W.contents writer.new) }
+    ensures words { result ≢ End.Words }
+    ensures no_journal { (line : ℕ) → result ≢ End.Journal line }
+{
+    match run(rt, alloc, reader, writer, Vec::new(alloc), workers) {
+        Ok(commands) => {
+            // The program ends here, so what they hold needs no walk to be given back.
+            mem::forget(commands);
+            End::Done
+        }
+        Err(fault) => End::from(fault),
     }
 }
 

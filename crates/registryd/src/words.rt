@@ -67,9 +67,14 @@ pub fn read_words(alloc: Global, words: &[String]) -> Result<Words, WordFault>
 /// where clap has nothing against them.
 pub fn advice_on(alloc: Global, words: &[String]) -> Result<String, AllocError> {
     match program(alloc)?.try_get_matches_from(words) {
-        Ok(_) => program(alloc)?.render_help(),
+        Ok(_) => help(alloc),
         Err(e) => format!(in alloc; "{e}"),
     }
+}
+
+// The help of the program.
+fn help(alloc: Global) -> Result<String, AllocError> {
+    program(alloc)?.render_help()
 }
 
 // What clap makes of the words.

@@ -18,8 +18,6 @@ mod matching;
 mod release;
 mod releases;
 mod rising;
-#[cfg(test)]
-mod tests;
 
 pub use matching::Matching;
 pub use release::Release;

@@ -391,6 +391,19 @@ fn finished(task: &Task<'_>, obstacle: Option<Obstacle>) -> Result<Option<Greedy
     Ok(Some(greedy))
 }
 
+/// What a greedy search decided, if it came to its end.
+fn decisions_of(
+    task: &Task<'_>,
+    found: &Option<Greedy>,
+) -> Result<Option<IndexMap<Pkg, u32>>, Refusal>
+    ensures { IfErr result (λ e. e ≡ Refusal.NoMemory) }
+{
+    match found {
+        None => Ok(None),
+        Some(greedy) => Ok(Some(greedy.decisions(task)?)),
+    }
+}
+
 /// Decisions on all packages that are needed, if each could be met.
 fn decide_greedily(
     task: &Task<'_>,
@@ -398,17 +411,12 @@ fn decide_greedily(
 ) -> Result<Option<IndexMap<Pkg, u32>>, Refusal>
     ensures { IfErr result (λ e. e ≡ Refusal.NoMemory) }
 {
-    let Some(greedy) = finished(task, obstacle)? else {
-        return Ok(None);
-    };
-    if !greedy.is_misled() {
-        return Ok(Some(greedy.decisions(task)?));
+    let mut found = finished(task, obstacle)?;
+    if matches!(&found, Some(greedy) if greedy.is_misled()) {
+        // The obstacle's package is not needed, so it must not bind another one.
+        found = finished(task, None)?;
     }
-    // The obstacle's package is not needed, so it must not bind another one.
-    match finished(task, None)? {
-        None => Ok(None),
-        Some(greedy) => Ok(Some(greedy.decisions(task)?)),
-    }
+    decisions_of(task, &found)
 }
 
 /// A selection that is found without going back, if there is one.

@@ -22,7 +22,5 @@ mod spent;
 mod spots;
 mod starting;
 mod task;
-#[cfg(test)]
-mod tests;
 
 pub use solving::{Outcome, solve, solve_within};

@@ -105,15 +105,23 @@ fn outcome_of(
     }
 }
 
+/// Searches for an answer from the start of a search on, with going back.
+fn search_from(task: &Task<'_>, agenda: &mut Agenda) -> Result<Outcome, Refusal>
+    ensures lawful { IfOk result (IsLawful task.now.registry.now.packages task.now.request.now) }
+    ensures only { IfErr result (MayRefuse task.now.budget) }
+{
+    let mut search = start(task, agenda)?;
+    let ended = run(task, &mut search, agenda)?;
+    outcome_of(task, ended, search.known, &agenda.learnt)
+}
+
 /// Searches for an answer, with going back. What conflicts led to is offered to be learnt.
 fn search_fully(task: &Task<'_>) -> Result<Outcome, Refusal>
     ensures lawful { IfOk result (IsLawful task.now.registry.now.packages task.now.request.now) }
     ensures only { IfErr result (MayRefuse task.now.budget) }
 {
     let mut agenda = Agenda::new(task.alloc)?;
-    let mut search = start(task, &mut agenda)?;
-    let ended = run(task, &mut search, &mut agenda)?;
-    outcome_of(task, ended, search.known, &agenda.learnt)
+    search_from(task, &mut agenda)
 }
 
 /// Answers a task by a search, first by the one that does not go back, which minds an obstacle.

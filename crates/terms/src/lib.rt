@@ -25,6 +25,3 @@ pub use relations::Relation;
 pub use resolving::resolve;
 pub use sets::VSet;
 pub use term::{Term, relation};
-
-#[cfg(test)]
-mod tests;

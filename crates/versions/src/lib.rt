@@ -12,8 +12,6 @@ mod need;
 mod precedence;
 mod published;
 mod refusal;
-#[cfg(test)]
-mod tests;
 
 pub use name::{NAME_LIMIT, Name, is_name_text};
 pub use need::{Need, REQUIREMENT_LIMIT, pre_releases_are_named};

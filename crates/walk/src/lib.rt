@@ -11,8 +11,6 @@ mod facts;
 mod names;
 mod preferred;
 mod reached;
-#[cfg(test)]
-mod tests;
 mod walking;
 
 pub use chooser::Chooser;

@@ -12,8 +12,9 @@ use Rattle.registry.specs.Needs.{names_of}
 use Rattle.registry.specs.Requests as kept
 use Rattle.registry.specs.Requests.{Wanted, request_refusal}
 use Rattle.wire.specs.Requests.{checked, judged, locked_versions, requirements_of, unless_refused}
-use Rattle.wire.specs.NamedShapes.{line_requirements, premise_requirements, requirement_of}
+use Rattle.wire.specs.NamedShapes.{premise_requirements, requirement_of}
 use Rattle.wire.specs.Shapes.{Request, check, resolve}
+use Rattle.wire.specs.declared.by_name.NamedCause.{NamedCause}
 use Rattle.wire.specs.declared.by_name.NamedLine.{NamedLine}
 
 -- want of memory is no answer
@@ -174,18 +175,18 @@ pub unrequired_lines : (needs : List (Text × Text)) (lines : List NamedLine) �
     → list_all is_requirement (requirements_of needs ++ premise_requirements lines) ≡ false
 unrequired_lines needs lines bad = rw (list_all-append, bad) (never (list_all is_requirement (requirements_of needs)))
 
--- a bad requirement of a line's first cause
-pub unrequired_one : (line : NamedLine) → list_all is_requirement (requirement_of line.causes.0) ≡ false → list_all is_requirement (line_requirements line) ≡ false
-unrequired_one line bad = rw (list_all-append, bad) refl
+-- a bad requirement of the first of two causes
+pub unrequired_one : (one two : NamedCause) → list_all is_requirement (requirement_of one) ≡ false → list_all is_requirement (requirement_of one ++ requirement_of two) ≡ false
+unrequired_one one two bad = rw (list_all-append, bad) refl
 
--- a bad requirement of its second
-pub unrequired_two : (line : NamedLine) → list_all is_requirement (requirement_of line.causes.1) ≡ false → list_all is_requirement (line_requirements line) ≡ false
-unrequired_two line bad = rw (list_all-append, bad) (never (list_all is_requirement (requirement_of line.causes.0)))
+-- a bad requirement of the second
+pub unrequired_two : (one two : NamedCause) → list_all is_requirement (requirement_of two) ≡ false → list_all is_requirement (requirement_of one ++ requirement_of two) ≡ false
+unrequired_two one two bad = rw (list_all-append, bad) (never (list_all is_requirement (requirement_of one)))
 
--- the requirements of both causes
-pub good_line : (line : NamedLine) → list_all is_requirement (requirement_of line.causes.0) ≡ true → list_all is_requirement (requirement_of line.causes.1) ≡ true
-    → list_all is_requirement (line_requirements line) ≡ true
-good_line line one two = rw (list_all-append, one, two) refl
+-- the requirements of both
+pub good_causes : (one two : NamedCause) → list_all is_requirement (requirement_of one) ≡ true → list_all is_requirement (requirement_of two) ≡ true
+    → list_all is_requirement (requirement_of one ++ requirement_of two) ≡ true
+good_causes one two first second = rw (list_all-append, first, second) refl
 
 module _ (ask : Wanted → Request) (needs lock kept_needs kept_lock : List (Text × Text)) (is_judged : IsJudged ask needs lock) (same_needs : kept_needs ≡ needs) (same_lock : kept_lock ≡ lock) where
   -- the request, of what was read of these texts, is refused

@@ -5,8 +5,6 @@
 //! derivation from one into the other.
 #![tactic(auto)]
 
-#[cfg(test)]
-mod asking;
 mod by_name;
 mod journal;
 mod laws;

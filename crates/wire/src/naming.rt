@@ -88,6 +88,21 @@ fn named_cause(alloc: Global, registry: &Registry, cause: &Cause) -> Result<Name
     }
 }
 
+fn named_causes(
+    alloc: Global,
+    registry: &Registry,
+    causes: &(Cause, Cause),
+) -> Result<(NamedCause, NamedCause), Refusal>
+    requires one { CauseHasNames registry.now.packages causes.now.0 }
+    requires two { CauseHasNames registry.now.packages causes.now.1 }
+    ensures one { IfOk result (λ named. numbered_cause registry.now.packages named.0 ≡ Some causes.now.0) }
+    ensures two { IfOk result (λ named. numbered_cause registry.now.packages named.1 ≡ Some causes.now.1) }
+    ensures only { IfErr result (λ e. e ≡ Refusal.NoMemory) }
+{
+    let one = named_cause(alloc, registry, &causes.0)?;
+    Ok((one, named_cause(alloc, registry, &causes.1)?))
+}
+
 fn named_line(alloc: Global, registry: &Registry, line: &Line) -> Result<NamedLine, Refusal>
     requires { LineHasNames registry.now.packages line.now }
     ensures same { IfOk result (λ named. numbered_line registry.now.packages named ≡ Some line.now) }
@@ -96,10 +111,7 @@ fn named_line(alloc: Global, registry: &Registry, line: &Line) -> Result<NamedLi
 {
     Ok(NamedLine {
         conclusion: named_terms(alloc, registry, line.conclusion.terms())?,
-        causes: (
-            named_cause(alloc, registry, &line.causes.0)?,
-            named_cause(alloc, registry, &line.causes.1)?,
-        ),
+        causes: named_causes(alloc, registry, &line.causes)?,
         pivot: name_of(registry, line.pivot)?,
     })
 }

@@ -1,5 +1,5 @@
 //! Derivations by name, turned into those by number that a registry can check.
-ghost use Rattle.std.specs.Prelude.{◌≡◌, Some, option_map, IfErr, IfOk};
+ghost use Rattle.std.specs.Prelude.{◌≡◌, Some, option_and_then, option_map, IfErr, IfOk};
 ghost use Rattle.terms.specs.Incompats.{IsIncompat};
 ghost use Rattle.wire.specs.Named.{number_in, numbered_cause, numbered_line, numbered_premise, numbered_terms, FindsOne, IsNumbered};
 
@@ -101,6 +101,24 @@ fn numbered_cause(
     }
 }
 
+/// Two causes by number, if each name of them has one.
+fn numbered_causes(
+    alloc: Global,
+    registry: &Registry,
+    causes: &(NamedCause, NamedCause),
+) -> Result<Option<(Cause, Cause)>, Refusal>
+    ensures same { IfOk result (λ found. found ≡ option_and_then (λ one. option_map (λ two. (one, two)) (numbered_cause registry.now.packages causes.now.1)) (numbered_cause registry.now.packages causes.now.0)) }
+    ensures only { IfErr result (λ e. e ≡ Refusal.NoMemory) }
+{
+    let Some(one) = numbered_cause(alloc, registry, &causes.0)? else {
+        return Ok(None);
+    };
+    let Some(two) = numbered_cause(alloc, registry, &causes.1)? else {
+        return Ok(None);
+    };
+    Ok(Some((one, two)))
+}
+
 fn numbered_line(
     alloc: Global,
     registry: &Registry,
@@ -112,10 +130,7 @@ fn numbered_line(
     let Some(conclusion) = numbered_conclusion(alloc, registry, line.conclusion.terms())? else {
         return Ok(None);
     };
-    let Some(one) = numbered_cause(alloc, registry, &line.causes.0)? else {
-        return Ok(None);
-    };
-    let Some(two) = numbered_cause(alloc, registry, &line.causes.1)? else {
+    let Some(causes) = numbered_causes(alloc, registry, &line.causes)? else {
         return Ok(None);
     };
     let Some(pivot) = number_in(registry, &line.pivot) else {
@@ -123,7 +138,7 @@ fn numbered_line(
     };
     Ok(Some(Line {
         conclusion,
-        causes: (one, two),
+        causes,
         pivot,
     }))
 }

@@ -333,6 +333,3 @@ fn put_found<W: Write>(
         }
     }
 }
-
-#[cfg(test)]
-mod tests;

@@ -79,6 +79,3 @@ fn request_in(alloc: Global, value: &Value) -> Result<Asked, Refusal>
         None => Err(Refusal::BadLine),
     }
 }
-
-#[cfg(test)]
-mod tests;

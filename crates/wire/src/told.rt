@@ -70,6 +70,3 @@ impl Explained {
         self.lines_text.as_str()
     }
 }
-
-#[cfg(test)]
-mod tests;

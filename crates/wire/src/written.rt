@@ -1,6 +1,6 @@
 //! Derivations by name as JSON.
 ghost use Rattle.std.specs.Prelude.{◌≡◌, IfOk, map, string_bytes};
-ghost use Rattle.serde_json.specs.Data.{string};
+ghost use Rattle.serde_json.specs.Data.{array, boolean, item, no_items, string};
 ghost use Rattle.serde_json.specs.View.{view};
 ghost use Rattle.wire.specs.NamedJson.{cause_json, derivation_json, line_json, name_json, ordinals_json, premise_json, term_json, terms_json};
 ghost use Rattle.wire.specs.Replies.{texts_json};
@@ -43,19 +43,24 @@ fn ordinals_json(alloc: Global, set: &VSet) -> Result<Value, AllocError>
     numbers_json(alloc, &ordinals)
 }
 
+/// A package, whether its choice is in the set, and the set.
+fn choice_json(
+    alloc: Global,
+    name: &Option<Name>,
+    positive: bool,
+    set: &VSet,
+) -> Result<Value, AllocError>
+    ensures { IfOk result (λ v. view v ≡ array (item (name_json name.now) (item (boolean positive) (item (ordinals_json set.now) no_items)))) }
+{
+    json!(in alloc; [name_json(alloc, name)?, positive, ordinals_json(alloc, set)?])
+}
+
 fn term_json(alloc: Global, entry: &(Option<Name>, Term)) -> Result<Value, AllocError>
     ensures { IfOk result (λ v. view v ≡ term_json entry.now.0 entry.now.1) }
 {
-    let name = name_json(alloc, &entry.0)?;
     match &entry.1 {
-        Term::In(set) => {
-            let ordinals = ordinals_json(alloc, set)?;
-            json!(in alloc; [name, true, ordinals])
-        }
-        Term::NotIn(set) => {
-            let ordinals = ordinals_json(alloc, set)?;
-            json!(in alloc; [name, false, ordinals])
-        }
+        Term::In(set) => choice_json(alloc, &entry.0, true, set),
+        Term::NotIn(set) => choice_json(alloc, &entry.0, false, set),
     }
 }
 
@@ -72,12 +77,14 @@ fn terms_json(alloc: Global, terms: &[(Option<Name>, Term)]) -> Result<Value, Al
 fn premise_json(alloc: Global, premise: &NamedPremise) -> Result<Value, AllocError>
     ensures { IfOk result (λ v. view v ≡ premise_json premise.now) }
 {
-    let name = premise.package.text();
-    let need = premise.need.text();
-    let target = name_json(alloc, &premise.target)?;
-    let versions = ordinals_json(alloc, &premise.versions)?;
-    let within = ordinals_json(alloc, &premise.within)?;
-    json!(in alloc; {"fact": "premise", "name": name, "need": need, "target": target, "versions": versions, "within": within})
+    json!(in alloc; {
+        "fact": "premise",
+        "name": premise.package.text(),
+        "need": premise.need.text(),
+        "target": name_json(alloc, &premise.target)?,
+        "versions": ordinals_json(alloc, &premise.versions)?,
+        "within": ordinals_json(alloc, &premise.within)?
+    })
 }
 
 fn barred_json(alloc: Global, name: &Name, versions: &VSet) -> Result<Value, AllocError>
@@ -109,11 +116,11 @@ fn cause_json(alloc: Global, cause: &NamedCause) -> Result<Value, AllocError>
 fn line_json(alloc: Global, line: &NamedLine) -> Result<Value, AllocError>
     ensures { IfOk result (λ v. view v ≡ line_json line.now) }
 {
-    let one = cause_json(alloc, &line.causes.0)?;
-    let two = cause_json(alloc, &line.causes.1)?;
-    let conclusion = terms_json(alloc, line.conclusion.terms())?;
-    let pivot = name_json(alloc, &line.pivot)?;
-    json!(in alloc; {"causes": [one, two], "conclusion": conclusion, "pivot": pivot})
+    json!(in alloc; {
+        "causes": [cause_json(alloc, &line.causes.0)?, cause_json(alloc, &line.causes.1)?],
+        "conclusion": terms_json(alloc, line.conclusion.terms())?,
+        "pivot": name_json(alloc, &line.pivot)?
+    })
 }
 
 /// A derivation as JSON.

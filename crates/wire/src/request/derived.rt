@@ -2,7 +2,7 @@
 //!
 //! Their names were judged with their shape, so what is read here is refused for a requirement alone, or for want
 //! of memory.
-ghost use Rattle.std.specs.Prelude.{◌≡◌, IfErr, IfOk};
+ghost use Rattle.std.specs.Prelude.{◌≡◌, ◌++◌, IfErr, IfOk};
 ghost use Rattle.std.specs.List.{list_all};
 ghost use Rattle.versions.specs.Refusals.{Gives};
 ghost use Rattle.versions.specs.Words.{is_requirement};
@@ -97,16 +97,25 @@ fn cause_in(alloc: Global, cause: &CauseShape<'_>) -> Result<NamedCause, Refusal
     }
 }
 
+fn causes_in(
+    alloc: Global,
+    causes: &(CauseShape<'_>, CauseShape<'_>),
+) -> Result<(NamedCause, NamedCause), Refusal>
+    ensures { Gives (λ c. c) result (checked (list_all is_requirement (requirement_of (cause_said causes.now.0) ++ requirement_of (cause_said causes.now.1))) (cause_said causes.now.0, cause_said causes.now.1) BadRequirement) }
+{
+    let one = cause_in(alloc, &causes.0)?;
+    let two = cause_in(alloc, &causes.1)?;
+    Ok((one, two))
+}
+
 fn line_in(alloc: Global, line: &LineShape<'_>) -> Result<NamedLine, Refusal>
     ensures { Gives (λ l. l) result (checked (list_all is_requirement (line_requirements (line_said line.now))) (line_said line.now) BadRequirement) }
 {
-    let one = cause_in(alloc, &line.causes.0)?;
-    let two = cause_in(alloc, &line.causes.1)?;
-    let conclusion = terms_in(alloc, &line.conclusion)?;
     let pivot = whose(alloc, &line.pivot)?;
+    let conclusion = terms_in(alloc, &line.conclusion)?;
     Ok(NamedLine {
         conclusion,
-        causes: (one, two),
+        causes: causes_in(alloc, &line.causes)?,
         pivot,
     })
 }

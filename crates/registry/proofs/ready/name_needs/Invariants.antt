@@ -7,9 +7,9 @@ use Rattle.registry.proofs.ready.name_needs.Given as goal
 
 abbrev pub invariant-loop-need : goal.invariant-loop-need
 invariant-loop-need l = record {
-  equal : l.same ≡ take l.need-index l.needs;
-  named : names_in l.added.items ++ unknown_names (λ name. list_any (bytes_eq name) l.names.keys) (drop l.need-index l.needs) ≡ unknown_names (λ name. list_any (bytes_eq name) l.names.keys) l.needs;
-  empty : AreEmpty l.added.items;
+  equal : l.named.needs ≡ take l.need-index l.needs;
+  named : names_in l.named.added.items ++ unknown_names (λ name. list_any (bytes_eq name) l.names.keys) (drop l.need-index l.needs) ≡ unknown_names (λ name. list_any (bytes_eq name) l.names.keys) l.needs;
+  empty : AreEmpty l.named.added.items;
   lists : lists_of l.lists.items ≡ lists_of l.initial.lists.items;
   count : length l.lists.items ≡ length l.initial.lists.items;
 }

@@ -1,0 +1,51 @@
+//! Calls of two sets that a session holds, which take ordinals one by one.
+
+use rows::{Answer, Unread, whole_at};
+use serde_json::Value;
+use std::alloc::Global;
+use terms::{GrowingSet, VSet};
+
+pub fn held_set_call(
+    alloc: Global,
+    set: &mut VSet,
+    name: &str,
+    row: &Value,
+) -> Result<Answer, Unread> {
+    match name {
+        "insert" => insert(set, row),
+        "has" => Ok(Answer::Bool(set.has(whole_at(row, "k")?))),
+        "is_empty" => Ok(Answer::Bool(set.is_empty())),
+        "ordinals" => Ok(Answer::Numbers(set.ordinals(alloc)?)),
+        _ => Err(Unread::Row),
+    }
+}
+
+fn insert(set: &mut VSet, row: &Value) -> Result<Answer, Unread> {
+    set.insert(whole_at(row, "k")?)?;
+    Ok(Answer::None)
+}
+
+pub fn growing_set_call(
+    alloc: Global,
+    growing: &mut GrowingSet,
+    name: &str,
+    row: &Value,
+) -> Result<Answer, Unread> {
+    match name {
+        "reserve" => reserve(growing),
+        "insert" => grow(growing, row),
+        "has" => Ok(Answer::Bool(growing.has(whole_at(row, "k")?))),
+        "set" => Ok(Answer::Set(growing.set(alloc)?)),
+        _ => Err(Unread::Row),
+    }
+}
+
+fn reserve(growing: &mut GrowingSet) -> Result<Answer, Unread> {
+    growing.reserve()?;
+    Ok(Answer::None)
+}
+
+fn grow(growing: &mut GrowingSet, row: &Value) -> Result<Answer, Unread> {
+    growing.insert(whole_at(row, "k")?)?;
+    Ok(Answer::None)
+}

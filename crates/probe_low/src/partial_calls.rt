@@ -1,0 +1,180 @@
+//! Calls of one partial solution, which a session's lines make one after another.
+
+ghost use Rattle.std.specs.Prelude.{◌≡◌, ℕ, Option, Some, true, false, ◌<◌, length};
+ghost use Rattle.terms.specs.Terms.{true_of};
+ghost use Rattle.partial.specs.Assignments.{is_decided, says, IsOpenTo};
+
+use partial::{Assignment, Partial, Standing, Why};
+use rows::{Answer, TermText, Unread, incompat_at, size_at, term_at, whole_at, write_term};
+use serde_json::Value;
+use std::alloc::{AllocError, Global};
+use std::fmt;
+use terms::{Pkg, Relation, Term, VSet, relation};
+
+pub fn partial_call(
+    alloc: Global,
+    partial: &mut Partial,
+    name: &str,
+    row: &Value,
+) -> Result<Answer, Unread> {
+    match name {
+        "new" => begin(alloc, partial),
+        "with_room" => begin_with_room(alloc, partial, size_at(row, "room")?),
+        "derive" => derive(alloc, partial, row),
+        "decide" => decide(partial, row),
+        "back_to" => back_to(partial, size_at(row, "level")?),
+        _ => about(alloc, partial, name, row),
+    }
+}
+
+fn begin(alloc: Global, partial: &mut Partial) -> Result<Answer, Unread> {
+    *partial = Partial::new(alloc);
+    Ok(Answer::None)
+}
+
+fn begin_with_room(alloc: Global, partial: &mut Partial, room: usize) -> Result<Answer, Unread> {
+    *partial = Partial::with_room(alloc, room)?;
+    Ok(Answer::None)
+}
+
+fn back_to(partial: &mut Partial, level: usize) -> Result<Answer, Unread> {
+    partial.back_to(level);
+    Ok(Answer::None)
+}
+
+fn about(alloc: Global, partial: &Partial, name: &str, row: &Value) -> Result<Answer, Unread> {
+    match name {
+        "level" => Ok(Answer::Number(partial.level())),
+        "undecided" => Ok(Answer::Numbers(partial.undecided()?)),
+        "assignments" => Ok(Answer::Text(format!(in alloc; "{}", Listed(partial.assignments()))?)),
+        "relation" => relation_to(alloc, partial, row),
+        "satisfier" => satisfier(alloc, partial, row),
+        "decision" => Ok(Answer::Choice(partial.decision(whole_at(row, "pkg")?))),
+        "said" => said(alloc, partial, row),
+        "settled" => settled(alloc, partial, row),
+        _ => Err(Unread::Row),
+    }
+}
+
+/// Whether some choice makes both terms true, where one makes the first true.
+fn agree(first: &Term, second: &Term) -> bool
+    requires { (choice : Option ℕ) × (true_of first.now choice ≡ true) }
+    ensures { result ≡ true → (choice : Option ℕ) × (true_of first.now choice ≡ true) × (true_of second.now choice ≡ true) }
+{
+    match relation(first, second) {
+        Relation::Satisfies => true,
+        Relation::Contradicts => false,
+        Relation::Inconclusive => true,
+    }
+}
+
+/// Whether the assignments do not contradict a term.
+fn is_open_to(alloc: Global, partial: &Partial, pkg: Pkg, term: &Term) -> bool
+    ensures { result ≡ true → IsOpenTo partial.now pkg term.now }
+{
+    match partial.said(pkg) {
+        None => agree(&Term::NotIn(VSet::new(alloc)), term),
+        Some(said) => agree(said, term),
+    }
+}
+
+/// Whether the assignments leave an ordinal.
+fn is_left(partial: &Partial, pkg: Pkg, ordinal: u32) -> bool
+    ensures { result ≡ true → says partial.now pkg (Some ordinal) ≡ true }
+{
+    match partial.said(pkg) {
+        None => true,
+        Some(said) => said.allows(ordinal),
+    }
+}
+
+fn derive(alloc: Global, partial: &mut Partial, row: &Value) -> Result<Answer, Unread> {
+    let pkg = whole_at(row, "pkg")?;
+    let term = term_at(alloc, row, "term")?;
+    if !is_open_to(alloc, partial, pkg, &term) {
+        return Ok(Answer::Skipped);
+    }
+    partial.derive(pkg, term, size_at(row, "cause")?)?;
+    Ok(Answer::None)
+}
+
+fn decide(partial: &mut Partial, row: &Value) -> Result<Answer, Unread> {
+    let pkg = whole_at(row, "pkg")?;
+    let ordinal = whole_at(row, "k")?;
+    if !is_left(partial, pkg, ordinal) || partial.decision(pkg).is_some() {
+        return Ok(Answer::Skipped);
+    }
+    partial.decide(pkg, ordinal)?;
+    Ok(Answer::None)
+}
+
+fn relation_to(alloc: Global, partial: &Partial, row: &Value) -> Result<Answer, Unread> {
+    match partial.relation(&incompat_at(alloc, row, "terms")?) {
+        Standing::Satisfied => Ok(Answer::Word("satisfied")),
+        Standing::Almost(pkg) => Ok(Answer::Almost(pkg)),
+        Standing::Other => Ok(Answer::Word("other")),
+    }
+}
+
+fn satisfier(alloc: Global, partial: &Partial, row: &Value) -> Result<Answer, Unread> {
+    let incompat = incompat_at(alloc, row, "terms")?;
+    if incompat.terms().is_empty() {
+        return Ok(Answer::Skipped);
+    }
+    match partial.relation(&incompat) {
+        Standing::Satisfied => {
+            let found = partial.satisfier(&incompat)?;
+            Ok(Answer::Places(found.0, found.1))
+        }
+        _ => Ok(Answer::Skipped),
+    }
+}
+
+fn said(alloc: Global, partial: &Partial, row: &Value) -> Result<Answer, Unread> {
+    match partial.said(whole_at(row, "pkg")?) {
+        Some(term) => Ok(Answer::Term(term.copy(alloc)?)),
+        None => Ok(Answer::None),
+    }
+}
+
+/// What is said together with the decision.
+fn settled(alloc: Global, partial: &Partial, row: &Value) -> Result<Answer, Unread> {
+    match partial.settled(whole_at(row, "pkg")?) {
+        Some(settled) => Ok(Answer::Text(told(alloc, settled.said, settled.decision)?)),
+        None => Ok(Answer::None),
+    }
+}
+
+fn told(alloc: Global, said: &Term, decision: Option<u32>) -> Result<String, AllocError> {
+    let said = format!(in alloc; "{}", TermText(said))?;
+    match decision {
+        Some(ordinal) => format!(in alloc; "{{\"said\":{said},\"decision\":{ordinal}}}"),
+        None => format!(in alloc; "{{\"said\":{said},\"decision\":null}}"),
+    }
+}
+
+/// Assignments as `[pkg,term,level,why]`, where a decision has no cause.
+#[derive(Clone, Copy)]
+struct Listed<'a>(&'a [Assignment]);
+
+impl fmt::Display for Listed<'_> {
+    fn fmt<W: fmt::Write>(&self, f: &mut fmt::Formatter<W>) -> fmt::Result {
+        let mut before = "";
+        f.write_str("[")?;
+        for made in self.0 {
+            f.write_str(before)?;
+            write_assignment(f, made)?;
+            before = ",";
+        }
+        f.write_str("]")
+    }
+}
+
+fn write_assignment<W: fmt::Write>(f: &mut fmt::Formatter<W>, made: &Assignment) -> fmt::Result {
+    write!(f, "[{},", made.pkg)?;
+    write_term(f, &made.term)?;
+    match made.why {
+        Why::Derived(cause) => write!(f, ",{},{cause}]", made.level),
+        Why::Decided(_) => write!(f, ",{},null]", made.level),
+    }
+}

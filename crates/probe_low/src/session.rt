@@ -1,0 +1,83 @@
+//! What rows change.
+
+use crate::command_calls::{command_copy, dependencies_call};
+use crate::held_calls::{growing_set_call, held_set_call};
+use crate::incompat_calls::incompat_call;
+use crate::partial_calls::partial_call;
+use crate::refusal_calls::refusal_call;
+use crate::registry_calls::registry_call;
+use crate::releases_calls::releases_call;
+use crate::request_calls::request_call;
+use crate::set_calls::set_call;
+use crate::term_calls::term_call;
+use crate::text_calls::{name_call, need_call, version_call};
+use partial::Partial;
+use registry::Registry;
+use releases::Releases;
+use rows::{Answer, Calls, Unread};
+use serde_json::Value;
+use std::alloc::Global;
+use terms::{GrowingSet, VSet};
+
+/// One of each thing that rows change, until a row asks for a new session.
+#[derive(Drop)]
+pub struct Session {
+    set: VSet,
+    growing: GrowingSet,
+    releases: Releases,
+    partial: Partial,
+    registry: Registry,
+}
+
+impl Session {
+    pub fn new(alloc: Global) -> Session {
+        Session {
+            set: VSet::new(alloc),
+            growing: GrowingSet::new(alloc),
+            releases: Releases::new(alloc),
+            partial: Partial::new(alloc),
+            registry: Registry::new(alloc),
+        }
+    }
+}
+
+impl Calls for Session {
+    fn call(&mut self, alloc: Global, of: &str, name: &str, row: &Value) -> Result<Answer, Unread> {
+        match of {
+            "session" => anew(alloc, self),
+            "held_set" => held_set_call(alloc, &mut self.set, name, row),
+            "growing_set" => growing_set_call(alloc, &mut self.growing, name, row),
+            "releases" => releases_call(alloc, &mut self.releases, name, row),
+            "partial" => partial_call(alloc, &mut self.partial, name, row),
+            "registry" => registry_call(alloc, &mut self.registry, name, row),
+            _ => call_for(alloc, &self.registry, of, name, row),
+        }
+    }
+}
+
+fn anew(alloc: Global, session: &mut Session) -> Result<Answer, Unread> {
+    *session = Session::new(alloc);
+    Ok(Answer::None)
+}
+
+fn call_for(
+    alloc: Global,
+    registry: &Registry,
+    of: &str,
+    name: &str,
+    row: &Value,
+) -> Result<Answer, Unread> {
+    match of {
+        "name" => name_call(alloc, name, row),
+        "version" => version_call(alloc, name, row),
+        "need" => need_call(alloc, name, row),
+        "refusal" => refusal_call(alloc, name, row),
+        "set" => set_call(alloc, name, row),
+        "term" => term_call(alloc, name, row),
+        "incompat" => incompat_call(alloc, name, row),
+        "command" => command_copy(alloc, name, row),
+        "dependencies" => dependencies_call(alloc, name, row),
+        "request" => request_call(alloc, registry, name, row),
+        _ => Err(Unread::Row),
+    }
+}

@@ -1,0 +1,64 @@
+//! Commands of one registry, which a session's rows change.
+
+use crate::answer::Answer;
+use crate::published::{name_at, needs_at, version_at};
+use crate::reading::{Unread, text_at};
+use registry::{Command, Dependencies, Registry};
+use serde_json::Value;
+use std::alloc::Global;
+
+/// Enters the publication, yank or unyank of a row, and answers the revision after it.
+pub fn command_call(
+    alloc: Global,
+    registry: &mut Registry,
+    name: &str,
+    row: &Value,
+) -> Result<Answer, Unread> {
+    enter(registry, command_of(alloc, name, row)?)
+}
+
+/// The command of a row that names it by its member `do`.
+pub fn command_at(alloc: Global, row: &Value) -> Result<Command, Unread> {
+    command_of(alloc, text_at(row, "do")?, row)
+}
+
+/// The command of this kind that a row tells.
+pub fn command_of(alloc: Global, kind: &str, row: &Value) -> Result<Command, Unread> {
+    match kind {
+        "publish" => publication(alloc, row),
+        "yank" => yank(alloc, row),
+        "unyank" => unyank(alloc, row),
+        _ => Err(Unread::Row),
+    }
+}
+
+fn publication(alloc: Global, row: &Value) -> Result<Command, Unread> {
+    let name = name_at(alloc, row, "name")?;
+    let version = version_at(alloc, row, "version")?;
+    Ok(Command::Publish(name, version, dependencies_at(alloc, row)?))
+}
+
+fn yank(alloc: Global, row: &Value) -> Result<Command, Unread> {
+    let name = name_at(alloc, row, "name")?;
+    Ok(Command::Yank(name, version_at(alloc, row, "version")?))
+}
+
+fn unyank(alloc: Global, row: &Value) -> Result<Command, Unread> {
+    let name = name_at(alloc, row, "name")?;
+    Ok(Command::Unyank(name, version_at(alloc, row, "version")?))
+}
+
+/// The list of dependencies of a row.
+pub fn dependencies_at(alloc: Global, row: &Value) -> Result<Dependencies, Unread> {
+    Ok(Dependencies::new(alloc, needs_at(alloc, row)?)?)
+}
+
+fn enter(registry: &mut Registry, command: Command) -> Result<Answer, Unread> {
+    registry.check(&command)?;
+    if registry.revision() == u64::MAX {
+        return Ok(Answer::Skipped);
+    }
+    registry.reserve(&command)?;
+    registry.apply(command)?;
+    Ok(Answer::Number(registry.revision() as usize))
+}

@@ -1,0 +1,143 @@
+"""Says how far a long proof is: at which crate of how many, how long it has taken, and about how long is left."""
+import os
+import re
+import sys
+import threading
+import time
+
+TOP = os.path.dirname(os.path.dirname(os.path.abspath(__file__)))
+# What a crate that the file of seconds doesn't name takes, for each byte of its text, and what the quick pass over all
+# sources takes that comes first.
+SECONDS_A_BYTE = 0.001
+QUICK_PASS = 60
+# How much sooner several jobs are done than one: they wait for one another.
+GAIN = {1: 1.0, 2: 1.7, 3: 2.2, 4: 2.6}
+# A line is rewritten this often.
+TICK = 1.0
+
+
+def crates_below(name=None):
+    """The crates of crates.txt, each after those that it stands on; those of one crate and below it, if that is named."""
+    with open(os.path.join(TOP, "crates.txt"), encoding="utf-8") as lines:
+        said = [line.split("#")[0].partition(":") for line in lines]
+    needs = {head.split()[0]: needs.split() for head, colon, needs in said if colon}
+    found = []
+
+    def take(crate):
+        for below in needs[crate]:
+            if below in needs:
+                take(below)
+        if crate not in found:
+            found.append(crate)
+
+    for crate in [name] if name else needs:
+        take(crate)
+    return found
+
+
+def seconds_of(crate):
+    """What the proof of a crate takes at one job on an idle machine: as measured, else by its size."""
+    with open(os.path.join(TOP, "tools", "proof_seconds.txt"), encoding="utf-8") as lines:
+        for line in lines:
+            name, _, seconds = line.split("#")[0].partition(" ")
+            if name == crate:
+                return float(seconds)
+    size = 0
+    for part in ("src", "specs", "proofs"):
+        for at, _, files in os.walk(os.path.join(TOP, "crates", crate, part)):
+            size += sum(os.path.getsize(os.path.join(at, file)) for file in files)
+    return SECONDS_A_BYTE * size
+
+
+def told(seconds):
+    """A time as a person says it."""
+    if seconds < 90:
+        return f"{max(5, 5 * round(seconds / 5)):.0f} s"
+    return f"{seconds / 60:.0f} min"
+
+
+class Progress:
+    """One line on standard error: rewritten where that is a terminal, else written anew with each crate."""
+
+    def __init__(self, name, crates, jobs, out=sys.stderr):
+        self.name, self.crates, self.out = name, crates, out
+        self.weights = {crate: seconds_of(crate) for crate in crates}
+        self.rate = GAIN.get(jobs, GAIN[4])
+        self.begun = time.monotonic()
+        self.done, self.part, self.at, self.skipped = set(), 0.0, None, 0.0
+        self.rewrites, self.lock, self.is_over = out.isatty(), threading.RLock(), threading.Event()
+        if self.rewrites:
+            threading.Thread(target=self.tick, daemon=True).start()
+
+    def tick(self):
+        while not self.is_over.wait(TICK):
+            self.rewrite()
+
+    def finish(self, crate, is_kept=False):
+        """Notes that a crate is proved; one that was kept from earlier took no time."""
+        with self.lock:
+            if crate not in self.weights or crate in self.done:
+                return
+            self.done.add(crate)
+            self.part, self.at = 0.0, None
+            if is_kept:
+                self.skipped += self.weights[crate]
+        self.say()
+
+    def note(self, crate, part=0.0):
+        """Notes the crate that is being proved, and which part of it is."""
+        with self.lock:
+            is_new = crate != self.at
+            self.at, self.part = crate, part
+        if is_new:
+            self.say()
+
+    def left(self, elapsed):
+        """About how many seconds are left: by what was measured, and more and more by what this run took so far."""
+        whole = sum(self.weights.values()) - self.skipped
+        done = sum(self.weights[crate] for crate in self.done) - self.skipped
+        done += self.part * self.weights.get(self.at, 0.0)
+        measured = (whole - done) / self.rate + max(0.0, QUICK_PASS - elapsed) * (done == 0)
+        if done <= 0:
+            return measured
+        seen = (whole - done) * elapsed / done
+        share = min(1.0, 2 * done / whole)
+        return share * seen + (1 - share) * measured
+
+    def text(self):
+        elapsed = time.monotonic() - self.begun
+        number = min(len(self.done) + 1, len(self.crates))
+        where = f"crate {number} of {len(self.crates)}" + (f" ({self.at})" if self.at else "")
+        if len(self.done) == len(self.crates):
+            where = f"all {len(self.crates)} crates are proved"
+        return f"{self.name}: {where}, {told(elapsed)} so far, about {told(self.left(elapsed))} left"
+
+    def say(self):
+        if self.rewrites:
+            self.rewrite()
+        else:
+            with self.lock:
+                print(self.text(), file=self.out, flush=True)
+
+    def rewrite(self):
+        with self.lock:
+            print(f"\r\x1b[K{self.text()}", end="", file=self.out, flush=True)
+
+    def clear(self):
+        """Takes the line away, so that something else can be written there."""
+        if self.rewrites:
+            with self.lock:
+                print("\r\x1b[K", end="", file=self.out, flush=True)
+
+    def end(self):
+        self.is_over.set()
+        self.clear()
+
+
+def jobs():
+    """How many checks run at once: one a processor, as far as the memory that is free serves."""
+    # what a check takes at most, in kB: 3 GB, and a third more for what runs beside it
+    memory_of_a_check = 4_000_000
+    with open("/proc/meminfo", encoding="ascii") as lines:
+        free = int(re.search(r"MemAvailable:\s+(\d+)", lines.read())[1])
+    return max(1, min(len(os.sched_getaffinity(0)), free // memory_of_a_check))

@@ -1,0 +1,160 @@
+"""Tables that are too long to be kept, or have bytes that a text can't: a function makes each, and its name and its
+first line say what it shows. A row is a request line in bytes, without its line feed, and its reply."""
+import json
+
+from program import publish, resolve, unyank, yank
+
+LIST = b'{"op":"list"}'
+EMPTY = '{"packages":[],"revision":0}'
+BAD_LINE = '{"error":19,"name":"BadLine","revision":0}'
+LIMIT = 1_048_576  # bytes of a line
+MOST_COMMANDS = 49_152  # of a session
+
+
+def accepted(lines, revision=0):
+    """Each of these lines is accepted, from this revision on."""
+    return [(line, '{"ok":true,"revision":%d}' % number) for number, line in enumerate(lines, revision + 1)]
+
+
+def compact(value):
+    return json.dumps(value, separators=(",", ":")).encode()
+
+
+def long_version(number):
+    """A version whose text has some 250 bytes, of at most 256."""
+    return f"{number}.0.0-{number:0240}x"
+
+
+def lines_at_the_limit_of_their_length():
+    """A line of 1,048,576 bytes is read, one byte more is too much, and the line behind it is read again."""
+    for length, reply in ((LIMIT, EMPTY), (LIMIT + 1, BAD_LINE), (3_000_000, BAD_LINE)):
+        yield LIST.rjust(length), reply
+        yield LIST, EMPTY
+
+
+def values_in_one_another():
+    """The object and 126 arrays in one another nest 127 deep, which is read where a later member of the name counts."""
+    for depth, reply in ((126, EMPTY), (127, BAD_LINE), (200, BAD_LINE)):
+        yield b'{"op":' + b"[" * depth + b"]" * depth + b',"op":"list"}', reply
+    yield b'{"op":' + b"[" * 200 + b"]" * 200 + b"}", BAD_LINE
+    yield b"[" * 200 + b"]" * 200, BAD_LINE
+
+
+def needs_past_the_64th_of_a_publication():
+    """All needs of a publication are judged, however many there are: their names, then their requirements."""
+    def line(name, requirement):
+        needs = [[f"b{number}", "^1"] for number in range(65)] + [[name, requirement]]
+        return compact({"op": "publish", "name": "a", "version": "1.0.0", "needs": needs})
+
+    yield line("b", "none"), '{"error":3,"name":"BadRequirement","revision":0}'
+    yield line("B", "none"), '{"error":1,"name":"BadName","revision":0}'
+    # so the line is read, and it is the registry that refuses it
+    yield line("b", "^1"), '{"error":6,"name":"TooManyDependencies","revision":0}'
+    yield line("b64", "^1"), '{"error":4,"name":"RepeatedDependency","revision":0}'
+    yield line("a", "^1"), '{"error":5,"name":"SelfDependency","revision":0}'
+
+
+def needs_past_the_64th_of_a_request():
+    """A request has at most 64 needs, and those past them are judged too."""
+    def line(count, name, requirement):
+        return compact({"op": "resolve", "needs": [[f"b{number}", "^1"] for number in range(count)] + [[name, requirement]]})
+
+    yield line(63, "c", "^1"), '{"refused":true,"revision":0}'
+    yield line(64, "c", "^1"), '{"error":6,"name":"TooManyDependencies","revision":0}'
+    yield line(64, "b0", "^1"), '{"error":4,"name":"RepeatedDependency","revision":0}'
+    yield line(65, "b64", "^1"), '{"error":4,"name":"RepeatedDependency","revision":0}'
+    yield line(65, "b64", "none"), '{"error":3,"name":"BadRequirement","revision":0}'
+    yield line(65, "B", "none"), '{"error":1,"name":"BadName","revision":0}'
+
+
+def a_selection_longer_than_the_room_of_replies():
+    """A selection of 270 packages, each with a long version, is told whole."""
+    names = [f"a{number}" for number in range(270)]
+    # each but the last needs the next one
+    needs = [[[f"a{number + 1}", f">={number + 1}.0.0-0"]] if number < 269 else [] for number in range(270)]
+    yield from accepted([compact({"op": "publish", "name": name, "version": long_version(number), "needs": needs[number]})
+                         for number, name in enumerate(names)])
+    rows = sorted([name, long_version(number)] for number, name in enumerate(names))
+    reply = compact({"revision": 270, "selected": rows}).decode()
+    assert len(reply) > 65_536
+    yield compact({"op": "resolve", "needs": [["a0", ">=0.0.0-0"]]}), reply
+
+
+def a_listing_longer_than_the_room_of_replies():
+    """A listing of 270 versions, each with a long text, is told whole."""
+    versions = [long_version(number) for number in range(270)]
+    yield from accepted([compact({"op": "publish", "name": "a", "version": version, "needs": []}) for version in versions])
+    reply = compact({"packages": [["a", [[version, False] for version in versions]]], "revision": 270}).decode()
+    assert len(reply) > 65_536
+    yield LIST, reply
+
+
+def the_most_versions_and_dependencies():
+    """A package has at most 1,024 versions, and a version at most 64 dependencies."""
+    def line(name, version, needs):
+        return publish(name, version, [f"d{number} *" for number in range(needs)]).encode()
+
+    yield from accepted([line("a", f"{number}.0.0", 0) for number in range(1024)])
+    yield line("a", "1024.0.0", 0), '{"error":8,"name":"TooManyVersions","revision":1024}'
+    yield line("a", "5.0.0+again", 0), '{"error":7,"name":"AlreadyPublished","revision":1024}'
+    yield line("b", "0.0.0", 65), '{"error":6,"name":"TooManyDependencies","revision":1024}'
+    yield from accepted([line("b", "0.0.0", 64)], 1024)
+
+
+def the_most_names_of_packages():
+    """65,535 names are numbered, those that are only needed among them: a line that would number one more is refused."""
+    def line(name, needs):
+        return publish(name, "1.0.0", [f"{name}-{number} ^1" for number in range(needs)]).encode()
+
+    # 1,008 lines of 1 + 64 names are 65,520 names, and 15 are left
+    yield from accepted([line(f"p{number}", 64) for number in range(1008)])
+    yield line("q", 15), '{"error":9,"name":"TooManyPackages","revision":1008}'
+    yield from accepted([line("q", 14)], 1008)
+    yield line("r", 0), '{"error":9,"name":"TooManyPackages","revision":1009}'
+    yield from accepted([line("p5-3", 0)], 1009)
+
+
+def the_most_commands_of_a_session():
+    """49,152 commands are accepted, here a publication that is yanked and restored. Then none is, and a refusal of a
+    lower number is told before that."""
+    turns = [yank("a", "1.0.0").encode(), unyank("a", "1.0.0").encode()]
+    yield from accepted([publish("a", "1.0.0").encode(), *(turns[number % 2] for number in range(MOST_COMMANDS - 1))])
+    full = '{"error":10,"name":"JournalFull","revision":49152}'
+    for line in (yank("a", "2.0.0"), yank("a", "1.0.0"), unyank("a", "1.0.0"), publish("b", "0.0.0")):
+        yield line.encode(), full
+    yield publish("a", "1.0.0").encode(), full.replace('10,"name":"JournalFull"', '7,"name":"AlreadyPublished"')
+
+
+def budgets_in_other_words():
+    """A request that meets two conflicts, as `test_resolving.py` tells of it: a budget of two serves in whatever words it
+    is told, and a budget of one is spent."""
+    minors = [f"1.{number}.0" for number in range(4)]
+    names = [f"p{number}" for number in range(1, 9)]
+    needs = {minor: ["y *"] for minor in minors} | {"1.3.0": ["y >=1.0.0"]}
+    lines = [*(publish(name, version) for name in names for version in ("1.0.0", "1.1.0")),
+             *(publish("x", version, needs[version]) for version in minors),
+             *(publish("y", version, ["t ^2.0.0"]) for version in minors), publish("t", "1.0.0"), publish("t", "2.0.0")]
+    yield from accepted([line.encode() for line in lines])
+    asked = json.loads(resolve(*(f"{name} *" for name in names), "x *", "t ^1.0.0"))["needs"]
+    rest = b'"op":"resolve","needs":' + compact(asked)
+    spent, refused = '{"error":22,"name":"BudgetSpent","revision":26}', '{"refused":true,"revision":26}'
+    for text in (b'{%s,"budget":N}', b'{"budget":N,%s}', b'{"budget" : N ,%s}', b'{%s,"b\\u0075dget":N}', b'{%s,"lock":[],"budget":N}',
+                 b'{%s,"budget":1.0,"budget":N}', b'{%s,"budget":0,"budget":4294967295,"budget":N}'):
+        for budget, reply in ((b"0", spent), (b"1", spent), (b"2", refused), (b"3", refused), (b"20", refused),
+                              (b"4294967295", refused), (b"4294967296", BAD_LINE.replace(":0}", ":26}"))):
+            yield text.replace(b"N}", budget + b"}").replace(b"N ", budget + b" ").replace(b"N,", budget + b",") % rest, reply
+    yield b"{%s}" % rest, refused
+    yield b'{%s,"lock":[]}' % rest, refused
+
+
+SESSIONS = [
+    lines_at_the_limit_of_their_length, values_in_one_another, needs_past_the_64th_of_a_publication,
+    needs_past_the_64th_of_a_request, a_selection_longer_than_the_room_of_replies, a_listing_longer_than_the_room_of_replies,
+    the_most_versions_and_dependencies, the_most_names_of_packages, the_most_commands_of_a_session, budgets_in_other_words,
+]
+
+
+def sessions():
+    """The name, the title and the rows of each table."""
+    for table in SESSIONS:
+        yield table.__name__, " ".join(table.__doc__.split()), list(table())

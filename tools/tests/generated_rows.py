@@ -1,0 +1,106 @@
+"""Tables whose rows are many, or too long to be read, and which are therefore made when they are asked.
+
+Each function under `@rows_of` is one test. It yields tables, each a title and its rows; a row is written as in the
+files under rows/, and a table begins a session of its own. The comment of the function is the source of what is
+wanted.
+"""
+
+# The functions with the folder of rows whose program makes their calls.
+GENERATORS = []
+
+
+def rows_of(folder):
+    def known(make):
+        GENERATORS.append((folder, make))
+        return make
+    return known
+
+
+def row(of, call, gives=None, **given):
+    return {"of": of, "call": call, **given, "gives": gives}
+
+
+# ---- sets
+
+@rows_of("low")
+def a_set_grows_within_its_room():
+    """Membership, by definition."""
+    rows = []
+    for ordinal in range(130):
+        rows += [row("growing_set", "reserve"), row("growing_set", "insert", k=ordinal)]
+    rows += [row("growing_set", "has", True, k=129), row("growing_set", "has", False, k=130)]
+    yield "130 ordinals come in, one by one, once room was made", [*rows, row("growing_set", "set", [*range(130)])]
+
+
+# ---- names, versions and requirements
+
+@rows_of("low")
+def lengths_at_the_limits():
+    """This project's rules: a name has at most 64 bytes, a version and a requirement at most 256."""
+    limits = [("name", "a", "b", 63, 1), ("version", "1.0.0-", "a", 250, 2), ("need", "^1.0.0", " ", 250, 3)]
+    for of, first, more, most, refusal in limits:
+        text = first + most * more
+        yield f"a {of} of {len(text)} bytes and one of one more", [
+            row(of, "read", text, text=text), row(of, "read", {"refused": refusal}, text=text + more)]
+
+
+@rows_of("low")
+def comparators_at_the_limit():
+    """The reader of the crate semver, which takes at most 32 comparators."""
+    most, more = 31 * ">=1," + "<2", 32 * ">=1," + "<2"
+    yield "32 comparators and one more", [
+        row("need", "admits", True, need=most, version="1.5.0"),
+        row("need", "admits", False, need=most, version="2.0.0"),
+        row("need", "read", {"refused": 3}, text=more)]
+
+
+# ---- releases
+
+def patch_of(ordinal, step):
+    return ordinal * step % 1024
+
+
+def published_in_steps(step):
+    """As many versions as a package may have: 0.0.0, and then each time so many patches more, modulo 1,024."""
+    rows = [row("releases", "name_need", 0, need=">=0.0.512")]
+    return rows + [row("releases", "publish", version=f"0.0.{patch_of(k, step)}") for k in range(1024)]
+
+
+@rows_of("low")
+def versions_in_rising_falling_and_mixed_precedence():
+    """A patch and its ordinal tell each other, and patches are ordered as numbers (Semantic Versioning 2.0.0, section
+    11)."""
+    for step in (1, 1023, 389):
+        rising = sorted(range(1024), key=lambda k: patch_of(k, step))
+        upper = [k for k in range(1024) if patch_of(k, step) >= 512]
+        yield f"1,024 versions, each {step} patches from the one before", [
+            *published_in_steps(step),
+            row("releases", "len", 1024),
+            row("releases", "rising", rising),
+            row("releases", "is_kept", True, need=">=0.0.512"),
+            row("releases", "matching_has", upper, need=">=0.0.512", below=1024),
+            row("releases", "matching", upper, need=">=0.0.512"),
+            row("releases", "highest", rising[-1], set=upper)]
+
+
+@rows_of("low")
+def each_of_many_versions_is_found():
+    """Build metadata does not count in precedence, and a pre-release comes before its version (Semantic Versioning
+    2.0.0, sections 9 to 11)."""
+    rows = published_in_steps(389)
+    for ordinal in range(1024):
+        patch = patch_of(ordinal, 389)
+        rows += [row("releases", "find", ordinal, version=f"0.0.{patch}+x"),
+                 row("releases", "find", version=f"0.0.{patch}-rc")]
+    yield "each of 1,024 versions is found, and none before it", rows
+
+
+@rows_of("low")
+def matching_sets_round_words():
+    """The Cargo Book, "Specifying Dependencies": the last ten of 70 minor versions meet the requirement."""
+    last = [*range(60, 70)]
+    yield "a matching set whose ordinals lie round the edge of a word", [
+        row("releases", "name_need", 0, need=">=0.60.0"),
+        *(row("releases", "publish", version=f"0.{minor}.0") for minor in range(70)),
+        row("releases", "is_kept", True, need=">=0.60.0"),
+        row("releases", "matching_has", last, need=">=0.60.0", below=80)]

@@ -1,0 +1,165 @@
+"""Rows of registries and requests at their limits, and of long lists in many orders.
+
+Each function gives its tables, one after another: a title, and the rows with what each is to give. They are made when
+they are run, since some rows take a megabyte.
+"""
+
+from generated_rows import rows_of
+
+
+def _publish(name, version, needs, gives):
+    return {"of": "registry", "call": "publish", "name": name, "version": version, "needs": needs, "gives": gives}
+
+
+def _registry(call, gives, **given):
+    return {"of": "registry", "call": call, **given, "gives": gives}
+
+
+def _request(call, needs, lock, gives, **given):
+    return {"of": "request", "call": call, "needs": needs, "lock": lock, **given, "gives": gives}
+
+
+def _refused(number):
+    return {"refused": number}
+
+
+def _many(letter, first, count):
+    """So many names of a letter and a number, counted from the first, each needed as `*`."""
+    return [[f"{letter}{number}", "*"] for number in range(first, first + count)]
+
+
+def _repeated(count, need):
+    """So many names, and then the first once more."""
+    return _many("n", 0, count) + [["n0", need]]
+
+
+@rows_of("low")
+def dependencies_at_their_limit():
+    yield (
+        "A version has at most 64 dependencies, and one of 65 that depends on itself is refused for that",
+        [
+            _publish("a", "1.0.0", _many("n", 0, 65), _refused(6)),
+            _publish("n64", "1.0.0", _many("n", 0, 65), _refused(5)),
+            _publish("b", "1.0.0", _many("n", 0, 64), 1),
+            _publish("b", "1.0.0", _many("n", 0, 65), _refused(6)),
+            _registry("packages", 65),
+        ],
+    )
+    yield (
+        "Long lists of dependencies are refused, and one that repeats a name is refused for that",
+        [
+            _publish("a", "1.0.0", _many("n", 0, 75_000), _refused(6)),
+            _publish("a", "1.0.0", _repeated(75_000, "^1"), _refused(4)),
+            _registry("packages", 0),
+        ],
+    )
+
+
+@rows_of("low")
+def repeats_in_short_and_long_lists():
+    rows = []
+    for count in range(40):
+        once, twice = _many("n", 0, count), _repeated(count, "^1")
+        for call in ("new", "copy"):
+            for needs, repeats in ((once, False), (twice, count > 0)):
+                gives = {"repeats": repeats, "needs": needs}
+                rows.append({"of": "dependencies", "call": call, "needs": needs, "gives": gives})
+    yield "A name that comes twice is found in short lists and in long ones, and one that stands alone is no repeat", rows
+
+
+@rows_of("low")
+def versions_at_their_limit():
+    rows = [_publish("a", f"0.0.{number}", [], number + 1) for number in range(1_024)]
+    rows.append(_publish("a", "0.0.1024", [], _refused(8)))
+    rows.append(_publish("a", "0.0.1023+x", [], _refused(7)))
+    rows.append(_registry("versions", 1_024, pkg=1))
+    yield "A package has at most 1,024 versions, and one more of equal precedence is refused for that", rows
+
+
+@rows_of("low")
+def names_at_their_limit():
+    """A publication of a name that is numbered last numbers up to 64 more, until 65,530 are."""
+    rows = []
+    for revision, numbered in enumerate(range(1, 65_530, 64), 1):
+        more = min(65_530 - numbered, 64)
+        rows.append(_publish(f"n{numbered - 1}", "1.0.0", _many("n", numbered, more), revision))
+    before = len(rows)
+    for name, letter, count, gives, packages in (
+        ("a", "m", 5, _refused(9), 65_530),
+        ("a", "m", 4, before + 1, 65_535),
+        ("b", "m", 0, _refused(9), 65_535),
+        ("m0", "k", 1, _refused(9), 65_535),
+        ("m1", "n", 64, before + 2, 65_535),
+    ):
+        rows.append(_publish(name, "1.0.0", _many(letter, 0, count), gives))
+        rows.append(_registry("packages", packages))
+    yield "At most 65,535 names are numbered, and what names none that is new is still accepted", rows
+
+
+@rows_of("low")
+def many_versions_in_any_order():
+    """The patch numbers below 1,024, each once: in steps of 1,023 they fall, in steps of 389 they are mixed."""
+    for order, step in (("falling", 1_023), ("mixed", 389)):
+        patches = [number * step % 1_024 for number in range(1_024)]
+        rows = [_publish("a", f"0.0.{patch}", [], at) for at, patch in enumerate(patches, 1)]
+        rows.append(_registry("versions", 1_024, pkg=1))
+        for yanked, patch in enumerate((1, 2, 63, 64, 500, 1_023), 1):
+            within = [ordinal for ordinal, other in enumerate(patches) if other <= patch]
+            given = {"name": "a", "version": f"0.0.{patch}+x"}
+            rows += [
+                _registry("matching", within, pkg=1, need=f"<=0.0.{patch}"),
+                _registry("highest", patches.index(patch), pkg=1, set=within),
+                _registry("find", patches.index(patch), pkg=1, version=f"0.0.{patch}+x"),
+                _registry("publish", _refused(7), needs=[], **given),
+                _registry("unyank", _refused(13), **given),
+                _registry("yank", 1_024 + yanked, **given),
+            ]
+        yield f"Of 1,024 versions in {order} order each is found, and the highest of a set", rows
+
+
+@rows_of("low")
+def needs_of_a_request_at_their_limit():
+    yield (
+        "A request has at most 64 needs, and a longer list that repeats a name is refused for that",
+        [
+            _request("new", _many("n", 0, 64), [], "made"),
+            _request("new", _many("n", 0, 65), [], _refused(6)),
+            _request("new", _repeated(65, "*"), [], _refused(4)),
+        ],
+    )
+
+
+def _lines(count, step):
+    """So many lock lines, each of the name that is so many steps after the one before, from the first again at the end."""
+    return [[f"n{at * step % count}", f"1.0.{at * step % count}"] for at in range(count)]
+
+
+@rows_of("low")
+def lines_of_a_lock_at_their_limit():
+    yield (
+        "A lock has at most 65,535 lines, and a longer one that repeats a name is refused for that",
+        [
+            _request("new", [], _lines(65_535, 7), "made"),
+            _request("new", [], _lines(65_536, 7), _refused(6)),
+            _request("new", [], _lines(65_536, 7) + [["n7", "1.0.0"]], _refused(4)),
+        ],
+    )
+
+
+@rows_of("low")
+def lines_in_any_order():
+    """Each of a thousand lines is found by its name, and of no need that there is; the third need, and no line, by its."""
+    needs = _many("m", 0, 3)
+    names = [f"n{number}" for number in range(1_000)] + ["m2", "n1000"]
+    for step in (1, 7, 999):
+        lock = _lines(1_000, step)
+        versions = [f"1.0.{number}" for number in range(1_000)]
+        yield (
+            f"Needs and lock lines are found in whatever order they are given: a thousand lines in steps of {step}",
+            [
+                _request("needs", needs, lock, needs),
+                _request("lock", needs, lock, lock),
+                _request("locked", needs, lock, versions + [None, None], names=names),
+                _request("need_on", needs, lock, [None] * 1_000 + ["*", None], names=names),
+            ],
+        )

@@ -1,0 +1,104 @@
+"""Tables of `derivations`, `walk` and `solver` that would be too large to be kept: each public function makes some.
+
+A table is a title and its rows; a row's member `gives` is what the call is wanted to answer."""
+
+from generated_rows import rows_of
+
+
+def _publish(revision, name, version, *needs):
+    return {"of": "registry", "call": "publish", "name": name, "version": version,
+            "needs": [need.split(" ", 1) for need in needs], "gives": revision}
+
+
+def _published(*lines):
+    """Rows that publish versions, each given as a name, a version and what it needs."""
+    return [_publish(revision, *line) for revision, line in enumerate(lines, 1)]
+
+
+def _asked(of, call, gives, need, **more):
+    return {"of": of, "call": call, "needs": [need.split(" ", 1)], "lock": [], **more, "gives": gives}
+
+
+# ---- derivations
+
+def _premise(package, target, within):
+    return {"package": package, "versions": [0], "target": target, "need": "^1.0.0", "within": within}
+
+
+def _line(conclusion):
+    """A line from two premises, that version 0 of package 1 needs 2, and version 0 of that needs 3."""
+    return {"conclusion": conclusion, "causes": [_premise(1, 2, [0]), _premise(2, 3, [0])], "pivot": 2}
+
+
+@rows_of("high")
+def at_most_256_lines_are_learnt():
+    follows = _line([[1, {"in": [0]}], [3, {"not": [0]}]])
+    other = _line([[1, {"in": [0]}], [3, {"not": [1]}]])
+    learnt, too_long, underived = follows["conclusion"], {"refused": 20}, {"refused": 21}
+    rows = [{"of": "learnt", "call": "new", "lines": [follows] * count + [last], "gives": gives}
+            for count, last, gives in [(255, follows, learnt), (255, other, underived),
+                                       (256, follows, too_long), (256, other, too_long)]]
+    yield "256 lines are learnt, and 257 are not, whether they follow or not", rows
+
+
+# ---- walk
+
+@rows_of("high")
+def a_long_chain_is_walked():
+    count, last = 10_000, "p9999"
+    chain = [(f"p{n}", "1.0.0", f"p{n + 1} ^1.0.0") for n in range(count - 1)]
+    rows = _published(*chain)
+    rows.append(_asked("walk", "reach_preferred", {"asks": ["p9998", "1.0.0"], "for": [last, "^1.0.0"]}, "p0 *"))
+    rows.append(_publish(count, last, "1.0.0"))
+    for start in (0, 9980):
+        reached = sorted([f"p{n}", "1.0.0"] for n in range(start, count))
+        rows.append(_asked("walk", "reach_preferred", {"selected": reached}, f"p{start} *"))
+    yield "A chain of 10,000 packages is walked to its end, which is published last", rows
+
+
+# ---- solver
+
+def _row_of_packages(count):
+    """A package "top" that needs "x" in one version, and a row of packages each of which needs the next one, up to one
+    that needs "x" in the other. So "top" can't be chosen in its higher version, which takes a line for each package of
+    the row and one more."""
+    yield "x", "1.0.0"
+    yield "x", "2.0.0"
+    yield "top", "0.9.0"
+    yield "top", "1.0.0", "x ^1", "p1 *"
+    for number in range(1, count):
+        yield f"p{number}", "1.0.0", f"p{number + 1} *"
+    yield f"p{count}", "1.0.0", "x ^2"
+
+
+@rows_of("high")
+def as_many_lines_as_may_be_learnt_are_offered():
+    for count, offered in [(3, [4]), (255, [256]), (256, [])]:
+        rows = _published(*_row_of_packages(count))
+        rows.append(_asked("solver", "counts", offered, "top *"))
+        yield f"What is shown by {count + 1} lines is {'' if offered else 'not '}offered", rows
+
+
+def _feet(rows, count):
+    """A package "top" that needs "l" and "r", of which no two versions go together: each two that need the same version
+    of "k" are the heads of rows of packages that end in different versions of "x". That is shown by conflicts that rest
+    on one another."""
+    yield "top", "0.9.0"
+    yield "top", "1.0.0", "l *", "r *"
+    for row in range(rows):
+        yield "l", f"1.{row}.0", f"c{row}n1 *", f"k ~1.{row}.0"
+        yield "r", f"1.{row}.0", f"c{row + 1}n1 *", f"k ~1.{row}.0"
+        yield "k", f"1.{row}.0"
+    for row in range(rows + 1):
+        for patch in range(3):
+            yield "x", f"1.{row}.{patch}"
+        for number in range(1, count):
+            yield f"c{row}n{number}", "1.0.0", f"c{row}n{number + 1} *"
+        yield f"c{row}n{count}", "1.0.0", f"x ~1.{row}.0"
+
+
+@rows_of("high")
+def a_line_that_is_cited_again_counts_once():
+    rows = _published(*_feet(7, 14))
+    rows.append(_asked("solver", "cited_beyond", [True, False], "top *", limit=256))
+    yield "What takes more than 256 lines as they are cited, and no more where each counts once, is offered", rows

@@ -1,0 +1,59 @@
+"""The public calls of the crates that take memory, as their sources declare them."""
+import glob
+import os
+import re
+
+from program import TOP
+
+# These answer a refusal and take no memory.
+TAKES_NONE = {"registry::Registry::check"}
+# A library of tests, and what the probes stand on.
+NO_PART = {"rows", "rims"}
+TAKES_MEMORY = re.compile(r"-> (?:io::)?Result<")
+
+
+def libraries():
+    """The libraries of the product."""
+    for path in sorted(glob.glob(os.path.join(TOP, "crates", "*", "src", "lib.rt"))):
+        name = path.split(os.sep)[-3]
+        if name not in NO_PART:
+            yield name
+
+
+def exported(crate):
+    """The names that a crate exports."""
+    with open(os.path.join(TOP, "crates", crate, "src", "lib.rt"), encoding="utf-8") as text:
+        uses = re.findall(r"pub use ([^;]*);", text.read())
+    return set(re.findall(r"\w+", " ".join(uses)))
+
+
+def declared(text):
+    """Each public function of a source: the type that it is a method of, or none, its name, and its head."""
+    of = None
+    lines = text.split("\n")
+    for at, line in enumerate(lines):
+        opens = re.match(r"impl(?:<[^>]*>)? (?:\w+(?:<[^>]*>)? for )?(\w+)", line)
+        of = opens[1] if opens else None if line.startswith("}") else of
+        named = re.match(r"( *)pub (?:const )?fn (\w+)", line)
+        if named:
+            head = []
+            for more in lines[at:]:
+                if re.match(r" *(requires|ensures)", more):
+                    break
+                head.append(more)
+                if more.rstrip().endswith("{"):
+                    break
+            yield of if named[1] else None, named[2], " ".join(" ".join(head).split())
+
+
+def that_take_memory():
+    """The full names of the public functions whose result tells of want of memory."""
+    found = set()
+    for crate in libraries():
+        names = exported(crate)
+        for path in glob.glob(os.path.join(TOP, "crates", crate, "src", "**", "*.rt"), recursive=True):
+            with open(path, encoding="utf-8") as text:
+                for of, name, head in declared(text.read()):
+                    if (of or name) in names and TAKES_MEMORY.search(head):
+                        found.add("::".join(part for part in (crate, of, name) if part))
+    return found - TAKES_NONE

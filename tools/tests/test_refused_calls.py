@@ -1,0 +1,110 @@
+"""Each public call that takes memory, with each of its requests refused in turn: it then answers want of memory and leaves
+all as it was, or it answers what it answers otherwise.
+
+The calls stand in `rows/refused`. A table is named by the public calls that it is of. Its row with the member `refuse` is the
+call, the rows before it set things up, and those behind it show what the call left."""
+import json
+import os
+import subprocess
+import tempfile
+import unittest
+
+from program import TOP
+from public_calls import that_take_memory
+from row_tables import program, tables_in
+
+ROWS = os.path.join(TOP, "rows", "refused")
+SHORT = {"refused": 18}
+
+
+class Session:
+    """Runs a probe on rows with a request for memory refused, or none."""
+
+    def __init__(self, program, library):
+        self.program, self.library = program, library
+
+    def run(self, rows, number=0):
+        """Answers what was answered, how many requests there were, and whether the one of this number was refused."""
+        counted, count = os.pipe()
+        told, tell = os.pipe()
+        env = {**os.environ, "LD_PRELOAD": self.library, "REFUSE_REQUEST": str(number), "REFUSE_TELL": str(tell),
+               "REFUSE_COUNT": str(count)}
+        given = "".join(json.dumps(row) + "\n" for row in rows)
+        done = subprocess.run([self.program], input=given.encode(), env=env, pass_fds=[tell, count],
+                              stdout=subprocess.PIPE, stderr=subprocess.PIPE, timeout=60)
+        for end in (tell, count):
+            os.close(end)
+        requests, came = int(os.read(counted, 20)), os.read(told, 1) != b""
+        for end in (told, counted):
+            os.close(end)
+        answers = [json.loads(line) for line in done.stdout.decode().split("\n")[:-1]]
+        return Answers(answers, done.returncode == 0, requests, came)
+
+
+class Answers:
+    def __init__(self, answers, is_whole, requests, came):
+        self.answers, self.is_whole, self.requests, self.came = answers, is_whole, requests, came
+
+
+def tables_of(file):
+    with open(os.path.join(ROWS, file), encoding="utf-8") as text:
+        return tables_in(text.read(), os.path.join("rows", "refused", file))
+
+
+class RefusedCalls(unittest.TestCase):
+    @classmethod
+    def setUpClass(cls):
+        folder = tempfile.TemporaryDirectory()
+        cls.addClassCleanup(folder.cleanup)
+        cls.library = os.path.join(folder.name, "refuse.so")
+        source = os.path.join(TOP, "tools", "refuse_memory", "refuse.c")
+        subprocess.run(["cc", "-O1", "-shared", "-fPIC", "-o", cls.library, source], check=True)
+
+    def refuse_each(self, session, table):
+        """Refuses each request of the table's call in turn; answers how many answered want of memory."""
+        rows = [json.loads(line) for line in table.lines()]
+        at = [number for number, row in enumerate(rows) if row.pop("refuse", False)]
+        self.assertEqual(len(at), 1, f"{table.title}: one row is the call")
+        at, short = at[0], 0
+        first, last = session.run(rows[:at]).requests, session.run(rows[:at + 1]).requests
+        ample, before = session.run(rows).answers, session.run(rows[:at] + rows[at + 1:]).answers
+        self.assertEqual(len(ample), len(rows), table.title)
+        self.assertNotIn(ample[at], (SHORT, {"bad": True}, {"skipped": True}), f"{table.title}: the call is not made")
+        for number in range(first + 1, last + 1):
+            told = session.run(rows, number)
+            self.assertTrue(told.came, (table.title, number))
+            short += self.judge(table, at, told, ample, before, number)
+        return short
+
+    def judge(self, table, at, told, ample, before, number):
+        """Whether the call, which was refused this request, answered want of memory; fails where it may not leave this."""
+        if not told.is_whole:
+            # the row could not be read, so nothing more was
+            self.assertEqual(told.answers, ample[:at], (table.title, number))
+            return 0
+        self.assertEqual(told.answers[:at], ample[:at], (table.title, number))
+        if told.answers[at] == SHORT:
+            self.assertEqual(told.answers[at + 1:], before[at:], f"{table.title}: refused request {number}, it left something")
+            return 1
+        self.assertEqual(told.answers[at:], ample[at:], f"{table.title}: request {number} was refused, its answer changed")
+        return 0
+
+    def test_each_public_call_has_a_table(self):
+        named = {name for file in sorted(os.listdir(ROWS)) for table in tables_of(file)
+                  for name in table.title.split(", ")}
+        self.assertEqual(named, that_take_memory())
+
+    def test_each_request_of_each_call(self):
+        count = refused = 0
+        for file in sorted(os.listdir(ROWS)):
+            session = Session(program(file.removesuffix(".rows")), self.library)
+            for table in tables_of(file):
+                with self.subTest(table.title):
+                    short = self.refuse_each(session, table)
+                    self.assertGreater(short, 0, f"{table.title}: no request was refused")
+                    count, refused = count + 1, refused + short
+        print(f"({count} calls, {refused} times answered want of memory) ", end="")
+
+
+if __name__ == "__main__":
+    unittest.main()
