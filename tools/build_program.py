@@ -29,19 +29,19 @@ def follow(line, progress):
     """Notes what a line of the prover says of where it is: crates are proved one after another, in their order."""
     ended = re.match(r"crate (\w+): modules loaded", line)
     if ended and ended[1] in progress.crates:
-        # those before it are proved too, or were
-        for crate in progress.crates[:progress.crates.index(ended[1]) + 1]:
-            progress.finish(crate)
+        # of those before it that said nothing what earlier runs proved was taken
+        for crate in progress.crates[:progress.crates.index(ended[1])]:
+            progress.finish(crate, is_kept=True)
+        progress.finish(ended[1])
     counted = re.match(r"so far: (\d+) of (\d+) functions checked", line)
-    if counted and len(progress.done) < len(progress.crates):
-        crate = next(crate for crate in progress.crates if crate not in progress.done)
-        progress.note(crate, int(counted[1]) / max(1, int(counted[2])))
+    if counted:
+        progress.note(int(counted[1]) / max(1, int(counted[2])))
 
 
 def main():
     number = jobs()
     print(f"{NAME}: it is proved and built first; after that it starts at once", file=sys.stderr)
-    progress = Progress(NAME, crates_below(NAME), number)
+    progress = Progress(NAME, crates_below(NAME), number, in_order=True)
     progress.say()
     try:
         stands, said = build(number, progress)

@@ -57,14 +57,15 @@ def told(seconds):
 
 
 class Progress:
-    """One line on standard error: rewritten where that is a terminal, else written anew with each crate."""
+    """One line on standard error: rewritten where that is a terminal, else written anew with each crate. Crates are proved
+    side by side, or one after another in their order."""
 
-    def __init__(self, name, crates, jobs, out=sys.stderr):
-        self.name, self.crates, self.out = name, crates, out
+    def __init__(self, name, crates, jobs, in_order=False, out=sys.stderr):
+        self.name, self.crates, self.in_order, self.out = name, crates, in_order, out
         self.weights = {crate: seconds_of(crate) for crate in crates}
         self.rate = GAIN.get(jobs, GAIN[4])
         self.begun = time.monotonic()
-        self.done, self.part, self.at, self.skipped = set(), 0.0, None, 0.0
+        self.done, self.part, self.skipped = set(), 0.0, 0.0
         self.rewrites, self.lock, self.is_over = out.isatty(), threading.RLock(), threading.Event()
         if self.rewrites:
             threading.Thread(target=self.tick, daemon=True).start()
@@ -79,24 +80,25 @@ class Progress:
             if crate not in self.weights or crate in self.done:
                 return
             self.done.add(crate)
-            self.part, self.at = 0.0, None
+            self.part = 0.0
             if is_kept:
                 self.skipped += self.weights[crate]
         self.say()
 
-    def note(self, crate, part=0.0):
-        """Notes the crate that is being proved, and which part of it is."""
+    def note(self, part):
+        """Notes which part of the crate at which it is, where they come in order, is proved."""
         with self.lock:
-            is_new = crate != self.at
-            self.at, self.part = crate, part
-        if is_new:
-            self.say()
+            self.part = part
+
+    def at(self):
+        """The crate that is being proved, where they come in order."""
+        return next((crate for crate in self.crates if crate not in self.done), None) if self.in_order else None
 
     def left(self, elapsed):
         """About how many seconds are left: by what was measured, and more and more by what this run took so far."""
         whole = sum(self.weights.values()) - self.skipped
         done = sum(self.weights[crate] for crate in self.done) - self.skipped
-        done += self.part * self.weights.get(self.at, 0.0)
+        done += self.part * self.weights.get(self.at(), 0.0)
         measured = (whole - done) / self.rate + max(0.0, QUICK_PASS - elapsed) * (done == 0)
         if done <= 0:
             return measured
@@ -107,9 +109,10 @@ class Progress:
     def text(self):
         elapsed = time.monotonic() - self.begun
         number = min(len(self.done) + 1, len(self.crates))
-        where = f"crate {number} of {len(self.crates)}" + (f" ({self.at})" if self.at else "")
+        at = self.at()
         if len(self.done) == len(self.crates):
-            where = f"all {len(self.crates)} crates are proved"
+            return f"{self.name}: all {len(self.crates)} crates are proved, {told(elapsed)} so far"
+        where = f"crate {number} of {len(self.crates)}" + (f" ({at})" if at else "")
         return f"{self.name}: {where}, {told(elapsed)} so far, about {told(self.left(elapsed))} left"
 
     def say(self):
@@ -121,6 +124,8 @@ class Progress:
 
     def rewrite(self):
         with self.lock:
+            if self.is_over.is_set():
+                return
             print(f"\r\x1b[K{self.text()}", end="", file=self.out, flush=True)
 
     def clear(self):
@@ -130,8 +135,9 @@ class Progress:
                 print("\r\x1b[K", end="", file=self.out, flush=True)
 
     def end(self):
-        self.is_over.set()
-        self.clear()
+        with self.lock:
+            self.is_over.set()
+            self.clear()
 
 
 def jobs():
