@@ -28,14 +28,33 @@ def build(number, progress):
 def follow(line, progress):
     """Notes what a line of the prover says of where it is: crates are proved one after another, in their order."""
     ended = re.match(r"crate (\w+): modules loaded", line)
-    if ended and ended[1] in progress.crates:
-        # of those before it that said nothing what earlier runs proved was taken
-        for crate in progress.crates[:progress.crates.index(ended[1])]:
-            progress.finish(crate, is_kept=True)
+    if ended:
         progress.finish(ended[1])
+    pass_over(progress)
     counted = re.match(r"so far: (\d+) of (\d+) functions checked", line)
     if counted:
         progress.note(int(counted[1]) / max(1, int(counted[2])))
+
+
+def pass_over(progress):
+    """Notes the libraries that stand already, as earlier runs proved them: nothing is said of these."""
+    for crate in progress.crates[:-1]:
+        if not is_built(crate):
+            return
+        progress.finish(crate, is_kept=True)
+
+
+def is_built(crate):
+    """Whether a library stands, and no source of it is newer."""
+    folder = os.path.join(TOP, "crates", crate)
+    try:
+        # a library that was taken from another checkout keeps its time of writing
+        built = os.stat(os.path.join(folder, "out", "rlib", "stamp")).st_ctime
+    except OSError:
+        return False
+    sources = (os.path.join(at, file) for part in ("src", "specs", "proofs")
+               for at, _, files in os.walk(os.path.join(folder, part)) for file in files)
+    return all(os.stat(source).st_mtime <= built for source in sources)
 
 
 def main():

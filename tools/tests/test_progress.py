@@ -2,7 +2,9 @@
 import io
 import os
 import sys
+import tempfile
 import unittest
+from unittest import mock
 
 from program import TOP
 
@@ -21,7 +23,16 @@ def proved(crate):
     return f"crate {crate}: modules loaded=807 checked=941\n"
 
 
+IS_BUILT = build_program.is_built
+
+
 class Lines(unittest.TestCase):
+    def setUp(self):
+        # nothing stands, whatever the tests run beside
+        patch = mock.patch.object(build_program, "is_built", lambda crate: False)
+        patch.start()
+        self.addCleanup(patch.stop)
+
     def follow(self, lines, out):
         progress = Progress("registryd", crates_below("registryd"), 4, in_order=True, out=out)
         progress.say()
@@ -39,11 +50,25 @@ class Lines(unittest.TestCase):
             self.assertRegex(line, fr"^registryd: crate {number} of {len(crates)} \({crate}\), \d+ s so far, about .* left$")
         self.assertRegex(lines[-1], fr"^registryd: all {len(crates)} crates are proved, ")
 
-    def test_what_was_kept_is_passed_over(self):
+    def test_what_stands_is_passed_over(self):
         crates, out = crates_below("registryd"), io.StringIO()
-        progress = self.follow(["nothing of interest\n", proved("no_crate_of_ours"), proved(crates[5])], out)
+        with mock.patch.object(build_program, "is_built", lambda crate: crate in crates[:5]):
+            progress = self.follow(["nothing of interest\n", proved("no_crate_of_ours"), proved(crates[5])], out)
         self.assertEqual(progress.done, {*crates[:6]})
         self.assertEqual(progress.skipped, sum(progress.weights[crate] for crate in crates[:5]))
+
+    def test_a_library_stands_until_a_source_is_newer(self):
+        with tempfile.TemporaryDirectory() as top, mock.patch.object(build_program, "TOP", top):
+            source = os.path.join(top, "crates", "low", "src", "lib.rt")
+            stamp = os.path.join(top, "crates", "low", "out", "rlib", "stamp")
+            for file in (source, stamp):
+                self.assertFalse(IS_BUILT("low"))
+                os.makedirs(os.path.dirname(file))
+                open(file, "w").close()
+            self.assertTrue(IS_BUILT("low"))
+            later = os.stat(stamp).st_ctime + 60
+            os.utime(source, (later, later))
+            self.assertFalse(IS_BUILT("low"))
 
     def test_less_is_left_as_it_goes_on(self):
         crates = crates_below("registryd")
