@@ -24,13 +24,10 @@ def rising_versions(rng):
     return versions
 
 
-def lockfile(size, seed=1):
-    """`size` packages, each of which needs up to ten before it; some needs leave out the newest versions.
-
-    So the newest versions of all packages don't fit together, and the answer is found without going back: what an
-    upper bound leaves, each other need admits.
-    """
-    rng, packages, lines = random.Random(seed), [], []
+def lived_in(size, rng):
+    """`size` packages, each of which needs up to ten before it; some needs leave out the newest versions. Answers their
+    names and versions, and the lines that publish them."""
+    packages, lines = [], []
     for place in range(size):
         name = "p%05d" % place
         # packages with low numbers are popular
@@ -39,8 +36,23 @@ def lockfile(size, seed=1):
         for version in versions:
             lines.append(publish(name, version, [requirement(rng, *packages[at]) for at in targets]))
         packages.append((name, versions))
-    asked = [[requirement(rng, *packages[at]) for at in rng.sample(range(size // 2, size), 20)] for _ in range(6)]
-    return lines, [resolve(sorted(needs)) for needs in asked]
+    return packages, lines
+
+
+def requests_for(packages, rng, count):
+    """Requests for 20 packages of the later half each."""
+    size = len(packages)
+    asked = [[requirement(rng, *packages[at]) for at in rng.sample(range(size // 2, size), 20)] for _ in range(count)]
+    return [resolve(sorted(needs)) for needs in asked]
+
+
+def lockfile(size, seed=1):
+    """A registry that is lived in. The newest versions of all packages don't fit together, and the answer is found without
+    going back: what an upper bound leaves, each other need admits.
+    """
+    rng = random.Random(seed)
+    packages, lines = lived_in(size, rng)
+    return lines, requests_for(packages, rng, 6)
 
 
 def requirement(rng, name, versions):
@@ -78,4 +90,88 @@ def below(size, storey, side, minor):
     return [["%s%03d" % (side, storey + 1), span] for side in "lr"]
 
 
+# ---- requests that share conflicts
+
+SESSION = 200
+
+
+def worn(size, seed=1):
+    """A registry that is lived in, in which the newest version of each third package can't be had: it needs a package that
+    needs an older version of the first. So a request meets a conflict for each of them that it reaches."""
+    rng = random.Random(seed)
+    packages, lines = lived_in(size, rng)
+    for name, versions in packages[::3]:
+        major, minor, _ = versions[-1]
+        lines.append(publish(name, (major, minor + 1, 0), [[name + "-next", "^1"]]))
+        lines.append(publish(name + "-next", (1, 0, 0), [[name, "<%d.%d.0" % (major, minor + 1)]]))
+    return lines, requests_for(packages, rng, SESSION)
+
+
+def towers(size, seed=1):
+    """`tower`, and requests that begin at any two storeys, which are refused for the same reason. The first is that of `tower`."""
+    lines, requests = tower(size)
+    pairs = [(left, right) for left in range(size) for right in range(size) if (left, right) != (0, 0)]
+    random.Random(seed).shuffle(pairs)
+    return lines, requests + [resolve([["l%03d" % left, "^1"], ["r%03d" % right, "^1"]]) for left, right in pairs[:SESSION - 1]]
+
+
+def chain(size, seed=1):
+    """`size` packages of ten versions, of which each needs the next one; the last needs other versions of `x` than `y` does.
+    The requests are for `y` and for the first link, or for any two."""
+    lines = [publish("x", (1, minor, patch), []) for minor in range(2) for patch in range(8)]
+    lines += [publish("y", (1, minor, 0), [["x", "~1.1.0"]]) for minor in range(16)]
+    for link in range(size):
+        need = ["x", "~1.0.0"] if link + 1 == size else ["c%03d" % (link + 1), "^1"]
+        lines += [publish("c%03d" % link, (1, minor, 0), [need]) for minor in range(10)]
+    pairs = [(one, other) for other in range(size) for one in range(other)]
+    random.Random(seed).shuffle(pairs)
+    return lines, [resolve([["c000", "^1"], ["y", "^1"]])] + [
+        resolve([["c%03d" % one, "^1"], ["c%03d" % other, "^1"], ["y", "^1"]]) for one, other in pairs[:SESSION - 1]]
+
+
+# ---- what fills a store: each request leads to a conflict for each package that it asks for
+
+MOST_NEEDS = 64
+
+
+def in_parts(names, needs):
+    """Requests for so many packages each, and for these needs."""
+    most = MOST_NEEDS - len(needs)
+    return [resolve([*needs, *([name, "*"] for name in names[at:at + most])]) for at in range(0, len(names), most)]
+
+
+def dead_ends(count):
+    """Packages whose newest version needs one that needs the older: that it can't be had is learnt of each, and names that
+    package alone."""
+    lines, names = [], ["d%05d" % number for number in range(count)]
+    for name in names:
+        lines += [publish(name, (1, 0, 0), []), publish(name, (1, 1, 0), [["for-" + name, "^1"]]),
+                  publish("for-" + name, (1, 0, 0), [[name, "<1.1.0"]])]
+    return lines, in_parts(names, [])
+
+
+ROWS = 8
+
+
+def about_one(count):
+    """Packages whose newest version goes with the first version of `hub` alone: it needs a version of `x` that needs that. It is
+    learnt of each, and names it and `hub`. And what `crossed` asks for."""
+    names = ["d%05d" % number for number in range(count)]
+    lines = [publish("x", (1, row, patch), [["hub", "~1.0.0"]] if row == 1 else []) for row in range(ROWS + 1) for patch in range(3)]
+    lines += [publish("hub", (1, 0, 0), []), publish("hub", (1, 1, 0), []), publish("low", (1, 0, 0), [["x", "<1.2.0"]]),
+              publish("high", (1, 0, 0), [["x", ">=1.1.0, <1.3.0"]])]
+    for row in range(ROWS):
+        lines += [publish("k", (1, row, 0), []), publish("l", (1, row, 0), [["x", "~1.%d.0" % row], ["k", "~1.%d.0" % row]]),
+                  publish("r", (1, row, 0), [["x", "~1.%d.0" % (row + 1)], ["k", "~1.%d.0" % row]])]
+    for name in names:
+        lines += [publish(name, (1, 0, 0), []), publish(name, (1, 1, 0), [["high", "^1"], ["low", "^1"]])]
+    return lines, in_parts(names, [["hub", "~1.1.0"]])
+
+
+def crossed():
+    """A request for `hub`, and of many conflicts on `x`: no version of `l` goes with one of `r`."""
+    return resolve([["hub", "~1.1.0"], ["l", "^1"], ["r", "^1"]])
+
+
+SHARED = {"tower": (towers, 16), "chain": (chain, 30), "worn": (worn, 300)}
 WORKLOADS = {"lockfile": (lockfile, (100, 300, 900)), "tower": (tower, (7, 20, 60))}

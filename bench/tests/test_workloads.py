@@ -1,4 +1,5 @@
 """That the benchmark's workloads are what they say: accepted, answered, and answered the way that they are to be."""
+import json
 import os
 import sys
 import unittest
@@ -10,7 +11,7 @@ sys.path.insert(0, os.path.join(os.path.dirname(BENCH), "tools", "tests"))
 from plot import svg  # noqa: E402
 from race import dealt  # noqa: E402
 from program import serve  # noqa: E402
-from workloads import lockfile, tower  # noqa: E402
+from workloads import SHARED, about_one, chain, crossed, dead_ends, lockfile, tower, towers, worn  # noqa: E402
 
 
 class Workloads(unittest.TestCase):
@@ -28,6 +29,25 @@ class Workloads(unittest.TestCase):
     def test_a_tower_is_refused(self):
         for reply in self.replies(tower(5)):
             self.assertIn('"refused":true', reply)
+
+    def test_requests_that_share_conflicts(self):
+        for make, size, answer in ((towers, 4, '"refused":true'), (chain, 5, '"refused":true'), (worn, 60, '"selected":[[')):
+            lines, requests = make(size)
+            self.assertEqual(len(set(requests)), len(requests))
+            for reply in self.replies((lines, requests[:20])):
+                self.assertIn(answer, reply)
+
+    def test_a_session_has_so_many_requests(self):
+        for make, size in SHARED.values():
+            self.assertEqual(len(make(size)[1]), 200)
+
+    def test_what_fills_a_store_is_found(self):
+        for make in (dead_ends, about_one):
+            lines, requests = make(130)
+            for reply in self.replies((lines, requests)):
+                found = dict(json.loads(reply)["selected"])
+                self.assertTrue(all(version == "1.0.0" for name, version in found.items() if name.startswith("d")), reply)
+        self.assertIn('"refused":true', self.replies((about_one(1)[0], [crossed()]))[0])
 
     def test_lines_are_dealt_out_once(self):
         lines = [str(number) for number in range(20)]

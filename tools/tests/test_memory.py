@@ -11,6 +11,9 @@ import unittest
 from plain_search import Published
 from program import LIST, PROGRAM, SERVE, TOP, check, journal_line, publish, resolve, serve, unyank, yank
 from reference import Registry
+from refuter import Known
+from test_check_derivation import said_of
+from test_explained import told
 
 # Why neither version of b below can be had.
 REFUTED = [
@@ -39,6 +42,14 @@ LINES = [
     publish("e", "1.1.0", ["d ^1.0.0"]),
     publish("e", "1.0.0", ["a >=1.0.0-alpha"]),
     resolve("e *"),
+    # what the first request of these led to serves the second, and is ended before the third
+    publish("f", "2.0.0", ["g ^1.0.0"]),
+    publish("g", "1.0.0", ["f ^1.0.0"]),
+    publish("f", "1.0.0"),
+    resolve("f *"),
+    resolve("f *"),
+    publish("g", "1.1.0"),
+    resolve("f *"),
     publish("A", "1"),
     LIST,
 ]
@@ -63,38 +74,57 @@ def with_ample_memory(accepted, line):
 
 
 class Model:
-    """What was accepted, by the two plain models together."""
+    """What was accepted, by the plain models."""
 
     def __init__(self):
-        self.registry, self.published, self.accepted = Registry(), Published(), []
+        self.registry, self.accepted = Registry(), []
 
     def short(self):
         """The reply to any line where memory is refused."""
         return self.registry.refused(18)
 
-    def answers(self, line):
-        """The other lawful replies to a line, whose command is carried out where it is accepted."""
+    def takes(self, line, reply):
+        """Whether this is another lawful reply to a line, whose command is carried out where it is accepted."""
         request = json.loads(line)
-        if "explain" in request or request["op"] == "check":
-            # the tests of explanations say that these are right
+        return self.explains(request, reply) if "explain" in request else reply in self.answers(line)
+
+    def explains(self, request, reply):
+        """Whether this is a refusal with a derivation that follows: which one depends on what was learnt before, and what
+        finds no memory is not learnt."""
+        commands, told_of = list(map(json.loads, self.accepted)), json.loads(reply)
+        accepted = [{"ok": True, "revision": number} for number in range(1, len(commands) + 1)]
+        status, _ = said_of([*commands, request], [*accepted, told_of])
+        rows = told_of.get("derivation", [])
+        whole = {"derivation": rows, "explanation": told(Known(commands), request, rows), "refused": True, "revision": len(commands)}
+        return status == 0 and reply == json.dumps(whole, separators=(",", ":"), ensure_ascii=False)
+
+    def answers(self, line):
+        """The lawful replies to a line that asks for no explanation."""
+        request = json.loads(line)
+        if request["op"] == "check":
+            # the tests of derivations say that these are right
             return [with_ample_memory(tuple(self.accepted), line)]
         if request["op"] == "resolve":
-            return self.selections(request)
+            return selections(tuple(self.accepted), line)
         reply = self.registry.answer(request, REQUIREMENTS)
         if reply.startswith('{"ok"'):
-            self.published.apply(request)
             self.accepted.append(line)
         return [reply]
 
-    def selections(self, request):
-        revision = self.registry.revision
-        found = [json.dumps(selection, separators=(",", ":")) for selection in self.published.answers(request)]
-        if not found and request.get("budget") == 0:
-            # that there is no selection shows in a conflict at least
-            return [f'{{"error":22,"name":"BudgetSpent","revision":{revision}}}']
-        if not found:
-            return [f'{{"refused":true,"revision":{revision}}}']
-        return [f'{{"revision":{revision},"selected":{selection}}}' for selection in found]
+
+@functools.cache
+def selections(accepted, line):
+    """The replies that a resolve line may have after these commands."""
+    published, request, revision = Published(), json.loads(line), len(accepted)
+    for command in accepted:
+        published.apply(json.loads(command))
+    found = [json.dumps(selection, separators=(",", ":")) for selection in published.answers(request)]
+    if not found and request.get("budget") == 0:
+        # that there is no selection shows in a conflict at least
+        return [f'{{"error":22,"name":"BudgetSpent","revision":{revision}}}']
+    if not found:
+        return [f'{{"refused":true,"revision":{revision}}}']
+    return [f'{{"revision":{revision},"selected":{selection}}}' for selection in found]
 
 
 class Memory(unittest.TestCase):
@@ -135,7 +165,7 @@ class Memory(unittest.TestCase):
             if reply == model.short():
                 short += 1
             else:
-                self.assertIn(reply, model.answers(line), (number, line))
+                self.assertTrue(model.takes(line, reply), (number, line, reply))
         return short
 
     def test_each_request_of_a_session(self):
@@ -155,7 +185,8 @@ class Memory(unittest.TestCase):
         print(f"({number - LAST_RUNS} requests refused in turn: {early} before the first line, {refused} answered 18) ", end="")
 
     def models_of(self, files, replies, number):
-        """The journal that replies tell, and what is accepted after each beginning of it."""
+        """The commands of the journal that replies tell, and what is accepted after each beginning of them. What was learnt
+        takes places too, and no reply tells of it."""
         entries = {}
         for asked, told in zip(files, replies):
             self.assertEqual(len(told), len(asked), number)
@@ -163,7 +194,6 @@ class Memory(unittest.TestCase):
                 if "ok" in reply:
                     self.assertNotIn(reply["place"], entries, number)
                     entries[reply["place"]] = line
-        self.assertEqual(sorted(entries), list(range(1, len(entries) + 1)), number)
         journal, models = [entries[place] for place in sorted(entries)], [Model()]
         for line in journal:
             models.append(copy.deepcopy(models[-1]))
@@ -181,14 +211,15 @@ class Memory(unittest.TestCase):
         for seat, (asked, told) in enumerate(zip(files, replies), 1):
             seen = 0
             for line, reply in zip(asked, told):
-                place, is_own = json.loads(reply)["place"], '"ok"' in reply
+                place, revision, is_own = json.loads(reply)["place"], json.loads(reply)["revision"], '"ok"' in reply
                 # nothing that was seen is lost, and a seat's own command comes after it
                 self.assertLessEqual(seen + is_own, place, (number, line))
-                seen, model = place, copy.deepcopy(models[place - is_own])
+                self.assertLessEqual(revision, place, (number, line))
+                seen, model = place, copy.deepcopy(models[revision - is_own])
                 if reply == stamped(model.short(), place, seat):
                     short.append((seat, line))
                 else:
-                    self.assertIn(reply, [stamped(it, place, seat) for it in model.answers(line)], (number, line))
+                    self.assertTrue(model.takes(line, unstamped(reply, place, seat)), (number, line, reply))
         told = [reply for told in replies for reply in told]
         whole = [*told, "registry-journal 1", *map(journal_line, journal), f"end {len(journal)}", ""]
         return "\n".join(whole), short
@@ -235,6 +266,13 @@ class Memory(unittest.TestCase):
         # which seat makes a request varies, so each run is judged by the journal that it printed
         _, short = self.refuse_each_of_a_race(*RIVALS)
         self.assertEqual({seat for seat, _ in short}, {1, 2})
+
+
+def unstamped(reply, place, seat):
+    """The reply of a seat of a race as a session gives it; unchanged where it is not written as it has to be."""
+    members = {name: value for name, value in json.loads(reply).items() if name not in ("place", "seat")}
+    bare = json.dumps(members, separators=(",", ":"), ensure_ascii=False)
+    return bare if stamped(bare, place, seat) == reply else reply
 
 
 def stamped(reply, place, seat):

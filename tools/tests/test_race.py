@@ -96,12 +96,13 @@ class Race(unittest.TestCase):
         self.assertEqual(journal[1:], [journal_line(lines[1]), journal_line(lines[4]), "end 2"])
 
     def test_a_budget_of_conflicts(self):
-        # foo 2.0.0 is ruled out by one conflict
-        lines = [publish("foo", "2.0.0", ["bar ^1.0.0"]), publish("bar", "1.0.0", ["foo ^1.0.0"]), publish("foo", "1.0.0"),
-                 *(resolve("foo >=1.0.0", budget=budget) for budget in (None, 0, 1, 4_294_967_295))]
-        replies, _ = self.printed(lines)
+        # foo 2.0.0 is ruled out by one conflict, each time in a race of its own
+        lines = [publish("foo", "2.0.0", ["bar ^1.0.0"]), publish("bar", "1.0.0", ["foo ^1.0.0"]), publish("foo", "1.0.0")]
         found = '{"place":3,"revision":3,"seat":1,"selected":[["foo","1.0.0"]]}'
-        self.assertEqual(replies[0][3:], [found, '{"error":22,"name":"BudgetSpent","place":3,"revision":3,"seat":1}', found, found])
+        spent = '{"error":22,"name":"BudgetSpent","place":3,"revision":3,"seat":1}'
+        for budget, reply in ((None, found), (0, spent), (1, found), (4_294_967_295, found)):
+            replies, _ = self.printed([*lines, resolve("foo >=1.0.0", budget=budget)])
+            self.assertEqual(replies[0][3:], [reply])
 
     def test_a_seat_that_is_told_nothing_sees_what_others_enter(self):
         # a file that only asks finds both publications in the end, by each way to ask; which line does is left open

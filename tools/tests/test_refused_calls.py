@@ -46,6 +46,11 @@ class Answers:
         self.answers, self.is_whole, self.requests, self.came = answers, is_whole, requests, came
 
 
+def without_offers(answer):
+    """The answer to a request where there is no memory for what is offered to be learnt, which is then left out."""
+    return {**answer, "offered": []} if isinstance(answer, dict) and "offered" in answer else answer
+
+
 def tables_of(file):
     with open(os.path.join(ROWS, file), encoding="utf-8") as text:
         return tables_in(text.read(), os.path.join("rows", "refused", file))
@@ -86,7 +91,9 @@ class RefusedCalls(unittest.TestCase):
         if told.answers[at] == SHORT:
             self.assertEqual(told.answers[at + 1:], before[at:], f"{table.title}: refused request {number}, it left something")
             return 1
-        self.assertEqual(told.answers[at:], ample[at:], f"{table.title}: request {number} was refused, its answer changed")
+        self.assertIn(told.answers[at], (ample[at], without_offers(ample[at])),
+                      f"{table.title}: request {number} was refused, its answer changed")
+        self.assertEqual(told.answers[at + 1:], ample[at + 1:], f"{table.title}: request {number} was refused, it did otherwise")
         return 0
 
     def test_each_public_call_has_a_table(self):

@@ -9,6 +9,7 @@ import generated_rows
 # these add their tables to those of `generated_rows`
 import generated_rows_registry  # noqa: F401
 import generated_rows_search  # noqa: F401
+import generated_rows_store  # noqa: F401
 import generated_rows_texts  # noqa: F401
 import row_tables
 from row_tables import BadRows, tables_in

@@ -62,17 +62,19 @@ class Selections(unittest.TestCase):
         # both answers are common, so that both were tried
         self.assertGreater(min(met, refused), 300)
 
-    def least_budgets(self, made, asked, most):
-        """The least budget that answers each request. Below it the answer is 22, from it on the same as without one."""
-        budgets = [{}, *({"budget": budget} for budget in range(most))]
-        lines = [json.dumps({**request, **budget}) for request in asked for budget in budgets]
-        replies = [json.loads(text) for text in serve([*map(json.dumps, made), *lines])[len(made):]]
-        least = []
-        for at, request in enumerate(asked):
-            whole, *under = replies[at * len(budgets):(at + 1) * len(budgets)]
-            least.append(sum(reply.get("error") == 22 for reply in under))
-            self.assertTrue(all(reply.get("error") == 22 for reply in under[:least[-1]]), f"{request} answered {under}")
-            self.assertEqual(under[least[-1]:], [whole] * (most - least[-1]), request)
+    def answers(self, made, asked):
+        """The replies to these requests after these commands."""
+        return [json.loads(text) for text in serve([json.dumps(it) for it in [*made, *asked]])[len(made):]]
+
+    def least_budget(self, made, request, most, before=()):
+        """The least budget that answers a request, behind those before it. Below it the answer is 22, which leaves nothing
+        behind, so at it the answer is the same as without a budget."""
+        under = self.answers(made, [*before, *({**request, "budget": budget} for budget in range(most))])[len(before):]
+        whole = self.answers(made, [*before, request])[-1]
+        least = sum(reply.get("error") == 22 for reply in under)
+        self.assertTrue(all(reply.get("error") == 22 for reply in under[:least]), f"{request} answered {under}")
+        self.assertEqual(under[least:least + 1], [whole][:most - least], request)
+        self.assertTrue(all(("selected" in reply) == ("selected" in whole) for reply in under[least:]), request)
         return least
 
     def test_random_requests_have_a_least_budget(self):
@@ -80,12 +82,13 @@ class Selections(unittest.TestCase):
         for seed in range(200, 260):
             rng = random.Random(seed)
             made = commands(rng)
-            least += self.least_budgets(made, [resolving(rng) for _ in range(20)], 8)
-        self.assertGreater(least.count(0), 200)
-        self.assertGreater(sum(conflicts > 1 for conflicts in least), 20)
+            least += [self.least_budget(made, resolving(rng), 8) for _ in range(8)]
+        self.assertGreater(least.count(0), 80)
+        self.assertGreater(sum(conflicts > 1 for conflicts in least), 8)
 
     def test_a_request_of_many_conflicts_has_a_least_budget(self):
-        """No version of one package goes with one of another, which each pair shows by itself."""
+        """No version of one package goes with one of another, which each pair shows by itself. What that led to spares the
+        second request most of it."""
         def publish(name, version, *needs):
             return {"op": "publish", "name": name, "version": version, "needs": [need.split(" ") for need in needs]}
 
@@ -93,9 +96,11 @@ class Selections(unittest.TestCase):
         for row in range(8):
             made += [publish("k", f"1.{row}.0"), publish("l", f"1.{row}.0", f"x ~1.{row}.0", f"k ~1.{row}.0"),
                      publish("r", f"1.{row}.0", f"x ~1.{row + 1}.0", f"k ~1.{row}.0")]
-        (least,) = self.least_budgets(made, [{"op": "resolve", "needs": [["l", "*"], ["r", "*"]]}], 60)
+        request = {"op": "resolve", "needs": [["l", "*"], ["r", "*"]]}
+        least = self.least_budget(made, request, 60)
         self.assertGreater(least, 6)
         self.assertLess(least, 60)
+        self.assertLess(self.least_budget(made, request, 60, [request]), least / 2)
 
 
 if __name__ == "__main__":

@@ -3,7 +3,6 @@ pub mod JournalLemmas
 pub mod RefusalLemmas
 pub mod CallLemmas
 pub mod MarkLemmas
-pub mod RevisionLemmas
 pub mod AnswerLemmas
 pub mod ScheduleLemmas
 pub mod WorkedRows

@@ -1,7 +1,6 @@
 -- The definitions that contracts cite.
 pub mod Cells
 pub mod Journals
-pub mod Replicas
 pub mod Answers
 pub mod Seats
 pub mod Notes

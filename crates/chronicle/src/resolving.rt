@@ -1,7 +1,8 @@
 //! What a seat answers to requests.
-ghost use Rattle.std.specs.Prelude.{◌≡◌, ◌⊎◌, None, Some, IfErr, IfOk};
+ghost use Rattle.std.specs.Prelude.{◌≡◌, ◌⊎◌, All, None, Some, IfErr, IfOk};
 ghost use Rattle.registry.specs.Preference.{IsPreferredSelection};
 ghost use Rattle.registry.specs.Selections.{Choices, Meets};
+ghost use Rattle.derivations.specs.Learning.{AllStand};
 ghost use Rattle.solver.specs.Outcomes as outcomes;
 ghost use Rattle.chronicle.specs.Answers.{MayStop, NonePreferred, OnlyWhereNone, Resolves};
 ghost use Rattle.chronicle.specs.Journals.{packages_of};
@@ -62,26 +63,27 @@ fn answer_here(
     ensures only { IfErr result (MayStop (packages_of seat.now.journal) request.now budget) }
 {
     let stamp = seat.stamp();
-    let outcome = answer_of(seat.alloc(), seat.registry(), request, budget)?;
+    let outcome = answer_of(seat.alloc(), seat.registry(), seat.store(), request, budget)?;
     Ok((stamp, outcome))
 }
 
-/// What the solver answers to a request, under its budget where it has one. Nothing is taken from a
-/// store yet.
+/// What the solver answers to a request, under its budget where it has one, with the help of what is
+/// stored.
 fn answer_of(
     alloc: Global,
     registry: &Registry,
+    store: &Store,
     request: &Request,
     budget: Option<u32>,
 ) -> Result<Outcome, Refusal>
+    requires { All (AllStand registry.now.packages) store.now.members }
     ensures lawful { IfOk result (outcomes.IsLawful registry.now.packages request.now) }
     ensures preferred { (s : Choices) → IsPreferredSelection registry.now.packages request.now s → Meets registry.now.packages request.now s
         → IfOk result (outcomes.Answers registry.now.packages s) }
     ensures only { IfErr result (MayStop registry.now.packages request.now budget) }
 {
-    let store = Store::new(alloc);
     match budget {
-        Some(budget) => Ok(solve_within(alloc, registry, request, &store, budget)?),
-        None => Ok(solve(alloc, registry, request, &store)?),
+        Some(budget) => Ok(solve_within(alloc, registry, request, store, budget)?),
+        None => Ok(solve(alloc, registry, request, store)?),
     }
 }

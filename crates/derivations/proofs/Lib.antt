@@ -12,3 +12,11 @@ pub mod Sound
 pub mod Ends
 pub mod Offered
 pub mod Clearing
+pub mod Tested
+pub mod Grown
+pub mod Storing
+pub mod Concluding
+pub mod Resting
+pub mod Chained
+pub mod Thinning
+pub mod Finding

@@ -8,3 +8,7 @@ pub mod Taking
 pub mod Offering
 pub mod Laws
 pub mod Stored
+pub mod Keys
+pub mod Shelves
+pub mod Indexes
+pub mod Slots

@@ -1,6 +1,7 @@
 // Laws: why derivations and what is learnt can be trusted.
 
 ghost use Rattle.derivations.specs.Laws.{DerivationsRefute, DerivedPremisesStand, EmptyIsNoFact, LearntHolds, PremisesHold, ResolventsHold};
+ghost use Rattle.derivations.specs.Shelves.{CommandsKeep, LearningKeeps, StoredHold, StoredStand};
 
 /// What a premise that stands says holds of the registry. It does nothing when it runs.
 pub fn premises_hold()
@@ -33,4 +34,27 @@ pub fn derived_premises_stand()
 /// for what it rests on. It does nothing when it runs.
 pub fn empty_is_no_fact()
     ensures { EmptyIsNoFact }
+{}
+
+/// What stands before an accepted command, and is still stored after it, stands after it; after a yank
+/// or its undoing that is all. It does nothing when it runs.
+pub fn commands_keep()
+    ensures { CommandsKeep }
+{}
+
+/// What is learnt stands, as what was stored before. It does nothing when it runs.
+pub fn learning_keeps()
+    ensures { LearningKeeps }
+{}
+
+/// After every list of commands and things to be learnt, some of them refused, every stored
+/// incompatibility stands in the registry. It does nothing when it runs.
+pub fn stored_stand()
+    ensures { StoredStand }
+{}
+
+/// And at every place of such a list it holds of the registry there, where what was to be learnt was
+/// learnt by [`Learnt::new`](crate::Learnt::new). It does nothing when it runs.
+pub fn stored_hold()
+    ensures { StoredHold }
 {}

@@ -9,10 +9,14 @@ mod cutting;
 mod derivation;
 mod facts;
 mod following;
+mod index;
+mod keys;
 mod laws;
 mod learnt;
 mod line;
+mod members;
 mod offering;
+mod slots;
 mod standing;
 mod store;
 mod taking;
@@ -21,11 +25,13 @@ pub use causes::need_incompat;
 pub use cutting::{Known, Reason, cut, lines_of};
 pub use derivation::{Derivation, check};
 pub use facts::{Cause, Premise};
+pub use index::{Index, Link};
 pub use laws::{
-    derivations_refute, derived_premises_stand, empty_is_no_fact, learnt_holds, premises_hold,
-    resolvents_hold,
+    commands_keep, derivations_refute, derived_premises_stand, empty_is_no_fact, learning_keeps,
+    learnt_holds, premises_hold, resolvents_hold, stored_hold, stored_stand,
 };
 pub use learnt::{LINE_LIMIT, Learnt};
 pub use line::Line;
+pub use members::Members;
 pub use offering::offers;
-pub use store::Store;
+pub use store::{STORE_LIMIT, Store};

@@ -30,7 +30,7 @@ fn has_need(registry: &Registry, needs: &[(Name, Need)], target: Pkg, need: &Nee
 }
 
 /// How many versions of a package are published.
-fn version_count(registry: &Registry, pkg: Pkg) -> u32
+pub fn version_count(registry: &Registry, pkg: Pkg) -> u32
     ensures { result ≡ length (versions_or_none (package_at registry.now.packages pkg)) }
 {
     // That a registry has few versions a package is told with the count of its packages.

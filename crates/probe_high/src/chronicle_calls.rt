@@ -1,11 +1,16 @@
 //! Calls of chronicle: a row with two seats and a mark, and steps over them in one call. The mark is at the row's
 //! beginning until a seat makes one. A step that memory was refused to is made once more: it has left its seat as it was.
+//! After each step everything that either seat has stored has to stand in its registry.
 
 ghost use Rattle.std.specs.Prelude.{◌≡◌, ◌≤◌, IfOk};
 
-use crate::command_texts::{command_at, command_told};
-use crate::texts::{text_of, told};
-use chronicle::{CAPACITY_LIMIT, Call, Entry, Mark, Row, SEAT_LIMIT, Seat, Stamp, agree, seats};
+use crate::command_texts::command_at;
+use crate::item_texts::item_told;
+use crate::learnt_calls::learnt_at;
+use crate::store_calls::{all_stand, count, members_text};
+use crate::texts::{text_of, told, value_of};
+use chronicle::{CAPACITY_LIMIT, Entry, Mark, Row, SEAT_LIMIT, Seat, Stamp, agree, seats};
+use derivations::Learnt;
 use registry::Request;
 use rows::{
     Answer, Unread, items, member, name_at, needs_at, request_at, size_at, version_at, whole,
@@ -109,8 +114,15 @@ fn take_all<'a>(
     for step in steps {
         let answer = take(alloc, items(step)?, first, second, mark)?;
         answers.push(answer)?;
+        if !is_standing(first) || !is_standing(second) {
+            answers.push(json!(in alloc; {"stand": false})?)?;
+        }
     }
     Ok(())
+}
+
+fn is_standing(seat: &Seat<'_>) -> bool {
+    all_stand(seat.registry(), seat.store())
 }
 
 /// `["agree"]`, or a step of the first or the second seat: `[1,"place"]` or `[2,"publish",{..}]`.
@@ -198,7 +210,9 @@ fn step_alone(
         "yank" => entered_told(alloc, name, given, seat),
         "unyank" => entered_told(alloc, name, given, seat),
         "enter" => entered_told(alloc, name, given, seat),
+        "learn" => entered_told(alloc, name, given, seat),
         "resolve" => resolved_told(alloc, given, seat),
+        "resolve_and_learn" => resolved_and_learnt(alloc, given, seat),
         "catch_up" => caught_up(alloc, seat),
         _ => about(alloc, name, seat),
     }
@@ -213,6 +227,7 @@ fn about(alloc: Global, name: &str, seat: &Seat<'_>) -> Result<Value, Unread> {
         "number" => Ok(Value::from(seat.number())),
         "registry" => Ok(Value::from(seat.registry().revision())),
         "journal" => journal(alloc, seat.journal()),
+        "stored" => stored(alloc, seat),
         _ => Err(Unread::Row),
     }
 }
@@ -225,19 +240,17 @@ fn journal(alloc: Global, entries: &[&Entry]) -> Result<Value, Unread> {
     Ok(Value::from(all))
 }
 
-/// The number of the seat that made it, its serial, and its command.
+/// What is stored, in order of learning.
+fn stored(alloc: Global, seat: &Seat<'_>) -> Result<Value, Unread> {
+    value_of(alloc, members_text(alloc, seat.store())?.as_str())
+}
+
+/// The number of the seat that made it, its serial, and its item.
 fn entry_told(alloc: Global, entry: &Entry) -> Result<Value, Unread> {
     let seat = entry.seat;
     let serial = entry.serial;
-    let said = call_told(alloc, &entry.call)?;
+    let said = item_told(alloc, &entry.item)?;
     Ok(json!(in alloc; [seat, serial, said])?)
-}
-
-fn call_told(alloc: Global, call: &Call) -> Result<Value, Unread> {
-    match call {
-        Call::Command(command) => command_told(alloc, command),
-        Call::Learnt(_) => Ok(Value::Null),
-    }
 }
 
 // ---- marks
@@ -341,7 +354,7 @@ fn stamp_told(alloc: Global, stamp: Stamp) -> Result<Value, Unread> {
     Ok(json!(in alloc; [place, revision])?)
 }
 
-/// Enters a command, and once more where memory is refused: then nothing was entered.
+/// Enters an item, and once more where memory is refused: then nothing was entered.
 fn entered_again(
     alloc: Global,
     name: &str,
@@ -363,6 +376,7 @@ fn entered(alloc: Global, name: &str, given: &Value, seat: &mut Seat<'_>) -> Res
         "publish" => published(alloc, given, seat),
         "yank" => yanked(alloc, given, seat),
         "unyank" => unyanked(alloc, given, seat),
+        "learn" => Ok(seat.learn(learnt_at(alloc, given)?)?),
         _ => command_entered(alloc, given, seat),
     }
 }
@@ -409,6 +423,57 @@ fn resolved_told(alloc: Global, given: &Value, seat: &mut Seat<'_>) -> Result<Va
     match resolved_again(seat, &request, budget) {
         Ok((stamp, outcome)) => outcome_told(alloc, stamp, &outcome),
         Err(why) => refusal_told(alloc, why),
+    }
+}
+
+/// Resolves, and then learns at once what is offered, refusals dropped. The answer has also how many are stored then.
+fn resolved_and_learnt(alloc: Global, given: &Value, seat: &mut Seat<'_>) -> Result<Value, Unread>
+    ensures { seat.new.row ≡ seat.old.row }
+{
+    let request = request_at(alloc, given)?;
+    let budget = budget_at(given)?;
+    match resolved_again(seat, &request, budget) {
+        Ok((stamp, outcome)) => learnt_told(alloc, stamp, outcome, seat),
+        Err(why) => refusal_told(alloc, why),
+    }
+}
+
+fn learnt_told(
+    alloc: Global,
+    stamp: Stamp,
+    outcome: Outcome,
+    seat: &mut Seat<'_>,
+) -> Result<Value, Unread>
+    ensures { seat.new.row ≡ seat.old.row }
+{
+    let answer = outcome_told(alloc, stamp, &outcome)?;
+    learn_all(offered_by(outcome), seat)?;
+    let stored = count(seat.store());
+    Ok(json!(in alloc; [answer, stored])?)
+}
+
+fn offered_by(outcome: Outcome) -> Vec<Learnt> {
+    match outcome {
+        Outcome::Selection(_, offered) => offered,
+        Outcome::Refused(_, offered) => offered,
+    }
+}
+
+fn learn_all(offered: Vec<Learnt>, seat: &mut Seat<'_>) -> Result<(), Unread>
+    ensures { seat.new.row ≡ seat.old.row }
+{
+    for learnt in offered {
+        learn_one(learnt, seat)?;
+    }
+    Ok(())
+}
+
+fn learn_one(learnt: Learnt, seat: &mut Seat<'_>) -> Result<(), Unread>
+    ensures { seat.new.row ≡ seat.old.row }
+{
+    match seat.learn(learnt) {
+        Err(Refusal::NoMemory) => Err(Unread::Refused(Refusal::NoMemory)),
+        _ => Ok(()),
     }
 }
 

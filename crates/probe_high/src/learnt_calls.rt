@@ -25,7 +25,7 @@ pub fn learnt_call(
 }
 
 /// What is learnt of the lines of a row.
-fn learnt_at(alloc: Global, row: &Value) -> Result<Learnt, Unread> {
+pub fn learnt_at(alloc: Global, row: &Value) -> Result<Learnt, Unread> {
     Ok(Learnt::new(alloc, lines_at(alloc, row)?)?)
 }
 

@@ -1,5 +1,6 @@
 //! What rows change.
 
+use crate::book_calls::book_call;
 use crate::chronicle_calls::chronicle_call;
 use crate::derivation_calls::derivation_call;
 use crate::explain_calls::explain_call;
@@ -7,23 +8,30 @@ use crate::learnt_calls::learnt_call;
 use crate::lines_calls::lines_call;
 use crate::search_calls::search_call;
 use crate::solver_calls::solver_call;
+use crate::store_calls::follow_call;
 use crate::walk_calls::walk_call;
 use crate::wire_calls::wire_call;
+use book::Replica;
+use derivations::Store;
 use registry::Registry;
 use rows::{Answer, Calls, Unread, command_call};
 use serde_json::Value;
 use std::alloc::Global;
 
-/// One registry, until a row asks for a new one.
+/// A registry, a store beside it, and a book that has both of its own, until a row asks for new ones.
 #[derive(Drop)]
 pub struct Session {
     registry: Registry,
+    store: Store,
+    replica: Replica,
 }
 
 impl Session {
     pub fn new(alloc: Global) -> Session {
         Session {
             registry: Registry::new(alloc),
+            store: Store::new(alloc),
+            replica: Replica::new(alloc),
         }
     }
 }
@@ -33,6 +41,8 @@ impl Calls for Session {
         match of {
             "session" => anew(alloc, self),
             "registry" => command_call(alloc, &mut self.registry, name, row),
+            "book" => book_call(alloc, &mut self.replica, name, row),
+            "store" => follow_call(alloc, &mut self.registry, &mut self.store, name, row),
             _ => call_for(alloc, &self.registry, of, name, row),
         }
     }

@@ -52,6 +52,15 @@ pub fn text_told(alloc: Global, bytes: &[u8]) -> Result<Value, Unread> {
     }
 }
 
+/// The JSON that a text is.
+pub fn value_of(alloc: Global, text: &str) -> Result<Value, Unread> {
+    match Value::from_str(alloc, text) {
+        Ok(value) => Ok(value),
+        Err(fault) if fault.is_memory() => Err(Unread::Refused(Refusal::NoMemory)),
+        Err(_) => Err(Unread::Row),
+    }
+}
+
 /// The answer that this JSON is.
 pub fn told(alloc: Global, value: &Value) -> Result<Answer, Unread> {
     Ok(Answer::Text(value.to_string(alloc)?))

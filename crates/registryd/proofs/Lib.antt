@@ -4,8 +4,8 @@ pub mod KeptLemmas
 pub mod OutcomeLemmas
 pub mod RaceLemmas
 pub mod RacingLemmas
-pub mod ReplayLemmas
 pub mod ServeLemmas
+pub mod ServedLemmas
 pub mod SessionLemmas
 pub mod SessionRows
 pub mod WordLemmas

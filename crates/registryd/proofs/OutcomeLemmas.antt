@@ -1,7 +1,8 @@
 -- What may be told of a registry.
-use Rattle.std.proofs.Common.{◌≡◌, ℕ, Bool, true, false, List, Option, None, Some, inl, inr, refl, ap}
+use Rattle.std.proofs.Common.{◌≡◌, ◌⊎◌, ℕ, Bool, true, false, List, Option, None, Some, inl, inr, refl, ap}
 use Rattle.versions.specs.Words.{Text}
 use Rattle.versions.specs.declared.refusal.Refusal.{Refusal}
+use Rattle.versions.specs.declared.refusal.Refusal.TheVariants.{NoMemory}
 use Rattle.registry.specs.Preference.{IsPreferredSelection}
 use Rattle.registry.specs.Registry.{Packages}
 use Rattle.registry.specs.Requests.{Wanted}
@@ -15,7 +16,7 @@ use Rattle.chronicle.specs.Answers.{MayStop}
 use Rattle.wire.specs.Named.{IsNumbered}
 use Rattle.wire.specs.Replies.{Body, explained, no_selection, refused, selected}
 use Rattle.wire.specs.declared.by_name.NamedLine.{NamedLine}
-use Rattle.registryd.specs.Outcomes.{IsAnswer, IsRefuted, MayTell, TellsFound, TellsNone, TellsOutcome}
+use Rattle.registryd.specs.Outcomes.{IsAnswer, IsRefuted, TellsFound, TellsNone, TellsSpent}
 
 -- ---- what is found
 
@@ -46,17 +47,11 @@ told_explained packages wanted lines named texts derivation same told = record {
   told = ap (λ (l : List Text). explained named l) told;
 }
 
--- ---- what is told of it
+-- ---- what is told where nothing is
 
--- what was found
-pub found_told : (packages : Packages) (wanted : Wanted) (explain : Bool) (budget : Option ℕ) (body : Body) → MayTell (TellsFound packages wanted explain) body
-    → MayTell (TellsOutcome packages wanted explain budget) body
-found_told packages wanted explain budget body (inl memory) = inl memory
-found_told packages wanted explain budget body (inr found) = inr (inl found)
-
--- what may be told where there is no answer
-pub stopped_told : (packages : Packages) (wanted : Wanted) (explain : Bool) (budget : Option ℕ) (e : Refusal) → MayStop packages wanted budget e
-    → MayTell (TellsOutcome packages wanted explain budget) (refused e)
-stopped_told packages wanted explain None e memory = inl (ap (λ (r : Refusal). refused r) memory)
-stopped_told packages wanted explain (Some budget) e (inl memory) = inl (ap (λ (r : Refusal). refused r) memory)
-stopped_told packages wanted explain (Some budget) e (inr (spent, none)) = inr (inr (none, ap (λ (r : Refusal). refused r) spent))
+-- why there is no answer is want of memory, or may be told
+pub stopped_told : (packages : Packages) (wanted : Wanted) (budget : Option ℕ) (e : Refusal) → MayStop packages wanted budget e
+    → (e ≡ NoMemory) ⊎ TellsSpent packages wanted budget (refused e)
+stopped_told packages wanted None e memory = inl memory
+stopped_told packages wanted (Some budget) e (inl memory) = inl memory
+stopped_told packages wanted (Some budget) e (inr (spent, none)) = inr (none, ap (λ (r : Refusal). refused r) spent)

@@ -10,11 +10,11 @@ use Rattle.lines.specs.Texts.{IsBeginning}
 use Rattle.lines.specs.Unread.{Unread, StandsFor, BeginsWith}
 use Rattle.lines.proofs.LineLemmas.{with_feeds, with_feeds-more, lines_of-with_feeds, whole_lines_of-with_feeds, no_feeds-more, whole_lines_of-rest, StandsFor-more}
 use Rattle.wire.specs.Replies.{Reply, reply_text, replies_text}
-use Rattle.registry.specs.Step.{Change}
+use Rattle.book.specs.declared.item.Item.{Item}
 use Rattle.registryd.specs.Session.{IsLawful, Session, Serves, Breaks}
 
 -- Whole lines of what was read were answered, and the rest is held; the replies are written or wait.
-pub record Progress (r0 r w0 w : Option (List ℕ)) (old new : List Change) (held : Unread) (waiting : List ℕ) : Type 0 where
+pub record Progress (r0 r w0 w : Option (List ℕ)) (old new : List Item) (held : Unread) (waiting : List ℕ) : Type 0 where
   pub input : List ℕ
   pub lines : List (List ℕ)
   pub rest : List ℕ
@@ -28,7 +28,7 @@ pub record Progress (r0 r w0 w : Option (List ℕ)) (old new : List Change) (hel
   pub written : Appends w0 w text
   pub said : text ++ waiting ≡ replies_text replies
 
-pub Session-append : (lines more : List (List ℕ)) (replies after : List Reply) (old mid new : List Change) → Session old lines replies mid → Session mid more after new
+pub Session-append : (lines more : List (List ℕ)) (replies after : List Reply) (old mid new : List Item) → Session old lines replies mid → Session mid more after new
     → Session old (lines ++ more) (replies ++ after) new
 Session-append [] more [] after old mid new first then = subst (λ n. Session n more after new) first then
 Session-append [] more (reply ∷ replies) after old mid new first then = absurd first
@@ -39,7 +39,7 @@ replies_text-more : (replies : List Reply) (reply : Reply) → replies_text (rep
 replies_text-more replies reply = flat_map-append reply_text replies (reply ∷ []) ∙ ap (λ l. replies_text replies ++ l) (append-nil (reply_text reply))
 
 -- before the first line
-pub starts : (r w : Option (List ℕ)) (old : List Change) (held : Unread) (waiting : List ℕ) → StandsFor held [] → waiting ≡ [] → Progress r r w w old old held waiting
+pub starts : (r w : Option (List ℕ)) (old : List Item) (held : Unread) (waiting : List ℕ) → StandsFor held [] → waiting ≡ [] → Progress r r w w old old held waiting
 starts r w old held waiting stands none = record {
   input = [];
   lines = [];
@@ -56,7 +56,7 @@ starts r w old held waiting stands none = record {
 }
 
 -- a line was found and its reply put
-pub answers : (r0 r w0 w w' : Option (List ℕ)) (old mid new : List Change) (held held' : Unread) (waiting waiting' line : List ℕ) (reply : Reply) (written : List ℕ)
+pub answers : (r0 r w0 w w' : Option (List ℕ)) (old mid new : List Item) (held held' : Unread) (waiting waiting' line : List ℕ) (reply : Reply) (written : List ℕ)
     → (p : Progress r0 r w0 w old mid held waiting) → BeginsWith p.rest line held' → IsLawful mid line reply new → Appends w w' written
     → written ++ waiting' ≡ waiting ++ reply_text reply → Progress r0 r w0 w' old new held' waiting'
 answers r0 r w0 w w' old mid new held held' waiting waiting' line reply written p begins lawful appends all = record {
@@ -76,7 +76,7 @@ answers r0 r w0 w w' old mid new held held' waiting waiting' line reply written 
 }
 
 -- a line was found and the write of its reply failed
-pub answer_fails : (r0 r w0 w w' : Option (List ℕ)) (old mid new : List Change) (held held' : Unread) (waiting line : List ℕ) (reply : Reply) (written : List ℕ)
+pub answer_fails : (r0 r w0 w w' : Option (List ℕ)) (old mid new : List Item) (held held' : Unread) (waiting line : List ℕ) (reply : Reply) (written : List ℕ)
     → (p : Progress r0 r w0 w old mid held waiting) → BeginsWith p.rest line held' → IsLawful mid line reply new → Appends w w' written
     → IsBeginning written (waiting ++ reply_text reply) → Breaks r0 r w0 w' old
 answer_fails r0 r w0 w w' old mid new held held' waiting line reply written p begins lawful appends (more, is) = record {
@@ -109,7 +109,7 @@ answer_fails r0 r w0 w w' old mid new held held' waiting line reply written p be
         ∙ take_at (p.lines ++ line ∷ []) (lines_of begins.rest) _ refl
 
 -- what waited was sent
-pub sends : (r0 r w0 w w' : Option (List ℕ)) (old new : List Change) (held held' : Unread) (waiting waiting' : List ℕ) (written : List ℕ)
+pub sends : (r0 r w0 w w' : Option (List ℕ)) (old new : List Item) (held held' : Unread) (waiting waiting' : List ℕ) (written : List ℕ)
     → (p : Progress r0 r w0 w old new held waiting) → HasNoFeed p.rest → StandsFor held' p.rest → Appends w w' written → written ≡ waiting → waiting' ≡ []
     → (q : Progress r0 r w0 w' old new held' waiting') × HasNoFeed q.rest
 sends r0 r w0 w w' old new held held' waiting waiting' written p no_feed stands appends all none = (
@@ -131,7 +131,7 @@ sends r0 r w0 w w' old new held held' waiting waiting' written p no_feed stands 
 )
 
 -- the write of what waited failed
-pub send_fails : (r0 r w0 w w' : Option (List ℕ)) (old new : List Change) (held : Unread) (waiting written : List ℕ)
+pub send_fails : (r0 r w0 w w' : Option (List ℕ)) (old new : List Item) (held : Unread) (waiting written : List ℕ)
     → (p : Progress r0 r w0 w old new held waiting) → Appends w w' written → IsBeginning written waiting → Breaks r0 r w0 w' old
 send_fails r0 r w0 w w' old new held waiting written p appends (more, is) = record {
   input = p.input;
@@ -154,7 +154,7 @@ send_fails r0 r w0 w w' old new held waiting written p appends (more, is) = reco
         ∙ take_at p.lines (lines_of p.rest) _ refl
 
 -- more was read
-pub reads : (r0 r r' w0 w : Option (List ℕ)) (old new : List Change) (held held' : Unread) (waiting piece : List ℕ)
+pub reads : (r0 r r' w0 w : Option (List ℕ)) (old new : List Item) (held held' : Unread) (waiting piece : List ℕ)
     → Progress r0 r w0 w old new held waiting → Consumes r r' piece → held'.bytes ≡ held.bytes ++ piece → held'.is_long ≡ held.is_long
     → Progress r0 r' w0 w old new held' waiting
 reads r0 r r' w0 w old new held held' waiting piece p consumes bytes same = record {
@@ -173,7 +173,7 @@ reads r0 r r' w0 w old new held held' waiting piece p consumes bytes same = reco
 }
 
 -- a read gave nothing
-pub reads_none : (r0 r r' w0 w : Option (List ℕ)) (old new : List Change) (held held' : Unread) (waiting piece : List ℕ)
+pub reads_none : (r0 r r' w0 w : Option (List ℕ)) (old new : List Item) (held held' : Unread) (waiting piece : List ℕ)
     → (p : Progress r0 r w0 w old new held waiting) → HasNoFeed p.rest → Consumes r r' piece → held'.bytes ≡ held.bytes ++ piece → held'.is_long ≡ held.is_long
     → piece ≡ [] → (q : Progress r0 r' w0 w old new held' waiting) × HasNoFeed q.rest
 unfolding reads
@@ -183,7 +183,7 @@ reads_none r0 r r' w0 w old new held held' waiting piece p no_feed consumes byte
 )
 
 -- a read failed when no whole line was left, and all replies were sent
-pub read_fails : (r0 r r' w0 w : Option (List ℕ)) (old new : List Change) (held : Unread) (waiting : List ℕ)
+pub read_fails : (r0 r r' w0 w : Option (List ℕ)) (old new : List Item) (held : Unread) (waiting : List ℕ)
     → (p : Progress r0 r w0 w old new held waiting) → HasNoFeed p.rest → waiting ≡ [] → Keeps r r' → Serves r0 r' w0 w whole_lines_of old new
 read_fails r0 r r' w0 w old new held waiting p no_feed none kept = record {
   input = p.input;
@@ -198,7 +198,7 @@ read_fails r0 r r' w0 w old new held waiting p no_feed none kept = record {
         ∙ ap (λ ls. p.lines ++ ls) (whole_lines_of-rest p.rest no_feed) ∙ append-nil p.lines
 
 -- the text ended, and the rest of it was answered
-pub ends : (r0 r w0 w w' : Option (List ℕ)) (old mid new : List Change) (held : Unread) (waiting : List ℕ) (after : List Reply) (written : List ℕ)
+pub ends : (r0 r w0 w w' : Option (List ℕ)) (old mid new : List Item) (held : Unread) (waiting : List ℕ) (after : List Reply) (written : List ℕ)
     → (p : Progress r0 r w0 w old mid held waiting) → waiting ≡ [] → Session mid (lines_of p.rest) after new → Appends w w' written → written ≡ replies_text after
     → Serves r0 r w0 w' lines_of old new
 ends r0 r w0 w w' old mid new held waiting after written p none session appends is = record {
@@ -217,7 +217,7 @@ ends r0 r w0 w w' old mid new held waiting after written p none session appends 
         ∙ sym (flat_map-append reply_text p.replies after)
 
 -- the text ended, and the write of the last reply failed
-pub end_fails : (r0 r w0 w w' : Option (List ℕ)) (old mid new : List Change) (held : Unread) (waiting : List ℕ) (after : List Reply) (written : List ℕ)
+pub end_fails : (r0 r w0 w w' : Option (List ℕ)) (old mid new : List Item) (held : Unread) (waiting : List ℕ) (after : List Reply) (written : List ℕ)
     → (p : Progress r0 r w0 w old mid held waiting) → IsAtEnd r → waiting ≡ [] → Session mid (lines_of p.rest) after new → Appends w w' written → IsBeginning written (replies_text after)
     → Breaks r0 r w0 w' old
 end_fails r0 r w0 w w' old mid new held waiting after written p at_end none session appends (more, is) = record {

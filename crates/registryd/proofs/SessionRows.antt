@@ -11,7 +11,11 @@ use Rattle.registry.specs.Registry.{Packages, needs_of, number_of, package_at, p
 use Rattle.registry.specs.Requests.{Wanted, is_allowed}
 use Rattle.registry.specs.Selections.{Choices, IsMet, IsReached, Meets, needed}
 use Rattle.registry.specs.Preference.{IsPreferredSelection, preferred}
-use Rattle.registry.specs.Step.{Change, Publish, after, refusal_of}
+use Rattle.registry.specs.Step as registry
+use Rattle.registry.specs.declared.commands.Command.TheVariants as command
+use Rattle.book.specs.Items.{after, empty, packages_of, refusal, revision_of, stepped}
+use Rattle.book.specs.declared.item.Item.{Item}
+use Rattle.book.specs.declared.item.Item.TheVariants as item
 use Rattle.registry.proofs.NeedLemmas.{each-need}
 use Rattle.registry.proofs.SelectionLaws.{holds-reached, preferred-once}
 use Rattle.terms.specs.Incompats.{joined, true_at}
@@ -30,13 +34,12 @@ use Rattle.wire.specs.declared.by_name.NamedCause.TheVariants as named
 use Rattle.wire.specs.declared.by_name.NamedLine.{NamedLine}
 use Rattle.chronicle.specs.Answers.{NonePreferred}
 use Rattle.registryd.specs.Outcomes.{IsAnswer, IsRefuted, Proves, TellsNone, TellsSpent, TellsVerdict}
-use Rattle.registryd.specs.Replay.{at}
-use Rattle.registryd.specs.Session.{Answers}
+use Rattle.registryd.specs.Session.{Answers, reply_after}
 
 -- ---- `a` 1.0.0 is published, and `a` with `^1` is asked for
 
-unfoldable one : List Change
-one = Publish (codes "a") (codes "1.0.0") [] ∷ []
+unfoldable one : List Item
+one = item.Command (command.Publish (codes "a") (codes "1.0.0") []) ∷ []
 
 unfoldable a_alone : Packages
 a_alone = (record { name = codes "a"; versions = (record { version = codes "1.0.0"; needs = []; yanked = false }) ∷ [] }) ∷ []
@@ -47,9 +50,17 @@ needs_a = record { needs = (codes "a", codes "^1") ∷ []; lock = [] }
 abbrev a_selected : List (Text × Text)
 a_selected = (codes "a", codes "1.0.0") ∷ []
 
-at-one : at one ≡ a_alone
-unfolding semver_on_literals one a_alone at refusal_of after same_precedence precedence parts_of_text
+at-one : packages_of one ≡ a_alone
+unfolding semver_on_literals one a_alone refusal empty stepped after registry.refusal_of registry.after same_precedence precedence parts_of_text
 at-one = refl
+
+revision-one : 1 ≡ revision_of one
+unfolding semver_on_literals one refusal empty stepped after registry.refusal_of registry.after same_precedence precedence parts_of_text
+revision-one = refl
+
+-- a reply at its revision
+after-one : (body : Body) → record { revision = 1; stamp = None; body = body } ≡ reply_after one body
+after-one body = ap (λ (n : ℕ). record { revision = n; stamp = None; body = body }) revision-one
 
 -- its one version
 abbrev first : Choices
@@ -134,24 +145,23 @@ a-tells = record {
 
 -- the reply that lists `a` 1.0.0 is lawful, under every budget and without one, whether an explanation is asked or not
 listed-a : (explain : Bool) (budget : Option ℕ) → Answers one (resolve needs_a explain budget) (record { revision = 1; stamp = None; body = selected a_selected }) one
-unfolding one
 listed-a explain budget =
     let answer : IsAnswer a_alone needs_a a_selected = record {
       lawful = record { selection = first; meets = first-meets; tells = a-tells };
       preferred = λ s is meets. subst (λ (x : Choices). Tells a_alone x a_selected) (λ i p. preferred-once a_alone needs_a first s first-preferred is p i) a-tells;
     } in
-    ((selected a_selected, inl (inl (a_selected, subst (λ packages. IsAnswer packages needs_a a_selected) (sym at-one) answer, refl)), refl), refl)
+    inl ((selected a_selected, inl (a_selected, subst (λ packages. IsAnswer packages needs_a a_selected) (sym at-one) answer, refl), after-one (selected a_selected)), ([], refl))
 
 -- and no reply that none meets the request is
-refuted-none : IsRefuted (at one) needs_a → ⊥
+refuted-none : IsRefuted (packages_of one) needs_a → ⊥
 refuted-none refuted = refuted.none first (subst (λ packages. Meets packages needs_a first) (sym at-one) first-meets)
 
-told-none : (explain : Bool) (body : Body) → TellsNone (at one) needs_a explain body → ⊥
+told-none : (explain : Bool) (body : Body) → TellsNone (packages_of one) needs_a explain body → ⊥
 told-none false body told = refuted-none told.0
 told-none true body told = refuted-none told.refuted
 
 -- nor one that a budget is spent
-told-spent : (budget : Option ℕ) (body : Body) → TellsSpent (at one) needs_a budget body → ⊥
+told-spent : (budget : Option ℕ) (body : Body) → TellsSpent (packages_of one) needs_a budget body → ⊥
 told-spent None body told = told
 told-spent (Some budget) body told =
     told.0 first (subst (λ packages. IsPreferredSelection packages needs_a first) (sym at-one) first-preferred) (subst (λ packages. Meets packages needs_a first) (sym at-one) first-meets)
@@ -161,9 +171,13 @@ told-spent (Some budget) body told =
 abbrev needs_zed : Wanted
 needs_zed = record { needs = (codes "zed", codes "*") ∷ []; lock = [] }
 
-at-none : at [] ≡ []
-unfolding at
+at-none : packages_of [] ≡ []
+unfolding empty
 at-none = refl
+
+after-none : (body : Body) → record { revision = 0; stamp = None; body = body } ≡ reply_after [] body
+unfolding empty
+after-none body = refl
 
 zed-terms : need_terms [] (codes "zed") (codes "*") ≡ (0, In (0 ∷ [])) ∷ []
 unfolding number_of
@@ -204,15 +218,16 @@ zed-derivation =
 zed-none : NoSelection [] needs_zed
 zed-none = NoSelection-IsDerivation [] needs_zed (end ∷ []) zed-derivation
 
-zed-refuted : IsRefuted (at []) needs_zed
+zed-refuted : IsRefuted (packages_of []) needs_zed
 zed-refuted = subst (λ packages. IsRefuted packages needs_zed) (sym at-none) (record { lines = end ∷ []; derivation = zed-derivation; none = zed-none })
 
 refused-zed : (budget : Option ℕ) → Answers [] (resolve needs_zed false budget) (record { revision = 0; stamp = None; body = no_selection }) []
-refused-zed budget = ((no_selection, inl (inr (zed-refuted, refl)), refl), refl)
+refused-zed budget = inl ((no_selection, inr (zed-refuted, refl), after-none no_selection), ([], refl))
 
 -- under a budget it may be told that this is spent
 spent-zed : Answers [] (resolve needs_zed false (Some 0)) (record { revision = 0; stamp = None; body = refused BudgetSpent }) []
-spent-zed = ((refused BudgetSpent, inr (subst (λ packages. NonePreferred packages needs_zed) (sym at-none) (λ s is meets. zed-none s meets), refl), refl), refl)
+spent-zed =
+    inr ((refused BudgetSpent, (subst (λ packages. NonePreferred packages needs_zed) (sym at-none) (λ s is meets. zed-none s meets), refl), after-none (refused BudgetSpent)), refl)
 
 -- and without one it may not
 unspent-zed : (body : Body) → TellsSpent [] needs_zed None body → ⊥
@@ -223,14 +238,14 @@ unspent-zed body told = told
 zed_named : List NamedLine
 zed_named = record { conclusion = []; causes = (named.Need 0, named.Root); pivot = None } ∷ []
 
-zed-proves : Proves (at []) needs_zed zed_named
+zed-proves : Proves (packages_of []) needs_zed zed_named
 unfolding zed_named end
 zed-proves = (end ∷ [], record { same = refl; lawful = (tt, tt) }, subst (λ packages. IsDerivation packages needs_zed (end ∷ [])) (sym at-none) zed-derivation)
 
 -- it may be told to follow
 follows-zed : Answers [] (check needs_zed zed_named) (record { revision = 0; stamp = None; body = follows true }) []
-follows-zed = ((follows true, (true, (λ _. zed-proves, λ _. refl), refl), refl), refl)
+follows-zed = ((follows true, (true, (λ _. zed-proves, λ _. refl), refl), after-none (follows true)), refl)
 
 -- and may not be told not to
-denied-zed : TellsVerdict (at []) needs_zed zed_named (follows false) → ⊥
+denied-zed : TellsVerdict (packages_of []) needs_zed zed_named (follows false) → ⊥
 denied-zed (holds, exact, told) = let yes_is : holds ≡ true = exact.1 zed-proves in let no_is : follows false ≡ follows holds = told in cc

@@ -1,7 +1,7 @@
 pub mod CommandLine
 pub mod Ending
 pub mod Outcomes
-pub mod Replay
+pub mod Served
 pub mod Session
 pub mod Racing
 pub mod Told

@@ -54,10 +54,6 @@ TellsSpent packages wanted (Some budget) body = NonePreferred packages wanted ×
 abbrev pub TellsFound : Packages → Wanted → Bool → Body → Type 0
 TellsFound packages wanted explain body = TellsSelection packages wanted body ⊎ TellsNone packages wanted explain body
 
--- A request may be answered so.
-abbrev pub TellsOutcome : Packages → Wanted → Bool → Option ℕ → Body → Type 0
-TellsOutcome packages wanted explain budget body = TellsFound packages wanted explain body ⊎ TellsSpent packages wanted budget body
-
 -- ---- derivations
 
 -- the lines stand, by the numbers of the registry, for a derivation that no selection meets the request

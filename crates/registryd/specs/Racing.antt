@@ -1,22 +1,25 @@
 -- What the seats of a race may answer, and what a race prints.
-use Rattle.std.specs.Prelude.{◌≡◌, ◌⊎◌, ℕ, ◌+◌, ◌<◌, List, [], ◌∷◌, ◌++◌, flat_map, length, MatchResult, Option, Some}
+use Rattle.std.specs.Prelude.{◌≡◌, ◌⊎◌, Bool, ℕ, ◌+◌, ◌<◌, List, [], ◌∷◌, ◌++◌, flat_map, length, MatchResult, Option, Some}
 use Rattle.std.specs.Io.KnownBytes.{Appends}
 use Rattle.versions.specs.Words.{Text}
 use Rattle.versions.specs.declared.refusal.Refusal.{Refusal}
 use Rattle.versions.specs.declared.refusal.Refusal.TheVariants.{NoMemory, Stray}
 use Rattle.registry.specs.Commands.{change_of}
-use Rattle.registry.specs.Step.{Change, Publish, Unyank, Yank}
-use Rattle.registry.specs.declared.commands.Command.TheVariants as command
+use Rattle.registry.specs.Requests.{Wanted}
+use Rattle.registry.specs.Step.{Change}
+use Rattle.derivations.specs.Learning.{IsLearnt}
+use Rattle.derivations.specs.declared.line.Line.{Line}
+use Rattle.book.specs.declared.item.Item.{Item}
+use Rattle.book.specs.declared.item.Item.TheVariants as item
 use Rattle.chronicle.specs.Journals.{Begins, EntersAfter, packages_of, refusal_at, revision_of, serials_of}
-use Rattle.chronicle.specs.declared.entry.Call.{Call}
-use Rattle.chronicle.specs.declared.entry.Call.TheVariants as call
 use Rattle.chronicle.specs.declared.entry.Entry.{Entry}
 use Rattle.lines.specs.Lines.{lines_of}
 use Rattle.lines.specs.Texts.{IsBeginning}
 use Rattle.wire.specs.Journal.{journal_text}
 use Rattle.wire.specs.Replies.{Body, Reply, accepted, refused, replies_text}
 use Rattle.wire.specs.Shapes.{Request, check, command as commands, listing, resolve}
-use Rattle.registryd.specs.Outcomes.{TellsListing, TellsOutcome, TellsVerdict}
+use Rattle.registryd.specs.Outcomes.{TellsFound, TellsListing, TellsSpent, TellsVerdict}
+use Rattle.registryd.specs.Served.{item_of}
 use Rattle.registryd.specs.Session.{asked}
 
 -- how many cells the row of a race has
@@ -25,20 +28,14 @@ race_capacity = 65536
 
 -- ---- journals
 
--- the call that enters a command
-abbrev pub call_of : Change → Call
-call_of (Publish name version needs) = call.Command (command.Publish name version needs)
-call_of (Yank name version) = call.Command (command.Yank name version)
-call_of (Unyank name version) = call.Command (command.Unyank name version)
-
--- the command that a call enters, if it is one
-abbrev pub commands_in : Call → List Change
-commands_in (call.Command c) = change_of c ∷ []
-commands_in (call.Learnt learnt) = []
+-- the command that an item is, if it is one
+abbrev pub commands_in : Item → List Change
+commands_in (item.Command c) = change_of c ∷ []
+commands_in (item.Learnt lines) = []
 
 -- the commands of a journal, in order; what was learnt is left out
 abbrev pub changes_in : List Entry → List Change
-changes_in journal = flat_map (λ (e : Entry). commands_in e.call) journal
+changes_in journal = flat_map (λ (e : Entry). commands_in e.item) journal
 
 -- ---- one line
 
@@ -53,21 +50,33 @@ pub record OnlySees (seat : ℕ) (old new : List Entry) : Type 0 where
 
 -- The command stands in the journal after all that the seat had seen, and is accepted there.
 abbrev pub IsEntered : ℕ → List Entry → Change → Reply → List Entry → Type 0
-IsEntered seat old change reply new = EntersAfter seat old new (call_of change) (length new) (revision_of new) × (reply ≡ reply_at seat new accepted)
+IsEntered seat old change reply new = EntersAfter seat old new (item_of change) (length new) (revision_of new) × (reply ≡ reply_at seat new accepted)
 
 -- The command has its lowest refusal where the seat then stands.
 abbrev pub IsNotEntered : ℕ → List Entry → Change → Reply → List Entry → Type 0
 IsNotEntered seat old change reply new = OnlySees seat old new
-    × ((refusal : Refusal) × (refusal_at race_capacity new (call_of change) ≡ Some refusal) × (reply ≡ reply_at seat new (refused refusal)))
+    × ((refusal : Refusal) × (refusal_at race_capacity new (item_of change) ≡ Some refusal) × (reply ≡ reply_at seat new (refused refusal)))
 
 -- The seat enters nothing, and its reply tells such a body where it then stands.
 abbrev pub LooksAndTells : ℕ → (Body → Type 0) → List Entry → Reply → List Entry → Type 0
 LooksAndTells seat is old reply new = OnlySees seat old new × ((body : Body) × is body × (reply ≡ reply_at seat new body))
 
--- A request may be answered so by a seat, which then has seen these entries. What enters nothing is answered of the registry where the seat then stands.
+-- The seat learns these, one after another: each follows from premises, and stands in the journal after all that the seat had seen, where it is accepted.
+abbrev pub SeatLearns : ℕ → List Entry → List (List Line) → List Entry → Type 0
+SeatLearns seat old [] new = OnlySees seat old new
+SeatLearns seat old (lines ∷ rest) new = IsLearnt lines
+    × ((mid : List Entry) × EntersAfter seat old mid (item.Learnt lines) (length mid) (revision_of mid) × SeatLearns seat mid rest new)
+
+-- What the solver found is told where the seat then stands. Then some may be learnt.
+abbrev pub SeatTellsAndLearns : ℕ → Wanted → Bool → List Entry → Reply → List Entry → Type 0
+SeatTellsAndLearns seat wanted explain old reply new = (mid : List Entry) × LooksAndTells seat (TellsFound (packages_of mid) wanted explain) old reply mid
+    × ((learnt : List (List Line)) × SeatLearns seat mid learnt new)
+
+-- A request may be answered so by a seat, which then has seen these entries. All but a command is answered of the registry where the seat then stands.
 abbrev pub SeatAnswers : ℕ → List Entry → Request → Reply → List Entry → Type 0
 SeatAnswers seat old (commands change) reply new = IsEntered seat old change reply new ⊎ IsNotEntered seat old change reply new
-SeatAnswers seat old (resolve wanted explain budget) reply new = LooksAndTells seat (TellsOutcome (packages_of new) wanted explain budget) old reply new
+SeatAnswers seat old (resolve wanted explain budget) reply new =
+    SeatTellsAndLearns seat wanted explain old reply new ⊎ LooksAndTells seat (TellsSpent (packages_of new) wanted budget) old reply new
 SeatAnswers seat old (check wanted lines) reply new = LooksAndTells seat (TellsVerdict (packages_of new) wanted lines) old reply new
 SeatAnswers seat old listing reply new = LooksAndTells seat (TellsListing (packages_of new)) old reply new
 

@@ -1,20 +1,24 @@
 //! The reply to one line of a session.
-ghost use Rattle.std.specs.Prelude.{◌⊎◌, ℕ, ◌≤◌, List, length, IfErr, IfOk};
+ghost use Rattle.std.specs.Prelude.{◌⊎◌, ℕ, ◌≤◌, All, List, length, IfErr, IfOk};
 ghost use Rattle.versions.specs.declared.refusal.Refusal.TheVariants.{NoMemory};
 ghost use Rattle.registry.specs.Commands.{change_of};
 ghost use Rattle.registry.specs.Preference.{IsPreferredSelection};
 ghost use Rattle.registry.specs.Selections.{Choices, Meets};
 ghost use Rattle.solver.specs.Outcomes as outcomes;
+ghost use Rattle.derivations.specs.Learning.{AllStand};
+ghost use Rattle.book.specs.Items.{packages_of};
 ghost use Rattle.chronicle.specs.Answers.{MayStop};
 ghost use Rattle.lines.specs.Texts.{Puts};
 ghost use Rattle.lines.specs.Unread.{IsFound, line_limit};
 ghost use Rattle.wire.specs.Replies.{Reply, reply_text};
 ghost use Rattle.wire.specs.Shapes.{check, command as commands, listing, resolve};
+ghost use Rattle.registryd.specs.Outcomes.{TellsFound};
 ghost use Rattle.registryd.specs.Session.{Answers, IsLawful, IsRefused};
+ghost use Rattle.registryd.specs.Told.{told_body};
 
-use crate::served::Served;
-use crate::told::{put_reply, put_told, told_of, verdict_on};
-use derivations::Store;
+use crate::served::{Served, learn_all};
+use crate::told::{Told, put_reply, put_told, told_of, verdict_on};
+use derivations::{Learnt, Store};
 use lines::{LineBuffer, Next, Outbox};
 use registry::{Command, Registry, Request};
 use solver::{Outcome, solve, solve_within};
@@ -100,10 +104,10 @@ fn reply_to_command<W: Write>(
     }
 }
 
-// Replies to a request with what the solver answers, which nothing is learnt of.
+// Replies to a request with what the solver answers. What it offers is learnt once the reply is put.
 fn reply_to_request<W: Write>(
     alloc: Global,
-    served: &Served,
+    served: &mut Served,
     outbox: &mut Outbox,
     writer: &mut W,
     request: &Request,
@@ -111,17 +115,16 @@ fn reply_to_request<W: Write>(
     budget: Option<u32>,
 ) -> io::Result<()>
     ensures { (reply : Reply)
-        × (IsRefused NoMemory served.now reply served.now ⊎ Answers served.now (resolve request.now explain budget) reply served.now)
+        × (IsRefused NoMemory served.old reply served.new ⊎ Answers served.old (resolve request.now explain budget) reply served.new)
         × Puts (W.contents writer.old) (W.contents writer.new) outbox.old outbox.new result (reply_text reply) }
 {
-    let revision = served.revision();
-    let registry = served.registry();
-    match answer_of(alloc, registry, request, budget) {
-        Ok(outcome) => {
-            let told = told_of(alloc, registry, request, explain, outcome);
-            put_told(outbox, writer, None, revision, &told)
+    match found_by(alloc, served, request, explain, budget) {
+        Ok((told, offered)) => {
+            let put = put_told(outbox, writer, None, served.revision(), &told);
+            learn_all(served, offered);
+            put
         }
-        Err(e) => put_reply(outbox, writer, None, revision, Body::Refusal(e)),
+        Err(e) => put_reply(outbox, writer, None, served.revision(), Body::Refusal(e)),
     }
 }
 
@@ -160,21 +163,39 @@ fn reply_to_listing<W: Write>(
     }
 }
 
-// What the solver answers to a request, under its budget where it has one.
+// What is told of a request, and what is offered to be learnt.
+fn found_by(
+    alloc: Global,
+    served: &Served,
+    request: &Request,
+    explain: bool,
+    budget: Option<u32>,
+) -> Result<(Told, Vec<Learnt>), Refusal>
+    ensures told { IfOk result (λ r. TellsFound (packages_of served.now) request.now explain (told_body r.0)) }
+    ensures only { IfErr result (MayStop (packages_of served.now) request.now budget) }
+{
+    let registry = served.registry();
+    let outcome = answer_of(alloc, registry, served.store(), request, budget)?;
+    told_of(alloc, registry, request, explain, outcome)
+}
+
+// What the solver answers to a request, under its budget where it has one, with the help of what is
+// stored.
 fn answer_of(
     alloc: Global,
     registry: &Registry,
+    store: &Store,
     request: &Request,
     budget: Option<u32>,
 ) -> Result<Outcome, Refusal>
+    requires { All (AllStand registry.now.packages) store.now.members }
     ensures lawful { IfOk result (outcomes.IsLawful registry.now.packages request.now) }
     ensures preferred { (s : Choices) → IsPreferredSelection registry.now.packages request.now s → Meets registry.now.packages request.now s
         → IfOk result (outcomes.Answers registry.now.packages s) }
     ensures only { IfErr result (MayStop registry.now.packages request.now budget) }
 {
-    let store = Store::new(alloc);
     match budget {
-        Some(budget) => Ok(solve_within(alloc, registry, request, &store, budget)?),
-        None => Ok(solve(alloc, registry, request, &store)?),
+        Some(budget) => Ok(solve_within(alloc, registry, request, store, budget)?),
+        None => Ok(solve(alloc, registry, request, store)?),
     }
 }

@@ -2,7 +2,7 @@
 ghost use Rattle.std.specs.Prelude.{◌≡◌, ◌≢◌, ◌⊎◌, ◌<◌, ◌≤◌, ℕ, List, [], length, vec_len, IfOk};
 ghost use Rattle.std.specs.Io.KnownBytes.{Keeps, IsAtEnd};
 ghost use Rattle.versions.specs.Words.{Text};
-ghost use Rattle.registry.specs.Step.{Change};
+ghost use Rattle.book.specs.declared.item.Item.{Item};
 ghost use Rattle.lines.specs.Lines.{lines_of, whole_lines_of};
 ghost use Rattle.registryd.specs.Racing.{Races, RacesInPart};
 ghost use Rattle.registryd.specs.Session.{Serves, Breaks};
@@ -31,13 +31,13 @@ pub fn obey<H: Wait + Threads + Sync + Files + AllocGlobal, R: Read, W: Write>(
 ) -> End
     // Each line has its lawful reply, in order; those of a race by one journal, which is printed.
     ensures done { result ≡ End.Done
-        → (AskToServe (texts words.now) × IsAtEnd (R.remaining reader.new) × ((changes : List Change)
-        × Serves (R.remaining reader.old) (R.remaining reader.new) (W.contents writer.old) (W.contents writer.new) lines_of [] changes))
+        → (AskToServe (texts words.now) × IsAtEnd (R.remaining reader.new) × ((items : List Item)
+        × Serves (R.remaining reader.old) (R.remaining reader.new) (W.contents writer.old) (W.contents writer.new) lines_of [] items))
         ⊎ ((files : List Text) × AskToRace (texts words.now) (length files) × Races (W.contents writer.old) (W.contents writer.new) files) }
     // Each whole line that was read has its lawful reply. Of a race nothing is written.
     ensures input { result ≡ End.Input
-        → (AskToServe (texts words.now) × ((changes : List Change)
-        × Serves (R.remaining reader.old) (R.remaining reader.new) (W.contents writer.old) (W.contents writer.new) whole_lines_of [] changes))
+        → (AskToServe (texts words.now) × ((items : List Item)
+        × Serves (R.remaining reader.old) (R.remaining reader.new) (W.contents writer.old) (W.contents writer.new) whole_lines_of [] items))
         ⊎ ((count : ℕ) × AskToRace (texts words.now) count × Keeps (W.contents writer.old) (W.contents writer.new)) }
     // A beginning of the lawful replies is written.
     ensures output { result ≡ End.Output
@@ -77,7 +77,7 @@ pub fn obey<H: Wait + Threads + Sync + Files + AllocGlobal, R: Read, W: Write>(
     }
 }
 
-/// Serves the lines of a reader, from no commands on.
+/// Serves the lines of a reader, from no items on.
 fn serve<H: Wait, R: Read, W: Write>(
     rt: &H,
     alloc: Global,
@@ -86,10 +86,10 @@ fn serve<H: Wait, R: Read, W: Write>(
     workers: usize,
 ) -> End
     requires { (1 ≤ workers) × (workers ≤ 64) }
-    ensures done { result ≡ End.Done → IsAtEnd (R.remaining reader.new) × ((changes : List Change)
-        × Serves (R.remaining reader.old) (R.remaining reader.new) (W.contents writer.old) (W.contents writer.new) lines_of [] changes) }
-    ensures input { result ≡ End.Input → (changes : List Change)
-        × Serves (R.remaining reader.old) (R.remaining reader.new) (W.contents writer.old) (W.contents writer.new) whole_lines_of [] changes }
+    ensures done { result ≡ End.Done → IsAtEnd (R.remaining reader.new) × ((items : List Item)
+        × Serves (R.remaining reader.old) (R.remaining reader.new) (W.contents writer.old) (W.contents writer.new) lines_of [] items) }
+    ensures input { result ≡ End.Input → (items : List Item)
+        × Serves (R.remaining reader.old) (R.remaining reader.new) (W.contents writer.old) (W.contents writer.new) whole_lines_of [] items }
     ensures output { result ≡ End.Output
         → Breaks (R.remaining reader.old) (R.remaining reader.new) (W.contents writer.old) (W.contents writer.new) [] }
     ensures memory { result ≡ End.Memory
@@ -98,9 +98,9 @@ fn serve<H: Wait, R: Read, W: Write>(
     ensures no_journal { (line : ℕ) → result ≢ End.Journal line }
 {
     match run(rt, alloc, reader, writer, Vec::new(alloc), workers) {
-        Ok(commands) => {
+        Ok(items) => {
             // The program ends here, so what they hold needs no walk to be given back.
-            mem::forget(commands);
+            mem::forget(items);
             End::Done
         }
         Err(fault) => End::from(fault),

@@ -3,6 +3,7 @@ ghost use Rattle.std.specs.Prelude.{◌≡◌, ◌⊎◌, ◌≤◌, List, [], l
 ghost use Rattle.registry.specs.Commands.{change_of};
 ghost use Rattle.registry.specs.Preference.{IsPreferredSelection};
 ghost use Rattle.registry.specs.Selections.{Choices, Meets};
+ghost use Rattle.derivations.specs.declared.line.Line.{Line};
 ghost use Rattle.solver.specs.Outcomes as outcomes;
 ghost use Rattle.chronicle.specs.Answers.{MayStop, OnlyWhereNone, Resolves};
 ghost use Rattle.chronicle.specs.Journals.{packages_of, revision_of};
@@ -12,11 +13,14 @@ ghost use Rattle.wire.specs.Listings.{IsListing, Row};
 ghost use Rattle.wire.specs.Replies.{Reply, listed, replies_text, reply_text};
 ghost use Rattle.wire.specs.Shapes as shapes;
 ghost use Rattle.registryd.specs.Kept.{Answered, kept_line, kept_text};
-ghost use Rattle.registryd.specs.Racing.{GivesUp, IsSeatReply, SeatAnswers, SeatSession, race_capacity, reply_at};
+ghost use Rattle.registryd.specs.Outcomes.{TellsFound};
+ghost use Rattle.registryd.specs.Racing.{GivesUp, IsSeatReply, SeatAnswers, SeatLearns, SeatSession, race_capacity, reply_at};
+ghost use Rattle.registryd.specs.Told.{told_body};
 
 use crate::kept::Kept;
 use crate::told::{Told, put_reply, told_of, verdict_on};
 use chronicle::{Mark, Seat, Stamp};
+use derivations::Learnt;
 use lines::{LINE_LIMIT, Outbox, count_lines, first_line};
 use registry::{Command, Request};
 use solver::Outcome;
@@ -168,7 +172,7 @@ fn enter(seat: &mut Seat<'_>, command: Command) -> Kept
     }
 }
 
-/// Answers a request. Nothing is learnt of the search yet.
+/// Answers a request where the seat then stands. What is offered is learnt behind that place.
 fn resolve(
     alloc: Global,
     seat: &mut Seat<'_>,
@@ -184,13 +188,43 @@ fn resolve(
         ⊎ SeatAnswers seat.old.number seat.old.journal (shapes.resolve request.now explain budget) reply seat.new.journal)
         × (kept_line result ≡ reply_text reply) }
 {
-    match outcome_of(seat, request, budget) {
-        Ok((_, outcome)) => {
-            let told = told_of(alloc, seat.registry(), request, explain, outcome);
-            kept_at(seat, told)
+    match found_by(alloc, seat, request, explain, budget) {
+        Ok((told, offered)) => {
+            let kept = kept_at(seat, told);
+            learn_all(seat, offered);
+            kept
         }
         Err(e) => kept_at(seat, Told::Refusal(e)),
     }
+}
+
+/// Learns what is offered, in order. What is refused, or finds no memory, is dropped.
+fn learn_all(seat: &mut Seat<'_>, offered: Vec<Learnt>)
+    ensures row { seat.new.row ≡ seat.old.row }
+    ensures number { seat.new.number ≡ seat.old.number }
+    ensures learns { (learnt : List (List Line)) × SeatLearns seat.old.number seat.old.journal learnt seat.new.journal }
+{
+    for learnt in offered {
+        // That it follows from premises is told with its lines.
+        let _lines = learnt.lines();
+        let _ = seat.learn(learnt);
+    }
+}
+
+/// What is told of a request where the seat then stands, and what is offered to be learnt.
+fn found_by(
+    alloc: Global,
+    seat: &mut Seat<'_>,
+    request: &Request,
+    explain: bool,
+    budget: Option<u32>,
+) -> Result<(Told, Vec<Learnt>), Refusal>
+    ensures seen { MayHaveSeen seat.old seat.new }
+    ensures told { IfOk result (λ r. TellsFound (packages_of seat.new.journal) request.now explain (told_body r.0)) }
+    ensures reason { IfErr result (λ e. IsStopped seat.new e ⊎ MayStop (packages_of seat.new.journal) request.now budget e) }
+{
+    let (_, outcome) = outcome_of(seat, request, budget)?;
+    told_of(alloc, seat.registry(), request, explain, outcome)
 }
 
 /// What the seat answers to a request, under its budget where it has one.

@@ -1,4 +1,5 @@
 //! What is told in reply to a line, by a session and by the seats of a race alike.
+ghost use Rattle.std.specs.Prelude.{◌≡◌, IfErr, IfOk};
 ghost use Rattle.lines.specs.Texts.{Puts};
 ghost use Rattle.registry.specs.Preference.{IsPreferredSelection};
 ghost use Rattle.registry.specs.Selections.{Choices, Meets};
@@ -9,7 +10,7 @@ ghost use Rattle.registryd.specs.Outcomes.{MayTell, TellsFound, TellsNone, Tells
 ghost use Rattle.registryd.specs.Told.{line_of, told_body};
 
 use crate::reasons::{explained, follows};
-use derivations::Derivation;
+use derivations::{Derivation, Learnt};
 use lines::Outbox;
 use registry::{Registry, Request};
 use solver::Outcome;
@@ -30,23 +31,25 @@ pub enum Told {
     Follows(bool),
 }
 
-/// What is told of a request for which the solver found this. What it offers to be learnt is dropped.
+/// What is told of a request for which the solver found this, and what it offers to be learnt.
 pub fn told_of(
     alloc: Global,
     registry: &Registry,
     request: &Request,
     explain: bool,
     outcome: Outcome,
-) -> Told
+) -> Result<(Told, Vec<Learnt>), Refusal>
     requires lawful { outcomes.IsLawful registry.now.packages request.now outcome }
     requires preferred { (s : Choices) → IsPreferredSelection registry.now.packages request.now s → Meets registry.now.packages request.now s
         → outcomes.Answers registry.now.packages s outcome }
-    ensures { MayTell (TellsFound registry.now.packages request.now explain) (told_body result) }
+    ensures told { IfOk result (λ r. TellsFound registry.now.packages request.now explain (told_body r.0)) }
+    ensures only { IfErr result (λ e. e ≡ Refusal.NoMemory) }
 {
     match outcome {
-        Outcome::Selection(list, _) => Told::Selection(list),
-        Outcome::Refused(derivation, _) => {
-            told_refused(alloc, registry, request, explain, &derivation)
+        Outcome::Selection(list, offered) => Ok((Told::Selection(list), offered)),
+        Outcome::Refused(derivation, offered) => {
+            let told = told_refused(alloc, registry, request, explain, &derivation)?;
+            Ok((told, offered))
         }
     }
 }
@@ -58,17 +61,16 @@ fn told_refused(
     request: &Request,
     explain: bool,
     derivation: &Derivation,
-) -> Told
+) -> Result<Told, Refusal>
     requires { IsDerivation registry.now.packages request.now derivation.now }
-    ensures { MayTell (TellsNone registry.now.packages request.now explain) (told_body result) }
+    ensures told { IfOk result (λ told. TellsNone registry.now.packages request.now explain (told_body told)) }
+    ensures only { IfErr result (λ e. e ≡ Refusal.NoMemory) }
 {
     if !explain {
-        return Told::NoSelection;
+        return Ok(Told::NoSelection);
     }
-    match explained(alloc, registry, request, derivation) {
-        Ok(reason) => Told::Explained(reason),
-        Err(e) => Told::Refusal(e),
-    }
+    let reason = explained(alloc, registry, request, derivation)?;
+    Ok(Told::Explained(reason))
 }
 
 /// What is told of a derivation that a request is given with.

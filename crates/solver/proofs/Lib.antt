@@ -10,6 +10,8 @@ pub mod Publishing
 pub mod Numbering
 pub mod Matching
 pub mod Pushed
+pub mod Reused
+pub mod Using
 pub mod Decisions
 pub mod Beginning
 pub mod Naming

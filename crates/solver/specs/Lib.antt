@@ -4,4 +4,5 @@ pub mod Searching
 pub mod Pushing
 pub mod Picking
 pub mod Answering
+pub mod Reusing
 pub mod Outcomes

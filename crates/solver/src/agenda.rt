@@ -7,6 +7,7 @@ ghost use Rattle.std.specs.Prelude.{◌≡◌, IfErr};
 ghost use Rattle.versions.specs.declared.refusal.Refusal.TheVariants.{NoMemory};
 
 use crate::acting::Acted;
+use crate::asked::Asked;
 use crate::queue::Queue;
 use crate::spent::Spent;
 use crate::spots::Spots;
@@ -34,6 +35,8 @@ pub(crate) struct Agenda {
     pub used: Vec<usize>,
     /// Lines that are not looked at until the search goes back.
     spent: Spent,
+    /// What was asked of the store.
+    pub asked: Asked,
 }
 
 impl Agenda {
@@ -48,6 +51,7 @@ impl Agenda {
             queue: Queue::new(alloc)?,
             used: Vec::with_capacity(alloc, ROOM)?,
             spent: Spent::new(alloc)?,
+            asked: Asked::new(alloc),
         })
     }
 
@@ -57,6 +61,22 @@ impl Agenda {
         ensures only { IfErr result (λ e. e ≡ NoMemory) }
     {
         self.spots.note(alloc, known, at)
+    }
+
+    /// Notes that the lines of the member in a place of the store are among the lines, the last of them
+    /// at a place there.
+    pub fn take(
+        &mut self,
+        alloc: Global,
+        known: &[Known],
+        place: u32,
+        at: usize,
+    ) -> Result<(), Refusal>
+        ensures changed { self.new.changed.items ≡ self.old.changed.items }
+        ensures only { IfErr result (λ e. e ≡ NoMemory) }
+    {
+        self.note(alloc, known, at)?;
+        self.asked.take(place, known.len())
     }
 
     /// Whether the dependency of a version on another package is not among the lines: a version has at
@@ -140,7 +160,8 @@ impl Agenda {
 
     /// Notes what changed by an attempt to go on, before which there were so many lines. After a
     /// conflict only the package of the new derivation is changed (doc/solver.md, "Unit
-    /// Propagation").
+    /// Propagation"). A line by which the search goes back is learnt, unless it was there, or is the
+    /// last one of a member of the store.
     pub fn follow(
         &mut self,
         task: &Task<'_>,
@@ -160,7 +181,7 @@ impl Agenda {
                 self.used.clear();
                 self.spent.go_back(partial.level())?;
                 self.spent.add(at, partial.level())?;
-                if at >= before {
+                if at >= before && self.asked.is_behind(at) {
                     self.learnt.push(at)?;
                     self.note(task.alloc, known, at)?;
                 }

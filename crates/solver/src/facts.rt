@@ -7,6 +7,7 @@ ghost use Rattle.registry.specs.Registry.{Repeats, is_published, meets_at, needs
 ghost use Rattle.derivations.specs.Derivations.{IsFact, NoneAllowed};
 ghost use Rattle.derivations.specs.Facts.{premise_terms, Stands};
 ghost use Rattle.solver.specs.Pushing.{Extends, IsDependency, IsForDependency, IsForNeed, SaysAt};
+ghost use Rattle.solver.specs.Reusing.{Keeps};
 
 use crate::task::Task;
 use derivations::{Cause, Known, Premise, Reason, need_incompat};
@@ -23,6 +24,7 @@ fn push_fact(
 ) -> Result<usize, Refusal>
     requires { IsFact task.now.registry.now.packages task.now.request.now cause conclusion }
     ensures extends { OnOk result (Extends task.now known.old.items known.new.items) }
+    ensures keeps { OnOk result (Keeps known.old.items known.new.items) }
     ensures place { IfOk result (SaysAt known.new.items conclusion) }
     ensures only { IfErr result (λ e. e ≡ Refusal.NoMemory) }
 {
@@ -104,9 +106,14 @@ fn versions_with(task: &Task<'_>, pkg: Pkg, name: &Name, need: &Need) -> Result<
 }
 
 /// Puts what a premise says behind the lines.
-fn push_premise(task: &Task<'_>, known: &mut Vec<Known>, premise: Premise) -> Result<usize, Refusal>
+pub(crate) fn push_premise(
+    task: &Task<'_>,
+    known: &mut Vec<Known>,
+    premise: Premise,
+) -> Result<usize, Refusal>
     requires { Stands task.now.registry.now.packages premise }
     ensures extends { OnOk result (Extends task.now known.old.items known.new.items) }
+    ensures keeps { OnOk result (Keeps known.old.items known.new.items) }
     ensures place { IfOk result (SaysAt known.new.items (premise_terms premise)) }
     ensures only { IfErr result (λ e. e ≡ Refusal.NoMemory) }
 {

@@ -6,6 +6,7 @@
 mod acting;
 mod agenda;
 mod alike;
+mod asked;
 mod conflict;
 mod covered;
 mod deciding;
@@ -14,8 +15,10 @@ mod greedy;
 mod lines;
 mod meeting;
 mod obstacle;
+mod offering;
 mod propagating;
 mod queue;
+mod reusing;
 mod search;
 mod solving;
 mod spent;

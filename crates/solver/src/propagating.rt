@@ -2,10 +2,12 @@
 
 ghost use Rattle.std.specs.Prelude.{◌≡◌, ◌<◌, Ok, length, IfErr, IfOk};
 ghost use Rattle.solver.specs.Searching.{ActsBy, IsIdle, IsUnchanged, MayRefuse, Searches};
+ghost use Rattle.solver.specs.Reusing.{StoreStands};
 
 use crate::acting::{Acted, Search, act};
 use crate::agenda::Agenda;
 use crate::deciding::enter_alike;
+use crate::reusing::use_stored;
 use crate::task::Task;
 use partial::Standing;
 use terms::Pkg;
@@ -56,7 +58,8 @@ pub(crate) fn propagate(
     search: &mut Search,
     agenda: &mut Agenda,
 ) -> Result<Acted, Refusal>
-    requires { Searches task.now search.old }
+    requires search { Searches task.now search.old }
+    requires stored { StoreStands task.now }
     ensures acts { IfOk result (ActsBy task.now search.old search.new (IsIdle task.now search.old search.new)) }
     ensures only { IfErr result (MayRefuse task.now.budget) }
 {
@@ -65,6 +68,16 @@ pub(crate) fn propagate(
             return Ok(Acted::Neither);
         };
         enter_alike(task, &search.partial, &mut search.known, agenda, pkg)?;
+        match use_stored(task, search, agenda, pkg)? {
+            Acted::Neither => {}
+            Acted::Derived(derived) => {
+                // The other lines that name the package are still to be looked at.
+                agenda.changed.push(pkg)?;
+                return Ok(Acted::Derived(derived));
+            }
+            Acted::WentBack(line, derived) => return Ok(Acted::WentBack(line, derived)),
+            Acted::Refused(end) => return Ok(Acted::Refused(end)),
+        }
         agenda.look(task, &search.partial, pkg)?;
         match use_places(
             task,

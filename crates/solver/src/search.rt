@@ -3,6 +3,7 @@
 ghost use Rattle.std.specs.Prelude.{◌≡◌, IfErr, IfOk};
 ghost use Rattle.solver.specs.Answering.{EndsBy, TurnsBy};
 ghost use Rattle.solver.specs.Searching.{MayRefuse, Searches};
+ghost use Rattle.solver.specs.Reusing.{StoreStands};
 
 use crate::acting::{Acted, Search};
 use crate::agenda::Agenda;
@@ -52,7 +53,8 @@ fn finish(task: &Task<'_>, search: &mut Search, agenda: &mut Agenda) -> Result<T
 
 /// One turn: propagation, else a decision, else the walk.
 fn turn(task: &Task<'_>, search: &mut Search, agenda: &mut Agenda) -> Result<Turned, Refusal>
-    requires { Searches task.now search.old }
+    requires search { Searches task.now search.old }
+    requires stored { StoreStands task.now }
     ensures turns { IfOk result (TurnsBy task.now search.old search.new) }
     ensures only { IfErr result (MayRefuse task.now.budget) }
 {
@@ -74,7 +76,8 @@ pub(crate) fn run(
     search: &mut Search,
     agenda: &mut Agenda,
 ) -> Result<Ended, Refusal>
-    requires { Searches task.now search.old }
+    requires search { Searches task.now search.old }
+    requires stored { StoreStands task.now }
     ensures ends { IfOk result (EndsBy task.now search.new.known.items) }
     ensures only { IfErr result (MayRefuse task.now.budget) }
 {

@@ -1,23 +1,26 @@
 // What a request is answered.
 
-ghost use Rattle.std.specs.Prelude.{◌≡◌, ◌⊎◌, map, nat_eq, true, IfErr, IfOk};
+ghost use Rattle.std.specs.Prelude.{◌≡◌, ◌⊎◌, map, nat_eq, true, All, IfErr, IfOk};
 ghost use Rattle.std.specs.List.{IsDistinct};
 ghost use Rattle.std.specs.Map.{keys_of};
+ghost use Rattle.derivations.specs.Learning.{AllStand};
 ghost use Rattle.registry.specs.Preference.{IsPreferredSelection};
 ghost use Rattle.registry.specs.Registry.{is_published};
 ghost use Rattle.registry.specs.Selections.{Choices, IsSelection, Meets};
 ghost use Rattle.walk.specs.Choosing.{choice_of};
 ghost use Rattle.solver.specs.Answering.{EndsBy};
 ghost use Rattle.solver.specs.Outcomes.{told, Answers, IsLawful, Tells};
+ghost use Rattle.solver.specs.Reusing.{StoreStands};
 ghost use Rattle.solver.specs.Searching.{MayRefuse};
 
 use crate::agenda::Agenda;
 use crate::greedy::search_greedily;
 use crate::obstacle::{Obstacle, obstacle_at};
+use crate::offering::offered_of;
 use crate::search::{Ended, run};
 use crate::starting::start;
 use crate::task::Task;
-use derivations::{Derivation, Known, Learnt, Store, cut, offers};
+use derivations::{Derivation, Known, Learnt, Store, cut};
 use registry::{Registry, Request};
 use std::alloc::Global;
 use terms::Pkg;
@@ -94,11 +97,11 @@ fn outcome_of(
     match ended {
         Ended::Selected(list) => {
             let pairs = tell(task.alloc, task.registry, list)?;
-            let offered = offers(task.alloc, &known, learnt)?;
+            let offered = offered_of(task, &known, learnt);
             Ok(Outcome::Selection(pairs, offered))
         }
         Ended::Refused(end) => {
-            let offered = offers(task.alloc, &known, learnt)?;
+            let offered = offered_of(task, &known, learnt);
             let derivation = cut(task.alloc, known, end)?;
             Ok(Outcome::Refused(derivation, offered))
         }
@@ -107,6 +110,7 @@ fn outcome_of(
 
 /// Searches for an answer from the start of a search on, with going back.
 fn search_from(task: &Task<'_>, agenda: &mut Agenda) -> Result<Outcome, Refusal>
+    requires { StoreStands task.now }
     ensures lawful { IfOk result (IsLawful task.now.registry.now.packages task.now.request.now) }
     ensures only { IfErr result (MayRefuse task.now.budget) }
 {
@@ -117,6 +121,7 @@ fn search_from(task: &Task<'_>, agenda: &mut Agenda) -> Result<Outcome, Refusal>
 
 /// Searches for an answer, with going back. What conflicts led to is offered to be learnt.
 fn search_fully(task: &Task<'_>) -> Result<Outcome, Refusal>
+    requires { StoreStands task.now }
     ensures lawful { IfOk result (IsLawful task.now.registry.now.packages task.now.request.now) }
     ensures only { IfErr result (MayRefuse task.now.budget) }
 {
@@ -126,6 +131,7 @@ fn search_fully(task: &Task<'_>) -> Result<Outcome, Refusal>
 
 /// Answers a task by a search, first by the one that does not go back, which minds an obstacle.
 fn search_for(task: &Task<'_>, obstacle: Option<Obstacle>) -> Result<Outcome, Refusal>
+    requires { StoreStands task.now }
     ensures lawful { IfOk result (IsLawful task.now.registry.now.packages task.now.request.now) }
     ensures only { IfErr result (MayRefuse task.now.budget) }
 {
@@ -140,6 +146,7 @@ fn search_for(task: &Task<'_>, obstacle: Option<Obstacle>) -> Result<Outcome, Re
 
 /// Answers a task: by the preferred selection where it serves, else by a search.
 fn answer(task: &Task<'_>) -> Result<Outcome, Refusal>
+    requires { StoreStands task.now }
     ensures lawful { IfOk result (IsLawful task.now.registry.now.packages task.now.request.now) }
     ensures preferred { (s : Choices) → IsPreferredSelection task.now.registry.now.packages task.now.request.now s → Meets task.now.registry.now.packages task.now.request.now s → IfOk result (Answers task.now.registry.now.packages s) }
     ensures unspent { (s : Choices) → IsPreferredSelection task.now.registry.now.packages task.now.request.now s → Meets task.now.registry.now.packages task.now.request.now s → IfErr result (λ e. e ≡ Refusal.NoMemory) }
@@ -161,14 +168,19 @@ fn answer(task: &Task<'_>) -> Result<Outcome, Refusal>
 /// Answers a request: a selection that meets it, or the derivation that none does. Where the
 /// preferred selection exists and meets the request, it is the answer, and nothing is searched.
 ///
-/// Nothing is taken from the store yet. What is offered to be learnt, the second part of an outcome,
-/// is what conflicts led to of a search that goes back, where it rests on premises alone.
+/// A search that goes back uses of the store what acts on the packages that it comes to, each with its
+/// lines, so that a derivation carries them. It asks as many members as its own size allows, and what
+/// the store says of other packages costs it nothing. What is offered to be learnt, the second part of
+/// an outcome, is what conflicts led to, where it rests on premises alone, by the lines of members too.
+/// Nothing is offered that the store has, nor to a store that is full; and for want of memory nothing
+/// is offered, where there is enough for the answer.
 pub fn solve(
     alloc: Global,
     registry: &Registry,
     request: &Request,
-    _store: &Store,
+    store: &Store,
 ) -> Result<Outcome, Refusal>
+    requires stored { All (AllStand registry.now.packages) store.now.members }
     ensures lawful { IfOk result (IsLawful registry.now.packages request.now) }
     ensures preferred { (s : Choices) → IsPreferredSelection registry.now.packages request.now s → Meets registry.now.packages request.now s → IfOk result (Answers registry.now.packages s) }
     ensures only { IfErr result (λ e. e ≡ Refusal.NoMemory) }
@@ -177,6 +189,7 @@ pub fn solve(
         alloc,
         registry,
         request,
+        store,
         budget: None,
     })
 }
@@ -188,9 +201,10 @@ pub fn solve_within(
     alloc: Global,
     registry: &Registry,
     request: &Request,
-    _store: &Store,
+    store: &Store,
     budget: u32,
 ) -> Result<Outcome, Refusal>
+    requires stored { All (AllStand registry.now.packages) store.now.members }
     ensures lawful { IfOk result (IsLawful registry.now.packages request.now) }
     ensures preferred { (s : Choices) → IsPreferredSelection registry.now.packages request.now s → Meets registry.now.packages request.now s → IfOk result (Answers registry.now.packages s) }
     ensures unspent { (s : Choices) → IsPreferredSelection registry.now.packages request.now s → Meets registry.now.packages request.now s → IfErr result (λ e. e ≡ Refusal.NoMemory) }
@@ -200,6 +214,7 @@ pub fn solve_within(
         alloc,
         registry,
         request,
+        store,
         budget: Some(budget),
     })
 }

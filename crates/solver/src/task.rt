@@ -1,5 +1,6 @@
 // What is to be solved.
 
+use derivations::Store;
 use registry::{Registry, Request};
 use std::alloc::Global;
 use terms::Pkg;
@@ -11,11 +12,13 @@ pub(crate) const ROOT: Pkg = 0;
 /// lists again and again while they grow.
 pub(crate) const ROOM: usize = 128;
 
-/// A request to a registry, and how many conflicts may be met, where there is a budget of them.
+/// A request to a registry, with what is stored of earlier ones, and how many conflicts may be met, where
+/// there is a budget of them.
 #[derive(Clone, Copy)]
 pub(crate) struct Task<'a> {
     pub alloc: Global,
     pub registry: &'a Registry,
     pub request: &'a Request,
+    pub store: &'a Store,
     pub budget: Option<u32>,
 }

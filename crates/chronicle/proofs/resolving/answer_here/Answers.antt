@@ -1,5 +1,17 @@
+use Rattle.std.proofs.Common.{List, sym, subst}
+use Rattle.std.specs.Prelude.{All}
+use Rattle.registry.specs.Registry.{Packages}
+use Rattle.derivations.specs.Learning.{AllStand}
+use Rattle.derivations.specs.declared.line.Line.{Line}
+use Rattle.chronicle.specs.Journals.{packages_of}
 use Rattle.chronicle.proofs.AnswerLemmas.{none_here}
 use Rattle.chronicle.proofs.resolving.answer_here.Goals as goal
+
+-- what is stored stands in the seat's registry
+pub answer_of-requires : goal.answer_of-requires
+answer_of-requires c =
+    subst (λ (p : Packages). All (AllStand p) c.store.result.now.members) (sym c.registry.ensures.packages)
+    (subst (λ (ms : List (List Line)). All (AllStand (packages_of c.args.seat.now.journal)) ms) (sym c.store.ensures.members) c.store.ensures.stand)
 
 pub returns-clause-none : goal.returns-clause-none
 returns-clause-none c =

@@ -3,36 +3,32 @@ use Rattle.derivations.specs.Known.{AreLawful}
 use Rattle.derivations.specs.declared.cutting.Known.{Known}
 use Rattle.solver.proofs.solving.outcome_of.Goals as goal
 
-pub offers-requires-clause-lawful : goal.offers-requires-clause-lawful
-offers-requires-clause-lawful c =
+pub offered_of-offered-requires-clause-lawful : goal.offered_of-offered-requires-clause-lawful
+offered_of-offered-requires-clause-lawful c =
     let packages = c.args.task.now.registry.now.packages in
     let wanted = c.args.task.now.request.now in
     let ends = rw c.in-Selected.is at c.requires in
-    record { packages = packages; wanted = wanted; lawful = subst (λ (lines : List Known). AreLawful packages wanted lines) (sym c.deref.ensures.value) ends.0.lawful }
+    subst (λ (lines : List Known). AreLawful packages wanted lines) (sym c.deref.ensures.value) ends.0.lawful
 
-pub offers-requires-in-Refused-clause-lawful : goal.offers-requires-in-Refused-clause-lawful
-offers-requires-in-Refused-clause-lawful c =
+pub offered_of-offered-requires-in-Refused-clause-lawful : goal.offered_of-offered-requires-in-Refused-clause-lawful
+offered_of-offered-requires-in-Refused-clause-lawful c =
     let packages = c.args.task.now.registry.now.packages in
     let wanted = c.args.task.now.request.now in
     let ends = rw c.in-Refused.is at c.requires in
-    record { packages = packages; wanted = wanted; lawful = subst (λ (lines : List Known). AreLawful packages wanted lines) (sym c.deref-in-Refused.ensures.value) ends.lawful }
+    subst (λ (lines : List Known). AreLawful packages wanted lines) (sym c.deref-in-Refused.ensures.value) ends.lawful
 
-pub returns-in_ok-offered-in-Selected-clause-lawful : goal.returns-in_ok-offered-in-Selected-clause-lawful
-returns-in_ok-offered-in-Selected-clause-lawful c =
-    let packages = c.args.task.now.registry.now.packages in
-    let wanted = c.args.task.now.request.now in
-    let ends = rw c.in-Selected.is at c.requires in
-    let lawful = subst (λ (lines : List Known). AreLawful packages wanted lines) (sym c.deref.ensures.value) ends.0.lawful in (
+pub returns-in_ok-pairs-in-Selected-clause-lawful : goal.returns-in_ok-pairs-in-Selected-clause-lawful
+returns-in_ok-pairs-in-Selected-clause-lawful c =
+    let ends = rw c.in-Selected.is at c.requires in (
       record { selection = _; meets = ends.1.meets; tells = c.in_ok-pairs-in-Selected.ensures.tells },
-      c.in_ok-offered-in-Selected.ensures.stand packages wanted lawful,
+      c.offered_of-offered.ensures,
     )
 
 pub returns-in_ok-derivation-in-Refused-clause-lawful : goal.returns-in_ok-derivation-in-Refused-clause-lawful
 returns-in_ok-derivation-in-Refused-clause-lawful c =
     let packages = c.args.task.now.registry.now.packages in
     let wanted = c.args.task.now.request.now in
-    let ends = rw c.in-Refused.is at c.requires in
-    let lawful = subst (λ (lines : List Known). AreLawful packages wanted lines) (sym c.deref-in-Refused.ensures.value) ends.lawful in (
+    let ends = rw c.in-Refused.is at c.requires in (
       c.in_ok-derivation-in-Refused.ensures.derived packages wanted ends.lawful,
-      c.in_ok-offered-in-Refused.ensures.stand packages wanted lawful,
+      c.offered_of-offered-in-Refused.ensures,
     )

@@ -1,0 +1,176 @@
+#!/usr/bin/env python3
+"""What a request gains by what earlier ones led to, and what a full store costs one that gains nothing.
+
+    bench/reuse.py [--rounds 10] [--program PATH] [--sessions 200]
+
+Prints for each workload the conflicts and the time of a request that is asked twice, and of a session of different
+requests beside as many sessions of one request; then the time of a request and of publications where 4,096 members
+are stored, beside none. Each figure is a share of another one of the same run. A request has as many conflicts as the
+least budget under which it is answered: under less it is answered that its budget is spent, and nothing is learnt.
+"""
+import argparse
+import json
+import sys
+
+from ingest import PROGRAM
+from lines import publish_lines
+from resolve import Session
+from workloads import SHARED, about_one, chain, crossed, dead_ends, tower, worn
+
+STORE = 4096
+SPENT = b'"error":22'
+
+
+def within(request, budget):
+    return json.dumps({**json.loads(request), "budget": budget}, separators=(",", ":"))
+
+
+def conflicts(session, request):
+    """The least budget that answers a request, which is learnt of then."""
+    budget = 0
+    while SPENT in session.resolve(within(request, budget))[1]:
+        budget += 1
+    return budget
+
+
+def warm(session, request, budget):
+    """Has most of a request searched a few times, so that neither the first request of a session pays for the pages that
+    the program had not touched, nor anything is learnt."""
+    for _ in range(3 if budget else 0):
+        session.resolve(within(request, budget - 1))
+
+
+def begun(program, lines):
+    session = Session(program)
+    session.load(lines)
+    return session
+
+
+# ---- twice the same request
+
+def counted(program, lines, request):
+    """The conflicts of a request, and of the same request after it."""
+    with begun(program, lines) as session:
+        first = conflicts(session, request)
+    with begun(program, lines) as session:
+        session.resolve(request)
+        return first, conflicts(session, request)
+
+
+def twice(program, lines, request, budget, rounds):
+    """The best seconds of a request, and of the same request after it, each time in a session of its own."""
+    firsts, seconds = [], []
+    for _ in range(rounds):
+        with begun(program, lines) as session:
+            warm(session, request, budget)
+            firsts.append(session.resolve(request)[0])
+            seconds.append(session.resolve(request)[0])
+    return min(firsts), min(seconds)
+
+
+# ---- many requests
+
+def together(program, lines, requests):
+    with begun(program, lines) as session:
+        return sum(session.resolve(request)[0] for request in requests)
+
+
+def apart(program, lines, requests):
+    spent = 0
+    for request in requests:
+        with begun(program, lines) as session:
+            spent += session.resolve(request)[0]
+    return spent
+
+
+def report_shared(asked):
+    print("workload  size  lines   conflicts, second      first     second   share"
+          f"   {asked.sessions} in one session, each in one   share")
+    for name, (make, size) in SHARED.items():
+        lines, requests = make(size)
+        requests = requests[:asked.sessions]
+        first, second = counted(asked.program, lines, requests[0])
+        one, two = twice(asked.program, lines, requests[0], first, asked.rounds)
+        session, single = together(asked.program, lines, requests), apart(asked.program, lines, requests)
+        print(f"{name:8}{size:6}{len(lines):7}{first:12}{second:8}{one * 1000:9.2f} ms{two * 1000:8.2f} ms{two / one:8.3f}"
+              f"{session * 1000:17.1f} ms{single * 1000:13.1f} ms{session / single:8.3f}", flush=True)
+
+
+# ---- a full store
+
+def filled(program, lines, fill):
+    """A session in which these requests were answered, so that nothing more is stored."""
+    session = begun(program, lines)
+    for request in fill:
+        session.resolve(request)
+    return session
+
+
+def is_stored(session, request):
+    """Whether what a request of `dead_ends` or `about_one` leads to is stored: then a second one meets no conflict."""
+    return SPENT not in session.resolve(within(request, 0))[1]
+
+
+def beside(program, lines, fill, request, rounds):
+    """The best seconds of a request where nothing is stored, and where the store is full."""
+    with begun(program, lines) as session:
+        budget = conflicts(session, request)
+    empty = []
+    for _ in range(rounds):
+        with begun(program, lines) as session:
+            warm(session, request, budget)
+            empty.append(session.resolve(request)[0])
+    with filled(program, lines, fill) as session:
+        if not is_stored(session, fill[-1]):
+            sys.exit("what fills the store was not learnt")
+        # the store is full, so nothing is learnt of it however often it is asked
+        full = [session.resolve(request)[0] for _ in range(rounds)]
+        if budget and SPENT not in session.resolve(within(request, 0))[1]:
+            sys.exit("the request gained by what is stored")
+    return min(empty), min(full)
+
+
+def told(what, empty, full):
+    print(f"{what:58}{empty * 1000:9.3f} ms{full * 1000:9.3f} ms{full / empty:8.3f}", flush=True)
+
+
+def report_full(asked):
+    print(f"\nwhere {STORE} are stored, beside none{'':29}none         full   share")
+    dead, fill = dead_ends(STORE)
+    for name, make, size in (("tower", tower, 7), ("tower", tower, 16), ("chain", chain, 30), ("worn", worn, 300)):
+        lines, requests = make(size)
+        told(f"{name} {size}, of which no member says anything",
+             *beside(asked.program, dead + lines, fill, requests[0], asked.rounds))
+    lines, fill_one = about_one(STORE)
+    told("a search with hub, which each member names", *beside(asked.program, lines, fill_one, crossed(), asked.rounds))
+    report_ingest(asked, dead, fill)
+
+
+def loaded(session, lines):
+    with session:
+        return session.load(lines)
+
+
+def report_ingest(asked, dead, fill):
+    others = publish_lines(20_000)
+    # versions that meet no premise, of packages that members rest on
+    beyond = [line.replace('"1.0.0"', '"2.0.0"') for line in dead if '"1.0.0"' in line]
+    for what, lines in (("20,000 publications of other packages", others), (f"{len(beyond)} of packages that members rest on", beyond)):
+        empty = [loaded(begun(asked.program, dead), lines) for _ in range(asked.rounds)]
+        full = [loaded(filled(asked.program, dead, fill), lines) for _ in range(asked.rounds)]
+        told(what, min(empty), min(full))
+
+
+def main():
+    asked = argparse.ArgumentParser(description=__doc__.split("\n\n")[0])
+    asked.add_argument("--rounds", type=int, default=10)
+    asked.add_argument("--sessions", type=int, default=200)
+    asked.add_argument("--program", default=PROGRAM)
+    asked = asked.parse_args()
+    report_shared(asked)
+    report_full(asked)
+    return 0
+
+
+if __name__ == "__main__":
+    sys.exit(main())

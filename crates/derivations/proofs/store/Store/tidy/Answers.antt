@@ -1,0 +1,21 @@
+use Rattle.std.proofs.Common.{◌≡◌, ◌∙◌, ap, length, rules, subst, sym}
+use Rattle.std.proofs.lemmas.Fn.{filter_same}
+use Rattle.std.specs.Prelude.{filter, is_some}
+use Rattle.derivations.specs.Slots.{AreFound, HasKey, RestsOn, Slots, kept}
+use Rattle.derivations.specs.Stored.{Stored}
+use Rattle.derivations.proofs.Thinning.{kept_some}
+use Rattle.derivations.proofs.store.Store.tidy.Goals as goal
+
+pub invariant_of-self : goal.invariant_of-self
+invariant_of-self c =
+    let left : c.retain.new.self.items ≡ filter is_some c.self.inside.slots.items = filter_same _ _ _ (λ x b f' k. search rules) _ _ c.retain.ensures.filtered in
+    record {
+      counted = c.self.invariant.counted ∙ sym (ap (λ (l : Slots). length (kept l)) left ∙ ap length (kept_some c.self.inside.slots.items));
+      keyed = subst (λ (l : Slots). AreFound HasKey c.add_keys.new.keys l) c.deref.ensures.value c.add_keys.ensures;
+      rested = subst (λ (l : Slots). AreFound RestsOn c.add_all_targets.new.resting l) c.deref-2.ensures.value c.add_all_targets.ensures;
+    }
+
+pub returns : goal.returns
+returns c =
+    let left : c.retain.new.self.items ≡ filter is_some c.self.inside.slots.items = filter_same _ _ _ (λ x b f' k. search rules) _ _ c.retain.ensures.filtered in
+    ap kept left ∙ kept_some c.self.inside.slots.items ∙ ap (λ (s : Stored). s.members) c.self.view_is

@@ -1,0 +1,108 @@
+//! Calls of the book: items, by the steps in which they are carried out.
+
+ghost use Rattle.std.specs.Prelude.{◌≡◌, None};
+ghost use Rattle.book.specs.Items.{refusal};
+
+use crate::item_texts::{item_at, item_told};
+use crate::store_calls::{all_stand, count, members_text};
+use crate::texts::told;
+use book::{Item, Replica};
+use rows::{Answer, Unread, member};
+use serde_json::Value;
+use std::alloc::Global;
+
+pub fn book_call(
+    alloc: Global,
+    replica: &mut Replica,
+    name: &str,
+    row: &Value,
+) -> Result<Answer, Unread> {
+    match name {
+        "reserve" => reserve(alloc, replica, row),
+        "apply" => apply(alloc, replica, row),
+        "enter" => enter(alloc, replica, row),
+        "replay" => replay(alloc, replica, row),
+        _ => about(alloc, replica, name, row),
+    }
+}
+
+fn about(alloc: Global, replica: &Replica, name: &str, row: &Value) -> Result<Answer, Unread> {
+    match name {
+        "check" => check(alloc, replica, row),
+        "judge" => judge(alloc, replica, row),
+        "shared" => shared(alloc, replica, row),
+        "stored" => Ok(Answer::Text(members_text(alloc, replica.store())?)),
+        "standing" => Ok(standing(replica)),
+        _ => Err(Unread::Row),
+    }
+}
+
+/// The revision, and how many are stored. After every call that may change them each has to stand; where
+/// one doesn't, that is the answer.
+fn standing(replica: &Replica) -> Answer {
+    if !all_stand(replica.registry(), replica.store()) {
+        return Answer::Word("a member does not stand");
+    }
+    let revision = replica.registry().revision();
+    Answer::Places(revision as usize, count(replica.store()))
+}
+
+fn check(alloc: Global, replica: &Replica, row: &Value) -> Result<Answer, Unread> {
+    replica.check(&item_at(alloc, row)?)?;
+    Ok(Answer::None)
+}
+
+fn judge(alloc: Global, replica: &Replica, row: &Value) -> Result<Answer, Unread> {
+    let full = member(row, "full")?.as_bool().ok_or(Unread::Row)?;
+    replica.judge(full, &item_at(alloc, row)?)?;
+    Ok(Answer::None)
+}
+
+fn shared(alloc: Global, replica: &Replica, row: &Value) -> Result<Answer, Unread> {
+    let copy = replica.shared(&item_at(alloc, row)?)?;
+    told(alloc, &item_told(alloc, &copy)?)
+}
+
+fn reserve(alloc: Global, replica: &mut Replica, row: &Value) -> Result<Answer, Unread> {
+    let item = item_at(alloc, row)?;
+    replica.check(&item)?;
+    replica.reserve(&item)?;
+    Ok(standing(replica))
+}
+
+/// Carries out an item for which no room was made.
+fn apply(alloc: Global, replica: &mut Replica, row: &Value) -> Result<Answer, Unread> {
+    let item = item_at(alloc, row)?;
+    replica.check(&item)?;
+    let mine = replica.shared(&item)?;
+    applied(replica, &item, mine)
+}
+
+/// Carries out an item by all steps.
+fn enter(alloc: Global, replica: &mut Replica, row: &Value) -> Result<Answer, Unread> {
+    let item = item_at(alloc, row)?;
+    replica.check(&item)?;
+    replica.reserve(&item)?;
+    let mine = replica.shared(&item)?;
+    applied(replica, &item, mine)
+}
+
+fn applied(replica: &mut Replica, item: &Item, mine: Item) -> Result<Answer, Unread>
+    requires same { mine ≡ item.now }
+    requires accepted { refusal replica.old.book item.now ≡ None }
+{
+    if replica.registry().revision() == u64::MAX {
+        return Ok(Answer::Skipped);
+    }
+    replica.apply(item, mine)?;
+    Ok(standing(replica))
+}
+
+/// Carries out an item if it is accepted; a refused one changes nothing.
+fn replay(alloc: Global, replica: &mut Replica, row: &Value) -> Result<Answer, Unread> {
+    if replica.registry().revision() == u64::MAX {
+        return Ok(Answer::Skipped);
+    }
+    replica.replay(&item_at(alloc, row)?)?;
+    Ok(standing(replica))
+}

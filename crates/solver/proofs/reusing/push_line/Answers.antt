@@ -1,0 +1,21 @@
+use Rattle.std.proofs.Common.{ap, length}
+use Rattle.solver.proofs.Reused.{line_extends, line_keeps, line_place}
+use Rattle.solver.proofs.reusing.push_line.Goals as goal
+
+pub returns-clause-extends : goal.returns-clause-extends
+returns-clause-extends c made search =
+    line_extends c.args.task.now.registry.now.packages c.args.task.now.request.now c.args.known.now.items c.place_of.new.known.items c.place_of-2.new.known.items c.push.new.self.items c.args.places.now c.args.line.now
+    c.in_ok-first.first c.in_ok-second.second c.in_ok-conclusion.conclusion c.requires c.in_ok-first.ensures.keeps c.in_ok-second.ensures.keeps c.in_ok-first.ensures.place c.in_ok-second.ensures.place
+    c.in_ok-conclusion.ensures c.in_ok-push.ensures.items made (c.in_ok-second.ensures.extends made (c.in_ok-first.ensures.extends made search))
+
+pub returns-clause-keeps : goal.returns-clause-keeps
+returns-clause-keeps c =
+    line_keeps c.args.task.now.registry.now.packages c.args.task.now.request.now c.args.known.now.items c.place_of.new.known.items c.place_of-2.new.known.items c.push.new.self.items c.args.places.now c.args.line.now
+    c.in_ok-first.first c.in_ok-second.second c.in_ok-conclusion.conclusion c.requires c.in_ok-first.ensures.keeps c.in_ok-second.ensures.keeps c.in_ok-first.ensures.place c.in_ok-second.ensures.place
+    c.in_ok-conclusion.ensures c.in_ok-push.ensures.items
+
+pub returns-clause-place : goal.returns-clause-place
+returns-clause-place c =
+    line_place c.args.task.now.registry.now.packages c.args.task.now.request.now c.args.known.now.items c.place_of.new.known.items c.place_of-2.new.known.items c.push.new.self.items c.args.places.now c.args.line.now
+    c.in_ok-first.first c.in_ok-second.second c.in_ok-conclusion.conclusion c.requires c.in_ok-first.ensures.keeps c.in_ok-second.ensures.keeps c.in_ok-first.ensures.place c.in_ok-second.ensures.place
+    c.in_ok-conclusion.ensures c.in_ok-push.ensures.items (length c.as_slice-at.result.now) (ap length c.as_slice-at.ensures.value)

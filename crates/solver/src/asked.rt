@@ -1,0 +1,135 @@
+// What a search asks of the store.
+//
+// No proof rests on it: it chooses which members are used, and a search that uses fewer is as right.
+
+ghost use Rattle.std.specs.Prelude.{◌≡◌, IfErr};
+ghost use Rattle.versions.specs.declared.refusal.Refusal.TheVariants.{NoMemory};
+
+use crate::task::Task;
+use derivations::Link;
+use partial::Partial;
+use std::alloc::Global;
+use terms::{Incompat, Pkg, Relation, Term, VSet, relation};
+use versions::Refusal;
+
+/// The most members that are asked when something was settled of a package: the newest that name it.
+const NEWEST: usize = 256;
+
+/// How many members more a search may ask for each of its lines.
+const LOOKS_A_LINE: usize = 16;
+
+/// Which members of the store a search asked and used.
+#[derive(Drop)]
+pub(crate) struct Asked {
+    /// The members that were found last, by their places in the store, newest first.
+    found: Vec<u32>,
+    /// Those whose lines are among the lines of the search.
+    taken: VSet,
+    /// How many lines there were after the last of them was taken.
+    lines: usize,
+    /// How many members were asked.
+    looks: usize,
+}
+
+/// How many members a search of so many lines may ask in all. So what it spends on the store stays
+/// within a share of what it spends on its lines, however many members name its packages.
+fn most_looks(lines: usize) -> usize {
+    lines.saturating_mul(LOOKS_A_LINE).saturating_add(NEWEST)
+}
+
+/// Whether something may follow from a conclusion once this is said of a package that it names: its
+/// term there is satisfied, or is the only one and still open. Else the term is contradicted, or is the
+/// one that is left, and then the member acted when its last other term was satisfied.
+fn may_act(conclusion: &Incompat, pkg: Pkg, said: &Term) -> bool {
+    match conclusion.term_on(pkg) {
+        None => false,
+        Some(term) => match relation(said, term) {
+            Relation::Satisfies => true,
+            Relation::Contradicts => false,
+            Relation::Inconclusive => conclusion.terms().len() == 1,
+        },
+    }
+}
+
+impl Asked {
+    pub fn new(alloc: Global) -> Asked {
+        Asked {
+            found: Vec::new(alloc),
+            taken: VSet::new(alloc),
+            lines: 0,
+            looks: 0,
+        }
+    }
+
+    /// Whether the member of a link is to be used, where the link stands under a package of which this
+    /// is said.
+    fn is_wanted(&self, task: &Task<'_>, link: Link, pkg: Pkg, said: &Term) -> bool {
+        if link.number != u64::from(pkg) || self.taken.has(link.place) {
+            return false;
+        }
+        match task.store.member(link.place) {
+            None => false,
+            Some(member) => may_act(member.conclusion(), pkg, said),
+        }
+    }
+
+    /// How many members may be asked now that there are so many lines.
+    fn looks_left(&self, lines: usize) -> usize {
+        most_looks(lines).saturating_sub(self.looks).min(NEWEST)
+    }
+
+    /// Finds the members that are to be used, now that something was settled of a package and there are
+    /// so many lines.
+    pub fn find(
+        &mut self,
+        task: &Task<'_>,
+        partial: &Partial,
+        lines: usize,
+        pkg: Pkg,
+    ) -> Result<(), Refusal>
+        ensures { IfErr result (λ e. e ≡ NoMemory) }
+    {
+        self.found.clear();
+        let Some(said) = partial.said(pkg) else {
+            return Ok(());
+        };
+        let naming = task.store.naming();
+        let mut at = naming.first(u64::from(pkg));
+        for _ in 0..self.looks_left(lines) {
+            let Some(link) = naming.link(at) else {
+                return Ok(());
+            };
+            self.looks = self.looks.saturating_add(1);
+            if self.is_wanted(task, link, pkg, said) {
+                self.found.push(link.place)?;
+            }
+            at = link.before;
+        }
+        Ok(())
+    }
+
+    /// How many were found last.
+    pub fn count(&self) -> usize {
+        self.found.len()
+    }
+
+    /// The place in the store of the one with this index.
+    pub fn place(&self, index: usize) -> Option<u32> {
+        self.found.as_slice().get(index).copied()
+    }
+
+    /// Notes that the lines of the member in a place are among the lines, of which there are so many
+    /// now.
+    pub fn take(&mut self, place: u32, lines: usize) -> Result<(), Refusal>
+        ensures { IfErr result (λ e. e ≡ NoMemory) }
+    {
+        self.taken.insert(place)?;
+        self.lines = lines;
+        Ok(())
+    }
+
+    /// Whether the line at a place stands behind those of all members that were taken.
+    pub fn is_behind(&self, at: usize) -> bool {
+        at >= self.lines
+    }
+}
