@@ -121,7 +121,8 @@ def beside(program, lines, fill, request, rounds):
             warm(session, request, budget)
             empty.append(session.resolve(request)[0])
     with filled(program, lines, fill) as session:
-        if not is_stored(session, fill[-1]):
+        # the last of what is offered may find the store full
+        if not is_stored(session, fill[-2]):
             sys.exit("what fills the store was not learnt")
         # the store is full, so nothing is learnt of it however often it is asked
         full = [session.resolve(request)[0] for _ in range(rounds)]
