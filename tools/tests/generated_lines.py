@@ -127,7 +127,8 @@ def the_most_commands_of_a_session():
 
 def budgets_in_other_words():
     """A request that meets two conflicts, as `test_resolving.py` tells of it: a budget of two serves in whatever words it
-    is told, and a budget of one is spent."""
+    is told, and a budget of one is spent. Those that stop a search come first, since an answer would spare the next ones
+    a conflict."""
     minors = [f"1.{number}.0" for number in range(4)]
     names = [f"p{number}" for number in range(1, 9)]
     needs = {minor: ["y *"] for minor in minors} | {"1.3.0": ["y >=1.0.0"]}
@@ -138,10 +139,11 @@ def budgets_in_other_words():
     asked = json.loads(resolve(*(f"{name} *" for name in names), "x *", "t ^1.0.0"))["needs"]
     rest = b'"op":"resolve","needs":' + compact(asked)
     spent, refused = '{"error":22,"name":"BudgetSpent","revision":26}', '{"refused":true,"revision":26}'
-    for text in (b'{%s,"budget":N}', b'{"budget":N,%s}', b'{"budget" : N ,%s}', b'{%s,"b\\u0075dget":N}', b'{%s,"lock":[],"budget":N}',
-                 b'{%s,"budget":1.0,"budget":N}', b'{%s,"budget":0,"budget":4294967295,"budget":N}'):
-        for budget, reply in ((b"0", spent), (b"1", spent), (b"2", refused), (b"3", refused), (b"20", refused),
-                              (b"4294967295", refused), (b"4294967296", BAD_LINE.replace(":0}", ":26}"))):
+    texts = (b'{%s,"budget":N}', b'{"budget":N,%s}', b'{"budget" : N ,%s}', b'{%s,"b\\u0075dget":N}', b'{%s,"lock":[],"budget":N}',
+             b'{%s,"budget":1.0,"budget":N}', b'{%s,"budget":0,"budget":4294967295,"budget":N}')
+    for budget, reply in ((b"0", spent), (b"1", spent), (b"2", refused), (b"3", refused), (b"20", refused),
+                          (b"4294967295", refused), (b"4294967296", BAD_LINE.replace(":0}", ":26}"))):
+        for text in texts:
             yield text.replace(b"N}", budget + b"}").replace(b"N ", budget + b" ").replace(b"N,", budget + b",") % rest, reply
     yield b"{%s}" % rest, refused
     yield b'{%s,"lock":[]}' % rest, refused

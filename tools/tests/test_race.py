@@ -109,7 +109,7 @@ class Race(unittest.TestCase):
         both, asking = [publish("a", "1.0.0"), publish("b", "1.0.0")], [LIST, resolve("b *"), resolve("b *", budget=0)]
         for line in asking:
             for _ in range(100):
-                replies, _ = self.printed(both, [line] * 200)
+                replies, _ = self.printed(both, [line] * 4000)
                 if json.loads(replies[1][-1])["place"] == 2:
                     break
             else:

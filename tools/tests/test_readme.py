@@ -1,4 +1,4 @@
-"""What README tells a reader to type can be typed, and answers what README says."""
+"""What the pages tell a reader to type can be typed, and answers what they say; and README is short, and leads on."""
 import os
 import re
 import subprocess
@@ -8,10 +8,19 @@ import unittest
 from program import PROGRAM, TOP
 
 
-def blocks():
-    """README's indented blocks, each a list of lines."""
-    with open(os.path.join(TOP, "README.md"), encoding="utf-8") as text:
-        return [re.findall("^    (.*)$", block, re.M) for block in re.findall("(?:^    .*\n)+", text.read(), re.M)]
+# how many lines README has at most
+MOST_LINES = 80
+PAGES = ["README.md", *(os.path.join("docs", page) for page in sorted(os.listdir(os.path.join(TOP, "docs"))) if page.endswith(".md"))]
+
+
+def page(name):
+    with open(os.path.join(TOP, name), encoding="utf-8") as text:
+        return text.read()
+
+
+def blocks(name="README.md"):
+    """A page's indented blocks, each a list of lines."""
+    return [re.findall("^    (.*)$", block, re.M) for block in re.findall("(?:^    .*\n)+", page(name), re.M)]
 
 
 def answers(folder, lines):
@@ -21,12 +30,27 @@ def answers(folder, lines):
     return done.stdout.splitlines(), done.returncode
 
 
+FORMATS = blocks("docs/FORMATS.md")
+
+
 class Readme(unittest.TestCase):
     def test_each_file_that_is_typed_can_be_run(self):
-        words = [line.split()[0] for block in blocks() for line in block]
+        words = [line.split()[0] for name in ("README.md", "docs/BENCHMARKS.md") for block in blocks(name) for line in block]
         files = {word for word in words if re.fullmatch(r"[a-z./_]+", word) and "/" in word}
         self.assertLessEqual({"./registryd", "./test", "bench/resolve.py", "tools/check_derivation.py"}, files)
         self.assertEqual([file for file in sorted(files) if not os.access(os.path.join(TOP, file), os.X_OK)], [])
+
+    def test_it_is_short(self):
+        self.assertLessEqual(len(page("README.md").splitlines()), MOST_LINES)
+
+    def test_each_page_that_is_named_is_there(self):
+        for name in PAGES:
+            for link in re.findall(r"\]\(([^)#]+)(?:#[^)]*)?\)", page(name)):
+                if "://" not in link:
+                    self.assertTrue(os.path.exists(os.path.join(TOP, os.path.dirname(name), link)), f"{name}: {link}")
+
+    def test_each_page_is_named(self):
+        self.assertEqual([name for name in PAGES[1:] if f"({name})" not in page("README.md")], [])
 
     def test_the_first_session(self):
         typed, told = blocks()[:2]
@@ -34,7 +58,7 @@ class Readme(unittest.TestCase):
             self.assertEqual(answers(folder, typed), (told, 0))
 
     def test_the_refusal_that_is_explained(self):
-        typed, explanation, checked = blocks()[2:5]
+        typed, explanation, checked = blocks()[3:6]
         with tempfile.TemporaryDirectory() as folder:
             (reply,), status = answers(folder, typed)
             self.assertEqual(status, 0)
@@ -43,7 +67,8 @@ class Readme(unittest.TestCase):
             self.assertEqual(answers(folder, checked), (["request 3: the refusal at revision 2 follows"], 0))
 
     def test_the_race(self):
-        typed, told = blocks()[5:7]
+        at = next(at for at, block in enumerate(FORMATS) if "./registryd race" in block[-1])
+        typed, told = FORMATS[at:at + 2]
         # either file may be first
         turned = [told[1].replace('"seat":2', '"seat":1'), told[0].replace('"seat":1', '"seat":2'), *told[2:]]
         with tempfile.TemporaryDirectory() as folder:

@@ -10,7 +10,7 @@ use Rattle.registry.specs.Step as registry
 use Rattle.registry.specs.Step.{Change, Publish, Unyank, Yank, publish, set_yanked, with_versions}
 use Rattle.derivations.specs.Facts.{Stands}
 use Rattle.derivations.specs.Learning.{AllStand, CauseStands, IsLearnt}
-use Rattle.derivations.specs.Shelves.{AreDeeds, Command, CommandsKeep, Deed, IsDeed, IsShelf, Learn, LearningKeeps, Shelf, StoredHold, StoredStand, after, empty, refusal, replay, stepped}
+use Rattle.derivations.specs.Laws.{CommandsKeep, LearningKeeps}
 use Rattle.derivations.specs.Stored.{all_stand, cause_is_on, is_on, last_meets, learn_refusal, published, published_if, stored_after}
 use Rattle.derivations.specs.declared.facts.Cause.{Cause}
 use Rattle.derivations.specs.declared.facts.Cause.TheVariants as cause
@@ -144,10 +144,7 @@ learned-stand (Ok x) packages before kept lines accepted is same stand =
     subst (λ (l : List (List Line)). All (AllStand packages) l) (sym is) (learning-keeps packages before lines accepted stand)
 learned-stand (Err e) packages before kept lines accepted is same stand = subst (λ (l : List (List Line)). All (AllStand packages) l) (sym same) stand
 
--- ---- every list of deeds
-
-holding : (packages : Packages) (members : List (List Line)) → All IsLearnt members → All (AllStand packages) members → IsShelf (record { packages = packages; stored = members })
-holding packages members learnt stand = record { learnt = learnt; stand = stand; hold = λ k d lt. learnt_conclusion packages _ (learnt k d lt) (stand k d lt) }
+-- ---- what is learnt
 
 pub learnt_after : (packages : Packages) (change : Change) (members : List (List Line)) → All IsLearnt members → All IsLearnt (stored_after packages change members)
 unfolding stored_after published
@@ -158,51 +155,3 @@ learnt_after packages (Publish name version needs) members learnt = by (number_o
     by (Some p) = All-filter (λ (lines : List Line). not (is_on p (last_meets packages p) lines)) IsLearnt members learnt
 learnt_after packages (Yank name version) members learnt = learnt
 learnt_after packages (Unyank name version) members learnt = learnt
-
-pub IsShelf-after : (shelf : Shelf) (deed : Deed) → IsDeed deed → refusal shelf deed ≡ None → IsShelf shelf → IsShelf (after shelf deed)
-unfolding refusal after
-IsShelf-after shelf (Command change) is accepted s =
-    holding (registry.after shelf.packages change) (stored_after (registry.after shelf.packages change) change shelf.stored)
-    (learnt_after (registry.after shelf.packages change) change shelf.stored s.learnt)
-    (commands-keep shelf.packages change shelf.stored accepted s.stand)
-IsShelf-after shelf (Learn lines) is accepted s =
-    holding shelf.packages (shelf.stored ++ lines ∷ []) (All-push IsLearnt shelf.stored lines s.learnt is) (learning-keeps shelf.packages shelf.stored lines accepted s.stand)
-
-is_none-from : {A : Type 0} (o : Option A) → is_none o ≡ true → o ≡ None
-is_none-from None e = refl
-is_none-from (Some x) e = absurd (true≢false (sym e))
-
-pub IsShelf-stepped : (shelf : Shelf) (deed : Deed) → IsDeed deed → IsShelf shelf → IsShelf (stepped shelf deed)
-unfolding stepped
-IsShelf-stepped shelf deed is s = elim (cases_Bool (is_none (refusal shelf deed))) [
-  | inl accepted ↦ rw accepted (IsShelf-after shelf deed is (is_none-from (refusal shelf deed) accepted) s)
-  | inr refused ↦ rw refused s
-]
-
-stand-after : (shelf : Shelf) (deed : Deed) → refusal shelf deed ≡ None → All (AllStand shelf.packages) shelf.stored → All (AllStand (after shelf deed).packages) (after shelf deed).stored
-unfolding refusal after
-stand-after shelf (Command change) accepted stand = commands-keep shelf.packages change shelf.stored accepted stand
-stand-after shelf (Learn lines) accepted stand = learning-keeps shelf.packages shelf.stored lines accepted stand
-
-stand-stepped : (shelf : Shelf) (deed : Deed) → All (AllStand shelf.packages) shelf.stored → All (AllStand (stepped shelf deed).packages) (stepped shelf deed).stored
-unfolding stepped
-stand-stepped shelf deed stand = elim (cases_Bool (is_none (refusal shelf deed))) [
-  | inl accepted ↦ rw accepted (stand-after shelf deed (is_none-from (refusal shelf deed) accepted) stand)
-  | inr refused ↦ rw refused stand
-]
-
-stand-replay : (deeds : List Deed) (shelf : Shelf) → All (AllStand shelf.packages) shelf.stored → All (AllStand (replay shelf deeds).packages) (replay shelf deeds).stored
-stand-replay [] shelf stand = stand
-stand-replay (deed ∷ rest) shelf stand = stand-replay rest (stepped shelf deed) (stand-stepped shelf deed stand)
-
-pub stored-stand : StoredStand
-stored-stand deeds = stand-replay deeds empty (All-nil (AllStand []))
-
-IsShelf-replay : (deeds : List Deed) (n : ℕ) (shelf : Shelf) → AreDeeds deeds → IsShelf shelf → IsShelf (replay shelf (take n deeds))
-IsShelf-replay [] zero shelf are s = s
-IsShelf-replay [] (suc n) shelf are s = s
-IsShelf-replay (deed ∷ rest) zero shelf are s = s
-IsShelf-replay (deed ∷ rest) (suc n) shelf are s = IsShelf-replay rest n (stepped shelf deed) are.1 (IsShelf-stepped shelf deed are.0 s)
-
-pub stored-hold : StoredHold
-stored-hold deeds n are = IsShelf-replay deeds n empty are (holding [] [] (All-nil IsLearnt) (All-nil (AllStand [])))

@@ -1,12 +1,15 @@
 -- Why derivations and what is learnt can be trusted.
-use Rattle.std.specs.Prelude.{◌≡◌, ℕ, List, [], Some, slice_get}
+use Rattle.std.specs.Prelude.{◌≡◌, ℕ, List, [], ◌∷◌, ◌++◌, All, IfSome, None, Some, slice_get}
 use Rattle.terms.specs.Incompats.{Follows}
 use Rattle.registry.specs.Registry.{Packages}
 use Rattle.registry.specs.Requests.{Wanted}
+use Rattle.registry.specs.Step as registry
+use Rattle.registry.specs.Step.{Change}
 use Rattle.derivations.specs.Facts.{Holds, Stands, Terms, premise_terms}
 use Rattle.derivations.specs.Derivations.{AreDerived, IsDerivation, NoSelection, last_conclusion}
 use Rattle.derivations.specs.Known.{AreLawful, EndsAt}
 use Rattle.derivations.specs.Learning.{AllStand, IsLearnt}
+use Rattle.derivations.specs.Stored.{learn_refusal, stored_after}
 use Rattle.derivations.specs.declared.cutting.Known.{Known}
 use Rattle.derivations.specs.declared.facts.Premise.{Premise}
 use Rattle.derivations.specs.declared.line.Line.{Line}
@@ -34,3 +37,19 @@ DerivedPremisesStand = (packages : Packages) (wanted : Wanted) (earlier : List T
 -- in lines that are derived from facts the one without terms is no fact, so it ends what can be cut
 abbrev pub EmptyIsNoFact : Type 0
 EmptyIsNoFact = (packages : Packages) (wanted : Wanted) (known : List Known) (end : ℕ) (line : Known) → AreLawful packages wanted known → slice_get known end ≡ Some line → line.conclusion ≡ [] → EndsAt known end
+
+-- ---- what is stored
+
+-- what the lines conclude holds of the packages
+abbrev pub ConclusionHolds : Packages → List Line → Type 0
+ConclusionHolds packages lines = IfSome (last_conclusion lines) (Holds packages)
+
+-- what stands before an accepted command, and is stored after it, stands after it
+abbrev pub CommandsKeep : Type 0
+CommandsKeep = (packages : Packages) (change : Change) (members : List (List Line)) → registry.refusal_of packages change ≡ None
+    → All (AllStand packages) members → All (AllStand (registry.after packages change)) (stored_after (registry.after packages change) change members)
+
+-- what is learnt stands, as what was stored before
+abbrev pub LearningKeeps : Type 0
+LearningKeeps = (packages : Packages) (members : List (List Line)) (lines : List Line) → learn_refusal packages members lines ≡ None
+    → All (AllStand packages) members → All (AllStand packages) (members ++ lines ∷ [])

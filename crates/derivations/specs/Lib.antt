@@ -9,6 +9,5 @@ pub mod Offering
 pub mod Laws
 pub mod Stored
 pub mod Keys
-pub mod Shelves
 pub mod Indexes
 pub mod Slots

@@ -1,7 +1,6 @@
 // Laws: why derivations and what is learnt can be trusted.
 
-ghost use Rattle.derivations.specs.Laws.{DerivationsRefute, DerivedPremisesStand, EmptyIsNoFact, LearntHolds, PremisesHold, ResolventsHold};
-ghost use Rattle.derivations.specs.Shelves.{CommandsKeep, LearningKeeps, StoredHold, StoredStand};
+ghost use Rattle.derivations.specs.Laws.{CommandsKeep, DerivationsRefute, DerivedPremisesStand, EmptyIsNoFact, LearningKeeps, LearntHolds, PremisesHold, ResolventsHold};
 
 /// What a premise that stands says holds of the registry. It does nothing when it runs.
 pub fn premises_hold()
@@ -45,16 +44,4 @@ pub fn commands_keep()
 /// What is learnt stands, as what was stored before. It does nothing when it runs.
 pub fn learning_keeps()
     ensures { LearningKeeps }
-{}
-
-/// After every list of commands and things to be learnt, some of them refused, every stored
-/// incompatibility stands in the registry. It does nothing when it runs.
-pub fn stored_stand()
-    ensures { StoredStand }
-{}
-
-/// And at every place of such a list it holds of the registry there, where what was to be learnt was
-/// learnt by [`Learnt::new`](crate::Learnt::new). It does nothing when it runs.
-pub fn stored_hold()
-    ensures { StoredHold }
 {}

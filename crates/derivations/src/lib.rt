@@ -28,7 +28,7 @@ pub use facts::{Cause, Premise};
 pub use index::{Index, Link};
 pub use laws::{
     commands_keep, derivations_refute, derived_premises_stand, empty_is_no_fact, learning_keeps,
-    learnt_holds, premises_hold, resolvents_hold, stored_hold, stored_stand,
+    learnt_holds, premises_hold, resolvents_hold,
 };
 pub use learnt::{LINE_LIMIT, Learnt};
 pub use line::Line;

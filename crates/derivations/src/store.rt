@@ -1,6 +1,6 @@
 // The store of what was learnt.
 
-ghost use Rattle.std.specs.Prelude.{◌≡◌, ◌<◌, ◌⊎◌, ◌++◌, ◌∷◌, [], None, Some, All, Contains, IfErr, IfOk, IfSome, IsOk, OnErr, OnOk};
+ghost use Rattle.std.specs.Prelude.{◌≡◌, ◌<◌, ◌⊎◌, ◌++◌, ◌∷◌, [], None, Some, All, Contains, length, IfErr, IfOk, IfSome, IsOk, OnErr, OnOk};
 ghost use Rattle.std.specs.Option.{option_copied};
 ghost use Rattle.versions.specs.Words.{Text};
 ghost use Rattle.registry.specs.Commands.{change_of};
@@ -82,6 +82,13 @@ impl Store {
         ensures { result ≡ self.now.members }
     {
         members_in(&self.slots)
+    }
+
+    /// How many members there are.
+    pub fn len(&self) -> usize
+        ensures { result ≡ length self.now.members }
+    {
+        self.count
     }
 
     /// The member in this place, if one stands there.

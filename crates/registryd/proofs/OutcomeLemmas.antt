@@ -14,7 +14,7 @@ use Rattle.solver.specs.Outcomes.{Tells, TellsOne}
 use Rattle.explain.specs.Explanations.{explanation}
 use Rattle.chronicle.specs.Answers.{MayStop}
 use Rattle.wire.specs.Named.{IsNumbered}
-use Rattle.wire.specs.Replies.{Body, explained, no_selection, refused, selected}
+use Rattle.wire.specs.Replies.{explained, no_selection, refused, selected}
 use Rattle.wire.specs.declared.by_name.NamedLine.{NamedLine}
 use Rattle.registryd.specs.Outcomes.{IsAnswer, IsRefuted, TellsFound, TellsNone, TellsSpent}
 

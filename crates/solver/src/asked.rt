@@ -7,9 +7,9 @@ ghost use Rattle.versions.specs.declared.refusal.Refusal.TheVariants.{NoMemory};
 
 use crate::task::Task;
 use derivations::Link;
-use partial::Partial;
+use partial::{Partial, Standing};
 use std::alloc::Global;
-use terms::{Incompat, Pkg, Relation, Term, VSet, relation};
+use terms::{Incompat, Pkg, VSet};
 use versions::Refusal;
 
 /// The most members that are asked when something was settled of a package: the newest that name it.
@@ -21,6 +21,8 @@ const LOOKS_A_LINE: usize = 16;
 /// Which members of the store a search asked and used.
 #[derive(Drop)]
 pub(crate) struct Asked {
+    /// Packages that no member names.
+    unnamed: VSet,
     /// The members that were found last, by their places in the store, newest first.
     found: Vec<u32>,
     /// Those whose lines are among the lines of the search.
@@ -37,23 +39,21 @@ fn most_looks(lines: usize) -> usize {
     lines.saturating_mul(LOOKS_A_LINE).saturating_add(NEWEST)
 }
 
-/// Whether something may follow from a conclusion once this is said of a package that it names: its
-/// term there is satisfied, or is the only one and still open. Else the term is contradicted, or is the
-/// one that is left, and then the member acted when its last other term was satisfied.
-fn may_act(conclusion: &Incompat, pkg: Pkg, said: &Term) -> bool {
-    match conclusion.term_on(pkg) {
-        None => false,
-        Some(term) => match relation(said, term) {
-            Relation::Satisfies => true,
-            Relation::Contradicts => false,
-            Relation::Inconclusive => conclusion.terms().len() == 1,
-        },
+/// Whether a member is to be used now: its conclusion is satisfied, or what follows from it is of a
+/// package of which something is said already. Of another package nothing is wanted yet, and the
+/// member is asked again once something is said of it.
+fn is_acting(conclusion: &Incompat, partial: &Partial) -> bool {
+    match partial.relation(conclusion) {
+        Standing::Other => false,
+        Standing::Almost(left) => partial.said(left).is_some(),
+        Standing::Satisfied => true,
     }
 }
 
 impl Asked {
     pub fn new(alloc: Global) -> Asked {
         Asked {
+            unnamed: VSet::new(alloc),
             found: Vec::new(alloc),
             taken: VSet::new(alloc),
             lines: 0,
@@ -61,15 +61,14 @@ impl Asked {
         }
     }
 
-    /// Whether the member of a link is to be used, where the link stands under a package of which this
-    /// is said.
-    fn is_wanted(&self, task: &Task<'_>, link: Link, pkg: Pkg, said: &Term) -> bool {
+    /// Whether the member of a link is to be used, where the link stands under this package's number.
+    fn is_wanted(&self, task: &Task<'_>, partial: &Partial, link: Link, pkg: Pkg) -> bool {
         if link.number != u64::from(pkg) || self.taken.has(link.place) {
             return false;
         }
         match task.store.member(link.place) {
             None => false,
-            Some(member) => may_act(member.conclusion(), pkg, said),
+            Some(member) => is_acting(member.conclusion(), partial),
         }
     }
 
@@ -90,17 +89,21 @@ impl Asked {
         ensures { IfErr result (λ e. e ≡ NoMemory) }
     {
         self.found.clear();
-        let Some(said) = partial.said(pkg) else {
+        if self.unnamed.has(pkg) {
             return Ok(());
-        };
+        }
         let naming = task.store.naming();
         let mut at = naming.first(u64::from(pkg));
+        if at == 0 {
+            self.unnamed.insert(pkg)?;
+            return Ok(());
+        }
         for _ in 0..self.looks_left(lines) {
             let Some(link) = naming.link(at) else {
                 return Ok(());
             };
             self.looks = self.looks.saturating_add(1);
-            if self.is_wanted(task, link, pkg, said) {
+            if self.is_wanted(task, partial, link, pkg) {
                 self.found.push(link.place)?;
             }
             at = link.before;

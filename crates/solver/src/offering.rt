@@ -5,16 +5,44 @@ ghost use Rattle.derivations.specs.Known.{AreLawful, AreOrdered};
 ghost use Rattle.derivations.specs.Learning.{AllStand};
 
 use crate::task::Task;
-use derivations::{Known, Learnt, STORE_LIMIT, Store, offers};
+use derivations::{Cause, Known, Learnt, Reason, STORE_LIMIT, offers};
 use versions::Refusal;
 
-/// Whether the store is full. It looks at each member.
-fn is_full(store: &Store) -> bool {
-    let mut count: usize = 0;
-    for _member in store.members() {
-        count = count.saturating_add(1);
+/// Whether the line at a place is a fact of the request.
+fn is_asked(known: &[Known], place: usize) -> bool {
+    match known.get(place) {
+        None => false,
+        Some(line) => match &line.reason {
+            Reason::Fact(Cause::Premise(_)) | Reason::Resolved(_, _, _) => false,
+            Reason::Fact(_) => true,
+        },
     }
-    count >= STORE_LIMIT
+}
+
+/// The places of the two lines from which the one at a place follows.
+fn causes_at(known: &[Known], place: usize) -> Option<(usize, usize)> {
+    match &known.get(place)?.reason {
+        Reason::Fact(_) => None,
+        Reason::Resolved(first, second, _) => Some((*first, *second)),
+    }
+}
+
+/// The line from which a refusal follows by what the request says: on the way from the last conflict to
+/// the refusal, the last one before a fact of the request. Where there is no such fact it is the line of
+/// the refusal, of which nothing may be learnt.
+fn source_of(known: &[Known], end: usize) -> usize {
+    let mut source = end;
+    let mut at = end;
+    for _ in 0..known.len() {
+        let Some((first, second)) = causes_at(known, at) else {
+            return source;
+        };
+        if is_asked(known, second) {
+            source = first;
+        }
+        at = first;
+    }
+    source
 }
 
 /// Whether the line at a place, if there is one, says what the store doesn't.
@@ -22,13 +50,46 @@ fn is_new(task: &Task<'_>, known: &[Known], place: usize) -> bool {
     place < known.len() && !task.store.has(&known[place].conclusion)
 }
 
-/// Those of the places at which a line says what the store doesn't; none where it is full. The others
-/// it would refuse.
-fn new_places(task: &Task<'_>, known: &[Known], places: &[usize]) -> Result<Vec<usize>, Refusal>
+/// Whether a line at one of these places says what the one at a place does.
+fn is_said(known: &[Known], places: &[usize], at: usize) -> bool {
+    for place in places {
+        if *place < known.len()
+            && at < known.len()
+            && known[*place].conclusion.is_same(&known[at].conclusion)
+        {
+            return true;
+        }
+    }
+    false
+}
+
+/// The place of the line from which a refusal follows, where it says what neither the store does nor a
+/// line at one of these places.
+fn new_source(
+    task: &Task<'_>,
+    known: &[Known],
+    places: &[usize],
+    end: Option<usize>,
+) -> Option<usize> {
+    let source = source_of(known, end?);
+    if is_said(known, places, source) || !is_new(task, known, source) {
+        return None;
+    }
+    Some(source)
+}
+
+/// Those of the places at which a line says what the store doesn't, and that from which a refusal
+/// follows; none where the store is full. The others it would refuse.
+fn new_places(
+    task: &Task<'_>,
+    known: &[Known],
+    places: &[usize],
+    end: Option<usize>,
+) -> Result<Vec<usize>, Refusal>
     ensures { IfErr result (λ e. e ≡ Refusal.NoMemory) }
 {
     let mut wanted = Vec::new(task.alloc);
-    if places.is_empty() || is_full(task.store) {
+    if (places.is_empty() && end.is_none()) || task.store.len() >= STORE_LIMIT {
         return Ok(wanted);
     }
     for place in places {
@@ -36,27 +97,40 @@ fn new_places(task: &Task<'_>, known: &[Known], places: &[usize]) -> Result<Vec<
             wanted.push(*place)?;
         }
     }
+    if let Some(source) = new_source(task, known, places, end) {
+        wanted.push(source)?;
+    }
     Ok(wanted)
 }
 
-/// What may be learnt of the lines at these places that the store doesn't have.
-fn find_offers(task: &Task<'_>, known: &[Known], places: &[usize]) -> Result<Vec<Learnt>, Refusal>
+/// What may be learnt of the lines at these places and of a refusal that the store doesn't have.
+fn find_offers(
+    task: &Task<'_>,
+    known: &[Known],
+    places: &[usize],
+    end: Option<usize>,
+) -> Result<Vec<Learnt>, Refusal>
     requires lawful { AreLawful task.now.registry.now.packages task.now.request.now known.now }
     requires ordered { AreOrdered known.now }
     ensures { IfOk result (λ offered. All (AllStand task.now.registry.now.packages) offered.items) }
 {
-    let wanted = new_places(task, known, places)?;
+    let wanted = new_places(task, known, places, end)?;
     Ok(offers(task.alloc, known, &wanted)?)
 }
 
-/// What a search offers of the lines at these places, to which conflicts led. An answer doesn't depend
-/// on memory for it: where that is wanting, nothing is offered.
-pub(crate) fn offered_of(task: &Task<'_>, known: &[Known], places: &[usize]) -> Vec<Learnt>
+/// What a search offers of the lines at these places, and of the refusal in which it ended, if it did.
+/// An answer doesn't depend on memory for it: where that is wanting, nothing is offered.
+pub(crate) fn offered_of(
+    task: &Task<'_>,
+    known: &[Known],
+    places: &[usize],
+    end: Option<usize>,
+) -> Vec<Learnt>
     requires lawful { AreLawful task.now.registry.now.packages task.now.request.now known.now }
     requires ordered { AreOrdered known.now }
     ensures { All (AllStand task.now.registry.now.packages) result.items }
 {
-    match find_offers(task, known, places) {
+    match find_offers(task, known, places, end) {
         Ok(offered) => offered,
         Err(_refusal) => Vec::new(task.alloc),
     }

@@ -83,7 +83,7 @@ fn tell(
     Ok(named_all(alloc, registry, &list)?)
 }
 
-/// What a search that ended answers, with what it offers of the lines that conflicts led to.
+/// What a search that ended answers, with what it offers of the lines at these places and of a refusal.
 fn outcome_of(
     task: &Task<'_>,
     ended: Ended,
@@ -97,11 +97,11 @@ fn outcome_of(
     match ended {
         Ended::Selected(list) => {
             let pairs = tell(task.alloc, task.registry, list)?;
-            let offered = offered_of(task, &known, learnt);
+            let offered = offered_of(task, &known, learnt, None);
             Ok(Outcome::Selection(pairs, offered))
         }
         Ended::Refused(end) => {
-            let offered = offered_of(task, &known, learnt);
+            let offered = offered_of(task, &known, learnt, Some(end));
             let derivation = cut(task.alloc, known, end)?;
             Ok(Outcome::Refused(derivation, offered))
         }

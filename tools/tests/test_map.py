@@ -1,0 +1,137 @@
+"""docs/MAP.md names what there is: each file, and in it each function, definition, proof and test. docs/SOLVER.md names each
+file of the search, and docs/THEOREMS.md definitions that there are."""
+import glob
+import os
+import re
+import unittest
+
+from program import TOP
+
+MAP = os.path.join(TOP, "docs", "MAP.md")
+LINK = re.compile(r"\[`([^`]+)`\]\(([^)#]+)\)")
+TABLE = re.compile(r"(?<!\[)`([\w/]+\.rows)`")
+# where the columns behind the rule lead
+COLUMNS = (("function", r"crates/\w+/src/.+\.rt"), ("definition", r"crates/\w+/specs/.+\.antt"),
+           ("proof", r"crates/\w+/proofs/.+"), ("test", r"(tools/tests|bench/tests)/.+\.py|crates/\w+/src/tests\.rt"))
+
+
+def read(path):
+    with open(path, encoding="utf-8") as text:
+        return text.read()
+
+
+def rules(text):
+    """The lines of the map: the rule, and a cell for each column."""
+    rows = [[cell.strip() for cell in line.strip("|").split(" | ")] for line in text.splitlines() if line.startswith("| ")]
+    return [row for row in rows if row[0] != "Rule"]
+
+
+def declares(text, path, name):
+    """Whether a source declares a name; of `Type::method` the method, within that type."""
+    of, _, last = name.rpartition("::")
+    last = re.escape(last)
+    if path.endswith(".rt"):
+        if of and not re.search(rf"^(?:impl\b[^\n]*\b{of}\b|pub (?:enum|struct|trait) {of}\b)", text, re.M):
+            return False
+        return bool(re.search(rf"\b(?:fn|struct|enum|trait|const) {last}\b", text))
+    if path.endswith(".py"):
+        return bool(re.search(rf"^ *(?:def|class) {last}\b", text, re.M))
+    # a definition or a lemma begins a line, behind words like `abbrev pub`
+    return bool(re.search(rf"^(?:[a-z]+ )*{last}(?=[ :])", text, re.M))
+
+
+def fault_of(link, pattern):
+    """What is wrong with a link, or nothing."""
+    name, target = link
+    path = os.path.normpath(os.path.join("docs", target))
+    whole = os.path.join(TOP, path)
+    if not os.path.exists(whole):
+        return f"{target} is not there"
+    if not re.fullmatch(pattern, path):
+        return f"{target} stands in the wrong column"
+    if os.path.isdir(whole):
+        # what the prover was told of one function
+        return None if os.path.basename(path) == name.rpartition("::")[2] else f"{target} is not of {name}"
+    return None if name == os.path.basename(path) or declares(read(whole), path, name) else f"{target} has no {name}"
+
+
+def told_at(link):
+    """The folder of what the prover was told at a function."""
+    name, target = link
+    return os.path.normpath(os.path.join(TOP, "docs", target.replace("/src/", "/proofs/").removesuffix(".rt"),
+                                         name.replace("::", os.sep)))
+
+
+def faults(text):
+    """What is wrong with a map, rule by rule."""
+    for row in rules(text):
+        if len(row) != 1 + len(COLUMNS):
+            yield f"{row[0]}: {len(row)} columns"
+            continue
+        for (column, pattern), cell in zip(COLUMNS, row[1:]):
+            found = [fault_of(link, pattern) for link in LINK.findall(cell)]
+            tables = TABLE.findall(cell)
+            found += [f"no table {table} under rows" for table in tables
+                      if not glob.glob(os.path.join(TOP, "rows", "**", table), recursive=True)]
+            if not (LINK.findall(cell) or tables or column == "proof" and cell == "alone"):
+                found.append(f"no {column}")
+            yield from (f"{row[0]}: {fault}" for fault in found if fault)
+        if row[3] == "alone":
+            yield from (f"{row[0]}: {link[0]} is not alone" for link in LINK.findall(row[1]) if os.path.isdir(told_at(link)))
+
+
+class Map(unittest.TestCase):
+    def test_all_that_it_names_is_there(self):
+        self.assertEqual(list(faults(read(MAP))), [])
+
+    def test_each_rule_stands_once(self):
+        named = [row[0] for row in rules(read(MAP))]
+        self.assertEqual(len(named), len(set(named)))
+        self.assertGreater(len(named), 60)
+
+    def test_each_refusal_is_named(self):
+        listed = re.findall(r"^\| (\d+) \| \w+ \|", read(os.path.join(TOP, "docs", "REGISTRY.md")), re.M)
+        named = re.findall(r"^\| Refusals? ([\d, ]+(?:and \d+)?)", read(MAP), re.M)
+        self.assertEqual([number for one in named for number in re.findall(r"\d+", one)], listed)
+
+    def test_a_wrong_line_is_told(self):
+        good = [f"[`{name}`](../{path})" for name, path in (
+            ("order", "crates/versions/src/precedence.rt"), ("precedence", "crates/versions/specs/Words.antt"),
+            ("order", "crates/versions/proofs/precedence/order"), ("test_race.py", "tools/tests/test_race.py"))]
+        self.assertEqual(list(faults("| a | " + " | ".join(good) + " |")), [])
+        read = good[0].replace("order", "refusal_of").replace("precedence.rt", "faults.rt")
+        self.assertEqual(list(faults("| a | " + " | ".join([read, good[1], "alone", "`registry.rows`"]) + " |")), [])
+        for place, wrong in ((0, good[0].replace("order", "disorder")), (0, good[0].replace("precedence.rt", "nothing.rt")),
+                             (0, good[1]), (0, "order"), (1, good[1].replace("[`p", "[`q")), (1, good[0]),
+                             (2, good[2].replace("order)", "other)")), (2, ""), (3, good[3].replace("race", "walk")),
+                             (3, "`nothing.rows`"), (3, "alone")):
+            with self.subTest(wrong):
+                row = good[:place] + [wrong] + good[place + 1:]
+                self.assertEqual(len(list(faults("| a | " + " | ".join(row) + " |"))), 1)
+        self.assertEqual(len(list(faults("| a | " + " | ".join(good[:3]) + " |"))), 1)
+
+    def test_what_was_told_is_not_left_out(self):
+        row = [f"[`{name}`](../{path})" for name, path in (
+            ("order", "crates/versions/src/precedence.rt"), ("precedence", "crates/versions/specs/Words.antt"))]
+        (fault,) = faults("| a | " + " | ".join([*row, "alone", "`registry.rows`"]) + " |")
+        self.assertEqual(fault, "a: order is not alone")
+
+
+class Solver(unittest.TestCase):
+    def test_each_file_of_the_search_is_named(self):
+        there = {os.path.basename(path) for path in glob.glob(os.path.join(TOP, "crates", "solver", "src", "*.rt"))}
+        named = set(re.findall(r"`(\w+\.rt)`", read(os.path.join(TOP, "docs", "SOLVER.md"))))
+        self.assertEqual(there - {"lib.rt"}, named)
+
+
+class Words(unittest.TestCase):
+    def test_each_word_is_defined_where_it_is_said_to_be(self):
+        part = read(os.path.join(TOP, "docs", "THEOREMS.md")).partition("## Words\n")[2].partition("\n## ")[0]
+        rows = [[cell.strip() for cell in line.strip("|").split(" | ")] for line in part.splitlines() if line.startswith("| `")]
+        self.assertGreater(len(rows), 40)
+        for words, _, where in rows:
+            files = re.findall(r"`([\w/]+\.antt)`", where)
+            # a file without a folder stands beside the first one
+            paths = [os.path.join(TOP, "crates", os.path.dirname(files[0]) * ("/" not in file), file) for file in files]
+            for word in re.findall(r"`(\w+)`", words):
+                self.assertTrue(any(declares(read(path), path, word) for path in paths), f"{word} is not in {where}")
