@@ -30,7 +30,7 @@ def _line(conclusion):
     return {"conclusion": conclusion, "causes": [_premise(1, 2, [0]), _premise(2, 3, [0])], "pivot": 2}
 
 
-@rows_of("high")
+@rows_of("search")
 def at_most_256_lines_are_learnt():
     follows = _line([[1, {"in": [0]}], [3, {"not": [0]}]])
     other = _line([[1, {"in": [0]}], [3, {"not": [1]}]])
@@ -43,7 +43,7 @@ def at_most_256_lines_are_learnt():
 
 # ---- walk
 
-@rows_of("high")
+@rows_of("search")
 def a_long_chain_is_walked():
     count, last = 10_000, "p9999"
     chain = [(f"p{n}", "1.0.0", f"p{n + 1} ^1.0.0") for n in range(count - 1)]

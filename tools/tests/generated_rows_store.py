@@ -35,7 +35,7 @@ def _chain():
     return [_publish(0, "a", "1.0.0", "b ^1.0.0"), _publish(0, "b", "1.0.0", "c ^1.0.0"), _publish(0, "c", "1.0.0")]
 
 
-@rows_of("high")
+@rows_of("search")
 def at_most_4096_are_stored():
     rows = _chain()
     rows += [_call("learn", k, 0, k) for k in range(1, LIMIT + 1)]
@@ -78,7 +78,7 @@ def a_seat_stores_at_most_4096():
         {"of": "chronicle", "call": "steps", "capacity": 8192, "seats": [1, 2], "steps": steps, "gives": gives}]
 
 
-@rows_of("high")
+@rows_of("search")
 def members_go_and_come_one_by_one():
     # each member rests on a package of its own, 2k + 2, which package 2k + 1 needs
     def lines(k, *within):
@@ -172,7 +172,7 @@ def _random_rows(rng, count):
     return [*rows, _store_row("members", store.members())]
 
 
-@rows_of("high")
+@rows_of("search")
 def random_calls_of_a_store():
     for seed in range(40):
         yield f"Random calls {seed}", _random_rows(random.Random(seed), 150)

@@ -44,7 +44,7 @@ def _cut_at_each_byte(text, of, call, **given):
 
 # ---- explanations
 
-@rows_of("high")
+@rows_of("texts")
 def an_explanation_is_cut_at_each_byte():
     """The text of the first table of explain.rows."""
     yield "after a failed write a beginning of the explanation stands", [
@@ -53,7 +53,7 @@ def an_explanation_is_cut_at_each_byte():
 
 # ---- lines
 
-@rows_of("high")
+@rows_of("texts")
 def lines_round_the_limit():
     """This project's limit: a line has at most 1,048,576 bytes, and a longer one is given up alone."""
     rows = []
@@ -65,7 +65,7 @@ def lines_round_the_limit():
     yield "a line over the limit is given up alone, in whatever pieces it comes", rows
 
 
-@rows_of("high")
+@rows_of("texts")
 def last_lines_round_the_limit():
     """As above, without a line feed at the end."""
     rows = []
@@ -76,7 +76,7 @@ def last_lines_round_the_limit():
     yield "a last line over the limit is given up", rows
 
 
-@rows_of("high")
+@rows_of("texts")
 def texts_round_the_room_of_an_outbox():
     """This project's limit: 65,536 bytes wait, and a longer text is written in its place."""
     yield "an outbox writes when its room is full", [
@@ -106,7 +106,7 @@ def a_row_of_257_entries():
         serials[seat] += 1
         steps.append([seat, "publish", {"name": f"p{place}", "version": "1.0.0", "needs": []}])
         answers.append([place, place])
-        journal.append([seat, serials[seat], ["publish", f"p{place}", "1.0.0"]])
+        journal.append([seat, serials[seat], ["publish", f"p{place}", "1.0.0", []]])
     more = {"name": "q", "version": "1.0.0", "needs": []}
     yield "257 commands of two seats fill a row, and both have one journal", [
         _row("chronicle", "steps", [*answers, {"refused": 10}, {"refused": 10}, journal, journal, 257, None, 257, None],
@@ -126,7 +126,7 @@ def _long_version(number):
     return f"{number}.0.0-{number:0240}x"
 
 
-@rows_of("high")
+@rows_of("texts")
 def a_long_selection():
     """docs/FORMATS.md, Reply lines: 270 versions of some 250 bytes, more than an outbox holds."""
     lock = [[f"a{number}", _long_version(number)] for number in range(270)]
@@ -136,7 +136,7 @@ def a_long_selection():
             tells="selection", lock=lock, revision=270)]
 
 
-@rows_of("high")
+@rows_of("texts")
 def a_long_listing():
     """docs/FORMATS.md, Reply lines: one package with 270 versions of some 250 bytes, more than an outbox holds."""
     versions = [_long_version(number) for number in range(270)]
@@ -147,7 +147,7 @@ def a_long_listing():
             tells="listing", revision=270)]
 
 
-@rows_of("high")
+@rows_of("texts")
 def a_journal_is_cut_at_each_byte():
     """docs/FORMATS.md, The journal's file: the file of the commands in wire.rows."""
     commands = [
@@ -167,7 +167,7 @@ def a_journal_is_cut_at_each_byte():
         text, "wire", "save_journal", commands=commands, times=1)
 
 
-@rows_of("high")
+@rows_of("texts")
 def a_long_journal():
     """docs/FORMATS.md, The journal's file: 2,000 commands, more than an outbox holds."""
     line = '{"name":"a","op":"yank","version":"1.0.0-rc.1"}\n'

@@ -8,7 +8,7 @@ from program import TOP
 # These answer a refusal and take no memory.
 TAKES_NONE = {"registry::Registry::check", "derivations::Store::check", "book::Replica::check", "book::Replica::judge"}
 # A library of tests, and what the probes stand on.
-NO_PART = {"rows", "rims"}
+NO_PART = {"rows", "rows_learnt", "rims"}
 TAKES_MEMORY = re.compile(r"-> (?:io::)?Result<")
 
 

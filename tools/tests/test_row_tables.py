@@ -1,5 +1,5 @@
-"""Every row under rows/low and rows/high, and every generated one, is asked of the program that makes its call; and
-the reader of rows tells what it cannot use."""
+"""Every row under rows/low, rows/texts, rows/search and rows/high, and every generated one, is asked of the program
+that makes its call; and the reader of rows tells what it cannot use."""
 import os
 import stat
 import tempfile
@@ -30,8 +30,8 @@ class Rows(unittest.TestCase):
         for folder in row_tables.PROGRAMS:
             below = os.path.join(row_tables.ROWS, folder)
             asked = [os.path.basename(path) for path, _ in row_tables.files(folder)]
-            self.assertEqual(asked, sorted(os.listdir(below)) if os.path.isdir(below) else [])
-        self.assertTrue(row_tables.files("low"))
+            self.assertEqual(asked, sorted(os.listdir(below)))
+            self.assertTrue(asked)
 
 
 def of_file(folder, path, name):

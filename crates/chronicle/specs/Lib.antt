@@ -1,5 +1,6 @@
 -- The definitions that contracts cite.
 pub mod Cells
+pub mod Offers
 pub mod Journals
 pub mod Answers
 pub mod Seats

@@ -3,11 +3,10 @@
 ghost use Rattle.std.specs.Prelude.{◌≡◌, None};
 ghost use Rattle.book.specs.Items.{refusal};
 
-use crate::item_texts::{item_at, item_told};
-use crate::store_calls::{all_stand, count, members_text};
-use crate::texts::told;
+use crate::item_texts::{ItemText, item_at};
 use book::{Item, Replica};
 use rows::{Answer, Unread, member};
+use rows_learnt::{StoreText, all_stand, count};
 use serde_json::Value;
 use std::alloc::Global;
 
@@ -31,7 +30,7 @@ fn about(alloc: Global, replica: &Replica, name: &str, row: &Value) -> Result<An
         "check" => check(alloc, replica, row),
         "judge" => judge(alloc, replica, row),
         "shared" => shared(alloc, replica, row),
-        "stored" => Ok(Answer::Text(members_text(alloc, replica.store())?)),
+        "stored" => stored(alloc, replica),
         "standing" => Ok(standing(replica)),
         _ => Err(Unread::Row),
     }
@@ -58,42 +57,56 @@ fn judge(alloc: Global, replica: &Replica, row: &Value) -> Result<Answer, Unread
     Ok(Answer::None)
 }
 
+fn stored(alloc: Global, replica: &Replica) -> Result<Answer, Unread> {
+    Ok(Answer::Text(format!(in alloc; "{}", StoreText(replica.store()))?))
+}
+
 fn shared(alloc: Global, replica: &Replica, row: &Value) -> Result<Answer, Unread> {
-    let copy = replica.shared(&item_at(alloc, row)?)?;
-    told(alloc, &item_told(alloc, &copy)?)
+    shared_told(alloc, &replica.shared(&item_at(alloc, row)?)?)
+}
+
+fn shared_told(alloc: Global, copy: &Item) -> Result<Answer, Unread> {
+    Ok(Answer::Text(format!(in alloc; "{}", ItemText(copy))?))
 }
 
 fn reserve(alloc: Global, replica: &mut Replica, row: &Value) -> Result<Answer, Unread> {
-    let item = item_at(alloc, row)?;
-    replica.check(&item)?;
-    replica.reserve(&item)?;
+    reserved(replica, &item_at(alloc, row)?)
+}
+
+fn reserved(replica: &mut Replica, item: &Item) -> Result<Answer, Unread> {
+    replica.check(item)?;
+    replica.reserve(item)?;
     Ok(standing(replica))
 }
 
 /// Carries out an item for which no room was made.
 fn apply(alloc: Global, replica: &mut Replica, row: &Value) -> Result<Answer, Unread> {
-    let item = item_at(alloc, row)?;
-    replica.check(&item)?;
-    let mine = replica.shared(&item)?;
-    applied(replica, &item, mine)
+    applied(replica, &item_at(alloc, row)?)
+}
+
+fn applied(replica: &mut Replica, item: &Item) -> Result<Answer, Unread> {
+    replica.check(item)?;
+    carried_out(replica, item)
 }
 
 /// Carries out an item by all steps.
 fn enter(alloc: Global, replica: &mut Replica, row: &Value) -> Result<Answer, Unread> {
-    let item = item_at(alloc, row)?;
-    replica.check(&item)?;
-    replica.reserve(&item)?;
-    let mine = replica.shared(&item)?;
-    applied(replica, &item, mine)
+    entered(replica, &item_at(alloc, row)?)
 }
 
-fn applied(replica: &mut Replica, item: &Item, mine: Item) -> Result<Answer, Unread>
-    requires same { mine ≡ item.now }
-    requires accepted { refusal replica.old.book item.now ≡ None }
+fn entered(replica: &mut Replica, item: &Item) -> Result<Answer, Unread> {
+    replica.check(item)?;
+    replica.reserve(item)?;
+    carried_out(replica, item)
+}
+
+fn carried_out(replica: &mut Replica, item: &Item) -> Result<Answer, Unread>
+    requires { refusal replica.old.book item.now ≡ None }
 {
     if replica.registry().revision() == u64::MAX {
         return Ok(Answer::Skipped);
     }
+    let mine = replica.shared(item)?;
     replica.apply(item, mine)?;
     Ok(standing(replica))
 }

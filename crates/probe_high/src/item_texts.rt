@@ -1,12 +1,9 @@
 //! Items of rows and of answers.
 
-use crate::command_texts::command_told;
-use crate::learnt_calls::learnt_at;
-use crate::texts::value_of;
 use book::Item;
-use derivations::Learnt;
-use rows::{Unread, command_of, text_at, write_terms};
-use serde_json::{Value, json};
+use rows::{CommandText, Unread, command_of, text_at, write_terms};
+use rows_learnt::learnt_at;
+use serde_json::Value;
 use std::alloc::Global;
 use std::fmt;
 
@@ -18,25 +15,19 @@ pub fn item_at(alloc: Global, row: &Value) -> Result<Item, Unread> {
     }
 }
 
-/// A command without its needs, or what was learnt by what it concludes, as `["learn",[[1,{"in":[0]}]]]`.
-pub fn item_told(alloc: Global, item: &Item) -> Result<Value, Unread> {
-    match item {
-        Item::Command(command) => command_told(alloc, command),
-        Item::Learnt(learnt) => learnt_told(alloc, learnt),
-    }
-}
-
-fn learnt_told(alloc: Global, learnt: &Learnt) -> Result<Value, Unread> {
-    let text = format!(in alloc; "{}", ConclusionText(learnt))?;
-    let concluded = value_of(alloc, text.as_str())?;
-    Ok(json!(in alloc; ["learn", concluded])?)
-}
-
+/// A command, or what was learnt by what it concludes, as `["learn",[[1,{"in":[0]}]]]`.
 #[derive(Clone, Copy)]
-struct ConclusionText<'a>(&'a Learnt);
+pub struct ItemText<'a>(pub &'a Item);
 
-impl fmt::Display for ConclusionText<'_> {
+impl fmt::Display for ItemText<'_> {
     fn fmt<W: fmt::Write>(&self, f: &mut fmt::Formatter<W>) -> fmt::Result {
-        write_terms(f, self.0.conclusion().terms())
+        match self.0 {
+            Item::Command(command) => write!(f, "{}", CommandText(command)),
+            Item::Learnt(learnt) => {
+                f.write_str("[\"learn\",")?;
+                write_terms(f, learnt.conclusion().terms())?;
+                f.write_str("]")
+            }
+        }
     }
 }

@@ -1,73 +1,82 @@
 //! Calls of the solver.
 
-use crate::line_texts::LinesText;
+use crate::outcomes::{budget_at, offered};
 use derivations::{Cause, Derivation, Learnt, Store, check};
 use registry::{Registry, Request};
-use rows::{Answer, Unread, request_at, size_at, whole, write_terms};
+use rows::{Answer, LockText, Unread, request_at, size_at};
+use rows_learnt::{LinesText, write_conclusion};
 use serde_json::Value;
 use solver::{Outcome, solve, solve_within};
 use std::alloc::{AllocError, Global};
 use std::fmt;
-use versions::{Name, Published};
+use versions::{Name, Published, Refusal};
 
+/// Each call tells something of what the request of a row is answered.
 pub fn solver_call(
     alloc: Global,
     registry: &Registry,
     name: &str,
     row: &Value,
 ) -> Result<Answer, Unread> {
-    match name {
-        "solve" => answer(alloc, registry, row),
-        "judge" => judged(alloc, registry, row),
-        "offered" => conclusions(alloc, registry, row),
-        "counts" => counts(alloc, registry, row),
-        "cited_beyond" => cited_beyond(alloc, registry, row),
-        _ => Err(Unread::Row),
-    }
+    let budget = budget_at(row)?;
+    let request = request_at(alloc, row)?;
+    let outcome = solved(alloc, registry, &request, budget)?;
+    told(alloc, registry, &request, &outcome, name, row)
 }
 
-/// What a request is answered, within the budget of conflicts that a row may give.
+/// What a request is answered, within the budget of conflicts that there may be.
 fn solved(
     alloc: Global,
     registry: &Registry,
     request: &Request,
-    row: &Value,
-) -> Result<Outcome, Unread> {
+    budget: Option<u32>,
+) -> Result<Outcome, Refusal> {
     let store = Store::new(alloc);
-    match row.get("budget") {
-        None => Ok(solve(alloc, registry, request, &store)?),
-        Some(budget) => {
-            let budget = whole(budget)?;
-            Ok(solve_within(alloc, registry, request, &store, budget)?)
-        }
+    match budget {
+        None => solve(alloc, registry, request, &store),
+        Some(budget) => solve_within(alloc, registry, request, &store, budget),
     }
 }
 
-/// What the request of a row is answered.
-fn outcome(alloc: Global, registry: &Registry, row: &Value) -> Result<Outcome, Unread> {
-    let request = request_at(alloc, row)?;
-    solved(alloc, registry, &request, row)
+fn told(
+    alloc: Global,
+    registry: &Registry,
+    request: &Request,
+    outcome: &Outcome,
+    name: &str,
+    row: &Value,
+) -> Result<Answer, Unread> {
+    match name {
+        "solve" => answer(alloc, outcome),
+        "judge" => judged(alloc, registry, request, outcome),
+        "offered" => conclusions(alloc, offered(outcome)),
+        "counts" => counts(alloc, offered(outcome)),
+        "cited_beyond" => cited_beyond(alloc, offered(outcome), row),
+        _ => Err(Unread::Row),
+    }
 }
 
 /// The whole answer: a selection or a derivation, and what is offered to be learnt.
-fn answer(alloc: Global, registry: &Registry, row: &Value) -> Result<Answer, Unread> {
-    let outcome = outcome(alloc, registry, row)?;
-    Ok(Answer::Text(format!(in alloc; "{}", OutcomeText(&outcome))?))
+fn answer(alloc: Global, outcome: &Outcome) -> Result<Answer, Unread> {
+    Ok(Answer::Text(format!(in alloc; "{}", OutcomeText(outcome))?))
 }
 
 /// The selection, or whether the derivation is one, and whether all that is offered stands.
-fn judged(alloc: Global, registry: &Registry, row: &Value) -> Result<Answer, Unread> {
-    let request = request_at(alloc, row)?;
-    let outcome = solved(alloc, registry, &request, row)?;
-    let stand = all_stand(registry, offered(&outcome));
-    match &outcome {
+fn judged(
+    alloc: Global,
+    registry: &Registry,
+    request: &Request,
+    outcome: &Outcome,
+) -> Result<Answer, Unread> {
+    let stand = all_stand(registry, offered(outcome));
+    match outcome {
         Outcome::Selection(list, _) => selected(alloc, list, stand),
-        Outcome::Refused(derivation, _) => { refused(alloc, registry, &request, derivation, stand) }
+        Outcome::Refused(derivation, _) => refused(alloc, registry, request, derivation, stand),
     }
 }
 
 fn selected(alloc: Global, list: &[(Name, Published)], stand: bool) -> Result<Answer, Unread> {
-    let listed = SelectionText(list);
+    let listed = LockText(list);
     let text = format!(in alloc; "{{\"selected\":{listed},\"offers_stand\":{stand}}}")?;
     Ok(Answer::Text(text))
 }
@@ -84,14 +93,6 @@ fn refused(
     Ok(Answer::Text(text))
 }
 
-/// What an outcome offers to be learnt.
-fn offered(outcome: &Outcome) -> &[Learnt] {
-    match outcome {
-        Outcome::Selection(_, offered) => offered,
-        Outcome::Refused(_, offered) => offered,
-    }
-}
-
 fn all_stand(registry: &Registry, offered: &[Learnt]) -> bool {
     for learnt in offered {
         if !learnt.stands(registry) {
@@ -102,27 +103,22 @@ fn all_stand(registry: &Registry, offered: &[Learnt]) -> bool {
 }
 
 /// What each that is offered says.
-fn conclusions(alloc: Global, registry: &Registry, row: &Value) -> Result<Answer, Unread> {
-    let outcome = outcome(alloc, registry, row)?;
-    let listed = ConclusionsText(offered(&outcome));
-    Ok(Answer::Text(format!(in alloc; "{listed}")?))
+fn conclusions(alloc: Global, offered: &[Learnt]) -> Result<Answer, Unread> {
+    Ok(Answer::Text(format!(in alloc; "{}", ConclusionsText(offered))?))
 }
 
 /// How many lines each that is offered has.
-fn counts(alloc: Global, registry: &Registry, row: &Value) -> Result<Answer, Unread> {
-    let outcome = outcome(alloc, registry, row)?;
-    let listed = CountsText(offered(&outcome));
-    Ok(Answer::Text(format!(in alloc; "{listed}")?))
+fn counts(alloc: Global, offered: &[Learnt]) -> Result<Answer, Unread> {
+    Ok(Answer::Text(format!(in alloc; "{}", CountsText(offered))?))
 }
 
 // ---- lines that are cited more than once
 
 /// Of the offer that takes most lines where one is counted as often as it is cited: whether these are
 /// more than a limit, and whether its lines are, each counted once.
-fn cited_beyond(alloc: Global, registry: &Registry, row: &Value) -> Result<Answer, Unread> {
+fn cited_beyond(alloc: Global, offered: &[Learnt], row: &Value) -> Result<Answer, Unread> {
     let limit = size_at(row, "limit")?;
-    let outcome = outcome(alloc, registry, row)?;
-    let (as_cited, once) = most_cited(alloc, offered(&outcome))?;
+    let (as_cited, once) = most_cited(alloc, offered)?;
     let (first, second) = (as_cited > limit, once > limit);
     Ok(Answer::Text(format!(in alloc; "[{first},{second}]")?))
 }
@@ -168,28 +164,13 @@ impl fmt::Display for OutcomeText<'_> {
     fn fmt<W: fmt::Write>(&self, f: &mut fmt::Formatter<W>) -> fmt::Result {
         match self.0 {
             Outcome::Selection(list, _) => {
-                write!(f, "{{\"selected\":{}", SelectionText(list))?;
+                write!(f, "{{\"selected\":{}", LockText(list))?;
             }
             Outcome::Refused(derivation, _) => {
                 write!(f, "{{\"derivation\":{}", LinesText(derivation.lines()))?;
             }
         }
         write!(f, ",\"offered\":{}}}", OffersText(offered(self.0)))
-    }
-}
-
-#[derive(Clone, Copy)]
-struct SelectionText<'a>(&'a [(Name, Published)]);
-
-impl fmt::Display for SelectionText<'_> {
-    fn fmt<W: fmt::Write>(&self, f: &mut fmt::Formatter<W>) -> fmt::Result {
-        let mut before = "";
-        f.write_str("[")?;
-        for (name, version) in self.0 {
-            write!(f, "{before}[{:?},{:?}]", name.text(), version.text())?;
-            before = ",";
-        }
-        f.write_str("]")
     }
 }
 
@@ -214,12 +195,11 @@ struct ConclusionsText<'a>(&'a [Learnt]);
 
 impl fmt::Display for ConclusionsText<'_> {
     fn fmt<W: fmt::Write>(&self, f: &mut fmt::Formatter<W>) -> fmt::Result {
-        let mut before = "";
+        let mut is_first = true;
         f.write_str("[")?;
         for learnt in self.0 {
-            f.write_str(before)?;
-            write_terms(f, learnt.conclusion().terms())?;
-            before = ",";
+            write_conclusion(f, learnt, is_first)?;
+            is_first = false;
         }
         f.write_str("]")
     }

@@ -1,0 +1,58 @@
+//! Calls of explain: the lines of a derivation, which need not follow.
+
+use crate::fakes::Narrow;
+use crate::texts::{Quoted, written};
+use derivations::Derivation;
+use explain::{explanation, write_lines};
+use registry::Registry;
+use rows::{Answer, Unread, request_at};
+use rows_learnt::lines_at;
+use serde_json::Value;
+use std::alloc::Global;
+use std::fmt;
+
+pub fn explain_call(
+    alloc: Global,
+    registry: &Registry,
+    name: &str,
+    row: &Value,
+) -> Result<Answer, Unread> {
+    match name {
+        "explanation" => explained(alloc, registry, row),
+        "write_lines" => lines_written(alloc, registry, row),
+        _ => Err(Unread::Row),
+    }
+}
+
+fn explained(alloc: Global, registry: &Registry, row: &Value) -> Result<Answer, Unread> {
+    let request = request_at(alloc, row)?;
+    let derivation = Derivation::new(lines_at(alloc, row)?);
+    explanation_told(alloc, &explanation(alloc, registry, &request, &derivation)?)
+}
+
+fn explanation_told(alloc: Global, lines: &[String]) -> Result<Answer, Unread> {
+    Ok(Answer::Text(format!(in alloc; "{}", ExplanationText(lines))?))
+}
+
+#[derive(Clone, Copy)]
+struct ExplanationText<'a>(&'a [String]);
+
+impl fmt::Display for ExplanationText<'_> {
+    fn fmt<W: fmt::Write>(&self, f: &mut fmt::Formatter<W>) -> fmt::Result {
+        let mut before = "";
+        f.write_str("[")?;
+        for line in self.0 {
+            write!(f, "{before}{}", Quoted(line.as_str()))?;
+            before = ",";
+        }
+        f.write_str("]")
+    }
+}
+
+fn lines_written(alloc: Global, registry: &Registry, row: &Value) -> Result<Answer, Unread> {
+    let request = request_at(alloc, row)?;
+    let derivation = Derivation::new(lines_at(alloc, row)?);
+    let mut writer = Narrow::new(alloc, row)?;
+    let outcome = write_lines(alloc, registry, &request, &derivation, &mut writer);
+    written(alloc, &writer, &outcome)
+}

@@ -1,0 +1,23 @@
+//! The program `probe_texts`: makes one call of `explain`, `lines` or `wire` for each row that it reads, and writes what
+//! the call answered.
+//!
+//! A call is guarded by what the crate offers to test what the call requires; where that does not hold, the answer
+//! says that the call was left out.
+#![tactic(auto)]
+
+mod explain_calls;
+mod fakes;
+mod lines_calls;
+mod reply_calls;
+mod session;
+mod texts;
+mod wire_calls;
+
+use rows::serve;
+use session::Session;
+use std::io;
+
+fn main(rt: HostRuntime) -> io::Result<()> {
+    let mut session = Session::new(rt.alloc());
+    serve(&rt, &mut session)
+}

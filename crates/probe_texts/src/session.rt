@@ -1,0 +1,55 @@
+//! What rows change.
+
+use crate::explain_calls::explain_call;
+use crate::lines_calls::lines_call;
+use crate::wire_calls::wire_call;
+use registry::Registry;
+use rows::{Answer, Calls, Unread, command_call};
+use rows_learnt::derivation_check;
+use serde_json::Value;
+use std::alloc::Global;
+
+/// A registry, until a row asks for a new one.
+#[derive(Drop)]
+pub struct Session {
+    registry: Registry,
+}
+
+impl Session {
+    pub fn new(alloc: Global) -> Session {
+        Session {
+            registry: Registry::new(alloc),
+        }
+    }
+}
+
+impl Calls for Session {
+    fn call(&mut self, alloc: Global, of: &str, name: &str, row: &Value) -> Result<Answer, Unread> {
+        match of {
+            "session" => anew(alloc, self),
+            "registry" => command_call(alloc, &mut self.registry, name, row),
+            _ => call_for(alloc, &self.registry, of, name, row),
+        }
+    }
+}
+
+fn anew(alloc: Global, session: &mut Session) -> Result<Answer, Unread> {
+    session.registry = Registry::new(alloc);
+    Ok(Answer::None)
+}
+
+fn call_for(
+    alloc: Global,
+    registry: &Registry,
+    of: &str,
+    name: &str,
+    row: &Value,
+) -> Result<Answer, Unread> {
+    match (of, name) {
+        ("derivation", "check") => derivation_check(alloc, registry, row),
+        ("explain", _) => explain_call(alloc, registry, name, row),
+        ("lines", _) => lines_call(alloc, name, row),
+        ("wire", _) => wire_call(alloc, registry, name, row),
+        _ => Err(Unread::Row),
+    }
+}
