@@ -173,5 +173,34 @@ def crossed():
     return resolve([["hub", "~1.1.0"], ["l", "^1"], ["r", "^1"]])
 
 
+# ---- what each version says anew
+
+VERSIONS = 1024
+
+
+def bumped(bumps, versions=VERSIONS):
+    """A package of so many versions with 64 dependencies each, and so many of them with another requirement than in the version
+    before, in turn, the one on `q` always. A request for it and for the versions of `q` that none of them admits, which is refused
+    for as many reasons as there are versions."""
+    names = ["t%02d" % number for number in range(MOST_NEEDS - 1)]
+    lines = [publish(name, (1, 0, 0), []) for name in names] + [publish("q", (major, 0, 0), []) for major in (1, 2)]
+    last = [0] * len(names)
+    for version in range(versions):
+        for step in range(bumps - 1):
+            last[(version * (bumps - 1) + step) % len(names)] = version
+        needs = [[name, ">=0.%d.%d" % (at, number)] for number, (name, at) in enumerate(zip(names, last))]
+        lines.append(publish("a", (1, version, 0), needs + [["q", ">=2.0.0, <3.%d.0" % version]]))
+    return lines, [resolve([["a", "*"], ["q", "^1"]])]
+
+
+def all_bumped(versions=VERSIONS):
+    return bumped(MOST_NEEDS, versions)
+
+
+def two_bumped(versions=VERSIONS):
+    return bumped(2, versions)
+
+
+HOSTILE = {"all bumped": all_bumped, "two bumped": two_bumped}
 SHARED = {"tower": (towers, 16), "chain": (chain, 30), "worn": (worn, 300)}
 WORKLOADS = {"lockfile": (lockfile, (100, 300, 900)), "tower": (tower, (7, 20, 60))}

@@ -11,7 +11,7 @@ sys.path.insert(0, os.path.join(os.path.dirname(BENCH), "tools", "tests"))
 from plot import svg  # noqa: E402
 from race import dealt  # noqa: E402
 from program import serve  # noqa: E402
-from workloads import SHARED, about_one, chain, crossed, dead_ends, lockfile, tower, towers, worn  # noqa: E402
+from workloads import HOSTILE, SHARED, about_one, chain, crossed, dead_ends, lockfile, tower, towers, worn  # noqa: E402
 
 
 class Workloads(unittest.TestCase):
@@ -48,6 +48,15 @@ class Workloads(unittest.TestCase):
                 found = dict(json.loads(reply)["selected"])
                 self.assertTrue(all(version == "1.0.0" for name, version in found.items() if name.startswith("d")), reply)
         self.assertIn('"refused":true', self.replies((about_one(1)[0], [crossed()]))[0])
+
+    def test_what_each_version_says_anew(self):
+        for make in HOSTILE.values():
+            lines, requests = make(70)
+            needs = [json.loads(line)["needs"] for line in lines[-70:]]
+            self.assertTrue(all(len(row) == 64 for row in needs))
+            self.assertEqual(len({json.dumps(row) for row in needs}), 70)
+            for reply in self.replies((lines, requests)):
+                self.assertIn('"refused":true', reply)
 
     def test_lines_are_dealt_out_once(self):
         lines = [str(number) for number in range(20)]

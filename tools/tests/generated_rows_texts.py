@@ -132,7 +132,7 @@ def a_long_selection():
     lock = [[f"a{number}", _long_version(number)] for number in range(270)]
     told = ",".join(f'["{name}","{version}"]' for name, version in lock)
     yield "a long selection is told whole", [
-        _row("wire", "reply_line", {"end": "done", "written": f'{{"revision":270,"selected":[{told}]}}\n'},
+        _row("replies", "reply_line", {"end": "done", "written": f'{{"revision":270,"selected":[{told}]}}\n'},
             tells="selection", lock=lock, revision=270)]
 
 
@@ -143,13 +143,13 @@ def a_long_listing():
     told = ",".join(f'["{version}",false]' for version in versions)
     yield "a long listing is told whole", [
         *_published([("a", version, []) for version in versions]),
-        _row("wire", "reply_line", {"end": "done", "written": f'{{"packages":[["a",[{told}]]],"revision":270}}\n'},
+        _row("replies", "reply_line", {"end": "done", "written": f'{{"packages":[["a",[{told}]]],"revision":270}}\n'},
             tells="listing", revision=270)]
 
 
 @rows_of("texts")
 def a_journal_is_cut_at_each_byte():
-    """docs/FORMATS.md, The journal's file: the file of the commands in wire.rows."""
+    """docs/FORMATS.md, The journal's file: the file of the commands in journals.rows."""
     commands = [
         {"op": "publish", "name": "a", "version": "1.0.0-rc.1+x",
          "needs": [["z", "^1.0.0-rc.1+y"], ["b", " >=1.2.0, <1.5.0"]]},
@@ -164,7 +164,7 @@ def a_journal_is_cut_at_each_byte():
         '{"name":"a","op":"unyank","version":"1.0.0-rc.1+z"}\n'
         'end 4\n')
     yield "after a failed write a beginning of the journal's file stands", _cut_at_each_byte(
-        text, "wire", "save_journal", commands=commands, times=1)
+        text, "journals", "save_journal", commands=commands, times=1)
 
 
 @rows_of("texts")
@@ -172,5 +172,5 @@ def a_long_journal():
     """docs/FORMATS.md, The journal's file: 2,000 commands, more than an outbox holds."""
     line = '{"name":"a","op":"yank","version":"1.0.0-rc.1"}\n'
     yield "a journal that is longer than its room is whole", [
-        _row("wire", "save_journal", {"end": "done", "written": f"registry-journal 1\n{2000 * line}end 2000\n"},
+        _row("journals", "save_journal", {"end": "done", "written": f"registry-journal 1\n{2000 * line}end 2000\n"},
             commands=[{"op": "yank", "name": "a", "version": "1.0.0-rc.1"}], times=2000)]

@@ -12,7 +12,7 @@ LINK = re.compile(r"\[`([^`]+)`\]\(([^)#]+)\)")
 TABLE = re.compile(r"(?<!\[)`([\w/]+\.rows)`")
 # where the columns behind the rule lead
 COLUMNS = (("function", r"crates/\w+/src/.+\.rt"), ("definition", r"crates/\w+/specs/.+\.antt"),
-           ("proof", r"crates/\w+/proofs/.+"), ("test", r"(tools/tests|bench/tests)/.+\.py|crates/\w+/src/tests\.rt"))
+           ("proof", r"crates/\w+/proofs/.+"), ("test", r"(tools/tests|bench/tests)/.+\.py|crates/rims/src/main\.rt"))
 
 
 def read(path):
@@ -119,7 +119,8 @@ class Map(unittest.TestCase):
 
 class Solver(unittest.TestCase):
     def test_each_file_of_the_search_is_named(self):
-        there = {os.path.basename(path) for path in glob.glob(os.path.join(TOP, "crates", "solver", "src", "*.rt"))}
+        there = {os.path.basename(path) for crate in ("solver", "heuristics")
+                 for path in glob.glob(os.path.join(TOP, "crates", crate, "src", "*.rt"))}
         named = set(re.findall(r"`(\w+\.rt)`", read(os.path.join(TOP, "docs", "SOLVER.md"))))
         self.assertEqual(there - {"lib.rt"}, named)
 

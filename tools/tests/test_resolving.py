@@ -79,6 +79,31 @@ class Resolving(unittest.TestCase):
         for budget, reply in ((2, refused(26)), (1, error(22, "BudgetSpent", 26))):
             self.check(published, (resolve(*needs, budget=budget), reply))
 
+    def premises_on(self, published, target, *needs):
+        """The versions that the premises on a target name, in the explanation of why these needs can't be met."""
+        reply = json.loads(serve([*published, resolve(*needs, explain=True)])[-1])
+        causes = [cause for line in reply["derivation"] for cause in line["causes"] if cause.get("fact") == "premise"]
+        return [(cause["need"], cause["versions"]) for cause in causes if cause["target"] == target]
+
+    def test_what_very_different_versions_have_in_common_is_found_wherever_it_stands(self):
+        # 40 versions with eight dependencies that no two versions share, and one on `q` among them, each time elsewhere
+        published = [*(publish(f"t{k}", "1.0.0") for k in range(8)), publish("q", "1.0.0"), publish("q", "2.0.0")]
+        for version in range(40):
+            needs = [f"t{k} >=0.{version}.{k}" for k in range(8)]
+            needs.insert(version % 9, "q ^2")
+            published.append(publish("a", f"1.{version}.0", needs))
+        self.assertEqual(self.premises_on(published, "q", "a *", "q ^1"), [("^2", list(range(40)))])
+
+    def test_what_very_different_versions_have_in_common_is_found_where_they_repeat_each_other(self):
+        # three versions in turn depend on the same, each such group on eight packages in its own way and on `q` in one of two
+        published = [*(publish(f"t{k}", "1.0.0") for k in range(8)), publish("q", "1.0.0"), publish("q", "2.0.0")]
+        for version in range(120):
+            group = version // 3
+            needs = [f"t{k} >=0.{group}.{k}" for k in range(8)] + ["q ^2" if group % 2 else "q >=2.0.0"]
+            published.append(publish("a", f"1.{version}.0", needs))
+        found = dict(self.premises_on(published, "q", "a *", "q ^1"))
+        self.assertEqual(found, {"^2": [k for k in range(120) if k // 3 % 2], ">=2.0.0": [k for k in range(120) if not k // 3 % 2]})
+
     def test_a_reply_of_a_long_selection_is_json(self):
         reply = serve([publish("a", "1.0.0-x.7+build.1"), resolve("a ^1.0.0-x")])[1]
         self.assertEqual(json.loads(reply), {"revision": 1, "selected": [["a", "1.0.0-x.7+build.1"]]})

@@ -1,41 +1,83 @@
-//! Calls of commands and of lists of dependencies.
+//! Calls of commands, by themselves and of the registry of a session, and of lists of dependencies.
 
-use registry::{Command, Dependencies};
-use rows::{Answer, CommandText, NeedsText, Unread, command_at, dependencies_at};
+use registry::{Command, Dependencies, Registry};
+use rows::{Answer, CommandText, NeedsText, Unread, command_at, dependencies_at, shown};
 use serde_json::Value;
 use std::alloc::Global;
 
-pub fn command_copy(alloc: Global, name: &str, row: &Value) -> Result<Answer, Unread> {
+/// A call that is given a whole command.
+pub fn command_call(
+    alloc: Global,
+    registry: &mut Registry,
+    name: &str,
+    row: &Value,
+) -> Result<Answer, Unread> {
+    about(alloc, registry, name, &command_at(alloc, row)?)
+}
+
+fn about(
+    alloc: Global,
+    registry: &mut Registry,
+    name: &str,
+    command: &Command,
+) -> Result<Answer, Unread> {
     match name {
-        "copy" => copy(alloc, row),
+        "check" => {
+            registry.check(command)?;
+            Ok(Answer::None)
+        }
+        "reserve" => {
+            registry.check(command)?;
+            registry.reserve(command)?;
+            Ok(Answer::None)
+        }
+        "apply" => apply(registry, command),
+        "copy" | "shared" => equal_told(alloc, registry, name, command),
         _ => Err(Unread::Row),
     }
 }
 
-fn copy(alloc: Global, row: &Value) -> Result<Answer, Unread> {
-    told(alloc, &command_at(alloc, row)?.copy()?)
+/// Enters a copy of a command, for which this call makes no room, and answers the revision after it.
+fn apply(registry: &mut Registry, command: &Command) -> Result<Answer, Unread> {
+    registry.check(command)?;
+    if registry.revision() == u64::MAX {
+        return Ok(Answer::Skipped);
+    }
+    registry.apply(command.copy()?)?;
+    Ok(Answer::Number(registry.revision() as usize))
 }
 
-/// A command, as an answer has it.
-pub fn told(alloc: Global, command: &Command) -> Result<Answer, Unread> {
-    let command = CommandText(command);
-    Ok(Answer::Text(format!(in alloc; "{command}")?))
+fn equal_told(
+    alloc: Global,
+    registry: &Registry,
+    name: &str,
+    command: &Command,
+) -> Result<Answer, Unread> {
+    shown(alloc, &CommandText(&equal(registry, name, command)?))
+}
+
+/// A copy of a command, or the equal one that the registry answers.
+fn equal(registry: &Registry, name: &str, command: &Command) -> Result<Command, Unread> {
+    match name {
+        "copy" => Ok(command.copy()?),
+        _ => Ok(registry.shared(command)?),
+    }
 }
 
 pub fn dependencies_call(alloc: Global, name: &str, row: &Value) -> Result<Answer, Unread> {
+    of_dependencies(alloc, name, &dependencies_at(alloc, row)?)
+}
+
+fn of_dependencies(
+    alloc: Global,
+    name: &str,
+    dependencies: &Dependencies,
+) -> Result<Answer, Unread> {
     match name {
-        "new" => made(alloc, row),
-        "copy" => copied(alloc, row),
+        "new" => listed(alloc, dependencies),
+        "copy" => listed(alloc, &dependencies.copy()?),
         _ => Err(Unread::Row),
     }
-}
-
-fn made(alloc: Global, row: &Value) -> Result<Answer, Unread> {
-    listed(alloc, &dependencies_at(alloc, row)?)
-}
-
-fn copied(alloc: Global, row: &Value) -> Result<Answer, Unread> {
-    listed(alloc, &dependencies_at(alloc, row)?.copy()?)
 }
 
 /// Whether a list repeats a name, and its needs.

@@ -12,17 +12,15 @@ pub fn held_set_call(
     row: &Value,
 ) -> Result<Answer, Unread> {
     match name {
-        "insert" => insert(set, row),
+        "insert" => {
+            set.insert(whole_at(row, "k")?)?;
+            Ok(Answer::None)
+        }
         "has" => Ok(Answer::Bool(set.has(whole_at(row, "k")?))),
         "is_empty" => Ok(Answer::Bool(set.is_empty())),
         "ordinals" => Ok(Answer::Numbers(set.ordinals(alloc)?)),
         _ => Err(Unread::Row),
     }
-}
-
-fn insert(set: &mut VSet, row: &Value) -> Result<Answer, Unread> {
-    set.insert(whole_at(row, "k")?)?;
-    Ok(Answer::None)
 }
 
 pub fn growing_set_call(
@@ -32,20 +30,16 @@ pub fn growing_set_call(
     row: &Value,
 ) -> Result<Answer, Unread> {
     match name {
-        "reserve" => reserve(growing),
-        "insert" => grow(growing, row),
+        "reserve" => {
+            growing.reserve()?;
+            Ok(Answer::None)
+        }
+        "insert" => {
+            growing.insert(whole_at(row, "k")?)?;
+            Ok(Answer::None)
+        }
         "has" => Ok(Answer::Bool(growing.has(whole_at(row, "k")?))),
         "set" => Ok(Answer::Set(growing.set(alloc)?)),
         _ => Err(Unread::Row),
     }
-}
-
-fn reserve(growing: &mut GrowingSet) -> Result<Answer, Unread> {
-    growing.reserve()?;
-    Ok(Answer::None)
-}
-
-fn grow(growing: &mut GrowingSet, row: &Value) -> Result<Answer, Unread> {
-    growing.insert(whole_at(row, "k")?)?;
-    Ok(Answer::None)
 }

@@ -10,27 +10,14 @@ pub fn incompat_call(alloc: Global, name: &str, row: &Value) -> Result<Answer, U
         "new" => new(alloc, row),
         "single" => single(alloc, row),
         "pair" => pair(alloc, row),
-        "resolve" => resolved(alloc, row),
-        "copy" => copy(alloc, row),
-        "has_term" => has_term(alloc, row),
-        "term_on" => term_on(alloc, row),
-        "is_same" => is_same(alloc, row),
-        _ => Err(Unread::Row),
+        _ => read_call(alloc, name, row),
     }
 }
 
 fn new(alloc: Global, row: &Value) -> Result<Answer, Unread> {
-    Ok(of_option(Incompat::new(terms_at(alloc, row, "a")?)))
-}
-
-fn copy(alloc: Global, row: &Value) -> Result<Answer, Unread> {
-    Ok(Answer::Terms(incompat_at(alloc, row, "a")?.copy(alloc)?))
-}
-
-fn of_option(found: Option<Incompat>) -> Answer {
-    match found {
-        Some(incompat) => Answer::Terms(incompat),
-        None => Answer::None,
+    match Incompat::new(terms_at(alloc, row, "a")?) {
+        Some(incompat) => Ok(Answer::Terms(incompat)),
+        None => Ok(Answer::None),
     }
 }
 
@@ -51,28 +38,39 @@ fn pair(alloc: Global, row: &Value) -> Result<Answer, Unread> {
     Ok(Answer::Terms(Incompat::pair(alloc, pkg, first, other, second)?))
 }
 
-fn resolved(alloc: Global, row: &Value) -> Result<Answer, Unread> {
-    let pivot = whole_at(row, "pivot")?;
-    let first = incompat_at(alloc, row, "a")?;
-    let second = incompat_at(alloc, row, "b")?;
-    Ok(Answer::Terms(resolve(alloc, &first, &second, pivot)?))
+fn read_call(alloc: Global, name: &str, row: &Value) -> Result<Answer, Unread> {
+    about(alloc, name, row, &incompat_at(alloc, row, "a")?)
 }
 
-fn has_term(alloc: Global, row: &Value) -> Result<Answer, Unread> {
-    let pkg = whole_at(row, "pkg")?;
-    Ok(Answer::Bool(incompat_at(alloc, row, "a")?.has_term(pkg)))
+fn about(alloc: Global, name: &str, row: &Value, incompat: &Incompat) -> Result<Answer, Unread> {
+    match name {
+        "copy" => Ok(Answer::Terms(incompat.copy(alloc)?)),
+        "has_term" => Ok(Answer::Bool(incompat.has_term(whole_at(row, "pkg")?))),
+        "term_on" => term_on(alloc, incompat, whole_at(row, "pkg")?),
+        _ => beside(alloc, name, row, incompat, &incompat_at(alloc, row, "b")?),
+    }
 }
 
-fn is_same(alloc: Global, row: &Value) -> Result<Answer, Unread> {
-    let first = incompat_at(alloc, row, "a")?;
-    Ok(Answer::Bool(first.is_same(&incompat_at(alloc, row, "b")?)))
-}
-
-fn term_on(alloc: Global, row: &Value) -> Result<Answer, Unread> {
-    let pkg = whole_at(row, "pkg")?;
-    let incompat = incompat_at(alloc, row, "a")?;
+fn term_on(alloc: Global, incompat: &Incompat, pkg: u32) -> Result<Answer, Unread> {
     match incompat.term_on(pkg) {
         Some(term) => Ok(Answer::Term(term.copy(alloc)?)),
         None => Ok(Answer::None),
+    }
+}
+
+fn beside(
+    alloc: Global,
+    name: &str,
+    row: &Value,
+    first: &Incompat,
+    second: &Incompat,
+) -> Result<Answer, Unread> {
+    match name {
+        "resolve" => {
+            let pivot = whole_at(row, "pivot")?;
+            Ok(Answer::Terms(resolve(alloc, first, second, pivot)?))
+        }
+        "is_same" => Ok(Answer::Bool(first.is_same(second))),
+        _ => Err(Unread::Row),
     }
 }

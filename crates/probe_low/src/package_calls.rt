@@ -1,10 +1,12 @@
 //! Calls of a registry about one of its packages.
 
+use crate::releases_calls::those_below;
 use registry::{Matching, Registry};
-use rows::{Answer, NeedsText, Unread, need_at, set_at, size_at, version_at, whole_at};
+use rows::{Answer, NeedsText, Unread, need_at, set_at, shown, size_at, version_at, whole_at};
 use serde_json::Value;
-use std::alloc::{AllocError, Global};
+use std::alloc::Global;
 use std::fmt;
+use versions::Need;
 
 pub fn package_call(
     alloc: Global,
@@ -17,27 +19,20 @@ pub fn package_call(
         "name" => name_of(alloc, registry, pkg),
         "versions" => Ok(Answer::Number(registry.versions(pkg))),
         "facts" => facts(alloc, registry, pkg, whole_at(row, "k")?),
-        "repeats" => repeats(alloc, registry, pkg),
+        "repeats" => shown(alloc, &Marks(registry.repeats(pkg))),
         "has_yanks" => Ok(Answer::Bool(registry.has_yanks(pkg))),
-        "find" => find(alloc, registry, pkg, row),
-        "highest" => highest(alloc, registry, pkg, row),
-        "highest_where" => highest_where(registry, pkg, row),
-        _ => matching_call(alloc, registry, name, pkg, row),
-    }
-}
-
-fn matching_call(
-    alloc: Global,
-    registry: &Registry,
-    name: &str,
-    pkg: u32,
-    row: &Value,
-) -> Result<Answer, Unread> {
-    match name {
-        "matching" => matching(alloc, registry, pkg, row),
-        "matching_set" => matching_set(alloc, registry, pkg, row),
+        "find" => Ok(Answer::Choice(registry.find(pkg, &version_at(alloc, row, "version")?))),
+        "highest" => Ok(Answer::Choice(registry.highest(pkg, &set_at(alloc, row, "set")?))),
+        "highest_where" => highest_where(registry, pkg, whole_at(row, "below")?),
         "dependency" => dependency(alloc, registry, pkg, row),
-        _ => Err(Unread::Row),
+        _ => by_need(
+            alloc,
+            registry,
+            name,
+            pkg,
+            row,
+            &need_at(alloc, row, "need")?,
+        ),
     }
 }
 
@@ -61,44 +56,38 @@ fn facts(alloc: Global, registry: &Registry, pkg: u32, ordinal: u32) -> Result<A
     Ok(Answer::Text(format!(in alloc; "[{version:?},{yanked},{needs}]")?))
 }
 
-fn repeats(alloc: Global, registry: &Registry, pkg: u32) -> Result<Answer, Unread> {
-    let marks = Marks(registry.repeats(pkg));
-    Ok(Answer::Text(format!(in alloc; "{marks}")?))
-}
-
-fn find(alloc: Global, registry: &Registry, pkg: u32, row: &Value) -> Result<Answer, Unread> {
-    Ok(Answer::Choice(registry.find(pkg, &version_at(alloc, row, "version")?)))
-}
-
-fn highest(alloc: Global, registry: &Registry, pkg: u32, row: &Value) -> Result<Answer, Unread> {
-    Ok(Answer::Choice(registry.highest(pkg, &set_at(alloc, row, "set")?)))
-}
-
 /// The highest of the versions whose ordinals are below a number.
-fn highest_where(registry: &Registry, pkg: u32, row: &Value) -> Result<Answer, Unread> {
-    let below = whole_at(row, "below")?;
+fn highest_where(registry: &Registry, pkg: u32, below: u32) -> Result<Answer, Unread> {
     Ok(Answer::Choice(registry.highest_where(pkg, |ordinal| ordinal < below)))
 }
 
-fn matching(alloc: Global, registry: &Registry, pkg: u32, row: &Value) -> Result<Answer, Unread> {
-    let need = need_at(alloc, row, "need")?;
-    Ok(Answer::Set(registry.matching(pkg, &need)?))
+/// The matching set, or whether it is kept, and which of the ordinals below a number are in it.
+fn by_need(
+    alloc: Global,
+    registry: &Registry,
+    name: &str,
+    pkg: u32,
+    row: &Value,
+    need: &Need,
+) -> Result<Answer, Unread> {
+    match name {
+        "matching" => Ok(Answer::Set(registry.matching(pkg, need)?)),
+        "matching_set" => matching_set(alloc, registry, pkg, need, whole_at(row, "below")?),
+        _ => Err(Unread::Row),
+    }
 }
 
-/// Whether the matching set is kept, and which of the ordinals below a number are in it.
 fn matching_set(
     alloc: Global,
     registry: &Registry,
     pkg: u32,
-    row: &Value,
+    need: &Need,
+    below: u32,
 ) -> Result<Answer, Unread> {
-    let below = whole_at(row, "below")?;
-    let need = need_at(alloc, row, "need")?;
-    let set = registry.matching_set(pkg, &need)?;
-    Ok(Answer::Text(matching_text(alloc, &set, below)?))
+    matching_told(alloc, &registry.matching_set(pkg, need)?, below)
 }
 
-/// The package that a dependency names, and the matching set as [`matching_set`] tells it.
+/// The package that a dependency names, and the matching set as a call by its requirement tells it.
 fn dependency(alloc: Global, registry: &Registry, pkg: u32, row: &Value) -> Result<Answer, Unread> {
     let ordinal = whole_at(row, "k")?;
     let index = size_at(row, "index")?;
@@ -128,47 +117,14 @@ fn depends(
         return Ok(Answer::Skipped);
     }
     let (target, set) = registry.dependency(pkg, ordinal, index)?;
-    let text = matching_text(alloc, &set, below)?;
-    Ok(Answer::Text(format!(in alloc; "[{target},{text}]")?))
+    let told = matching_told(alloc, &set, below)?;
+    Ok(Answer::Text(format!(in alloc; "[{target},{told}]")?))
 }
 
-fn matching_text(alloc: Global, set: &Matching, below: u32) -> Result<String, AllocError> {
+fn matching_told(alloc: Global, set: &Matching<'_>, below: u32) -> Result<Answer, Unread> {
     let kept = matches!(set, Matching::Known(_));
-    let members = Members { set, below };
-    format!(in alloc; "{{\"kept\":{kept},\"has\":{members}}}")
-}
-
-/// The ordinals below a number that are in a matching set.
-#[derive(Clone, Copy)]
-struct Members<'a> {
-    set: &'a Matching<'a>,
-    below: u32,
-}
-
-impl fmt::Display for Members<'_> {
-    fn fmt<W: fmt::Write>(&self, f: &mut fmt::Formatter<W>) -> fmt::Result {
-        let mut is_first = true;
-        f.write_str("[")?;
-        for ordinal in 0..self.below {
-            if self.set.has(ordinal) {
-                write_next(f, is_first, ordinal)?;
-                is_first = false;
-            }
-        }
-        f.write_str("]")
-    }
-}
-
-fn write_next<W: fmt::Write>(
-    f: &mut fmt::Formatter<W>,
-    is_first: bool,
-    ordinal: u32,
-) -> fmt::Result {
-    if is_first {
-        write!(f, "{ordinal}")
-    } else {
-        write!(f, ",{ordinal}")
-    }
+    let members = Answer::Numbers(those_below(alloc, set, below)?);
+    Ok(Answer::Text(format!(in alloc; "{{\"kept\":{kept},\"has\":{members}}}")?))
 }
 
 /// Marks, as `[false,true]`.

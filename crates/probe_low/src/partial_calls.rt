@@ -5,11 +5,11 @@ ghost use Rattle.terms.specs.Terms.{true_of};
 ghost use Rattle.partial.specs.Assignments.{is_decided, says, IsOpenTo};
 
 use partial::{Assignment, Partial, Standing, Why};
-use rows::{Answer, TermText, Unread, incompat_at, size_at, term_at, whole_at, write_term};
+use rows::{Answer, TermText, Unread, incompat_at, shown, size_at, term_at, whole_at, write_term};
 use serde_json::Value;
-use std::alloc::{AllocError, Global};
+use std::alloc::Global;
 use std::fmt;
-use terms::{Pkg, Relation, Term, VSet, relation};
+use terms::{Incompat, Pkg, Relation, Term, VSet, relation};
 
 pub fn partial_call(
     alloc: Global,
@@ -18,37 +18,31 @@ pub fn partial_call(
     row: &Value,
 ) -> Result<Answer, Unread> {
     match name {
-        "new" => begin(alloc, partial),
-        "with_room" => begin_with_room(alloc, partial, size_at(row, "room")?),
+        "new" => {
+            *partial = Partial::new(alloc);
+            Ok(Answer::None)
+        }
+        "with_room" => {
+            *partial = Partial::with_room(alloc, size_at(row, "room")?)?;
+            Ok(Answer::None)
+        }
         "derive" => derive(alloc, partial, row),
         "decide" => decide(partial, row),
-        "back_to" => back_to(partial, size_at(row, "level")?),
+        "back_to" => {
+            partial.back_to(size_at(row, "level")?);
+            Ok(Answer::None)
+        }
         _ => about(alloc, partial, name, row),
     }
-}
-
-fn begin(alloc: Global, partial: &mut Partial) -> Result<Answer, Unread> {
-    *partial = Partial::new(alloc);
-    Ok(Answer::None)
-}
-
-fn begin_with_room(alloc: Global, partial: &mut Partial, room: usize) -> Result<Answer, Unread> {
-    *partial = Partial::with_room(alloc, room)?;
-    Ok(Answer::None)
-}
-
-fn back_to(partial: &mut Partial, level: usize) -> Result<Answer, Unread> {
-    partial.back_to(level);
-    Ok(Answer::None)
 }
 
 fn about(alloc: Global, partial: &Partial, name: &str, row: &Value) -> Result<Answer, Unread> {
     match name {
         "level" => Ok(Answer::Number(partial.level())),
         "undecided" => Ok(Answer::Numbers(partial.undecided()?)),
-        "assignments" => Ok(Answer::Text(format!(in alloc; "{}", Listed(partial.assignments()))?)),
-        "relation" => relation_to(alloc, partial, row),
-        "satisfier" => satisfier(alloc, partial, row),
+        "assignments" => shown(alloc, &Listed(partial.assignments())),
+        "relation" => Ok(relation_to(partial, &incompat_at(alloc, row, "terms")?)),
+        "satisfier" => satisfier(partial, &incompat_at(alloc, row, "terms")?),
         "decision" => Ok(Answer::Choice(partial.decision(whole_at(row, "pkg")?))),
         "said" => said(alloc, partial, row),
         "settled" => settled(alloc, partial, row),
@@ -108,23 +102,22 @@ fn decide(partial: &mut Partial, row: &Value) -> Result<Answer, Unread> {
     Ok(Answer::None)
 }
 
-fn relation_to(alloc: Global, partial: &Partial, row: &Value) -> Result<Answer, Unread> {
-    match partial.relation(&incompat_at(alloc, row, "terms")?) {
-        Standing::Satisfied => Ok(Answer::Word("satisfied")),
-        Standing::Almost(pkg) => Ok(Answer::Almost(pkg)),
-        Standing::Other => Ok(Answer::Word("other")),
+fn relation_to(partial: &Partial, incompat: &Incompat) -> Answer {
+    match partial.relation(incompat) {
+        Standing::Satisfied => Answer::Word("satisfied"),
+        Standing::Almost(pkg) => Answer::Almost(pkg),
+        Standing::Other => Answer::Word("other"),
     }
 }
 
-fn satisfier(alloc: Global, partial: &Partial, row: &Value) -> Result<Answer, Unread> {
-    let incompat = incompat_at(alloc, row, "terms")?;
+fn satisfier(partial: &Partial, incompat: &Incompat) -> Result<Answer, Unread> {
     if incompat.terms().is_empty() {
         return Ok(Answer::Skipped);
     }
-    match partial.relation(&incompat) {
+    match partial.relation(incompat) {
         Standing::Satisfied => {
-            let found = partial.satisfier(&incompat)?;
-            Ok(Answer::Places(found.0, found.1))
+            let (first, second) = partial.satisfier(incompat)?;
+            Ok(Answer::Places(first, second))
         }
         _ => Ok(Answer::Skipped),
     }
@@ -140,16 +133,11 @@ fn said(alloc: Global, partial: &Partial, row: &Value) -> Result<Answer, Unread>
 /// What is said together with the decision.
 fn settled(alloc: Global, partial: &Partial, row: &Value) -> Result<Answer, Unread> {
     match partial.settled(whole_at(row, "pkg")?) {
-        Some(settled) => Ok(Answer::Text(told(alloc, settled.said, settled.decision)?)),
+        Some(settled) => {
+            let (said, decision) = (TermText(settled.said), Answer::Choice(settled.decision));
+            Ok(Answer::Text(format!(in alloc; "{{\"said\":{said},\"decision\":{decision}}}")?))
+        }
         None => Ok(Answer::None),
-    }
-}
-
-fn told(alloc: Global, said: &Term, decision: Option<u32>) -> Result<String, AllocError> {
-    let said = format!(in alloc; "{}", TermText(said))?;
-    match decision {
-        Some(ordinal) => format!(in alloc; "{{\"said\":{said},\"decision\":{ordinal}}}"),
-        None => format!(in alloc; "{{\"said\":{said},\"decision\":null}}"),
     }
 }
 

@@ -1,10 +1,12 @@
 //! Calls of the releases of one package, which a session's rows change.
 
 use releases::{Matching, Release, Releases};
-use rows::{Answer, Unread, need_at, set_at, size_at, version_at, whole_at};
+use rows::{Answer, Unread, need_at, set_at, shown, version_at, whole, whole_at};
 use serde_json::Value;
 use std::alloc::{AllocError, Global};
 use std::fmt;
+use terms::VSet;
+use versions::Need;
 
 pub fn releases_call(
     alloc: Global,
@@ -14,39 +16,14 @@ pub fn releases_call(
 ) -> Result<Answer, Unread> {
     match name {
         "publish" => publish(alloc, releases, row),
-        "reserve" => reserve(releases),
-        "name_need" => name_need(alloc, releases, row),
-        "yank" => yank(releases, row),
-        "unyank" => unyank(releases, row),
+        "reserve" => {
+            releases.reserve()?;
+            Ok(Answer::None)
+        }
+        "name_need" => Ok(Answer::Number(releases.name_need(&need_at(alloc, row, "need")?)?)),
+        "yank" => yank(releases, whole_at(row, "k")?, true),
+        "unyank" => yank(releases, whole_at(row, "k")?, false),
         _ => about(alloc, releases, name, row),
-    }
-}
-
-fn about(alloc: Global, releases: &Releases, name: &str, row: &Value) -> Result<Answer, Unread> {
-    match name {
-        "len" => Ok(Answer::Number(releases.len())),
-        "list" => list(alloc, releases),
-        "rising" => Ok(Answer::Numbers(releases.rising().to_vec(alloc)?)),
-        "find" => find(alloc, releases, row),
-        "highest" => highest(alloc, releases, row),
-        "highest_where" => highest_where(alloc, releases, row),
-        _ => about_need(alloc, releases, name, row),
-    }
-}
-
-fn about_need(
-    alloc: Global,
-    releases: &Releases,
-    name: &str,
-    row: &Value,
-) -> Result<Answer, Unread> {
-    match name {
-        "matching" => matching(alloc, releases, row),
-        "matching_at" => matching_at(alloc, releases, row),
-        "matching_has" => matching_has(alloc, releases, row),
-        "is_kept" => is_kept(alloc, releases, row),
-        "named" => named(alloc, releases, row),
-        _ => Err(Unread::Row),
     }
 }
 
@@ -61,39 +38,105 @@ fn publish(alloc: Global, releases: &mut Releases, row: &Value) -> Result<Answer
     Ok(Answer::None)
 }
 
-fn reserve(releases: &mut Releases) -> Result<Answer, Unread> {
-    releases.reserve()?;
-    Ok(Answer::None)
-}
-
-fn name_need(alloc: Global, releases: &mut Releases, row: &Value) -> Result<Answer, Unread> {
-    let need = need_at(alloc, row, "need")?;
-    Ok(Answer::Number(releases.name_need(&need)?))
-}
-
-fn yank(releases: &mut Releases, row: &Value) -> Result<Answer, Unread> {
-    let ordinal = whole_at(row, "k")?;
+/// Yanks a version, or takes its yank back.
+fn yank(releases: &mut Releases, ordinal: u32, is_yank: bool) -> Result<Answer, Unread> {
     if ordinal as usize >= releases.len() {
         return Ok(Answer::Skipped);
     }
-    releases.yank(ordinal);
+    if is_yank {
+        releases.yank(ordinal);
+    } else {
+        releases.unyank(ordinal);
+    }
     Ok(Answer::None)
 }
 
-fn unyank(releases: &mut Releases, row: &Value) -> Result<Answer, Unread> {
-    let ordinal = whole_at(row, "k")?;
-    if ordinal as usize >= releases.len() {
-        return Ok(Answer::Skipped);
+fn about(alloc: Global, releases: &Releases, name: &str, row: &Value) -> Result<Answer, Unread> {
+    match name {
+        "len" => Ok(Answer::Number(releases.len())),
+        "list" => shown(alloc, &Listed(releases.as_slice())),
+        "rising" => Ok(Answer::Numbers(releases.rising().to_vec(alloc)?)),
+        "find" => Ok(Answer::Choice(releases.find(&version_at(alloc, row, "version")?))),
+        "highest" | "highest_where" => Ok(highest(releases, name, &set_at(alloc, row, "set")?)),
+        _ => by_need(alloc, releases, name, row, &need_at(alloc, row, "need")?),
     }
-    releases.unyank(ordinal);
-    Ok(Answer::None)
+}
+
+/// The highest of a set, by the set itself or by a test of each ordinal.
+fn highest(releases: &Releases, name: &str, set: &VSet) -> Answer {
+    match name {
+        "highest" => Answer::Choice(releases.highest(set)),
+        _ => Answer::Choice(releases.highest_where(|ordinal| set.has(ordinal))),
+    }
+}
+
+fn by_need(
+    alloc: Global,
+    releases: &Releases,
+    name: &str,
+    row: &Value,
+    need: &Need,
+) -> Result<Answer, Unread> {
+    match name {
+        "named" => named(alloc, releases, need),
+        _ => matching(alloc, name, row, &found(releases, row, need)?),
+    }
+}
+
+/// The matching set, of the requirement at a place where a row gives one.
+fn found<'r>(releases: &'r Releases, row: &Value, need: &Need) -> Result<Matching<'r>, Unread> {
+    match row.get("place") {
+        Some(place) => Ok(releases.matching_at(need, whole(place)? as usize)?),
+        None => Ok(releases.matching(need)?),
+    }
+}
+
+/// A copy of the matching set, which ordinals below a number it has, or whether it is kept, and was not computed for
+/// this call.
+fn matching(
+    alloc: Global,
+    name: &str,
+    row: &Value,
+    matching: &Matching<'_>,
+) -> Result<Answer, Unread> {
+    match name {
+        "matching" | "matching_at" => Ok(Answer::Set(matching.set(alloc)?)),
+        "matching_has" => {
+            let below = whole_at(row, "below")?;
+            Ok(Answer::Numbers(those_below(alloc, matching, below)?))
+        }
+        "is_kept" => Ok(Answer::Bool(matches!(matching, Matching::Known(_)))),
+        _ => Err(Unread::Row),
+    }
+}
+
+/// The ordinals below a number that a matching set has.
+pub fn those_below(
+    alloc: Global,
+    matching: &Matching<'_>,
+    below: u32,
+) -> Result<Vec<u32>, AllocError> {
+    let mut those = Vec::new(alloc);
+    for ordinal in 0..below {
+        if matching.has(ordinal) {
+            those.push(ordinal)?;
+        }
+    }
+    Ok(those)
+}
+
+/// The place and the text of the equal requirement that is named.
+fn named(alloc: Global, releases: &Releases, need: &Need) -> Result<Answer, Unread> {
+    match releases.named(need) {
+        Some((place, kept)) => {
+            let text = kept.text();
+            Ok(Answer::Text(format!(in alloc; "[{place},{text:?}]")?))
+        }
+        None => Ok(Answer::None),
+    }
 }
 
 /// The texts of the versions, each with whether it is yanked.
-fn list(alloc: Global, releases: &Releases) -> Result<Answer, Unread> {
-    Ok(Answer::Text(format!(in alloc; "{}", Listed(releases.as_slice()))?))
-}
-
 #[derive(Clone, Copy)]
 struct Listed<'a>(&'a [Release]);
 
@@ -107,70 +150,5 @@ impl fmt::Display for Listed<'_> {
             before = ",";
         }
         f.write_str("]")
-    }
-}
-
-fn find(alloc: Global, releases: &Releases, row: &Value) -> Result<Answer, Unread> {
-    Ok(Answer::Choice(releases.find(&version_at(alloc, row, "version")?)))
-}
-
-fn highest(alloc: Global, releases: &Releases, row: &Value) -> Result<Answer, Unread> {
-    Ok(Answer::Choice(releases.highest(&set_at(alloc, row, "set")?)))
-}
-
-/// As `highest`, by a test of each ordinal.
-fn highest_where(alloc: Global, releases: &Releases, row: &Value) -> Result<Answer, Unread> {
-    let set = set_at(alloc, row, "set")?;
-    Ok(Answer::Choice(releases.highest_where(|ordinal| set.has(ordinal))))
-}
-
-/// A copy of the matching set.
-fn matching(alloc: Global, releases: &Releases, row: &Value) -> Result<Answer, Unread> {
-    let need = need_at(alloc, row, "need")?;
-    Ok(Answer::Set(releases.matching(&need)?.set(alloc)?))
-}
-
-fn matching_at(alloc: Global, releases: &Releases, row: &Value) -> Result<Answer, Unread> {
-    let place = size_at(row, "place")?;
-    let need = need_at(alloc, row, "need")?;
-    Ok(Answer::Set(releases.matching_at(&need, place)?.set(alloc)?))
-}
-
-/// Which ordinals below a number the matching set has.
-fn matching_has(alloc: Global, releases: &Releases, row: &Value) -> Result<Answer, Unread> {
-    let below = whole_at(row, "below")?;
-    let need = need_at(alloc, row, "need")?;
-    Ok(Answer::Numbers(those_below(alloc, &releases.matching(&need)?, below)?))
-}
-
-fn those_below(alloc: Global, matching: &Matching<'_>, below: u32) -> Result<Vec<u32>, AllocError> {
-    let mut those = Vec::new(alloc);
-    for ordinal in 0..below {
-        if matching.has(ordinal) {
-            those.push(ordinal)?;
-        }
-    }
-    Ok(those)
-}
-
-/// Whether the matching set is kept, and was not computed for this call.
-fn is_kept(alloc: Global, releases: &Releases, row: &Value) -> Result<Answer, Unread> {
-    let need = need_at(alloc, row, "need")?;
-    Ok(Answer::Bool(is_known(&releases.matching(&need)?)))
-}
-
-fn is_known(matching: &Matching<'_>) -> bool {
-    matches!(matching, Matching::Known(_))
-}
-
-/// The place and the text of the equal requirement that is named.
-fn named(alloc: Global, releases: &Releases, row: &Value) -> Result<Answer, Unread> {
-    let need = need_at(alloc, row, "need")?;
-    match releases.named(&need) {
-        Some((place, kept)) => {
-            let text = kept.text();
-            Ok(Answer::Text(format!(in alloc; "[{place},{text:?}]")?))
-        }
-        None => Ok(Answer::None),
     }
 }

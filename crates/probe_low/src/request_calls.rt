@@ -2,7 +2,7 @@
 
 use registry::{Registry, Request};
 use rows::{
-    Answer, LockText, NeedsText, Unread, name_at, names_at, request_at, version_at, whole_at,
+    Answer, LockText, NeedsText, Unread, name_at, names_at, request_at, shown, version_at, whole_at,
 };
 use serde_json::Value;
 use std::alloc::Global;
@@ -15,126 +15,100 @@ pub fn request_call(
     name: &str,
     row: &Value,
 ) -> Result<Answer, Unread> {
+    about(alloc, registry, name, row, &request_at(alloc, row)?)
+}
+
+fn about(
+    alloc: Global,
+    registry: &Registry,
+    name: &str,
+    row: &Value,
+    request: &Request,
+) -> Result<Answer, Unread> {
     match name {
-        "new" => made(alloc, row),
-        "needs" => needs(alloc, row),
-        "lock" => lock(alloc, row),
-        "need_on" => need_on(alloc, row),
-        "locked" => locked(alloc, row),
-        "is_locked" => is_locked(alloc, row),
-        "admits" => admits(alloc, row),
-        "allowed" => allowed(alloc, registry, row),
+        "new" => Ok(Answer::Word("made")),
+        "needs" => shown(alloc, &NeedsText(request.needs())),
+        "lock" => shown(alloc, &LockText(request.lock())),
+        "need_on" => each_of(alloc, row, request, false),
+        "locked" => each_of(alloc, row, request, true),
+        "is_locked" => of_version(alloc, row, request, true),
+        "admits" => of_version(alloc, row, request, false),
+        "allowed" => allowed(registry, row, request),
         _ => Err(Unread::Row),
     }
 }
 
-fn made(alloc: Global, row: &Value) -> Result<Answer, Unread> {
-    let _request = request_at(alloc, row)?;
-    Ok(Answer::Word("made"))
-}
-
-fn needs(alloc: Global, row: &Value) -> Result<Answer, Unread> {
-    let request = request_at(alloc, row)?;
-    let needs = NeedsText(request.needs());
-    Ok(Answer::Text(format!(in alloc; "{needs}")?))
-}
-
-fn lock(alloc: Global, row: &Value) -> Result<Answer, Unread> {
-    let request = request_at(alloc, row)?;
-    let lock = LockText(request.lock());
-    Ok(Answer::Text(format!(in alloc; "{lock}")?))
-}
-
-/// The requirement on each of the names, or null.
-fn need_on(alloc: Global, row: &Value) -> Result<Answer, Unread> {
+/// The requirement on each of the names, or the version that the lock names of it, or null.
+fn each_of(alloc: Global, row: &Value, request: &Request, locked: bool) -> Result<Answer, Unread> {
     let names = names_at(alloc, row, "names")?;
-    let request = request_at(alloc, row)?;
-    let found = NeedsOn(&request, &names);
-    Ok(Answer::Text(format!(in alloc; "{found}")?))
+    shown(
+        alloc,
+        &Found {
+            request,
+            names: &names,
+            locked,
+        },
+    )
 }
 
-/// The version that the lock names of each of the names, or null.
-fn locked(alloc: Global, row: &Value) -> Result<Answer, Unread> {
-    let names = names_at(alloc, row, "names")?;
-    let request = request_at(alloc, row)?;
-    let found = LockedOf(&request, &names);
-    Ok(Answer::Text(format!(in alloc; "{found}")?))
-}
-
-fn is_locked(alloc: Global, row: &Value) -> Result<Answer, Unread> {
+/// Whether the lock names a version of a name, or the needs admit it.
+fn of_version(
+    alloc: Global,
+    row: &Value,
+    request: &Request,
+    locked: bool,
+) -> Result<Answer, Unread> {
     let name = name_at(alloc, row, "name")?;
     let version = version_at(alloc, row, "version")?;
-    Ok(Answer::Bool(request_at(alloc, row)?.is_locked(&name, &version)))
+    if locked {
+        Ok(Answer::Bool(request.is_locked(&name, &version)))
+    } else {
+        Ok(Answer::Bool(request.admits(&name, &version)))
+    }
 }
 
-fn admits(alloc: Global, row: &Value) -> Result<Answer, Unread> {
-    let name = name_at(alloc, row, "name")?;
-    let version = version_at(alloc, row, "version")?;
-    Ok(Answer::Bool(request_at(alloc, row)?.admits(&name, &version)))
-}
-
-fn allowed(alloc: Global, registry: &Registry, row: &Value) -> Result<Answer, Unread> {
+fn allowed(registry: &Registry, row: &Value, request: &Request) -> Result<Answer, Unread> {
     let pkg = whole_at(row, "pkg")?;
-    let ordinal = whole_at(row, "k")?;
-    Ok(Answer::Bool(registry.allowed(&request_at(alloc, row)?, pkg, ordinal)))
+    Ok(Answer::Bool(registry.allowed(request, pkg, whole_at(row, "k")?)))
 }
 
-/// What is needed of each of these names.
+/// What a request needs of each of these names, or what its lock names of it.
 #[derive(Clone, Copy)]
-struct NeedsOn<'a>(&'a Request, &'a [Name]);
+struct Found<'a> {
+    request: &'a Request,
+    names: &'a [Name],
+    locked: bool,
+}
 
-impl fmt::Display for NeedsOn<'_> {
+impl fmt::Display for Found<'_> {
     fn fmt<W: fmt::Write>(&self, f: &mut fmt::Formatter<W>) -> fmt::Result {
         let mut before = "";
         f.write_str("[")?;
-        for name in self.1 {
+        for name in self.names {
             f.write_str(before)?;
-            write_need_on(f, self.0, name)?;
+            write_found(f, self.request, name, self.locked)?;
             before = ",";
         }
         f.write_str("]")
     }
 }
 
-fn write_need_on<W: fmt::Write>(
+fn write_found<W: fmt::Write>(
     f: &mut fmt::Formatter<W>,
     request: &Request,
     name: &Name,
+    locked: bool,
 ) -> fmt::Result {
-    match request.need_on(name) {
-        Some(need) => write_text(f, need.text()),
+    match text_of(request, name, locked) {
+        Some(text) => write!(f, "{text:?}"),
         None => f.write_str("null"),
     }
 }
 
-/// What is locked of each of these names.
-#[derive(Clone, Copy)]
-struct LockedOf<'a>(&'a Request, &'a [Name]);
-
-impl fmt::Display for LockedOf<'_> {
-    fn fmt<W: fmt::Write>(&self, f: &mut fmt::Formatter<W>) -> fmt::Result {
-        let mut before = "";
-        f.write_str("[")?;
-        for name in self.1 {
-            f.write_str(before)?;
-            write_locked(f, self.0, name)?;
-            before = ",";
-        }
-        f.write_str("]")
+fn text_of<'r>(request: &'r Request, name: &Name, locked: bool) -> Option<&'r str> {
+    if locked {
+        Some(request.locked(name)?.text())
+    } else {
+        Some(request.need_on(name)?.text())
     }
-}
-
-fn write_locked<W: fmt::Write>(
-    f: &mut fmt::Formatter<W>,
-    request: &Request,
-    name: &Name,
-) -> fmt::Result {
-    match request.locked(name) {
-        Some(version) => write_text(f, version.text()),
-        None => f.write_str("null"),
-    }
-}
-
-fn write_text<W: fmt::Write>(f: &mut fmt::Formatter<W>, text: &str) -> fmt::Result {
-    write!(f, "{text:?}")
 }

@@ -1,6 +1,6 @@
 //! What rows change.
 
-use crate::command_calls::{command_copy, dependencies_call};
+use crate::command_calls::{command_call, dependencies_call};
 use crate::held_calls::{growing_set_call, held_set_call};
 use crate::incompat_calls::incompat_call;
 use crate::partial_calls::partial_call;
@@ -50,14 +50,24 @@ impl Calls for Session {
             "releases" => releases_call(alloc, &mut self.releases, name, row),
             "partial" => partial_call(alloc, &mut self.partial, name, row),
             "registry" => registry_call(alloc, &mut self.registry, name, row),
+            "command" => command_call(alloc, &mut self.registry, name, row),
             _ => call_for(alloc, &self.registry, of, name, row),
         }
     }
 }
 
 fn anew(alloc: Global, session: &mut Session) -> Result<Answer, Unread> {
-    *session = Session::new(alloc);
+    put(&mut session.set, VSet::new(alloc));
+    put(&mut session.growing, GrowingSet::new(alloc));
+    put(&mut session.releases, Releases::new(alloc));
+    put(&mut session.partial, Partial::new(alloc));
+    put(&mut session.registry, Registry::new(alloc));
     Ok(Answer::None)
+}
+
+/// Drops the value that stands at a place, for another one.
+fn put<T: Drop>(place: &mut T, value: T) {
+    *place = value;
 }
 
 fn call_for(
@@ -75,7 +85,6 @@ fn call_for(
         "set" => set_call(alloc, name, row),
         "term" => term_call(alloc, name, row),
         "incompat" => incompat_call(alloc, name, row),
-        "command" => command_copy(alloc, name, row),
         "dependencies" => dependencies_call(alloc, name, row),
         "request" => request_call(alloc, registry, name, row),
         _ => Err(Unread::Row),

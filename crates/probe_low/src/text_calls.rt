@@ -1,6 +1,6 @@
 //! Calls of names, versions and requirements, which are read from texts.
 
-use rows::{Answer, Unread, items, member, name_at, need_at, text, text_at, version_at};
+use rows::{Answer, Unread, items, member, name_at, names_at, need_at, shown, text, version_at};
 use serde_json::Value;
 use std::alloc::Global;
 use std::cmp::Ordering;
@@ -20,7 +20,7 @@ fn is_shared<T: Send + Sync>(_value: &T) {}
 
 pub fn name_call(alloc: Global, name: &str, row: &Value) -> Result<Answer, Unread> {
     match name {
-        "read" => read_name(alloc, row),
+        "read" => quoted(alloc, name_at(alloc, row, "text")?.text()),
         "copy" => copy_name(alloc, row),
         "sort" => sort_names(alloc, row),
         "is_in" => is_name_in(alloc, row),
@@ -28,34 +28,17 @@ pub fn name_call(alloc: Global, name: &str, row: &Value) -> Result<Answer, Unrea
     }
 }
 
-fn read_name(alloc: Global, row: &Value) -> Result<Answer, Unread> {
-    quoted(alloc, name_at(alloc, row, "text")?.text())
-}
-
 /// A copy, once what it was made of is gone.
-fn copied_name(alloc: Global, row: &Value) -> Result<Name, Unread> {
-    let name = name_at(alloc, row, "text")?;
-    Ok(name.copy()?)
-}
-
 fn copy_name(alloc: Global, row: &Value) -> Result<Answer, Unread> {
-    let copied = copied_name(alloc, row)?;
+    let copied = name_at(alloc, row, "text")?.copy()?;
     is_shared(&copied);
     quoted(alloc, copied.text())
 }
 
-fn names_at(alloc: Global, row: &Value) -> Result<Vec<Name>, Unread> {
-    let mut names = Vec::new(alloc);
-    for item in items(member(row, "texts")?)? {
-        names.push(Name::read(alloc, text(item)?)?)?;
-    }
-    Ok(names)
-}
-
 fn sort_names(alloc: Global, row: &Value) -> Result<Answer, Unread> {
-    let mut names = names_at(alloc, row)?;
+    let mut names = names_at(alloc, row, "texts")?;
     names.sort()?;
-    Ok(Answer::Text(format!(in alloc; "{}", Names(&names))?))
+    shown(alloc, &Names(&names))
 }
 
 #[derive(Clone, Copy)]
@@ -92,24 +75,16 @@ fn is_name_in(alloc: Global, row: &Value) -> Result<Answer, Unread> {
 
 pub fn version_call(alloc: Global, name: &str, row: &Value) -> Result<Answer, Unread> {
     match name {
-        "read" => read_version(alloc, row),
+        "read" => quoted(alloc, version_at(alloc, row, "text")?.text()),
         "copy" => copy_version(alloc, row),
         "order" => orders(alloc, row),
         _ => Err(Unread::Row),
     }
 }
 
-fn read_version(alloc: Global, row: &Value) -> Result<Answer, Unread> {
-    quoted(alloc, version_at(alloc, row, "text")?.text())
-}
-
-fn copied_version(alloc: Global, row: &Value, name: &str) -> Result<Published, Unread> {
-    let version = version_at(alloc, row, name)?;
-    Ok(version.copy()?)
-}
-
+/// A copy, once what it was made of is gone.
 fn copy_version(alloc: Global, row: &Value) -> Result<Answer, Unread> {
-    let copied = copied_version(alloc, row, "text")?;
+    let copied = version_at(alloc, row, "text")?.copy()?;
     is_shared(&copied);
     quoted(alloc, copied.text())
 }
@@ -147,28 +122,19 @@ fn sign_of(ordering: Ordering) -> &'static str {
 
 pub fn need_call(alloc: Global, name: &str, row: &Value) -> Result<Answer, Unread> {
     match name {
-        "read" => read_need(alloc, row),
+        "read" => quoted(alloc, need_at(alloc, row, "text")?.text()),
         "copy" => copy_need(alloc, row),
         "admits" => admits(alloc, row),
         "copies_admit" => copies_admit(alloc, row),
-        "distinct" => distinct(alloc, row),
-        "is_in" => is_need_in(alloc, row),
+        "distinct" | "is_in" => among_needs(alloc, row),
         "is_same" => is_same(alloc, row),
         _ => Err(Unread::Row),
     }
 }
 
-fn read_need(alloc: Global, row: &Value) -> Result<Answer, Unread> {
-    quoted(alloc, need_at(alloc, row, "text")?.text())
-}
-
-fn copied_need(alloc: Global, row: &Value, name: &str) -> Result<Need, Unread> {
-    let need = need_at(alloc, row, name)?;
-    Ok(need.copy()?)
-}
-
+/// A copy, once what it was made of is gone.
 fn copy_need(alloc: Global, row: &Value) -> Result<Answer, Unread> {
-    let copied = copied_need(alloc, row, "text")?;
+    let copied = need_at(alloc, row, "text")?.copy()?;
     is_shared(&copied);
     quoted(alloc, copied.text())
 }
@@ -180,8 +146,9 @@ fn admits(alloc: Global, row: &Value) -> Result<Answer, Unread> {
 
 /// As `admits`, of copies of both, once what they were made of is gone.
 fn copies_admit(alloc: Global, row: &Value) -> Result<Answer, Unread> {
-    let need = copied_need(alloc, row, "need")?;
-    Ok(Answer::Bool(need.admits(&copied_version(alloc, row, "version")?)))
+    let need = need_at(alloc, row, "need")?.copy()?;
+    let version = version_at(alloc, row, "version")?.copy()?;
+    Ok(Answer::Bool(need.admits(&version)))
 }
 
 fn put_needs(alloc: Global, set: &mut HashSet<Need>, texts: &[Value]) -> Result<(), Unread> {
@@ -191,18 +158,14 @@ fn put_needs(alloc: Global, set: &mut HashSet<Need>, texts: &[Value]) -> Result<
     Ok(())
 }
 
-/// How many requirements a set of them has.
-fn distinct(alloc: Global, row: &Value) -> Result<Answer, Unread> {
+/// How many requirements a set of them has, or whether it has one that is equal to another.
+fn among_needs(alloc: Global, row: &Value) -> Result<Answer, Unread> {
     let mut set = HashSet::new(alloc);
     put_needs(alloc, &mut set, items(member(row, "texts")?)?)?;
-    Ok(Answer::Number(set.len()))
-}
-
-/// Whether a set of requirements has an equal one.
-fn is_need_in(alloc: Global, row: &Value) -> Result<Answer, Unread> {
-    let mut set = HashSet::new(alloc);
-    put_needs(alloc, &mut set, items(member(row, "texts")?)?)?;
-    Ok(Answer::Bool(set.contains(&need_at(alloc, row, "text")?)))
+    match row.get("text") {
+        Some(other) => Ok(Answer::Bool(set.contains(&Need::read(alloc, text(other)?)?))),
+        None => Ok(Answer::Number(set.len())),
+    }
 }
 
 /// Whether two requirements are equal, and whether they are unequal.

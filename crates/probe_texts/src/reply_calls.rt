@@ -1,21 +1,59 @@
-//! Replies of wire, and the lines that tell them.
+//! Calls of replies: what is told, and the lines that tell it.
 
 use crate::fakes::Narrow;
-use crate::texts::written;
-use crate::wire_calls::explained_at;
+use crate::texts::{both_told, written};
+use crate::wire_calls::derivation_at;
 use lines::Outbox;
 use registry::Registry;
+use replies::{Body, Explained, Listing, Reply, Spot, reply_line};
 use rows::{
-    Answer, Unread, lock_at, member, refusal, request_at, size_at, text_at, whole, whole_at,
+    Answer, Unread, items, lock_at, member, refusal, size_at, text, text_at, whole, whole_at,
 };
 use serde_json::Value;
 use std::alloc::Global;
 use std::io;
 use versions::Refusal;
-use wire::{Body, Listing, Reply, Spot, reply_line};
+
+pub fn replies_call(
+    alloc: Global,
+    registry: &Registry,
+    name: &str,
+    row: &Value,
+) -> Result<Answer, Unread> {
+    match name {
+        "explained" => rewritten(alloc, row),
+        "reply_line" => reply_call(alloc, registry, row),
+        _ => Err(Unread::Row),
+    }
+}
+
+/// The derivation of a check line with texts that explain it.
+fn explained_at(alloc: Global, row: &Value) -> Result<Explained, Unread> {
+    let derivation = derivation_at(alloc, row)?;
+    let texts = texts_at(alloc, row)?;
+    Ok(Explained::new(alloc, derivation, texts)?)
+}
+
+fn texts_at(alloc: Global, row: &Value) -> Result<Vec<String>, Unread> {
+    let mut texts = Vec::new(alloc);
+    for item in items(member(row, "texts")?)? {
+        texts.push(String::from_str(alloc, text(item)?)?)?;
+    }
+    Ok(texts)
+}
+
+/// The JSON of a derivation and of its explanation, each as a text, so that every byte counts.
+fn rewritten(alloc: Global, row: &Value) -> Result<Answer, Unread> {
+    let explained = explained_at(alloc, row)?;
+    both_told(
+        alloc,
+        explained.derivation_text().as_bytes(),
+        explained.lines_text().as_bytes(),
+    )
+}
 
 /// The line of a reply: `revision`, `place` and `seat` where it has them, and what it tells by the word `tells`.
-pub fn reply_call(alloc: Global, registry: &Registry, row: &Value) -> Result<Answer, Unread> {
+fn reply_call(alloc: Global, registry: &Registry, row: &Value) -> Result<Answer, Unread> {
     match text_at(row, "tells")? {
         "accepted" => put(alloc, row, Body::Accepted),
         "refusal" => put(alloc, row, Body::Refusal(refusal_at(row)?)),

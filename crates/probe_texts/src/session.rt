@@ -1,7 +1,10 @@
 //! What rows change.
 
+use crate::by_name_calls::by_name_call;
 use crate::explain_calls::explain_call;
+use crate::journal_calls::journal_call;
 use crate::lines_calls::lines_call;
+use crate::reply_calls::replies_call;
 use crate::wire_calls::wire_call;
 use registry::Registry;
 use rows::{Answer, Calls, Unread, command_call};
@@ -49,7 +52,10 @@ fn call_for(
         ("derivation", "check") => derivation_check(alloc, registry, row),
         ("explain", _) => explain_call(alloc, registry, name, row),
         ("lines", _) => lines_call(alloc, name, row),
-        ("wire", _) => wire_call(alloc, registry, name, row),
+        ("wire", _) => wire_call(alloc, name, row),
+        ("by_name", _) => by_name_call(alloc, registry, name, row),
+        ("replies", _) => replies_call(alloc, registry, name, row),
+        ("journals", _) => journal_call(alloc, name, row),
         _ => Err(Unread::Row),
     }
 }

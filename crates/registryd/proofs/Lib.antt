@@ -1,6 +1,7 @@
 pub mod CommandWalk
 pub mod GivenValues
 pub mod KeptLemmas
+pub mod LawfulLemmas
 pub mod OutcomeLemmas
 pub mod RaceLemmas
 pub mod RacingLemmas

@@ -13,9 +13,9 @@ use Rattle.derivations.specs.declared.line.Line.{Line}
 use Rattle.solver.specs.Outcomes.{Tells, TellsOne}
 use Rattle.explain.specs.Explanations.{explanation}
 use Rattle.chronicle.specs.Answers.{MayStop}
-use Rattle.wire.specs.Named.{IsNumbered}
-use Rattle.wire.specs.Replies.{explained, no_selection, refused, selected}
-use Rattle.wire.specs.declared.by_name.NamedLine.{NamedLine}
+use Rattle.by_name.specs.Named.{IsNumbered}
+use Rattle.replies.specs.Replies.{explained, no_selection, refused, selected}
+use Rattle.by_name.specs.declared.derivation.NamedLine.{NamedLine}
 use Rattle.registryd.specs.Outcomes.{IsAnswer, IsRefuted, TellsFound, TellsNone, TellsSpent}
 
 -- ---- what is found

@@ -9,9 +9,11 @@ use Rattle.lines.specs.Lines.{HasNoFeed, lines_of, whole_lines_of}
 use Rattle.lines.specs.Texts.{IsBeginning}
 use Rattle.lines.specs.Unread.{Unread, StandsFor, BeginsWith}
 use Rattle.lines.proofs.LineLemmas.{with_feeds, with_feeds-more, lines_of-with_feeds, whole_lines_of-with_feeds, no_feeds-more, whole_lines_of-rest, StandsFor-more}
-use Rattle.wire.specs.Replies.{Reply, reply_text, replies_text}
+use Rattle.replies.specs.Replies.{Reply, reply_text, replies_text}
 use Rattle.book.specs.declared.item.Item.{Item}
-use Rattle.registryd.specs.Session.{IsLawful, Session, Serves, Breaks}
+use Rattle.registryd.specs.Lawful.{AreLawful, IsLawful}
+use Rattle.registryd.specs.Session.{Breaks, Serves, session_ways}
+use Rattle.registryd.proofs.LawfulLemmas.{lawful_append, lawful_more}
 
 -- Whole lines of what was read were answered, and the rest is held; the replies are written or wait.
 pub record Progress (r0 r w0 w : Option (List ℕ)) (old new : List Item) (held : Unread) (waiting : List ℕ) : Type 0 where
@@ -24,16 +26,9 @@ pub record Progress (r0 r w0 w : Option (List ℕ)) (old new : List Item) (held 
   pub split : input ≡ with_feeds lines ++ rest
   pub no_feeds : AllByRecursion HasNoFeed lines
   pub stands : StandsFor held rest
-  pub session : Session old lines replies new
+  pub session : AreLawful session_ways lines old replies new
   pub written : Appends w0 w text
   pub said : text ++ waiting ≡ replies_text replies
-
-pub Session-append : (lines more : List (List ℕ)) (replies after : List Reply) (old mid new : List Item) → Session old lines replies mid → Session mid more after new
-    → Session old (lines ++ more) (replies ++ after) new
-Session-append [] more [] after old mid new first then = subst (λ n. Session n more after new) first then
-Session-append [] more (reply ∷ replies) after old mid new first then = absurd first
-Session-append (line ∷ lines) more [] after old mid new first then = absurd first
-Session-append (line ∷ lines) more (reply ∷ replies) after old mid new (here, lawful, rest) then = (here, lawful, Session-append lines more replies after here mid new rest then)
 
 replies_text-more : (replies : List Reply) (reply : Reply) → replies_text (replies ++ reply ∷ []) ≡ replies_text replies ++ reply_text reply
 replies_text-more replies reply = flat_map-append reply_text replies (reply ∷ []) ∙ ap (λ l. replies_text replies ++ l) (append-nil (reply_text reply))
@@ -57,7 +52,7 @@ starts r w old held waiting stands none = record {
 
 -- a line was found and its reply put
 pub answers : (r0 r w0 w w' : Option (List ℕ)) (old mid new : List Item) (held held' : Unread) (waiting waiting' line : List ℕ) (reply : Reply) (written : List ℕ)
-    → (p : Progress r0 r w0 w old mid held waiting) → BeginsWith p.rest line held' → IsLawful mid line reply new → Appends w w' written
+    → (p : Progress r0 r w0 w old mid held waiting) → BeginsWith p.rest line held' → IsLawful session_ways line mid reply new → Appends w w' written
     → written ++ waiting' ≡ waiting ++ reply_text reply → Progress r0 r w0 w' old new held' waiting'
 answers r0 r w0 w w' old mid new held held' waiting waiting' line reply written p begins lawful appends all = record {
   input = p.input;
@@ -69,7 +64,7 @@ answers r0 r w0 w w' old mid new held held' waiting waiting' line reply written 
   split = p.split ∙ ap (λ l. with_feeds p.lines ++ l) begins.whole ∙ sym (with_feeds-more p.lines line begins.rest);
   no_feeds = no_feeds-more p.lines line p.no_feeds begins.no_feed;
   stands = begins.held;
-  session = Session-append p.lines (line ∷ []) p.replies (reply ∷ []) old mid new p.session (new, lawful, refl);
+  session = lawful_more session_ways p.lines line p.replies reply old mid new p.session lawful;
   written = Appends-trans w0 w w' p.text written p.written appends;
   said = append_assoc p.text written waiting' ∙ ap (λ l. p.text ++ l) all ∙ sym (append_assoc p.text waiting (reply_text reply))
       ∙ ap (λ l. l ++ reply_text reply) p.said ∙ sym (replies_text-more p.replies reply);
@@ -77,7 +72,7 @@ answers r0 r w0 w w' old mid new held held' waiting waiting' line reply written 
 
 -- a line was found and the write of its reply failed
 pub answer_fails : (r0 r w0 w w' : Option (List ℕ)) (old mid new : List Item) (held held' : Unread) (waiting line : List ℕ) (reply : Reply) (written : List ℕ)
-    → (p : Progress r0 r w0 w old mid held waiting) → BeginsWith p.rest line held' → IsLawful mid line reply new → Appends w w' written
+    → (p : Progress r0 r w0 w old mid held waiting) → BeginsWith p.rest line held' → IsLawful session_ways line mid reply new → Appends w w' written
     → IsBeginning written (waiting ++ reply_text reply) → Breaks r0 r w0 w' old
 answer_fails r0 r w0 w w' old mid new held held' waiting line reply written p begins lawful appends (more, is) = record {
   input = p.input;
@@ -87,8 +82,8 @@ answer_fails r0 r w0 w w' old mid new held held' waiting line reply written p be
   text = p.text ++ written;
   read = p.read;
   whole = inl (omega (arith, ap length whole, length-append (p.lines ++ line ∷ []) (whole_lines_of begins.rest)));
-  session = subst (λ ls. Session old ls (p.replies ++ reply ∷ []) new) (sym front)
-      (Session-append p.lines (line ∷ []) p.replies (reply ∷ []) old mid new p.session (new, lawful, refl));
+  session = subst (λ ls. AreLawful session_ways ls old (p.replies ++ reply ∷ []) new) (sym front)
+      (lawful_more session_ways p.lines line p.replies reply old mid new p.session lawful);
   written = Appends-trans w0 w w' p.text written p.written appends;
   beginning = (
     more,
@@ -141,7 +136,7 @@ send_fails r0 r w0 w w' old new held waiting written p appends (more, is) = reco
   text = p.text ++ written;
   read = p.read;
   whole = inl (omega (arith, ap length whole, length-append p.lines (whole_lines_of p.rest)));
-  session = subst (λ ls. Session old ls p.replies new) (sym front) p.session;
+  session = subst (λ ls. AreLawful session_ways ls old p.replies new) (sym front) p.session;
   written = Appends-trans w0 w w' p.text written p.written appends;
   beginning = (more, append_assoc p.text written more ∙ ap (λ l. p.text ++ l) is ∙ p.said);
 }
@@ -189,7 +184,7 @@ read_fails r0 r r' w0 w old new held waiting p no_feed none kept = record {
   input = p.input;
   replies = p.replies;
   read = Consumes-kept r0 r r' p.input p.read kept;
-  session = subst (λ ls. Session old ls p.replies new) (sym all) p.session;
+  session = subst (λ ls. AreLawful session_ways ls old p.replies new) (sym all) p.session;
   written = subst (Appends w0 w) (sym (append-nil p.text) ∙ ap (λ l. p.text ++ l) (sym none) ∙ p.said) p.written;
 }
   where
@@ -199,13 +194,13 @@ read_fails r0 r r' w0 w old new held waiting p no_feed none kept = record {
 
 -- the text ended, and the rest of it was answered
 pub ends : (r0 r w0 w w' : Option (List ℕ)) (old mid new : List Item) (held : Unread) (waiting : List ℕ) (after : List Reply) (written : List ℕ)
-    → (p : Progress r0 r w0 w old mid held waiting) → waiting ≡ [] → Session mid (lines_of p.rest) after new → Appends w w' written → written ≡ replies_text after
+    → (p : Progress r0 r w0 w old mid held waiting) → waiting ≡ [] → AreLawful session_ways (lines_of p.rest) mid after new → Appends w w' written → written ≡ replies_text after
     → Serves r0 r w0 w' lines_of old new
 ends r0 r w0 w w' old mid new held waiting after written p none session appends is = record {
   input = p.input;
   replies = p.replies ++ after;
   read = p.read;
-  session = subst (λ ls. Session old ls (p.replies ++ after) new) (sym all) (Session-append p.lines (lines_of p.rest) p.replies after old mid new p.session session);
+  session = subst (λ ls. AreLawful session_ways ls old (p.replies ++ after) new) (sym all) (lawful_append session_ways p.lines (lines_of p.rest) p.replies after old mid new p.session session);
   written = subst (Appends w0 w') text (Appends-trans w0 w w' p.text written p.written appends);
 }
   where
@@ -218,7 +213,7 @@ ends r0 r w0 w w' old mid new held waiting after written p none session appends 
 
 -- the text ended, and the write of the last reply failed
 pub end_fails : (r0 r w0 w w' : Option (List ℕ)) (old mid new : List Item) (held : Unread) (waiting : List ℕ) (after : List Reply) (written : List ℕ)
-    → (p : Progress r0 r w0 w old mid held waiting) → IsAtEnd r → waiting ≡ [] → Session mid (lines_of p.rest) after new → Appends w w' written → IsBeginning written (replies_text after)
+    → (p : Progress r0 r w0 w old mid held waiting) → IsAtEnd r → waiting ≡ [] → AreLawful session_ways (lines_of p.rest) mid after new → Appends w w' written → IsBeginning written (replies_text after)
     → Breaks r0 r w0 w' old
 end_fails r0 r w0 w w' old mid new held waiting after written p at_end none session appends (more, is) = record {
   input = p.input;
@@ -228,7 +223,7 @@ end_fails r0 r w0 w w' old mid new held waiting after written p at_end none sess
   text = p.text ++ written;
   read = p.read;
   whole = inr at_end;
-  session = subst (λ ls. Session old ls (p.replies ++ after) new) (sym front) (Session-append p.lines (lines_of p.rest) p.replies after old mid new p.session session);
+  session = subst (λ ls. AreLawful session_ways ls old (p.replies ++ after) new) (sym front) (lawful_append session_ways p.lines (lines_of p.rest) p.replies after old mid new p.session session);
   written = Appends-trans w0 w w' p.text written p.written appends;
   beginning = (
     more,

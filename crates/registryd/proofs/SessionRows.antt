@@ -28,13 +28,14 @@ use Rattle.derivations.specs.declared.facts.Cause.TheVariants.{Need, Root}
 use Rattle.derivations.specs.declared.line.Line.{Line}
 use Rattle.walk.specs.Choosing.{choice_of}
 use Rattle.solver.specs.Outcomes.{Tells}
-use Rattle.wire.specs.Replies.{Body, follows, no_selection, refused, selected}
+use Rattle.replies.specs.Replies.{Body, follows, no_selection, refused, selected}
 use Rattle.wire.specs.Shapes.{check, resolve}
-use Rattle.wire.specs.declared.by_name.NamedCause.TheVariants as named
-use Rattle.wire.specs.declared.by_name.NamedLine.{NamedLine}
+use Rattle.by_name.specs.declared.derivation.NamedCause.TheVariants as named
+use Rattle.by_name.specs.declared.derivation.NamedLine.{NamedLine}
 use Rattle.chronicle.specs.Answers.{NonePreferred}
 use Rattle.registryd.specs.Outcomes.{IsAnswer, IsRefuted, Proves, TellsNone, TellsSpent, TellsVerdict}
-use Rattle.registryd.specs.Session.{Answers, reply_after}
+use Rattle.registryd.specs.Lawful.{Answers, reply_at}
+use Rattle.registryd.specs.Session.{session_ways}
 
 -- ---- `a` 1.0.0 is published, and `a` with `^1` is asked for
 
@@ -59,7 +60,7 @@ unfolding semver_on_literals one refusal empty stepped after registry.refusal_of
 revision-one = refl
 
 -- a reply at its revision
-after-one : (body : Body) → record { revision = 1; stamp = None; body = body } ≡ reply_after one body
+after-one : (body : Body) → record { revision = 1; stamp = None; body = body } ≡ reply_at session_ways one body
 after-one body = ap (λ (n : ℕ). record { revision = n; stamp = None; body = body }) revision-one
 
 -- its one version
@@ -144,13 +145,14 @@ a-tells = record {
 }
 
 -- the reply that lists `a` 1.0.0 is lawful, under every budget and without one, whether an explanation is asked or not
-listed-a : (explain : Bool) (budget : Option ℕ) → Answers one (resolve needs_a explain budget) (record { revision = 1; stamp = None; body = selected a_selected }) one
+listed-a : (explain : Bool) (budget : Option ℕ) → Answers session_ways (resolve needs_a explain budget) one (record { revision = 1; stamp = None; body = selected a_selected }) one
 listed-a explain budget =
     let answer : IsAnswer a_alone needs_a a_selected = record {
       lawful = record { selection = first; meets = first-meets; tells = a-tells };
       preferred = λ s is meets. subst (λ (x : Choices). Tells a_alone x a_selected) (λ i p. preferred-once a_alone needs_a first s first-preferred is p i) a-tells;
     } in
-    inl ((selected a_selected, inl (a_selected, subst (λ packages. IsAnswer packages needs_a a_selected) (sym at-one) answer, refl), after-one (selected a_selected)), ([], refl))
+    let told = inl (a_selected, subst (λ packages. IsAnswer packages needs_a a_selected) (sym at-one) answer, refl) in
+    inl (one, (refl, (selected a_selected, told, after-one (selected a_selected))), ([], refl))
 
 -- and no reply that none meets the request is
 refuted-none : IsRefuted (packages_of one) needs_a → ⊥
@@ -175,7 +177,7 @@ at-none : packages_of [] ≡ []
 unfolding empty
 at-none = refl
 
-after-none : (body : Body) → record { revision = 0; stamp = None; body = body } ≡ reply_after [] body
+after-none : (body : Body) → record { revision = 0; stamp = None; body = body } ≡ reply_at session_ways [] body
 unfolding empty
 after-none body = refl
 
@@ -221,13 +223,13 @@ zed-none = NoSelection-IsDerivation [] needs_zed (end ∷ []) zed-derivation
 zed-refuted : IsRefuted (packages_of []) needs_zed
 zed-refuted = subst (λ packages. IsRefuted packages needs_zed) (sym at-none) (record { lines = end ∷ []; derivation = zed-derivation; none = zed-none })
 
-refused-zed : (budget : Option ℕ) → Answers [] (resolve needs_zed false budget) (record { revision = 0; stamp = None; body = no_selection }) []
-refused-zed budget = inl ((no_selection, inr (zed-refuted, refl), after-none no_selection), ([], refl))
+refused-zed : (budget : Option ℕ) → Answers session_ways (resolve needs_zed false budget) [] (record { revision = 0; stamp = None; body = no_selection }) []
+refused-zed budget = inl ([], (refl, (no_selection, inr (zed-refuted, refl), after-none no_selection)), ([], refl))
 
 -- under a budget it may be told that this is spent
-spent-zed : Answers [] (resolve needs_zed false (Some 0)) (record { revision = 0; stamp = None; body = refused BudgetSpent }) []
+spent-zed : Answers session_ways (resolve needs_zed false (Some 0)) [] (record { revision = 0; stamp = None; body = refused BudgetSpent }) []
 spent-zed =
-    inr ((refused BudgetSpent, (subst (λ packages. NonePreferred packages needs_zed) (sym at-none) (λ s is meets. zed-none s meets), refl), after-none (refused BudgetSpent)), refl)
+    inr (refl, (refused BudgetSpent, (subst (λ packages. NonePreferred packages needs_zed) (sym at-none) (λ s is meets. zed-none s meets), refl), after-none (refused BudgetSpent)))
 
 -- and without one it may not
 unspent-zed : (body : Body) → TellsSpent [] needs_zed None body → ⊥
@@ -243,8 +245,8 @@ unfolding zed_named end
 zed-proves = (end ∷ [], record { same = refl; lawful = (tt, tt) }, subst (λ packages. IsDerivation packages needs_zed (end ∷ [])) (sym at-none) zed-derivation)
 
 -- it may be told to follow
-follows-zed : Answers [] (check needs_zed zed_named) (record { revision = 0; stamp = None; body = follows true }) []
-follows-zed = ((follows true, (true, (λ _. zed-proves, λ _. refl), refl), after-none (follows true)), refl)
+follows-zed : Answers session_ways (check needs_zed zed_named) [] (record { revision = 0; stamp = None; body = follows true }) []
+follows-zed = (refl, (follows true, (true, (λ _. zed-proves, λ _. refl), refl), after-none (follows true)))
 
 -- and may not be told not to
 denied-zed : TellsVerdict (packages_of []) needs_zed zed_named (follows false) → ⊥

@@ -2,9 +2,11 @@ pub mod CommandLine
 pub mod Ending
 pub mod Outcomes
 pub mod Served
+pub mod Told
+pub mod Lawful
+pub mod Answering
 pub mod Session
 pub mod Racing
-pub mod Told
 pub mod Kept
 pub mod Race
 pub mod Words

@@ -11,10 +11,10 @@ use Rattle.derivations.specs.declared.line.Line.{Line}
 use Rattle.solver.specs.Outcomes.{Tells, TellsOne}
 use Rattle.explain.specs.Explanations.{explanation}
 use Rattle.chronicle.specs.Answers.{NonePreferred}
-use Rattle.wire.specs.Listings.{IsListing, Row}
-use Rattle.wire.specs.Named.{IsNumbered}
-use Rattle.wire.specs.Replies.{Body, explained, follows, listed, no_selection, refused, selected}
-use Rattle.wire.specs.declared.by_name.NamedLine.{NamedLine}
+use Rattle.replies.specs.Listings.{IsListing, Row}
+use Rattle.by_name.specs.Named.{IsNumbered}
+use Rattle.replies.specs.Replies.{Body, explained, follows, listed, no_selection, refused, selected}
+use Rattle.by_name.specs.declared.derivation.NamedLine.{NamedLine}
 
 -- ---- requests
 

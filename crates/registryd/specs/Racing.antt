@@ -1,26 +1,22 @@
--- What the seats of a race may answer, and what a race prints.
-use Rattle.std.specs.Prelude.{◌≡◌, ◌⊎◌, Bool, ℕ, ◌+◌, ◌<◌, List, [], ◌∷◌, ◌++◌, flat_map, length, MatchResult, Option, Some}
+-- The seats of a race: their ledgers, what they answer, and what a race prints.
+use Rattle.std.specs.Prelude.{◌≡◌, ◌<◌, ℕ, ◌+◌, List, [], ◌∷◌, ◌++◌, flat_map, length, Option, Some}
 use Rattle.std.specs.Io.KnownBytes.{Appends}
 use Rattle.versions.specs.Words.{Text}
-use Rattle.versions.specs.declared.refusal.Refusal.{Refusal}
-use Rattle.versions.specs.declared.refusal.Refusal.TheVariants.{NoMemory, Stray}
+use Rattle.versions.specs.declared.refusal.Refusal.TheVariants.{Stray}
 use Rattle.registry.specs.Commands.{change_of}
-use Rattle.registry.specs.Requests.{Wanted}
 use Rattle.registry.specs.Step.{Change}
-use Rattle.derivations.specs.Learning.{IsLearnt}
-use Rattle.derivations.specs.declared.line.Line.{Line}
 use Rattle.book.specs.declared.item.Item.{Item}
 use Rattle.book.specs.declared.item.Item.TheVariants as item
-use Rattle.chronicle.specs.Journals.{Begins, EntersAfter, packages_of, refusal_at, revision_of, serials_of}
+use Rattle.chronicle.specs.Cells.{Cells}
+use Rattle.chronicle.specs.Journals.{Begins, packages_of, refusal_at, revision_of}
+use Rattle.chronicle.specs.Seats.{Accepted, MayHaveSeen, Place}
 use Rattle.chronicle.specs.declared.entry.Entry.{Entry}
+use Rattle.chronicle.specs.declared.entry.Stamp.{Stamp}
 use Rattle.lines.specs.Lines.{lines_of}
 use Rattle.lines.specs.Texts.{IsBeginning}
-use Rattle.wire.specs.Journal.{journal_text}
-use Rattle.wire.specs.Replies.{Body, Reply, accepted, refused, replies_text}
-use Rattle.wire.specs.Shapes.{Request, check, command as commands, listing, resolve}
-use Rattle.registryd.specs.Outcomes.{TellsFound, TellsListing, TellsSpent, TellsVerdict}
-use Rattle.registryd.specs.Served.{item_of}
-use Rattle.registryd.specs.Session.{asked}
+use Rattle.journals.specs.Journal.{journal_text}
+use Rattle.replies.specs.Replies.{Reply, replies_text}
+use Rattle.registryd.specs.Lawful.{AreLawful, Ways}
 
 -- how many cells the row of a race has
 abbrev pub race_capacity : ℕ
@@ -37,81 +33,43 @@ commands_in (item.Learnt lines) = []
 abbrev pub changes_in : List Entry → List Change
 changes_in journal = flat_map (λ (e : Entry). commands_in e.item) journal
 
--- ---- one line
+-- ---- a seat's ledger
 
--- a reply of a seat at the end of what it has seen
-abbrev pub reply_at : ℕ → List Entry → Body → Reply
-reply_at seat seen body = record { revision = revision_of seen; stamp = Some (record { place = length seen; seat = seat }); body = body }
+-- A look may show what others entered. An item that is accepted stands behind all that the seat had seen. A call goes no further where the next cell has an entry of the seat's number that it did not make.
+abbrev pub seat_ways : Ways Place
+seat_ways = record {
+  standing = λ seat. record { revision = revision_of seat.journal; stamp = Some (record { place = length seat.journal; seat = seat.number }) };
+  packages = λ seat. packages_of seat.journal;
+  looks = MayHaveSeen;
+  enters = λ old i new. (stamp : Stamp) × Accepted old new i stamp;
+  refusal = λ seat i. refusal_at seat.row.capacity seat.journal i;
+  halts = λ seat refusal. (refusal ≡ Stray) × (length seat.journal < seat.row.capacity);
+}
 
--- the seat may have seen more, and entered nothing
-pub record OnlySees (seat : ℕ) (old new : List Entry) : Type 0 where
-  pub journal : Begins old new
-  pub own : serials_of seat new ≡ serials_of seat old
-
--- The command stands in the journal after all that the seat had seen, and is accepted there.
-abbrev pub IsEntered : ℕ → List Entry → Change → Reply → List Entry → Type 0
-IsEntered seat old change reply new = EntersAfter seat old new (item_of change) (length new) (revision_of new) × (reply ≡ reply_at seat new accepted)
-
--- The command has its lowest refusal where the seat then stands.
-abbrev pub IsNotEntered : ℕ → List Entry → Change → Reply → List Entry → Type 0
-IsNotEntered seat old change reply new = OnlySees seat old new
-    × ((refusal : Refusal) × (refusal_at race_capacity new (item_of change) ≡ Some refusal) × (reply ≡ reply_at seat new (refused refusal)))
-
--- The seat enters nothing, and its reply tells such a body where it then stands.
-abbrev pub LooksAndTells : ℕ → (Body → Type 0) → List Entry → Reply → List Entry → Type 0
-LooksAndTells seat is old reply new = OnlySees seat old new × ((body : Body) × is body × (reply ≡ reply_at seat new body))
-
--- The seat learns these, one after another: each follows from premises, and stands in the journal after all that the seat had seen, where it is accepted.
-abbrev pub SeatLearns : ℕ → List Entry → List (List Line) → List Entry → Type 0
-SeatLearns seat old [] new = OnlySees seat old new
-SeatLearns seat old (lines ∷ rest) new = IsLearnt lines
-    × ((mid : List Entry) × EntersAfter seat old mid (item.Learnt lines) (length mid) (revision_of mid) × SeatLearns seat mid rest new)
-
--- What the solver found is told where the seat then stands. Then some may be learnt.
-abbrev pub SeatTellsAndLearns : ℕ → Wanted → Bool → List Entry → Reply → List Entry → Type 0
-SeatTellsAndLearns seat wanted explain old reply new = (mid : List Entry) × LooksAndTells seat (TellsFound (packages_of mid) wanted explain) old reply mid
-    × ((learnt : List (List Line)) × SeatLearns seat mid learnt new)
-
--- A request may be answered so by a seat, which then has seen these entries. All but a command is answered of the registry where the seat then stands.
-abbrev pub SeatAnswers : ℕ → List Entry → Request → Reply → List Entry → Type 0
-SeatAnswers seat old (commands change) reply new = IsEntered seat old change reply new ⊎ IsNotEntered seat old change reply new
-SeatAnswers seat old (resolve wanted explain budget) reply new =
-    SeatTellsAndLearns seat wanted explain old reply new ⊎ LooksAndTells seat (TellsSpent (packages_of new) wanted budget) old reply new
-SeatAnswers seat old (check wanted lines) reply new = LooksAndTells seat (TellsVerdict (packages_of new) wanted lines) old reply new
-SeatAnswers seat old listing reply new = LooksAndTells seat (TellsListing (packages_of new)) old reply new
-
--- The seat went no further: for want of memory, or since the next cell has an entry of its number that it did not make.
-abbrev pub GivesUp : ℕ → List Entry → Reply → List Entry → Type 0
-GivesUp seat old reply new = OnlySees seat old new
-    × ((reply ≡ reply_at seat new (refused NoMemory)) ⊎ ((reply ≡ reply_at seat new (refused Stray)) × (length new < race_capacity)))
-
--- A line may be answered so by a seat; one that is at fault where the seat stands.
-abbrev pub IsSeatReply : ℕ → List Entry → List ℕ → Reply → List Entry → Type 0
-IsSeatReply seat old line reply new = GivesUp seat old reply new
-    ⊎ MatchResult (asked line) (λ request. SeatAnswers seat old request reply new)
-    (λ refusal. (new ≡ old) × (reply ≡ reply_at seat new (refused refusal)))
+-- the seat of a row with this number, before it has seen anything
+abbrev pub fresh_seat : Cells → ℕ → Place
+fresh_seat row number = record { row = row; number = number; journal = [] }
 
 -- ---- files
 
--- The lines may be answered so, one reply a line, each after what the seat had seen before.
-abbrev pub SeatSession : ℕ → List Entry → List (List ℕ) → List Reply → List Entry → Type 0
-SeatSession seat old [] [] new = new ≡ old
-SeatSession seat old (line ∷ lines) (reply ∷ replies) new = (mid : List Entry) × IsSeatReply seat old line reply mid × SeatSession seat mid lines replies new
-SeatSession seat old [] (reply ∷ replies) new = ⊥
-SeatSession seat old (line ∷ lines) [] new = ⊥
-
--- These may be the replies to a file's lines by the seat of this number, which has seen a beginning of the journal.
-pub record IsRun (seat : ℕ) (journal : List Entry) (file : Text) (replies : List Reply) : Type 0 where
-  pub seen : List Entry
-  pub session : SeatSession seat [] (lines_of file) replies seen
-  pub begins : Begins seen journal
+-- These may be the replies to a file's lines by the seat of the row with this number, which has seen a beginning of the journal.
+pub record IsRun (row : Cells) (number : ℕ) (journal : List Entry) (file : Text) (replies : List Reply) : Type 0 where
+  pub end : Place
+  pub session : AreLawful seat_ways (lines_of file) (fresh_seat row number) replies end
+  pub begins : Begins end.journal journal
 
 -- Each file has its replies, by seats that are numbered in order from this one on.
-abbrev pub AreRun : ℕ → List Entry → List Text → List (List Reply) → Type 0
-AreRun seat journal [] [] = Unit {0}
-AreRun seat journal (file ∷ files) (replies ∷ rest) = IsRun seat journal file replies × AreRun (seat + 1) journal files rest
-AreRun seat journal [] (replies ∷ rest) = ⊥
-AreRun seat journal (file ∷ files) [] = ⊥
+abbrev pub AreRun : Cells → ℕ → List Entry → List Text → List (List Reply) → Type 0
+AreRun row number journal [] [] = Unit {0}
+AreRun row number journal (file ∷ files) (replies ∷ rest) = IsRun row number journal file replies × AreRun row (number + 1) journal files rest
+AreRun row number journal [] (replies ∷ rest) = ⊥
+AreRun row number journal (file ∷ files) [] = ⊥
+
+-- There is a row of so many cells, and each file has its replies by a seat of it.
+pub record IsRace (files : List Text) (journal : List Entry) (replies : List (List Reply)) : Type 0 where
+  pub row : Cells
+  pub sized : row.capacity ≡ race_capacity
+  pub runs : AreRun row 1 journal files replies
 
 -- ---- what is printed
 
@@ -123,14 +81,14 @@ race_text replies journal = flat_map replies_text replies ++ journal_text (chang
 pub record Races (written_before written_after : Option (List ℕ)) (files : List Text) : Type 0 where
   pub journal : List Entry
   pub replies : List (List Reply)
-  pub runs : AreRun 1 journal files replies
+  pub raced : IsRace files journal replies
   pub written : Appends written_before written_after (race_text replies journal)
 
 -- The same, but that a beginning alone of these replies and the journal was written.
 pub record RacesInPart (written_before written_after : Option (List ℕ)) (files : List Text) : Type 0 where
   pub journal : List Entry
   pub replies : List (List Reply)
-  pub runs : AreRun 1 journal files replies
+  pub raced : IsRace files journal replies
   pub text : List ℕ
   pub written : Appends written_before written_after text
   pub beginning : IsBeginning text (race_text replies journal)

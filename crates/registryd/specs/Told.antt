@@ -1,8 +1,6 @@
--- What is told in reply to a line, as it is kept.
-use Rattle.std.specs.Prelude.{ℕ, Option}
-use Rattle.versions.specs.Words.{Text}
-use Rattle.wire.specs.Replies.{Body, accepted, explained, follows, no_selection, refused, reply_text, selected}
-use Rattle.wire.specs.declared.reply.Spot.{Spot}
+-- What is told in reply to a line, and where.
+use Rattle.replies.specs.Replies.{Body, Reply, accepted, explained, follows, no_selection, refused, selected}
+use Rattle.registryd.specs.declared.told.Standing.{Standing}
 use Rattle.registryd.specs.declared.told.Told.{Told}
 use Rattle.registryd.specs.declared.told.Told.TheVariants as told
 
@@ -14,6 +12,6 @@ told_body told.NoSelection = no_selection
 told_body (told.Explained reason) = explained reason.lines reason.texts
 told_body (told.Follows verdict) = follows verdict
 
--- the line of a reply, with where it was found in a race
-abbrev pub line_of : Option Spot → ℕ → Body → Text
-line_of stamp revision body = reply_text (record { revision = revision; stamp = stamp; body = body })
+-- the reply that tells this, with where it was found
+abbrev pub reply_from : Standing → Body → Reply
+reply_from at body = record { revision = at.revision; stamp = at.stamp; body = body }

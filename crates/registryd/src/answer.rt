@@ -1,187 +1,152 @@
-//! The reply to one line of a session.
-ghost use Rattle.std.specs.Prelude.{◌⊎◌, ℕ, ◌≤◌, All, List, length, IfErr, IfOk};
-ghost use Rattle.versions.specs.declared.refusal.Refusal.TheVariants.{NoMemory};
+//! The answer to one line, of a session and of a seat of a race alike.
+ghost use Rattle.std.specs.Prelude.{◌≡◌, ◌⊎◌, All, IfErr, IfOk};
 ghost use Rattle.registry.specs.Commands.{change_of};
 ghost use Rattle.registry.specs.Preference.{IsPreferredSelection};
 ghost use Rattle.registry.specs.Selections.{Choices, Meets};
 ghost use Rattle.solver.specs.Outcomes as outcomes;
 ghost use Rattle.derivations.specs.Learning.{AllStand};
-ghost use Rattle.book.specs.Items.{packages_of};
 ghost use Rattle.chronicle.specs.Answers.{MayStop};
-ghost use Rattle.lines.specs.Texts.{Puts};
-ghost use Rattle.lines.specs.Unread.{IsFound, line_limit};
-ghost use Rattle.wire.specs.Replies.{Reply, reply_text};
-ghost use Rattle.wire.specs.Shapes.{check, command as commands, listing, resolve};
+ghost use Rattle.wire.specs.Shapes as shapes;
+ghost use Rattle.registryd.specs.Answering.{LeadsTo};
+ghost use Rattle.registryd.specs.Lawful.{IsLawful, IsStopped, MayAnswer};
 ghost use Rattle.registryd.specs.Outcomes.{TellsFound};
-ghost use Rattle.registryd.specs.Session.{Answers, IsLawful, IsRefused};
 ghost use Rattle.registryd.specs.Told.{told_body};
 
-use crate::served::{Served, learn_all};
-use crate::told::{Told, put_reply, put_told, told_of, verdict_on};
+use crate::ledger::Ledger;
+use crate::told::{Told, told_of, verdict_on};
+use book::Item;
+use by_name::NamedDerivation;
 use derivations::{Learnt, Store};
-use lines::{LineBuffer, Next, Outbox};
+use lines::LINE_LIMIT;
 use registry::{Command, Registry, Request};
 use solver::{Outcome, solve, solve_within};
 use std::alloc::Global;
-use std::io;
-use std::io::Write;
 use versions::Refusal;
-use wire::{Asked, Body, Listing, NamedDerivation, read_request};
+use wire::{Asked, read_request};
 
-/// Replies to the line that was found. The reply waits in the outbox where there is room.
-pub fn reply_to_found<W: Write>(
-    alloc: Global,
-    served: &mut Served,
-    outbox: &mut Outbox,
-    writer: &mut W,
-    lines: &LineBuffer,
-    found: Next,
-) -> io::Result<()>
-    requires { (line : List ℕ) × IsFound found lines.now line }
-    ensures { (line : List ℕ) → IsFound found lines.now line → (reply : Reply)
-        × IsLawful served.old line reply served.new
-        × Puts (W.contents writer.old) (W.contents writer.new) outbox.old outbox.new result (reply_text reply) }
-{
-    match found {
-        Next::Line => reply_to(alloc, served, outbox, writer, lines.line()),
-        Next::TooLong => put_reply(
-            outbox,
-            writer,
-            None,
-            served.revision(),
-            Body::Refusal(Refusal::BadLine),
-        ),
-        Next::More => unreachable!(),
-    }
+/// What is answered to a line, where the ledger then stands.
+#[derive(Drop)]
+pub enum Answer {
+    Told(Told),
+    /// What a search found, and what it offers to be learnt once that is told.
+    Found(Told, Vec<Learnt>),
+    /// What is published, which the registry lends.
+    Listing,
 }
 
-// Replies to a line within the limit.
-fn reply_to<W: Write>(
-    alloc: Global,
-    served: &mut Served,
-    outbox: &mut Outbox,
-    writer: &mut W,
-    line: &[u8],
-) -> io::Result<()>
-    requires { length line.now ≤ line_limit }
-    ensures { (reply : Reply) × IsLawful served.old line.now reply served.new
-        × Puts (W.contents writer.old) (W.contents writer.new) outbox.old outbox.new result (reply_text reply) }
+/// Answers a line.
+pub fn answer_line<L: Ledger>(alloc: Global, ledger: &mut L, line: &[u8]) -> Answer
+    ensures { LeadsTo L.ways (IsLawful L.ways line.now ledger.old) result ledger.new }
 {
+    if line.len() > LINE_LIMIT {
+        return Answer::Told(Told::Refusal(Refusal::BadLine));
+    }
     match read_request(alloc, line) {
-        Ok(Asked::Command(command)) => reply_to_command(served, outbox, writer, command),
+        Ok(Asked::Command(command)) => enter(ledger, command),
         Ok(
             Asked::Resolve {
                 request,
                 explain,
                 budget,
             },
-        ) => reply_to_request(alloc, served, outbox, writer, &request, explain, budget),
+        ) => resolve(alloc, ledger, &request, explain, budget),
         Ok(
             Asked::Check {
                 request,
                 derivation,
             },
-        ) => reply_to_derivation(alloc, served, outbox, writer, &request, &derivation),
-        Ok(Asked::Listing) => reply_to_listing(alloc, served, outbox, writer),
-        Err(e) => put_reply(outbox, writer, None, served.revision(), Body::Refusal(e)),
+        ) => judge(alloc, ledger, &request, &derivation),
+        Ok(Asked::Listing) => list(ledger),
+        Err(fault) => Answer::Told(Told::Refusal(fault)),
     }
 }
 
-// Replies to a command, which is carried out unless it is refused.
-fn reply_to_command<W: Write>(
-    served: &mut Served,
-    outbox: &mut Outbox,
-    writer: &mut W,
-    command: Command,
-) -> io::Result<()>
-    ensures { (reply : Reply)
-        × (IsRefused NoMemory served.old reply served.new ⊎ Answers served.old (commands (change_of command)) reply served.new)
-        × Puts (W.contents writer.old) (W.contents writer.new) outbox.old outbox.new result (reply_text reply) }
+/// Enters a command. The answer takes no memory, so that an accepted one is never told as 18.
+fn enter<L: Ledger>(ledger: &mut L, command: Command) -> Answer
+    ensures { LeadsTo L.ways (MayAnswer L.ways (shapes.command (change_of command)) ledger.old) result ledger.new }
 {
-    match served.accept(command) {
-        Ok(()) => put_reply(outbox, writer, None, served.revision(), Body::Accepted),
-        Err(e) => put_reply(outbox, writer, None, served.revision(), Body::Refusal(e)),
+    match ledger.enter(Item::Command(command)) {
+        Ok(()) => Answer::Told(Told::Accepted),
+        Err(refusal) => Answer::Told(Told::Refusal(refusal)),
     }
 }
 
-// Replies to a request with what the solver answers. What it offers is learnt once the reply is put.
-fn reply_to_request<W: Write>(
+/// Answers a request, after a look, with what the solver answers.
+fn resolve<L: Ledger>(
     alloc: Global,
-    served: &mut Served,
-    outbox: &mut Outbox,
-    writer: &mut W,
+    ledger: &mut L,
     request: &Request,
     explain: bool,
     budget: Option<u32>,
-) -> io::Result<()>
-    ensures { (reply : Reply)
-        × (IsRefused NoMemory served.old reply served.new ⊎ Answers served.old (resolve request.now explain budget) reply served.new)
-        × Puts (W.contents writer.old) (W.contents writer.new) outbox.old outbox.new result (reply_text reply) }
+) -> Answer
+    ensures { LeadsTo L.ways (MayAnswer L.ways (shapes.resolve request.now explain budget) ledger.old) result ledger.new }
 {
-    match found_by(alloc, served, request, explain, budget) {
-        Ok((told, offered)) => {
-            let put = put_told(outbox, writer, None, served.revision(), &told);
-            learn_all(served, offered);
-            put
-        }
-        Err(e) => put_reply(outbox, writer, None, served.revision(), Body::Refusal(e)),
+    match found_by(alloc, ledger, request, explain, budget) {
+        Ok((told, offered)) => Answer::Found(told, offered),
+        Err(e) => Answer::Told(Told::Refusal(e)),
     }
 }
 
-// Replies to a derivation with whether it shows that no selection meets the request.
-fn reply_to_derivation<W: Write>(
+/// Judges a derivation, after a look.
+fn judge<L: Ledger>(
     alloc: Global,
-    served: &Served,
-    outbox: &mut Outbox,
-    writer: &mut W,
+    ledger: &mut L,
     request: &Request,
     derivation: &NamedDerivation,
-) -> io::Result<()>
-    ensures { (reply : Reply)
-        × (IsRefused NoMemory served.now reply served.now ⊎ Answers served.now (check request.now derivation.now) reply served.now)
-        × Puts (W.contents writer.old) (W.contents writer.new) outbox.old outbox.new result (reply_text reply) }
+) -> Answer
+    ensures { LeadsTo L.ways (MayAnswer L.ways (shapes.check request.now derivation.now) ledger.old) result ledger.new }
 {
-    let told = verdict_on(alloc, served.registry(), request, derivation);
-    put_told(outbox, writer, None, served.revision(), &told)
-}
-
-// Replies with what is published.
-fn reply_to_listing<W: Write>(
-    alloc: Global,
-    served: &Served,
-    outbox: &mut Outbox,
-    writer: &mut W,
-) -> io::Result<()>
-    ensures { (reply : Reply)
-        × (IsRefused NoMemory served.now reply served.now ⊎ Answers served.now listing reply served.now)
-        × Puts (W.contents writer.old) (W.contents writer.new) outbox.old outbox.new result (reply_text reply) }
-{
-    let revision = served.revision();
-    match Listing::new(alloc, served.registry()) {
-        Ok(listing) => put_reply(outbox, writer, None, revision, Body::Listing(listing)),
-        Err(e) => put_reply(outbox, writer, None, revision, Body::Refusal(e)),
+    match ledger.look() {
+        Ok(()) => Answer::Told(verdict_on(alloc, ledger.registry(), request, derivation)),
+        Err(e) => Answer::Told(Told::Refusal(e)),
     }
 }
 
-// What is told of a request, and what is offered to be learnt.
-fn found_by(
+/// Lists what is published, after a look.
+fn list<L: Ledger>(ledger: &mut L) -> Answer
+    ensures { LeadsTo L.ways (MayAnswer L.ways shapes.listing ledger.old) result ledger.new }
+{
+    match ledger.look() {
+        Ok(()) => Answer::Listing,
+        Err(e) => Answer::Told(Told::Refusal(e)),
+    }
+}
+
+/// What is told of a request, after a look, and what is offered to be learnt.
+fn found_by<L: Ledger>(
     alloc: Global,
-    served: &Served,
+    ledger: &mut L,
     request: &Request,
     explain: bool,
     budget: Option<u32>,
 ) -> Result<(Told, Vec<Learnt>), Refusal>
-    ensures told { IfOk result (λ r. TellsFound (packages_of served.now) request.now explain (told_body r.0)) }
-    ensures only { IfErr result (MayStop (packages_of served.now) request.now budget) }
+    ensures looks { L.ways.looks ledger.old ledger.new }
+    ensures told { IfOk result (λ r. TellsFound (L.ways.packages ledger.new) request.now explain (told_body r.0)) }
+    ensures only { IfErr result (λ e. IsStopped L.ways ledger.new e ⊎ MayStop (L.ways.packages ledger.new) request.now budget e) }
 {
-    let registry = served.registry();
-    let outcome = answer_of(alloc, registry, served.store(), request, budget)?;
+    ledger.look()?;
+    found_here(alloc, ledger, request, explain, budget)
+}
+
+/// What is told of a request where the ledger stands, and what is offered to be learnt.
+fn found_here<L: Ledger>(
+    alloc: Global,
+    ledger: &L,
+    request: &Request,
+    explain: bool,
+    budget: Option<u32>,
+) -> Result<(Told, Vec<Learnt>), Refusal>
+    ensures told { IfOk result (λ r. TellsFound (L.ways.packages ledger.now) request.now explain (told_body r.0)) }
+    ensures only { IfErr result (MayStop (L.ways.packages ledger.now) request.now budget) }
+{
+    let registry = ledger.registry();
+    let outcome = outcome_of(alloc, registry, ledger.store(), request, budget)?;
     told_of(alloc, registry, request, explain, outcome)
 }
 
-// What the solver answers to a request, under its budget where it has one, with the help of what is
-// stored.
-fn answer_of(
+/// What the solver answers to a request, under its budget where it has one, with the help of what is
+/// stored.
+fn outcome_of(
     alloc: Global,
     registry: &Registry,
     store: &Store,

@@ -1,12 +1,12 @@
 //! How the program ends: its exit status, and its line on standard error.
-ghost use Rattle.std.specs.Prelude.{◌≡◌, List, ℕ};
-ghost use Rattle.std.specs.Io.KnownBytes.{Appends};
-ghost use Rattle.lines.specs.Texts.{IsBeginning};
+ghost use Rattle.std.specs.Prelude.{◌≡◌};
+ghost use Rattle.lines.specs.Texts.{Writes};
 ghost use Rattle.registryd.specs.Ending.{status_of, text_of, journal_text, end_of_run};
 
 use crate::serve::RunFault;
 use itoa::Buffer;
 use lines::{write_text, write_texts};
+use std::io;
 use std::io::Write;
 
 /// How the program ends.
@@ -38,37 +38,35 @@ impl From<RunFault> for End {
     }
 }
 
-/// Writes the line that tells how the program ends, as far as the writer takes it, and answers the
-/// exit status. It takes no memory.
-pub fn ending<W: Write>(end: &End, writer: &mut W) -> u8
-    ensures status { result ≡ status_of end.now }
-    ensures text { (written : List ℕ) × Appends (W.contents writer.old) (W.contents writer.new) written
-        × IsBeginning written (text_of end.now) }
-{
-    match end {
-        End::Done => 0,
-        End::Input => tell(writer, "registryd: input failed\n", 1),
-        End::Output => tell(writer, "registryd: output failed\n", 1),
-        End::Journal(line) => tell_journal_line(writer, *line),
-        End::Memory => tell(writer, "registryd: no memory\n", 1),
-        End::Words => tell(writer, "registryd: bad words\n", 2),
+impl End {
+    /// The exit status.
+    pub fn status(self) -> u8
+        ensures { result ≡ status_of self }
+    {
+        match self {
+            End::Done => 0,
+            End::Input | End::Output | End::Journal(_) | End::Memory => 1,
+            End::Words => 2,
+        }
     }
 }
 
-// A line that can't be written is given up: the status tells the end too.
-fn tell<W: Write>(writer: &mut W, text: &str, status: u8) -> u8
-    ensures status { result ≡ status }
-    ensures text { (written : List ℕ) × Appends (W.contents writer.old) (W.contents writer.new) written
-        × IsBeginning written text.now }
+/// Writes the line that tells how the program ends. It takes no memory.
+pub fn ending<W: Write>(end: End, writer: &mut W) -> io::Result<()>
+    ensures { Writes (W.contents writer.old) (W.contents writer.new) result (text_of end) }
 {
-    let _ = write_text(writer, text.as_bytes());
-    status
+    match end {
+        End::Done => Ok(()),
+        End::Input => write_text(writer, "registryd: input failed\n".as_bytes()),
+        End::Output => write_text(writer, "registryd: output failed\n".as_bytes()),
+        End::Journal(line) => write_journal_line(writer, line),
+        End::Memory => write_text(writer, "registryd: no memory\n".as_bytes()),
+        End::Words => write_text(writer, "registryd: bad words\n".as_bytes()),
+    }
 }
 
-fn tell_journal_line<W: Write>(writer: &mut W, line: usize) -> u8
-    ensures status { result ≡ 1 }
-    ensures text { (written : List ℕ) × Appends (W.contents writer.old) (W.contents writer.new) written
-        × IsBeginning written (journal_text line) }
+fn write_journal_line<W: Write>(writer: &mut W, line: usize) -> io::Result<()>
+    ensures { Writes (W.contents writer.old) (W.contents writer.new) result (journal_text line) }
 {
     let mut digits = Buffer::new();
     let texts = [
@@ -76,6 +74,5 @@ fn tell_journal_line<W: Write>(writer: &mut W, line: usize) -> u8
         digits.format(line).as_bytes(),
         "\n".as_bytes(),
     ];
-    let _ = write_texts(writer, &texts);
-    1
+    write_texts(writer, &texts)
 }

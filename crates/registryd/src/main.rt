@@ -1,15 +1,20 @@
 //! The program `registryd`: a package registry that reads request lines and writes reply lines.
 #![tactic(auto)]
 
+ghost use Rattle.std.specs.Prelude.{◌≡◌, drop};
+
 mod answer;
 mod command_line;
 mod ending;
 mod freed;
 mod kept;
+mod ledger;
 mod obey;
+mod put;
 mod race;
 mod reasons;
 mod running;
+mod seat;
 mod serve;
 mod served;
 mod told;
@@ -28,7 +33,7 @@ fn main(rt: HostRuntime) -> ExitCode {
         Ok(words) => obey(
             &rt,
             rt.alloc(),
-            words.as_slice(),
+            after_name(words.as_slice()),
             &mut rt.stdin(),
             &mut rt.stdout(),
         ),
@@ -36,16 +41,25 @@ fn main(rt: HostRuntime) -> ExitCode {
         // A word is no text.
         Err(_) => End::Words,
     };
-    ExitCode::from(ending(&end, &mut rt.stderr()))
+    // A line that can't be written is given up: the status tells the end too.
+    let _ = ending(end, &mut rt.stderr());
+    ExitCode::from(end.status())
 }
 
-// Settles what is done with freed memory, and gives the words after the program's name.
+// Settles what is done with freed memory, and gives the words of the command line.
 fn begin<R: Env + AllocGlobal>(rt: &R) -> io::Result<Vec<String>> {
     keep_what_is_freed(rt.alloc())?;
     words_given(rt)
 }
 
-// The words after the program's name.
+// The words of the command line, the program's name among them.
 fn words_given<R: Env + Alloc>(rt: &R) -> io::Result<Vec<String<R::A>, R::A>> {
-    Ok(env::args(rt)?.skip(1).collect(rt.alloc())?)
+    Ok(env::args(rt)?.collect(rt.alloc())?)
+}
+
+// The words after the program's name.
+fn after_name(words: &[String]) -> &[String]
+    ensures { result.now ≡ drop 1 words.now }
+{
+    if words.is_empty() { words } else { &words[1..] }
 }

@@ -1,12 +1,15 @@
 //! What the words of the command line ask for, done.
 ghost use Rattle.std.specs.Prelude.{◌≡◌, ◌≢◌, ◌⊎◌, ◌<◌, ◌≤◌, ℕ, List, [], length, vec_len, IfOk};
 ghost use Rattle.std.specs.Io.KnownBytes.{Keeps, IsAtEnd};
+ghost use Rattle.std.specs.IoError.{error_kind};
+ghost use Rattle.clap.specs.Words.{fault_of, subcommand_of};
 ghost use Rattle.versions.specs.Words.{Text};
 ghost use Rattle.book.specs.declared.item.Item.{Item};
 ghost use Rattle.lines.specs.Lines.{lines_of, whole_lines_of};
+ghost use Rattle.registryd.specs.CommandLine.{program_app};
 ghost use Rattle.registryd.specs.Racing.{Races, RacesInPart};
 ghost use Rattle.registryd.specs.Session.{Serves, Breaks};
-ghost use Rattle.registryd.specs.Words.{AskToRace, AskToServe, texts};
+ghost use Rattle.registryd.specs.Words.{AskToRace, AskToServe, HasManyFiles, texts};
 
 use crate::ending::End;
 use crate::race::race;
@@ -50,6 +53,9 @@ pub fn obey<H: Wait + Threads + Sync + Files + AllocGlobal, R: Read, W: Write>(
     // Nothing was read, and the words ask neither to serve without a file nor for a race.
     ensures words { result ≡ End.Words → Keeps (R.remaining reader.old) (R.remaining reader.new)
         × (AskToServe (texts words.now) → ⊥) × ((count : ℕ) → AskToRace (texts words.now) count → ⊥) }
+    // Words that clap takes are told nothing, but for too many files.
+    ensures quiet { result ≡ End.Words → fault_of program_app (texts words.now) ≡ [] → (HasManyFiles (subcommand_of program_app (texts words.now)) → ⊥)
+        → Keeps (W.contents writer.old) (W.contents writer.new) }
     ensures no_journal { (line : ℕ) → result ≢ End.Journal line }
 {
     match read_words(alloc, words) {
@@ -129,8 +135,18 @@ fn race_files<H: Threads + Sync + Files + AllocGlobal, W: Write>(
             Ok(()) => End::Done,
             Err(fault) => End::from(fault),
         },
-        Err(e) if e.kind() == ErrorKind::OutOfMemory => End::Memory,
-        Err(_) => End::Input,
+        Err(e) => end_of_read(&e),
+    }
+}
+
+/// How the program ends where a file can't be read: want of memory is told apart.
+fn end_of_read(e: &io::Error) -> End
+    ensures memory { error_kind e.now ≡ ErrorKind.OutOfMemory → result ≡ End.Memory }
+    ensures input { error_kind e.now ≢ ErrorKind.OutOfMemory → result ≡ End.Input }
+{
+    match e.kind() {
+        ErrorKind::OutOfMemory => End::Memory,
+        _ => End::Input,
     }
 }
 

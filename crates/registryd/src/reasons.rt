@@ -2,15 +2,16 @@
 ghost use Rattle.std.specs.Prelude.{◌≡◌, ◌↔◌, IfErr, IfOk, IsTrue};
 ghost use Rattle.derivations.specs.Derivations.{IsDerivation};
 ghost use Rattle.explain.specs.Explanations.{explanation};
-ghost use Rattle.wire.specs.Named.{IsNumbered};
+ghost use Rattle.by_name.specs.Named.{IsNumbered};
 ghost use Rattle.registryd.specs.Outcomes.{Proves};
 
+use by_name::{NamedDerivation, derived_packages_have_names, named, numbered};
 use derivations::{Derivation, check};
 use explain::explanation;
 use registry::{Registry, Request};
+use replies::Explained;
 use std::alloc::Global;
 use versions::Refusal;
-use wire::{Explained, NamedDerivation, derived_packages_have_names, named, numbered};
 
 /// A derivation of the refusal of a request, by the names of its packages, with the lines that explain it.
 pub fn explained(

@@ -1,24 +1,29 @@
 //! What is told in reply to a line, by a session and by the seats of a race alike.
 ghost use Rattle.std.specs.Prelude.{◌≡◌, IfErr, IfOk};
-ghost use Rattle.lines.specs.Texts.{Puts};
 ghost use Rattle.registry.specs.Preference.{IsPreferredSelection};
 ghost use Rattle.registry.specs.Selections.{Choices, Meets};
 ghost use Rattle.derivations.specs.Derivations.{IsDerivation};
 ghost use Rattle.solver.specs.Outcomes as outcomes;
-ghost use Rattle.wire.specs.Replied.{body_of};
 ghost use Rattle.registryd.specs.Outcomes.{MayTell, TellsFound, TellsNone, TellsVerdict};
-ghost use Rattle.registryd.specs.Told.{line_of, told_body};
+ghost use Rattle.registryd.specs.Told.{told_body};
 
 use crate::reasons::{explained, follows};
+use by_name::NamedDerivation;
 use derivations::{Derivation, Learnt};
-use lines::Outbox;
 use registry::{Registry, Request};
+use replies::{Explained, Spot};
 use solver::Outcome;
 use std::alloc::Global;
-use std::io;
-use std::io::Write;
 use versions::{Name, Published, Refusal};
-use wire::{Body, Explained, NamedDerivation, Spot, reply_line};
+
+/// Where a line is answered, which its reply tells too.
+#[derive(Clone, Copy)]
+pub struct Standing {
+    /// How many commands were accepted.
+    pub revision: u64,
+    /// In a race, how many entries the seat has seen, and its number.
+    pub stamp: Option<Spot>,
+}
 
 /// What is told in reply to a line. A listing is not among it, since it is lent by the registry.
 #[derive(Drop)]
@@ -86,56 +91,4 @@ pub fn verdict_on(
         Ok(verdict) => Told::Follows(verdict),
         Err(e) => Told::Refusal(e),
     }
-}
-
-/// Puts the line of what is told. It takes no memory.
-pub fn put_told<W: Write>(
-    outbox: &mut Outbox,
-    writer: &mut W,
-    stamp: Option<Spot>,
-    revision: u64,
-    told: &Told,
-) -> io::Result<()>
-    ensures { Puts (W.contents writer.old) (W.contents writer.new) outbox.old outbox.new result
-        (line_of stamp revision (told_body told.now)) }
-{
-    match told {
-        Told::Accepted => put_reply(outbox, writer, stamp, revision, Body::Accepted),
-        Told::Refusal(refusal) => {
-            put_reply(outbox, writer, stamp, revision, Body::Refusal(*refusal))
-        }
-        Told::Selection(list) => put_reply(
-            outbox,
-            writer,
-            stamp,
-            revision,
-            Body::Selection(list.as_slice()),
-        ),
-        Told::NoSelection => put_reply(outbox, writer, stamp, revision, Body::NoSelection),
-        Told::Explained(reason) => {
-            put_reply(outbox, writer, stamp, revision, Body::Explained(reason))
-        }
-        Told::Follows(verdict) => {
-            put_reply(outbox, writer, stamp, revision, Body::Follows(*verdict))
-        },
-    }
-}
-
-/// Puts the line of a reply, with where it was found in a race.
-pub fn put_reply<W: Write>(
-    outbox: &mut Outbox,
-    writer: &mut W,
-    stamp: Option<Spot>,
-    revision: u64,
-    body: Body<'_>,
-) -> io::Result<()>
-    ensures { Puts (W.contents writer.old) (W.contents writer.new) outbox.old outbox.new result
-        (line_of stamp revision (body_of body.entry)) }
-{
-    let reply = wire::Reply {
-        revision,
-        stamp,
-        body,
-    };
-    reply_line(outbox, writer, &reply)
 }

@@ -1,5 +1,7 @@
 //! What a call answers, as a row has it.
 
+use crate::reading::Unread;
+use std::alloc::Global;
 use std::fmt;
 use terms::{Incompat, Pkg, Term, VSet};
 use versions::Refusal;
@@ -100,6 +102,21 @@ pub fn write_terms<W: fmt::Write>(f: &mut fmt::Formatter<W>, terms: &[(Pkg, Term
         before = ",";
     }
     f.write_str("]")
+}
+
+/// A text that is an answer.
+pub fn shown<T: fmt::Display>(alloc: Global, text: &T) -> Result<Answer, Unread> {
+    Ok(Answer::Text(format!(in alloc; "{text}")?))
+}
+
+/// A set that is written into other JSON.
+#[derive(Clone, Copy)]
+pub struct SetText<'a>(pub &'a VSet);
+
+impl fmt::Display for SetText<'_> {
+    fn fmt<W: fmt::Write>(&self, f: &mut fmt::Formatter<W>) -> fmt::Result {
+        write_set(f, self.0)
+    }
 }
 
 /// A term that is written into other JSON.

@@ -26,8 +26,7 @@ pub fn command_at(alloc: Global, row: &Value) -> Result<Command, Unread> {
 pub fn command_of(alloc: Global, kind: &str, row: &Value) -> Result<Command, Unread> {
     match kind {
         "publish" => publication(alloc, row),
-        "yank" => yank(alloc, row),
-        "unyank" => unyank(alloc, row),
+        "yank" | "unyank" => yank(alloc, kind, row),
         _ => Err(Unread::Row),
     }
 }
@@ -38,14 +37,14 @@ fn publication(alloc: Global, row: &Value) -> Result<Command, Unread> {
     Ok(Command::Publish(name, version, dependencies_at(alloc, row)?))
 }
 
-fn yank(alloc: Global, row: &Value) -> Result<Command, Unread> {
+/// The yank of a version, or what takes it back.
+fn yank(alloc: Global, kind: &str, row: &Value) -> Result<Command, Unread> {
     let name = name_at(alloc, row, "name")?;
-    Ok(Command::Yank(name, version_at(alloc, row, "version")?))
-}
-
-fn unyank(alloc: Global, row: &Value) -> Result<Command, Unread> {
-    let name = name_at(alloc, row, "name")?;
-    Ok(Command::Unyank(name, version_at(alloc, row, "version")?))
+    let version = version_at(alloc, row, "version")?;
+    match kind {
+        "yank" => Ok(Command::Yank(name, version)),
+        _ => Ok(Command::Unyank(name, version)),
+    }
 }
 
 /// The list of dependencies of a row.

@@ -12,7 +12,7 @@ mod refusals;
 mod serving;
 mod told;
 
-pub use answer::{Answer, TermText, write_set, write_term, write_terms};
+pub use answer::{Answer, SetText, TermText, shown, write_set, write_term, write_terms};
 pub use commands::{command_at, command_call, command_of, dependencies_at};
 pub use published::{lock_at, name_at, names_at, need_at, needs_at, request_at, version_at};
 pub use reading::{

@@ -20,7 +20,7 @@ use Rattle.registry.specs.Requests.{Wanted, allows_some, is_allowed}
 use Rattle.derivations.specs.Facts.{Terms}
 use Rattle.derivations.specs.declared.cutting.Known.{Known}
 use Rattle.solver.specs.declared.task.Task.{Task}
-use Rattle.solver.specs.declared.acting.Search.{Search}
+use Rattle.solver.specs.declared.search.Search.{Search}
 use Rattle.solver.specs.declared.acting.Acted.{Acted}
 use Rattle.solver.specs.declared.acting.Acted.TheVariants as acted
 use Rattle.solver.specs.Picking.{is_choosable, AreBarred, IsWithin}
@@ -78,7 +78,7 @@ none_in task p versions h k within = elim (cases_lt k (count task.registry.now.p
 -- what an attempt did after lines were added, seen from before
 pub acts_as : (task : Task) (old mid new : Search) (N M : Type 0) (a : Acted) → mid.partial ≡ old.partial → (N → M) → ActsBy task mid new N a → ActsBy task old new M a
 acts_as task old mid new N M (acted.Derived pkg) same f h = (h.0, subst (λ p. rank new.partial < rank p) same h.1)
-acts_as task old mid new N M (acted.WentBack at pkg) same f h = (h.0, subst (λ p. rank new.partial < rank p) same h.1)
+acts_as task old mid new N M (acted.Backjumped at pkg) same f h = (h.0, subst (λ p. rank new.partial < rank p) same h.1)
 acts_as task old mid new N M (acted.Refused end) same f h = h
 acts_as task old mid new N M acted.Neither same f h = f h
 
@@ -132,3 +132,10 @@ index_within packages p k publication i at lt = subst (λ (o : Option Publicatio
 -- and the other way round
 pub index_read : (packages : Packages) (p k : ℕ) (publication : Publication) (i : ℕ) → publication_at packages p k ≡ Some publication → i < length (needs_of packages p k) → i < length publication.needs
 index_read packages p k publication i at lt = subst (λ (o : Option Publication). i < length (needs_or_none o)) at lt
+
+-- an entry of the publication that is compared with another one
+pub entry_found : (packages : Packages) (p k : ℕ) (publication : Publication) (i : ℕ) (x d : Text × Text) → publication_at packages p k ≡ Some publication → i < length publication.needs → x ≡ get_or publication.needs i x
+    → x.0 ≡ d.0 → x.1 ≡ d.1 → Contains (needs_of packages p k) d
+entry_found packages p k publication i x d at lt read name need =
+    let here : Contains (needs_of packages p k) (x.0, x.1) = entry_used packages p k publication i x at lt read in
+    subst (λ b. Contains (needs_of packages p k) (d.0, b)) need (subst (λ a. Contains (needs_of packages p k) (a, x.1)) name here)

@@ -17,7 +17,7 @@ use Rattle.partial.specs.Satisfying.{IsNeither}
 use Rattle.derivations.specs.Facts.{Terms, dependency}
 use Rattle.std.specs.Prelude.{Contains}
 use Rattle.versions.specs.Words.{Text}
-use Rattle.registry.specs.Registry.{Packages, Publication, needs_of, needs_or_none, number_of, publication_at}
+use Rattle.registry.specs.Registry.{Packages, Publication, meets_at, needs_of, needs_or_none, number_of, publication_at}
 use Rattle.derivations.specs.Facts.{matching, need_terms, need_terms_at}
 use Rattle.walk.specs.Choosing.{IsUnmet}
 use Rattle.walk.specs.Walks.{IsUnmetAt}
@@ -25,7 +25,7 @@ use Rattle.derivations.specs.declared.cutting.Known.{Known}
 use Rattle.solver.specs.Lines.{AtLine}
 use Rattle.solver.specs.declared.task.Task.{Task}
 use Rattle.solver.specs.Picking.{IsToDecide}
-use Rattle.solver.specs.Pushing.{IsDependency, IsForDependency, IsForNeed}
+use Rattle.solver.specs.Pushing.{IsForNeed, SaysAt}
 use Rattle.solver.specs.Searching.{BeginsWithRoot}
 use Rattle.solver.specs.Answering.{IsBlame}
 use Rattle.solver.proofs.Says.{says-take}
@@ -150,12 +150,11 @@ need_blames packages made name need q begins numbered unmet =
     (λ k e. has-matching packages q need k ∙ unmet q k numbered e))
 
 -- a dependency of a decided version that what is decided does not meet
-pub dependency_blames : (packages : Packages) (made : List Assignment) (p v : ℕ) (name need : Text) (q : ℕ) (terms : Terms) → IsPartial made → p ≢ q → decided made p ≡ Some v
-    → Contains (needs_of packages p v) (name, need) → number_of packages name ≡ Some q → IsUnmet packages (decided made) name need → IsDependency packages p name need q terms → IsBlame made terms q
-dependency_blames packages made p v name need q terms h apart chosen used numbered unmet is =
-    subst (λ t. IsBlame made t q) (sym is.is)
-    (blames made p v q is.versions is.within apart (λ c said. decided_only made p v c h.assignments chosen said) (is.having v used)
-    (λ k e. is.meeting k ∙ unmet q k numbered e))
+pub dependency_blames : (packages : Packages) (made : List Assignment) (p v : ℕ) (name need : Text) (q : ℕ) (versions within : List ℕ) → IsPartial made → p ≢ q → decided made p ≡ Some v
+    → has versions v ≡ true → number_of packages name ≡ Some q → IsUnmet packages (decided made) name need → ((k : ℕ) → has within k ≡ meets_at packages q k need)
+    → IsBlame made (dependency p versions q within) q
+dependency_blames packages made p v name need q versions within h apart chosen here numbered unmet meeting =
+    blames made p v q versions within apart (λ c said. decided_only made p v c h.assignments chosen said) here (λ k e. meeting k ∙ unmet q k numbered e)
 
 -- ---- what is to be decided
 
@@ -193,14 +192,15 @@ module _ (packages : Packages) (made : List Assignment) (p v i : ℕ) (publicati
       subst (λ (x : Text × Text). IsUnmet packages (decided made) x.0 x.1) (sym (get_or_from_slice_get publication.needs i (unmet.name, unmet.need) r asked)) unmet.unmet
 
 -- a dependency that is not met and can't be used
-pub dependency_decides : (task : Task) (made new : List Assignment) (known : List Known) (at p v q : ℕ) (d : Text × Text) → IsPartial made → p ≢ q → decided made p ≡ Some v
-    → Contains (needs_of task.registry.now.packages p v) d → number_of task.registry.now.packages d.0 ≡ Some q → IsUnmet task.registry.now.packages (decided made) d.0 d.1
-    → IsForDependency task.registry.now.packages known p d.0 d.1 q at → new ≡ made → AtLine known at (λ line. IsNeither made line.conclusion) → IsToDecide task new q
-dependency_decides task made new known at p v q d h apart chosen used numbered unmet place same unused =
+pub dependency_decides : (task : Task) (made new : List Assignment) (known : List Known) (at p v q : ℕ) (d : Text × Text) (versions within : List ℕ) → IsPartial made → p ≢ q → decided made p ≡ Some v
+    → has versions v ≡ true → number_of task.registry.now.packages d.0 ≡ Some q → IsUnmet task.registry.now.packages (decided made) d.0 d.1
+    → ((k : ℕ) → has within k ≡ meets_at task.registry.now.packages q k d.1)
+    → SaysAt known (dependency p versions q within) at → new ≡ made → AtLine known at (λ line. IsNeither made line.conclusion) → IsToDecide task new q
+dependency_decides task made new known at p v q d versions within h apart chosen here numbered unmet meeting place same unused =
     let line_is : unused.0 ≡ place.0 = same_Some unused.0 place.0 (sym unused.1 ∙ place.1) in
-    let n : IsNeither made place.0.conclusion = subst (λ (l : Known). IsNeither made l.conclusion) line_is unused.2 in
-    let blame = dependency_blames task.registry.now.packages made p v d.0 d.1 q place.0.conclusion h apart chosen used numbered unmet place.2 in
-    subst (λ (m : List Assignment). IsToDecide task m q) (sym same) (blamed_decides task made place.0.conclusion d.0 q h numbered blame n)
+    let n : IsNeither made (dependency p versions q within) = subst (λ (t : Terms). IsNeither made t) (ap (λ (l : Known). l.conclusion) line_is ∙ place.2) unused.2 in
+    let blame = dependency_blames task.registry.now.packages made p v d.0 d.1 q versions within h apart chosen here numbered unmet meeting in
+    subst (λ (m : List Assignment). IsToDecide task m q) (sym same) (blamed_decides task made (dependency p versions q within) d.0 q h numbered blame n)
 
 -- a need that is not met and can't be used
 module _ (task : Task) (made : List Assignment) (known : List Known) (at i : ℕ) (needs : List (Text × Text)) (r : Text × Text) (begins : BeginsWithRoot made)

@@ -12,7 +12,7 @@ use Rattle.derivations.specs.declared.facts.Cause.{Cause}
 use Rattle.derivations.specs.declared.facts.Premise.{Premise}
 use Rattle.derivations.specs.declared.cutting.Known.{Known}
 use Rattle.derivations.specs.declared.cutting.Reason.TheVariants.{Fact}
-use Rattle.solver.specs.Pushing.{SaysAt}
+use Rattle.solver.specs.Pushing.{AreDependents, SaysAt}
 use Rattle.solver.specs.Searching.{IsSearch}
 use Rattle.solver.proofs.Lists.{get-last}
 use Rattle.solver.proofs.Kept.{IsSearch-line}
@@ -27,16 +27,23 @@ pub fact_place : (old new : List Known) (cause : Cause) (terms : Terms) (at : �
 fact_place old new cause terms at is place =
     rw (is, place) (record { conclusion = terms; reason = Fact cause }, get-last old (record { conclusion = terms; reason = Fact cause }), refl)
 
+-- where a set has exactly the versions that have a dependency, and one has it
+pub exactly_dependents : (packages : Packages) (p k : ℕ) (entry : Text × Text) (versions : List ℕ) → ((j : ℕ) → IsTrue (has versions j) ↔ Contains (needs_of packages p j) entry)
+    → Contains (needs_of packages p k) entry → AreDependents packages p entry versions
+exactly_dependents packages p k entry versions exactly used = record {
+  some = λ none. true≢false (sym ((exactly k).1 used) ∙ ap (λ set. has set k) none);
+  each = λ j h. (exactly j).0 h;
+}
+
 -- the premise of a dependency
 pub premise_stands : (packages : Packages) (premise : Premise) (name : Text) → premise.package ≢ premise.target → number_of packages name ≡ Some premise.target
-    → (k : ℕ) → Contains (needs_of packages premise.package k) (name, premise.need)
-    → ((k : ℕ) → IsTrue (has premise.versions k) ↔ Contains (needs_of packages premise.package k) (name, premise.need))
+    → AreDependents packages premise.package (name, premise.need) premise.versions
     → ((k : ℕ) → has premise.within k ≡ meets_at packages premise.target k premise.need) → Stands packages premise
-premise_stands packages premise name apart numbered k used having meeting = record {
+premise_stands packages premise name apart numbered having meeting = record {
   depends = record {
     different = apart;
-    some = λ none. true≢false (sym ((having k).1 used) ∙ ap (λ set. has set k) none);
-    each = λ j h. (name, numbered, (having j).0 h);
+    some = having.some;
+    each = λ j h. (name, numbered, having.each j h);
   };
   covers = λ j h. meeting j ∙ h;
 }

@@ -2,7 +2,7 @@
 use Rattle.std.proofs.Common.{◌≡◌, ◌∙◌, ◌<◌, ℕ, List, arith, subst, sym}
 use Rattle.std.specs.Prelude.{Option, None, Some, IfNone, IfSome}
 use Rattle.partial.specs.Rank.{rank}
-use Rattle.solver.specs.declared.acting.Search.{Search}
+use Rattle.solver.specs.declared.search.Search.{Search}
 use Rattle.solver.specs.declared.task.Task.{Task}
 use Rattle.solver.specs.Searching.{GoesOn, IsIdle}
 

@@ -10,12 +10,12 @@ use Rattle.registry.specs.Selections.{Meets}
 use Rattle.derivations.specs.Facts.{Terms}
 use Rattle.walk.specs.Choosing.{choice_of}
 use Rattle.solver.specs.declared.task.Task.{Task}
-use Rattle.solver.specs.declared.acting.Search.{Search}
-use Rattle.solver.specs.declared.search.Turned.{Turned}
-use Rattle.solver.specs.declared.search.Turned.TheVariants as turned
+use Rattle.solver.specs.declared.search.Search.{Search}
+use Rattle.solver.specs.declared.turns.Turned.{Turned}
+use Rattle.solver.specs.declared.turns.Turned.TheVariants as turned
 use Rattle.derivations.specs.declared.cutting.Known.{Known}
-use Rattle.solver.specs.declared.search.Ended.{Ended}
-use Rattle.solver.specs.declared.search.Ended.TheVariants as ended
+use Rattle.solver.specs.declared.turns.Ended.{Ended}
+use Rattle.solver.specs.declared.turns.Ended.TheVariants as ended
 use Rattle.solver.specs.Lines.{AreLines}
 use Rattle.solver.specs.Searching.{ActsBy, Refuses, Searches}
 

@@ -1,12 +1,15 @@
 -- Outcomes: a selection as it is told, or why there is none.
-use Rattle.std.specs.Prelude.{◌≡◌, ℕ, map, All, List, [], Option, None, Some, IsSorted, nat_eq}
+use Rattle.std.specs.Prelude.{◌≡◌, ◌⊎◌, ℕ, map, All, List, [], Option, None, Some, IsSorted, nat_eq}
 use Rattle.std.specs.List.{IsDistinct}
 use Rattle.std.specs.Map.{keys_of}
 use Rattle.versions.specs.Words.{Text}
+use Rattle.versions.specs.declared.refusal.Refusal.{Refusal}
+use Rattle.versions.specs.declared.refusal.Refusal.TheVariants.{BudgetSpent, NoMemory}
+use Rattle.registry.specs.Preference.{IsPreferredSelection}
 use Rattle.registry.specs.Registry.{Packages, Publication, publication_at}
 use Rattle.registry.specs.Requests.{Wanted}
 use Rattle.registry.specs.Selections.{Choices, Meets}
-use Rattle.derivations.specs.Derivations.{IsDerivation}
+use Rattle.derivations.specs.Derivations.{IsDerivation, NoSelection}
 use Rattle.derivations.specs.Learning.{AllStand}
 use Rattle.walk.specs.Choosing.{choice_of}
 use Rattle.walk.specs.Names.{by_name, name_of}
@@ -44,3 +47,19 @@ IsLawful packages wanted (outcome.Refused derivation offered) = IsDerivation pac
 abbrev pub Answers : Packages → Choices → Outcome → Type 0
 Answers packages s (outcome.Selection list offered) = Tells packages s list.items
 Answers packages s (outcome.Refused derivation offered) = ⊥
+
+-- ---- what may be refused
+
+-- a refusal comes only where no selection meets the request
+abbrev pub OnlyWhereNone : Packages → Wanted → Outcome → Type 0
+OnlyWhereNone packages wanted (outcome.Selection list offered) = Unit {0}
+OnlyWhereNone packages wanted (outcome.Refused derivation offered) = NoSelection packages wanted
+
+-- there is no preferred selection, or it does not meet the request
+abbrev pub NonePreferred : Packages → Wanted → Type 0
+NonePreferred packages wanted = (s : Choices) → IsPreferredSelection packages wanted s → Meets packages wanted s → ⊥
+
+-- why a request may be left without an answer: for want of memory, or, under a budget, since that is spent; but no budget is spent on a preferred selection that meets it
+abbrev pub MayStop : Packages → Wanted → Option ℕ → Refusal → Type 0
+MayStop packages wanted None e = e ≡ NoMemory
+MayStop packages wanted (Some budget) e = (e ≡ NoMemory) ⊎ ((e ≡ BudgetSpent) × NonePreferred packages wanted)

@@ -8,8 +8,8 @@ use Rattle.registry.specs.Registry.{is_published, package_at}
 use Rattle.registry.specs.Requests.{is_allowed}
 use Rattle.derivations.specs.Derivations.{NoneAllowed}
 use Rattle.solver.specs.declared.task.Task.{Task}
-use Rattle.solver.specs.declared.deciding.Picked.{Picked}
-use Rattle.solver.specs.declared.deciding.Picked.TheVariants as picked
+use Rattle.solver.specs.declared.picking.Picked.{Picked}
+use Rattle.solver.specs.declared.picking.Picked.TheVariants as picked
 
 -- whether the version is allowed to the request and within the term
 abbrev pub is_choosable : Task → ℕ → Term → ℕ → Bool

@@ -1,10 +1,10 @@
 -- Facts as lines.
-use Rattle.std.specs.Prelude.{◌≡◌, ℕ, true, Contains, List, Some, slice_get}
+use Rattle.std.specs.Prelude.{◌≡◌, ◌≢◌, ℕ, true, Contains, List, [], Some, slice_get}
 use Rattle.versions.specs.Words.{Text}
 use Rattle.terms.specs.Sets.{has}
 use Rattle.partial.specs.declared.assignment.Assignment.{Assignment}
-use Rattle.registry.specs.Registry.{Packages, meets_at, needs_of}
-use Rattle.derivations.specs.Facts.{Terms, dependency, need_terms}
+use Rattle.registry.specs.Registry.{Packages, needs_of}
+use Rattle.derivations.specs.Facts.{Terms, need_terms}
 use Rattle.derivations.specs.declared.cutting.Known.{Known}
 use Rattle.solver.specs.declared.task.Task.{Task}
 use Rattle.solver.specs.Lines.{AtLine}
@@ -18,17 +18,10 @@ Extends task old new = (made : List Assignment) → IsSearch task.registry.now.p
 abbrev pub SaysAt : List Known → Terms → ℕ → Type 0
 SaysAt known terms at = AtLine known at (λ line. line.conclusion ≡ terms)
 
--- the terms say what a dependency does: that of the package's versions which have it and of the target's which don't meet it not both are chosen
-pub record IsDependency (packages : Packages) (pkg : ℕ) (name need : Text) (target : ℕ) (terms : Terms) : Type 0 where
-  pub versions : List ℕ
-  pub within : List ℕ
-  pub is : terms ≡ dependency pkg versions target within
-  pub having : (k : ℕ) → Contains (needs_of packages pkg k) (name, need) → has versions k ≡ true
-  pub meeting : (k : ℕ) → has within k ≡ meets_at packages target k need
-
--- the line at this place is for a dependency
-abbrev pub IsForDependency : Packages → List Known → ℕ → Text → Text → ℕ → ℕ → Type 0
-IsForDependency packages known pkg name need target at = AtLine known at (λ line. IsDependency packages pkg name need target line.conclusion)
+-- these are versions of the package, some at least, and each has the dependency
+pub record AreDependents (packages : Packages) (pkg : ℕ) (entry : Text × Text) (versions : List ℕ) : Type 0 where
+  pub some : versions ≢ []
+  pub each : (k : ℕ) → has versions k ≡ true → Contains (needs_of packages pkg k) entry
 
 -- the line at this place is for the need with this index
 pub record IsForNeed (packages : Packages) (needs : List (Text × Text)) (known : List Known) (index at : ℕ) : Type 0 where

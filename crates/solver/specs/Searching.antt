@@ -14,7 +14,7 @@ use Rattle.registry.specs.Registry.{Packages}
 use Rattle.registry.specs.Requests.{Wanted}
 use Rattle.derivations.specs.declared.cutting.Known.{Known}
 use Rattle.solver.specs.declared.task.Task.{Task}
-use Rattle.solver.specs.declared.acting.Search.{Search}
+use Rattle.solver.specs.declared.search.Search.{Search}
 use Rattle.solver.specs.declared.acting.Acted.{Acted}
 use Rattle.solver.specs.declared.acting.Acted.TheVariants as acted
 use Rattle.solver.specs.declared.conflict.Resolution.{Resolution}
@@ -65,7 +65,7 @@ pub record IsResolving (packages : Packages) (wanted : Wanted) (made : List Assi
   pub search : IsSearch packages wanted made known
   pub here : AtLine known at (λ line. Satisfied (take bound made) line.conclusion)
 
--- a line that going back to the level leaves almost satisfied, or a line without terms
+-- a line that a jump back to the level leaves almost satisfied, or a line without terms
 abbrev pub ResolvesBy : Task → List Assignment → List Known → Resolution → Type 0
 ResolvesBy task made known (resolution.Back at level) = AtLine known at (λ line. LeavesAlmost made line.conclusion level)
 ResolvesBy task made known (resolution.Refused end) = Refuses task known end
@@ -79,7 +79,7 @@ GoesOn task old new = Searches task new × (rank new.partial < rank old.partial)
 -- it went on, or ended in a refusal, or did neither, and then `neither` is so
 abbrev pub ActsBy : Task → Search → Search → Type 0 → Acted → Type 0
 ActsBy task old new neither (acted.Derived pkg) = GoesOn task old new
-ActsBy task old new neither (acted.WentBack at pkg) = GoesOn task old new
+ActsBy task old new neither (acted.Backjumped at pkg) = GoesOn task old new
 ActsBy task old new neither (acted.Refused end) = Refuses task new.known.items end
 ActsBy task old new neither acted.Neither = neither
 

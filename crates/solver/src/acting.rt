@@ -1,9 +1,9 @@
-// The one function in which a search derives and goes back.
+// The one function in which a search derives and jumps back.
 //
 // Whatever hands lines to it, in whatever order: each use of a line lowers the rank of the partial
 // solution, or ends in a refusal, or changes nothing. So a search ends.
 
-ghost use Rattle.std.specs.Prelude.{◌≡◌, ◌<◌, length, IfErr, IfOk, OnOk};
+ghost use Rattle.std.specs.Prelude.{◌≡◌, ◌<◌, ◌+◌, ◌-◌, ◌^◌, Some, length, min, IfErr, IfOk, OnOk};
 ghost use Rattle.partial.specs.Rank.{rank, FallsBack};
 ghost use Rattle.partial.specs.Satisfying.{AlmostSatisfied, Satisfied};
 ghost use Rattle.solver.specs.Lines.{AtLine};
@@ -11,6 +11,7 @@ ghost use Rattle.solver.specs.Searching.{ActsBy, IsSearch, IsUnused, MayRefuse, 
 
 use crate::conflict::{Resolution, resolve_conflict};
 use crate::lines::negation;
+use crate::search::Search;
 use crate::task::Task;
 use derivations::Known;
 use partial::{Partial, Standing};
@@ -18,21 +19,13 @@ use std::alloc::AllocError;
 use terms::Pkg;
 use versions::Refusal;
 
-/// A search: what is settled, the lines that it knows, and how many conflicts it met.
-#[derive(Drop)]
-pub(crate) struct Search {
-    pub partial: Partial,
-    pub known: Vec<Known>,
-    pub conflicts: u32,
-}
-
 /// What an attempt to go on did.
 #[derive(Clone, Copy)]
 pub(crate) enum Acted {
     /// It derived or decided something of this package.
     Derived(Pkg),
-    /// It met a conflict, went back, and derived something of this package by the line at this place.
-    WentBack(usize, Pkg),
+    /// It met a conflict, jumped back, and derived something of this package by the line at this place.
+    Backjumped(usize, Pkg),
     /// It found by the line at this place that no selection meets the request.
     Refused(usize),
     /// Nothing.
@@ -59,9 +52,11 @@ fn derive_by(
     Ok(())
 }
 
-/// Counts one conflict more, unless the budget is spent.
+/// Counts one conflict more, unless as many were met as the budget allows.
 fn count_conflict(task: &Task<'_>, conflicts: &mut u32) -> Result<(), Refusal>
-    ensures { IfErr result (MayRefuse task.now.budget) }
+    ensures counted { OnOk result (conflicts.new ≡ min (conflicts.old + 1) (2 ^ 32 - 1)) }
+    ensures spent { IfErr result (λ e. (e ≡ Refusal.BudgetSpent) × (task.now.budget ≡ Some conflicts.old)) }
+    ensures only { IfErr result (MayRefuse task.now.budget) }
 {
     if task.budget == Some(*conflicts) {
         return Err(Refusal::BudgetSpent);
@@ -70,7 +65,7 @@ fn count_conflict(task: &Task<'_>, conflicts: &mut u32) -> Result<(), Refusal>
     Ok(())
 }
 
-/// Resolves a conflict, goes back, and derives what the line says that comes of it.
+/// Resolves a conflict, jumps back, and derives what the line says that comes of it.
 fn meet_conflict(task: &Task<'_>, search: &mut Search, at: usize) -> Result<Acted, Refusal>
     requires search { Searches task.now search.old }
     requires satisfied { AtLine search.old.known.items at (λ line. Satisfied search.old.partial line.conclusion) }
@@ -86,7 +81,7 @@ fn meet_conflict(task: &Task<'_>, search: &mut Search, at: usize) -> Result<Acte
                 Standing::Satisfied | Standing::Other => unreachable!(),
                 Standing::Almost(pkg) => {
                     derive_by(task, &mut search.partial, &search.known, line, pkg)?;
-                    Ok(Acted::WentBack(line, pkg))
+                    Ok(Acted::Backjumped(line, pkg))
                 }
             }
         }

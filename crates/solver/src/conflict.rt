@@ -15,7 +15,7 @@ use std::alloc::AllocError;
 /// What the resolution of a conflict ends in.
 #[derive(Clone, Copy)]
 pub(crate) enum Resolution {
-    /// The line at this place is almost satisfied once the search goes back to this level.
+    /// The line at this place is almost satisfied once the search jumps back to this level.
     Back(usize, usize),
     /// The line at this place has no terms, so that no selection meets the request.
     Refused(usize),

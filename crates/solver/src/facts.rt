@@ -1,12 +1,12 @@
 // What the registry and the request say, as lines.
 
-ghost use Rattle.std.specs.Prelude.{◌≡◌, ◌≢◌, ◌<◌, ◌↔◌, ◌∷◌, ◌+◌, [], ℕ, true, Contains, Some, length, IfErr, IfOk, IsSome, IsTrue, OnOk};
+ghost use Rattle.std.specs.Prelude.{◌≡◌, ◌≢◌, ◌<◌, ◌∷◌, [], ℕ, Some, length, IfErr, IfOk, IsSome, OnOk};
 ghost use Rattle.terms.specs.Sets.{has};
 ghost use Rattle.terms.specs.declared.term.Term.TheVariants.{In};
-ghost use Rattle.registry.specs.Registry.{Repeats, is_published, meets_at, needs_of, number_of, package_at, versions_or_none};
+ghost use Rattle.registry.specs.Registry.{meets_at, number_of, package_at, versions_or_none};
 ghost use Rattle.derivations.specs.Derivations.{IsFact, NoneAllowed};
-ghost use Rattle.derivations.specs.Facts.{premise_terms, Stands};
-ghost use Rattle.solver.specs.Pushing.{Extends, IsDependency, IsForDependency, IsForNeed, SaysAt};
+ghost use Rattle.derivations.specs.Facts.{dependency, premise_terms, Stands};
+ghost use Rattle.solver.specs.Pushing.{AreDependents, Extends, IsForNeed, SaysAt};
 ghost use Rattle.solver.specs.Reusing.{Keeps};
 
 use crate::task::Task;
@@ -36,8 +36,6 @@ fn push_fact(
     Ok(at)
 }
 
-// ---- dependencies
-
 /// How many versions of a package are published.
 pub(crate) fn version_count(registry: &Registry, pkg: Pkg) -> u32
     ensures { result ≡ length (versions_or_none (package_at registry.now.packages pkg)) }
@@ -47,63 +45,7 @@ pub(crate) fn version_count(registry: &Registry, pkg: Pkg) -> u32
     registry.versions(pkg) as u32
 }
 
-fn is_entry(entry: &(Name, Need), name: &Name, need: &Need) -> bool
-    ensures { IsTrue result ↔ ((entry.now.0 ≡ name.now) × (entry.now.1 ≡ need.now)) }
-{
-    entry.1.text() == need.text() && entry.0.text() == name.text()
-}
-
-/// Whether a name with this requirement is among the needs.
-fn has_entry(needs: &[(Name, Need)], name: &Name, need: &Need) -> bool
-    ensures { IsTrue result ↔ Contains needs.now (name.now, need.now) }
-{
-    for entry in needs {
-        if is_entry(entry, name, need) {
-            return true;
-        }
-    }
-    false
-}
-
-/// Whether a version depends on a name with this requirement, given whether it repeats what the one
-/// before it depends on, and whether that one does. Most versions do, and then nothing is compared.
-fn has_dependency(
-    task: &Task<'_>,
-    pkg: Pkg,
-    ordinal: u32,
-    name: &Name,
-    need: &Need,
-    repeats: bool,
-    before: bool,
-) -> bool
-    requires published { is_published task.now.registry.now.packages pkg ordinal ≡ true }
-    requires repeats { IsTrue repeats → Repeats task.now.registry.now.packages pkg ordinal }
-    requires before { (k : ℕ) → k + 1 ≡ ordinal → IsTrue before ↔ Contains (needs_of task.now.registry.now.packages pkg k) (name.now, need.now) }
-    ensures { IsTrue result ↔ Contains (needs_of task.now.registry.now.packages pkg ordinal) (name.now, need.now) }
-{
-    if repeats {
-        return before;
-    }
-    has_entry(task.registry.facts(pkg, ordinal).needs, name, need)
-}
-
-/// The versions of a package that depend on a name with this requirement: they share one line.
-fn versions_with(task: &Task<'_>, pkg: Pkg, name: &Name, need: &Need) -> Result<VSet, Refusal>
-    ensures exactly { IfOk result (λ set. (k : ℕ) → IsTrue (has set k) ↔ Contains (needs_of task.now.registry.now.packages pkg k) (name.now, need.now)) }
-    ensures only { IfErr result (λ e. e ≡ Refusal.NoMemory) }
-{
-    let repeats = task.registry.repeats(pkg);
-    let mut set = VSet::new(task.alloc);
-    let mut is_one = false;
-    for ordinal in 0..version_count(task.registry, pkg) {
-        let same = repeats[ordinal as usize];
-        is_one = has_dependency(task, pkg, ordinal, name, need, same, is_one);
-        if is_one {
-            set.insert(ordinal)?;
-        }
-    }
-    Ok(set)
-}
+// ---- dependencies
 
 /// Puts what a premise says behind the lines.
 pub(crate) fn push_premise(
@@ -123,25 +65,25 @@ pub(crate) fn push_premise(
     Ok(push_fact(task, known, conclusion, Cause::Premise(premise))?)
 }
 
-/// Puts a dependency behind the lines: the versions that have it need a version of the target that
+/// Puts a dependency behind the lines: these versions, which have it, need a version of the target that
 /// meets it, which are those within a set. Where none does, they can't be chosen.
 pub(crate) fn push_dependency(
     task: &Task<'_>,
     known: &mut Vec<Known>,
     pkg: Pkg,
+    versions: VSet,
     entry: &(Name, Need),
     target: Pkg,
     within: VSet,
 ) -> Result<usize, Refusal>
     requires apart { pkg ≢ target }
     requires numbered { number_of task.now.registry.now.packages entry.now.0 ≡ Some target }
-    requires used { (k : ℕ) × Contains (needs_of task.now.registry.now.packages pkg k) entry.now }
+    requires dependents { AreDependents task.now.registry.now.packages pkg entry.now versions }
     requires within { (k : ℕ) → has within k ≡ meets_at task.now.registry.now.packages target k entry.now.1 }
     ensures extends { OnOk result (Extends task.now known.old.items known.new.items) }
-    ensures place { IfOk result (IsForDependency task.now.registry.now.packages known.new.items pkg entry.now.0 entry.now.1 target) }
+    ensures place { IfOk result (SaysAt known.new.items (dependency pkg versions target within)) }
     ensures only { IfErr result (λ e. e ≡ Refusal.NoMemory) }
 {
-    let versions = versions_with(task, pkg, &entry.0, &entry.1)?;
     let premise = Premise {
         package: pkg,
         versions,

@@ -1,29 +1,49 @@
 //! The search of a version solver, conflict-driven.
 //!
-//! The words and the rules are those of Dart pub's doc/solver.md.
+//! The words and the rules are those of Dart pub's doc/solver.md (PubGrub). What only chooses what to
+//! look at next stands in the crate `heuristics`; no proof rests on it.
+//!
+//! | File | What it does | Section of doc/solver.md | Contract |
+//! |---|---|---|---|
+//! | `solving.rt` | the answer of a request: the preferred walk, the greedy search, the full search | | `IsLawful`, `Answers` |
+//! | `greedy.rt` | what a greedy search finds, validated by the walk | | `IsAnswer` |
+//! | `starting.rt` | the root, and the needs of the request | The Algorithm | `Searches` |
+//! | `turns.rt` | propagation, else a decision, else the walk, until there is an answer | The Algorithm | `TurnsBy`, `EndsBy` |
+//! | `propagating.rt` | the lines that name what changed | Unit Propagation | `ActsBy` |
+//! | `acting.rt` | one line: a derivation, or a conflict and the jump back | Unit Propagation, Conflict Resolution | `ActsBy` |
+//! | `conflict.rt` | from satisfier to satisfier | Conflict Resolution | `ResolvesBy` |
+//! | `lines.rt` | the line that follows from two, and the negation of a term | Conflict Resolution | `FollowsFrom` |
+//! | `picking.rt` | the package and the version to decide | Decision Making | `IsToDecide`, `PicksBy` |
+//! | `deciding.rt` | a decision, or why there is none | Decision Making | `ActsBy` |
+//! | `entering.rt` | the dependencies of a version become lines | Decision Making | `Extends` |
+//! | `dependents.rt` | the versions of a package that have a dependency | Decision Making | `AreDependents` |
+//! | `facts.rt` | what the registry and the request say, as lines | Decision Making | `Extends`, `SaysAt` |
+//! | `meeting.rt` | what stands in the way of a selection | | `ActsBy` |
+//! | `reusing.rt` | what is used of the store | | `IsForMember` |
+//! | `offering.rt` | what is offered to be learnt | | `AllStand` |
+//! | `search.rt`, `task.rt` | the state of a search, and what it is to solve | | `Searches` |
+//! | `worklist.rt`, `asked.rt` | what is looked at, and what is asked of the store | | none |
 #![tactic(auto)]
 
 mod acting;
-mod agenda;
-mod alike;
 mod asked;
 mod conflict;
-mod covered;
 mod deciding;
+mod dependents;
+mod entering;
 mod facts;
 mod greedy;
 mod lines;
 mod meeting;
-mod obstacle;
 mod offering;
+mod picking;
 mod propagating;
-mod queue;
 mod reusing;
 mod search;
 mod solving;
-mod spent;
-mod spots;
 mod starting;
 mod task;
+mod turns;
+mod worklist;
 
 pub use solving::{Outcome, solve, solve_within};

@@ -9,11 +9,13 @@ ghost use Rattle.registry.specs.Registry.{needs_of};
 ghost use Rattle.walk.specs.Walks.{IsChosen, IsForbidden, IsUnmetAt, ReachesBy};
 ghost use Rattle.solver.specs.Searching.{ActsBy, MayRefuse, Searches};
 
-use crate::acting::{Acted, Search, act};
-use crate::agenda::Agenda;
+use crate::acting::{Acted, act};
 use crate::deciding::{bar, decide_on};
+use crate::dependents::versions_with;
 use crate::facts::{push_dependency, push_need};
+use crate::search::Search;
 use crate::task::Task;
+use crate::worklist::Worklist;
 use partial::Partial;
 use terms::{Pkg, VSet};
 use versions::Refusal;
@@ -46,7 +48,7 @@ pub(crate) fn walk_decided(task: &Task<'_>, partial: &Partial) -> Result<Reached
 pub(crate) fn meet_need(
     task: &Task<'_>,
     search: &mut Search,
-    agenda: &mut Agenda,
+    worklist: &mut Worklist,
     index: usize,
 ) -> Result<Acted, Refusal>
     requires search { Searches task.now search.old }
@@ -57,14 +59,14 @@ pub(crate) fn meet_need(
     let _made = search.partial.assignments();
     let entry = &task.request.needs()[index];
     let at = push_need(task, &mut search.known, index)?;
-    agenda.note(task.alloc, &search.known, at)?;
+    worklist.note(task.alloc, &search.known, at)?;
     let acted = act(task, search, at)?;
     match acted {
         Acted::Neither => match task.registry.number(&entry.0) {
             None => unreachable!(),
-            Some(target) => Ok(decide_on(task, search, agenda, target)?),
+            Some(target) => Ok(decide_on(task, search, worklist, target)?),
         },
-        Acted::Derived(_) | Acted::WentBack(_, _) | Acted::Refused(_) => Ok(acted),
+        Acted::Derived(_) | Acted::Backjumped(_, _) | Acted::Refused(_) => Ok(acted),
     }
 }
 
@@ -72,7 +74,7 @@ pub(crate) fn meet_need(
 pub(crate) fn meet_dependency(
     task: &Task<'_>,
     search: &mut Search,
-    agenda: &mut Agenda,
+    worklist: &mut Worklist,
     pkg: Pkg,
     ordinal: u32,
     index: usize,
@@ -91,13 +93,22 @@ pub(crate) fn meet_dependency(
     let Some(target) = task.registry.number(&entry.0) else {
         unreachable!()
     };
+    let versions = versions_with(task, pkg, &entry.0, &entry.1)?;
     let within = task.registry.matching(target, &entry.1)?;
-    let at = push_dependency(task, &mut search.known, pkg, entry, target, within)?;
-    agenda.note(task.alloc, &search.known, at)?;
+    let at = push_dependency(
+        task,
+        &mut search.known,
+        pkg,
+        versions,
+        entry,
+        target,
+        within,
+    )?;
+    worklist.note(task.alloc, &search.known, at)?;
     let acted = act(task, search, at)?;
     match acted {
-        Acted::Neither => Ok(decide_on(task, search, agenda, target)?),
-        Acted::Derived(_) | Acted::WentBack(_, _) | Acted::Refused(_) => Ok(acted),
+        Acted::Neither => Ok(decide_on(task, search, worklist, target)?),
+        Acted::Derived(_) | Acted::Backjumped(_, _) | Acted::Refused(_) => Ok(acted),
     }
 }
 
@@ -105,7 +116,7 @@ pub(crate) fn meet_dependency(
 pub(crate) fn exclude(
     task: &Task<'_>,
     search: &mut Search,
-    agenda: &mut Agenda,
+    worklist: &mut Worklist,
     pkg: Pkg,
     ordinal: u32,
 ) -> Result<Acted, Refusal>
@@ -116,5 +127,5 @@ pub(crate) fn exclude(
 {
     let _made = search.partial.assignments();
     let versions = VSet::single(task.alloc, ordinal)?;
-    Ok(bar(task, search, agenda, pkg, versions)?)
+    Ok(bar(task, search, worklist, pkg, versions)?)
 }

@@ -4,11 +4,12 @@ ghost use Rattle.std.specs.Prelude.{◌≡◌, ◌<◌, Ok, length, IfErr, IfOk}
 ghost use Rattle.solver.specs.Searching.{ActsBy, IsIdle, IsUnchanged, MayRefuse, Searches};
 ghost use Rattle.solver.specs.Reusing.{StoreStands};
 
-use crate::acting::{Acted, Search, act};
-use crate::agenda::Agenda;
-use crate::deciding::enter_alike;
+use crate::acting::{Acted, act};
+use crate::entering::enter_alike;
 use crate::reusing::use_stored;
+use crate::search::Search;
 use crate::task::Task;
+use crate::worklist::Worklist;
 use partial::Standing;
 use terms::Pkg;
 use versions::Refusal;
@@ -41,7 +42,7 @@ fn use_places(
                     }
                     last = Some(pkg);
                 }
-                Acted::WentBack(line, pkg) => return Ok(Acted::WentBack(line, pkg)),
+                Acted::Backjumped(line, pkg) => return Ok(Acted::Backjumped(line, pkg)),
                 Acted::Refused(end) => return Ok(Acted::Refused(end)),
             }
         }
@@ -56,7 +57,7 @@ fn use_places(
 pub(crate) fn propagate(
     task: &Task<'_>,
     search: &mut Search,
-    agenda: &mut Agenda,
+    worklist: &mut Worklist,
 ) -> Result<Acted, Refusal>
     requires search { Searches task.now search.old }
     requires stored { StoreStands task.now }
@@ -64,31 +65,33 @@ pub(crate) fn propagate(
     ensures only { IfErr result (MayRefuse task.now.budget) }
 {
     'packages: loop {
-        let Some(pkg) = agenda.changed.pop() else {
+        let Some(pkg) = worklist.changed.pop() else {
             return Ok(Acted::Neither);
         };
-        enter_alike(task, &search.partial, &mut search.known, agenda, pkg)?;
-        match use_stored(task, search, agenda, pkg)? {
+        enter_alike(task, &search.partial, &mut search.known, worklist, pkg)?;
+        match use_stored(task, search, worklist, pkg)? {
             Acted::Neither => {}
             Acted::Derived(derived) => {
                 // The other lines that name the package are still to be looked at.
-                agenda.changed.push(pkg)?;
+                worklist.changed.push(pkg)?;
                 return Ok(Acted::Derived(derived));
             }
-            Acted::WentBack(line, derived) => return Ok(Acted::WentBack(line, derived)),
+            Acted::Backjumped(line, derived) => return Ok(Acted::Backjumped(line, derived)),
             Acted::Refused(end) => return Ok(Acted::Refused(end)),
         }
-        agenda.look(task, &search.partial, pkg)?;
+        worklist
+            .agenda
+            .look(&task.question(), &search.partial, pkg)?;
         match use_places(
             task,
             search,
-            &mut agenda.changed,
-            &mut agenda.used,
-            &agenda.ripe,
+            &mut worklist.changed,
+            &mut worklist.agenda.used,
+            &worklist.agenda.ripe,
         )? {
             Acted::Neither => {}
             Acted::Derived(derived) => return Ok(Acted::Derived(derived)),
-            Acted::WentBack(line, derived) => return Ok(Acted::WentBack(line, derived)),
+            Acted::Backjumped(line, derived) => return Ok(Acted::Backjumped(line, derived)),
             Acted::Refused(end) => return Ok(Acted::Refused(end)),
         }
     }

@@ -10,10 +10,11 @@ ghost use Rattle.solver.specs.Pushing.{Extends, SaysAt};
 ghost use Rattle.solver.specs.Searching.{ActsBy, IsIdle, MayRefuse, Searches};
 ghost use Rattle.solver.specs.Reusing.{IsDerivedAt, IsForMember, IsGivenAt, Keeps, StoreStands};
 
-use crate::acting::{Acted, Search, act};
-use crate::agenda::Agenda;
+use crate::acting::{Acted, act};
 use crate::facts::push_premise;
+use crate::search::Search;
 use crate::task::Task;
+use crate::worklist::Worklist;
 use derivations::{Cause, Known, Learnt, Line, Reason};
 use partial::Standing;
 use terms::Pkg;
@@ -99,14 +100,14 @@ fn member_of<'a>(task: &Task<'a>, place: u32) -> Option<&'a Learnt>
 fn enter_member(
     task: &Task<'_>,
     search: &mut Search,
-    agenda: &mut Agenda,
+    worklist: &mut Worklist,
     place: u32,
 ) -> Result<Option<usize>, Refusal>
     requires search { Searches task.now search.old }
     requires stored { StoreStands task.now }
     ensures idle { OnOk result (IsIdle task.now search.old search.new) }
     ensures within { IfOk result (λ found. IfSome found (λ at. (terms : Terms) × SaysAt search.new.known.items terms at)) }
-    ensures changed { OnOk result (agenda.new.changed.items ≡ agenda.old.changed.items) }
+    ensures changed { OnOk result (worklist.new.changed.items ≡ worklist.old.changed.items) }
     ensures only { IfErr result (λ e. e ≡ Refusal.NoMemory) }
 {
     let Some(learnt) = member_of(task, place) else {
@@ -116,7 +117,7 @@ fn enter_member(
         Standing::Other => Ok(None),
         Standing::Almost(_) | Standing::Satisfied => {
             let at = push_learnt(task, &mut search.known, learnt)?;
-            agenda.take(task.alloc, &search.known, place, at)?;
+            worklist.take(task.alloc, &search.known, place, at)?;
             Ok(Some(at))
         }
     }
@@ -126,19 +127,19 @@ fn enter_member(
 fn use_member(
     task: &Task<'_>,
     search: &mut Search,
-    agenda: &mut Agenda,
+    worklist: &mut Worklist,
     place: u32,
 ) -> Result<Acted, Refusal>
     requires search { Searches task.now search.old }
     requires stored { StoreStands task.now }
     ensures acts { IfOk result (ActsBy task.now search.old search.new (IsIdle task.now search.old search.new)) }
-    ensures changed { OnOk result (agenda.new.changed.items ≡ agenda.old.changed.items) }
+    ensures changed { OnOk result (worklist.new.changed.items ≡ worklist.old.changed.items) }
     ensures only { IfErr result (MayRefuse task.now.budget) }
 {
-    match enter_member(task, search, agenda, place)? {
+    match enter_member(task, search, worklist, place)? {
         None => Ok(Acted::Neither),
         Some(at) => {
-            agenda.used.push(at)?;
+            worklist.agenda.used.push(at)?;
             Ok(act(task, search, at)?)
         }
     }
@@ -146,27 +147,31 @@ fn use_member(
 
 /// Uses the members that were found, up to the first conflict. Answers the last derivation, if there
 /// was one; the packages of those before it are changed.
-fn use_found(task: &Task<'_>, search: &mut Search, agenda: &mut Agenda) -> Result<Acted, Refusal>
+fn use_found(
+    task: &Task<'_>,
+    search: &mut Search,
+    worklist: &mut Worklist,
+) -> Result<Acted, Refusal>
     requires search { Searches task.now search.old }
     requires stored { StoreStands task.now }
     ensures acts { IfOk result (ActsBy task.now search.old search.new (IsIdle task.now search.old search.new)) }
-    ensures left { result ≡ Ok Acted.Neither → agenda.new.changed.items ≡ agenda.old.changed.items }
+    ensures left { result ≡ Ok Acted.Neither → worklist.new.changed.items ≡ worklist.old.changed.items }
     ensures only { IfErr result (MayRefuse task.now.budget) }
 {
     let mut last: Option<Pkg> = None;
-    'members: for index in 0..agenda.asked.count() {
-        let Some(place) = agenda.asked.place(index) else {
+    'members: for index in 0..worklist.asked.count() {
+        let Some(place) = worklist.asked.place(index) else {
             break 'members;
         };
-        match use_member(task, search, agenda, place)? {
+        match use_member(task, search, worklist, place)? {
             Acted::Neither => {}
             Acted::Derived(derived) => {
                 if let Some(before) = last {
-                    agenda.changed.push(before)?;
+                    worklist.changed.push(before)?;
                 }
                 last = Some(derived);
             }
-            Acted::WentBack(line, derived) => return Ok(Acted::WentBack(line, derived)),
+            Acted::Backjumped(line, derived) => return Ok(Acted::Backjumped(line, derived)),
             Acted::Refused(end) => return Ok(Acted::Refused(end)),
         }
     }
@@ -180,17 +185,17 @@ fn use_found(task: &Task<'_>, search: &mut Search, agenda: &mut Agenda) -> Resul
 pub(crate) fn use_stored(
     task: &Task<'_>,
     search: &mut Search,
-    agenda: &mut Agenda,
+    worklist: &mut Worklist,
     pkg: Pkg,
 ) -> Result<Acted, Refusal>
     requires search { Searches task.now search.old }
     requires stored { StoreStands task.now }
     ensures acts { IfOk result (ActsBy task.now search.old search.new (IsIdle task.now search.old search.new)) }
-    ensures left { result ≡ Ok Acted.Neither → agenda.new.changed.items ≡ agenda.old.changed.items }
+    ensures left { result ≡ Ok Acted.Neither → worklist.new.changed.items ≡ worklist.old.changed.items }
     ensures only { IfErr result (MayRefuse task.now.budget) }
 {
-    agenda
+    worklist
         .asked
         .find(task, &search.partial, search.known.len(), pkg)?;
-    Ok(use_found(task, search, agenda)?)
+    Ok(use_found(task, search, worklist)?)
 }

@@ -1,6 +1,6 @@
 // What a request is answered.
 
-ghost use Rattle.std.specs.Prelude.{◌≡◌, ◌⊎◌, map, nat_eq, true, All, IfErr, IfOk};
+ghost use Rattle.std.specs.Prelude.{◌≡◌, map, nat_eq, true, All, IfErr, IfOk, Some};
 ghost use Rattle.std.specs.List.{IsDistinct};
 ghost use Rattle.std.specs.Map.{keys_of};
 ghost use Rattle.derivations.specs.Learning.{AllStand};
@@ -9,18 +9,18 @@ ghost use Rattle.registry.specs.Registry.{is_published};
 ghost use Rattle.registry.specs.Selections.{Choices, IsSelection, Meets};
 ghost use Rattle.walk.specs.Choosing.{choice_of};
 ghost use Rattle.solver.specs.Answering.{EndsBy};
-ghost use Rattle.solver.specs.Outcomes.{told, Answers, IsLawful, Tells};
+ghost use Rattle.solver.specs.Outcomes.{told, Answers, IsLawful, MayStop, Tells};
 ghost use Rattle.solver.specs.Reusing.{StoreStands};
 ghost use Rattle.solver.specs.Searching.{MayRefuse};
 
-use crate::agenda::Agenda;
 use crate::greedy::search_greedily;
-use crate::obstacle::{Obstacle, obstacle_at};
 use crate::offering::offered_of;
-use crate::search::{Ended, run};
 use crate::starting::start;
 use crate::task::Task;
+use crate::turns::{Ended, run};
+use crate::worklist::Worklist;
 use derivations::{Derivation, Known, Learnt, Store, cut};
+use heuristics::{Obstacle, obstacle_at};
 use registry::{Registry, Request};
 use std::alloc::Global;
 use terms::Pkg;
@@ -108,28 +108,28 @@ fn outcome_of(
     }
 }
 
-/// Searches for an answer from the start of a search on, with going back.
-fn search_from(task: &Task<'_>, agenda: &mut Agenda) -> Result<Outcome, Refusal>
+/// Searches for an answer from the start of a search on, with backjumps.
+fn search_from(task: &Task<'_>, worklist: &mut Worklist) -> Result<Outcome, Refusal>
     requires { StoreStands task.now }
     ensures lawful { IfOk result (IsLawful task.now.registry.now.packages task.now.request.now) }
     ensures only { IfErr result (MayRefuse task.now.budget) }
 {
-    let mut search = start(task, agenda)?;
-    let ended = run(task, &mut search, agenda)?;
-    outcome_of(task, ended, search.known, &agenda.learnt)
+    let mut search = start(task, worklist)?;
+    let ended = run(task, &mut search, worklist)?;
+    outcome_of(task, ended, search.known, &worklist.learnt)
 }
 
-/// Searches for an answer, with going back. What conflicts led to is offered to be learnt.
+/// Searches for an answer, with backjumps. What conflicts led to is offered to be learnt.
 fn search_fully(task: &Task<'_>) -> Result<Outcome, Refusal>
     requires { StoreStands task.now }
     ensures lawful { IfOk result (IsLawful task.now.registry.now.packages task.now.request.now) }
     ensures only { IfErr result (MayRefuse task.now.budget) }
 {
-    let mut agenda = Agenda::new(task.alloc)?;
-    search_from(task, &mut agenda)
+    let mut worklist = Worklist::new(task.alloc)?;
+    search_from(task, &mut worklist)
 }
 
-/// Answers a task by a search, first by the one that does not go back, which minds an obstacle.
+/// Answers a task by a search, first by the one that does not jump back, which minds an obstacle.
 fn search_for(task: &Task<'_>, obstacle: Option<Obstacle>) -> Result<Outcome, Refusal>
     requires { StoreStands task.now }
     ensures lawful { IfOk result (IsLawful task.now.registry.now.packages task.now.request.now) }
@@ -158,7 +158,7 @@ fn answer(task: &Task<'_>) -> Result<Outcome, Refusal>
             Ok(Outcome::Selection(pairs, Vec::new(task.alloc)))
         }
         Reached::Unmet(asker, index) => {
-            let obstacle = obstacle_at(task, asker, index)?;
+            let obstacle = obstacle_at(&task.question(), asker, index)?;
             Ok(search_for(task, obstacle)?)
         }
         Reached::NotAllowed(_, _) => Ok(search_for(task, None)?),
@@ -168,7 +168,7 @@ fn answer(task: &Task<'_>) -> Result<Outcome, Refusal>
 /// Answers a request: a selection that meets it, or the derivation that none does. Where the
 /// preferred selection exists and meets the request, it is the answer, and nothing is searched.
 ///
-/// A search that goes back uses of the store what acts on the packages that it comes to, each with its
+/// A search that jumps back uses of the store what acts on the packages that it comes to, each with its
 /// lines, so that a derivation carries them. It asks as many members as its own size allows, and what
 /// the store says of other packages costs it nothing. What is offered to be learnt, the second part of
 /// an outcome, is what conflicts led to, where it rests on premises alone, by the lines of members too.
@@ -208,13 +208,13 @@ pub fn solve_within(
     ensures lawful { IfOk result (IsLawful registry.now.packages request.now) }
     ensures preferred { (s : Choices) → IsPreferredSelection registry.now.packages request.now s → Meets registry.now.packages request.now s → IfOk result (Answers registry.now.packages s) }
     ensures unspent { (s : Choices) → IsPreferredSelection registry.now.packages request.now s → Meets registry.now.packages request.now s → IfErr result (λ e. e ≡ Refusal.NoMemory) }
-    ensures only { IfErr result (λ e. (e ≡ Refusal.NoMemory) ⊎ (e ≡ Refusal.BudgetSpent)) }
+    ensures only { IfErr result (MayStop registry.now.packages request.now (Some budget)) }
 {
-    answer(&Task {
+    Ok(answer(&Task {
         alloc,
         registry,
         request,
         store,
         budget: Some(budget),
-    })
+    })?)
 }

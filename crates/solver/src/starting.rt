@@ -5,11 +5,12 @@ ghost use Rattle.solver.specs.Lines.{root_terms};
 ghost use Rattle.solver.specs.Pushing.{Extends};
 ghost use Rattle.solver.specs.Searching.{Searches};
 
-use crate::acting::Search;
-use crate::agenda::Agenda;
 use crate::facts::push_need;
-use crate::task::{ROOM, ROOT, Task};
+use crate::search::Search;
+use crate::task::{ROOT, Task};
+use crate::worklist::Worklist;
 use derivations::{Cause, Known, Reason};
+use heuristics::ROOM;
 use partial::Partial;
 use terms::{Incompat, Term, VSet};
 use versions::Refusal;
@@ -44,24 +45,28 @@ fn begin(task: &Task<'_>) -> Result<Search, Refusal>
 }
 
 /// Puts all needs behind the lines. They stand at the root's level, whatever is decided later.
-fn add_needs(task: &Task<'_>, known: &mut Vec<Known>, agenda: &mut Agenda) -> Result<(), Refusal>
+fn add_needs(
+    task: &Task<'_>,
+    known: &mut Vec<Known>,
+    worklist: &mut Worklist,
+) -> Result<(), Refusal>
     ensures extends { OnOk result (Extends task.now known.old.items known.new.items) }
     ensures only { IfErr result (λ e. e ≡ Refusal.NoMemory) }
 {
     for index in 0..task.request.needs().len() {
         let at = push_need(task, known, index)?;
-        agenda.note(task.alloc, known, at)?;
+        worklist.note(task.alloc, known, at)?;
     }
     Ok(())
 }
 
 /// A search that has met nothing but the request.
-pub(crate) fn start(task: &Task<'_>, agenda: &mut Agenda) -> Result<Search, Refusal>
+pub(crate) fn start(task: &Task<'_>, worklist: &mut Worklist) -> Result<Search, Refusal>
     ensures search { IfOk result (Searches task.now) }
     ensures only { IfErr result (λ e. e ≡ Refusal.NoMemory) }
 {
     let mut search = begin(task)?;
-    add_needs(task, &mut search.known, agenda)?;
-    agenda.changed.push(ROOT)?;
+    add_needs(task, &mut search.known, worklist)?;
+    worklist.changed.push(ROOT)?;
     Ok(search)
 }

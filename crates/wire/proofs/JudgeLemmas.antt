@@ -14,8 +14,8 @@ use Rattle.registry.specs.Requests.{Wanted, request_refusal}
 use Rattle.wire.specs.Requests.{checked, judged, locked_versions, requirements_of, unless_refused}
 use Rattle.wire.specs.NamedShapes.{premise_requirements, requirement_of}
 use Rattle.wire.specs.Shapes.{Request, check, resolve}
-use Rattle.wire.specs.declared.by_name.NamedCause.{NamedCause}
-use Rattle.wire.specs.declared.by_name.NamedLine.{NamedLine}
+use Rattle.by_name.specs.declared.derivation.NamedCause.{NamedCause}
+use Rattle.by_name.specs.declared.derivation.NamedLine.{NamedLine}
 
 -- want of memory is no answer
 pub refuses_memory : {Y : Type 0} (e : Refusal) (said : Result Y Refusal) → e ≡ NoMemory → Refuses e said

@@ -1,15 +1,4 @@
 pub mod RequestLemmas
 pub mod JudgeLemmas
-pub mod PlainLemmas
-pub mod RequirementLemmas
-pub mod ReplyLemmas
-pub mod PutLemmas
-pub mod ListingLemmas
-pub mod JournalLemmas
-pub mod JournalRows
-pub mod NumberLemmas
-pub mod WrittenLemmas
-pub mod DerivedNames
-pub mod PlainJson
 pub mod ItemLemmas
 pub mod OrdinalLemmas

@@ -12,7 +12,7 @@ use Rattle.versions.specs.declared.refusal.Refusal.TheVariants.{BadLine}
 use Rattle.versions.specs.Words.{Text}
 use Rattle.wire.specs.Members.{has_member, member_count}
 use Rattle.wire.specs.NamedShapes.{derivation_at}
-use Rattle.wire.specs.declared.by_name.NamedLine.{NamedLine}
+use Rattle.by_name.specs.declared.derivation.NamedLine.{NamedLine}
 use Rattle.wire.specs.Shapes.{budget_in, check, checking_in, explain_in, lock_in, pairs_at, resolution_in, resolve}
 use Rattle.wire.specs.Requests.{request_in, request_of}
 

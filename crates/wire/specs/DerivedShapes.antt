@@ -3,10 +3,10 @@ use Rattle.std.specs.Prelude.{Option}
 use Rattle.versions.specs.Words.{Text}
 use Rattle.terms.specs.declared.term.Term.{Term}
 use Rattle.wire.specs.NamedShapes.{term_of}
-use Rattle.wire.specs.declared.by_name.NamedPremise.{NamedPremise}
-use Rattle.wire.specs.declared.by_name.NamedCause.{NamedCause}
-use Rattle.wire.specs.declared.by_name.NamedCause.TheVariants as named
-use Rattle.wire.specs.declared.by_name.NamedLine.{NamedLine}
+use Rattle.by_name.specs.declared.derivation.NamedPremise.{NamedPremise}
+use Rattle.by_name.specs.declared.derivation.NamedCause.{NamedCause}
+use Rattle.by_name.specs.declared.derivation.NamedCause.TheVariants as named
+use Rattle.by_name.specs.declared.derivation.NamedLine.{NamedLine}
 use Rattle.wire.specs.declared.request.term_shapes.TermShape.{TermShape}
 use Rattle.wire.specs.declared.request.cause_shapes.PremiseShape.{PremiseShape}
 use Rattle.wire.specs.declared.request.cause_shapes.CauseShape.{CauseShape}

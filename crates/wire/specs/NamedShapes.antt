@@ -8,10 +8,10 @@ use Rattle.versions.specs.Words.{Text, is_name}
 use Rattle.terms.specs.declared.term.Term.{Term}
 use Rattle.terms.specs.declared.term.Term.TheVariants.{In, NotIn}
 use Rattle.wire.specs.Members.{each_of, member_count, text_at, whole_at, whole_of}
-use Rattle.wire.specs.declared.by_name.NamedPremise.{NamedPremise}
-use Rattle.wire.specs.declared.by_name.NamedCause.{NamedCause}
-use Rattle.wire.specs.declared.by_name.NamedCause.TheVariants as named
-use Rattle.wire.specs.declared.by_name.NamedLine.{NamedLine}
+use Rattle.by_name.specs.declared.derivation.NamedPremise.{NamedPremise}
+use Rattle.by_name.specs.declared.derivation.NamedCause.{NamedCause}
+use Rattle.by_name.specs.declared.derivation.NamedCause.TheVariants as named
+use Rattle.by_name.specs.declared.derivation.NamedLine.{NamedLine}
 
 -- ---- names and ordinals
 

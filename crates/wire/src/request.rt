@@ -21,7 +21,7 @@ mod pairs;
 mod shape;
 mod term_shapes;
 
-use crate::by_name::NamedDerivation;
+use by_name::NamedDerivation;
 use judging::judge;
 use registry::{Command, Request};
 use serde_json::Value;

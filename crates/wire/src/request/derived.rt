@@ -14,7 +14,7 @@ ghost use Rattle.wire.specs.Requests.{checked};
 use super::cause_shapes::{CauseShape, PremiseShape};
 use super::line_shapes::{LineShape, Lines};
 use super::term_shapes::{NameText, TermItems, TermShape};
-use crate::by_name::{NamedCause, NamedDerivation, NamedLine, NamedPremise, NamedTerms};
+use by_name::{NamedCause, NamedDerivation, NamedLine, NamedPremise, NamedTerms};
 use std::alloc::Global;
 use terms::{Term, VSet};
 use versions::{Name, Need, Refusal};

@@ -27,7 +27,7 @@ impl<'v> Model for Lines<'v> {
     ghost use Rattle.std.specs.Prelude.{◌≡◌, List, [], is_some, true, unwrap_or};
     ghost use Rattle.serde_json.specs.View.{items_view};
     ghost use Rattle.wire.specs.NamedShapes.{lines_of};
-    ghost use Rattle.wire.specs.declared.by_name.NamedLine.{NamedLine};
+    ghost use Rattle.by_name.specs.declared.derivation.NamedLine.{NamedLine};
 
     ghost Value = { List NamedLine };
 

@@ -1,23 +1,24 @@
-use Rattle.std.proofs.Common.{refl}
-use Rattle.versions.specs.declared.refusal.Refusal.TheVariants.{BadLine}
-use Rattle.registryd.specs.declared.told.Told.TheVariants as told
-use Rattle.registryd.proofs.KeptLemmas.{kept_tells}
-use Rattle.registryd.proofs.RacingLemmas.{seat_bad, seat_long}
+use Rattle.std.proofs.Common.{ap, subst, ◌∙◌}
+use Rattle.replies.specs.Replies.{reply_text}
+use Rattle.registryd.specs.Outcomes.{MayTell, TellsListing}
+use Rattle.registryd.specs.Told.{reply_from, told_body}
 use Rattle.registryd.proofs.running.answer.Goals as goal
 
-pub returns-then-line-gt-LINE_LIMIT-clause-reply : goal.returns-then-line-gt-LINE_LIMIT-clause-reply
-returns-then-line-gt-LINE_LIMIT-clause-reply c =
-    let seat = c.args.seat.now in (
-      _,
-      seat_long seat.number seat.journal c.args.line.now c.if-line-gt-LINE_LIMIT.true,
-      kept_tells seat seat.number c.kept_at.result (told.Refusal BadLine) c.kept_at.ensures refl,
-    )
+pub returns-in-Told : goal.returns-in-Told
+returns-in-Told c =
+    let lawful = rw c.in-Told.is at c.answer_line.ensures in
+    (_, lawful, ap (λ at. reply_text (reply_from at (told_body c.in-Told.told))) c.standing.ensures)
 
-pub returns-in-Err-clause-reply : goal.returns-in-Err-clause-reply
-returns-in-Err-clause-reply c =
-    let seat = c.args.seat.now in
-    let e = c.in-Err.fault in (
+pub returns-in-Found : goal.returns-in-Found
+returns-in-Found c =
+    let lawful = rw c.in-Found.is at c.answer_line.ensures in
+    (_, lawful _ c.learn_all.ensures, ap (λ at. reply_text (reply_from at (told_body c.in-Found.told))) c.standing-at.ensures)
+
+pub returns-in-Listing : goal.returns-in-Listing
+returns-in-Listing c =
+    let lawful = rw c.in-Listing.is at c.answer_line.ensures in
+    let kept = c.keep_listing.ensures in (
       _,
-      seat_bad seat.number e seat.journal c.args.line.now c.if-line-gt-LINE_LIMIT.false c.in-Err.ensures,
-      kept_tells seat seat.number c.kept_at-in-Err.result (told.Refusal e) c.kept_at-in-Err.ensures refl,
+      lawful kept.0 (subst (λ packages. MayTell (TellsListing packages) kept.0) c.registry.ensures.packages kept.1),
+      kept.2 ∙ ap (λ at. reply_text (reply_from at kept.0)) c.standing-in-Listing.ensures,
     )

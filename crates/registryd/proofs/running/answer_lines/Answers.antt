@@ -1,10 +1,11 @@
-use Rattle.std.proofs.Common.{◌++◌, ◌∷◌, [], List, ℕ, length, refl, sym, ap, subst, ◌∙◌, arith}
+use Rattle.std.proofs.Common.{◌++◌, ◌∷◌, [], List, ℕ, length, refl, sym, ap, ◌∙◌, arith}
 use Rattle.std.proofs.lemmas.List.{append_assoc}
 use Rattle.lines.specs.Lines.{lines_of}
 use Rattle.registryd.specs.Kept.{kept_text}
-use Rattle.registryd.specs.Racing.{IsSeatReply}
+use Rattle.registryd.specs.Racing.{seat_ways}
 use Rattle.registryd.proofs.KeptLemmas.{kept_more}
-use Rattle.registryd.proofs.RacingLemmas.{session_more}
+use Rattle.registryd.proofs.LawfulLemmas.{lawful_more}
+use Rattle.registryd.proofs.RacingLemmas.{row_kept}
 use Rattle.registryd.proofs.running.answer_lines.Goals as goal
 
 pub answering-init : goal.answering-init
@@ -14,7 +15,6 @@ answering-init c =
     let room = c.requires.room in
     record {
       row = refl;
-      number = refl;
       answered = ([], [], refl, refl, ap kept_text c.requires.empty);
       room = omega arith;
     }
@@ -26,19 +26,17 @@ answering-preserved c =
     let line = c.in-Some.line in
     let behind = c.in-Some.behind in
     let lines = c.in-Some.ensures.lines in
-    let reply = c.answer-kept.ensures.reply in
+    let reply = c.answer-kept.ensures in
     let fewer = ap length lines in
     let room = at.invariant.room in
     let grown = c.push_reserved.ensures in
     record {
-      row = c.answer-kept.ensures.row ∙ at.invariant.row;
-      number = c.answer-kept.ensures.number ∙ at.invariant.number;
+      row = row_kept line.now at.seat reply.0 c.answer-kept.new.seat reply.1 ∙ at.invariant.row;
       answered = (
         done.0 ++ line.now ∷ [],
         done.1 ++ reply.0 ∷ [],
         append_assoc done.0 (line.now ∷ []) (lines_of behind.now) ∙ (ap (λ (ls : List (List ℕ)). done.0 ++ ls) (sym lines) ∙ done.2),
-        session_more c.args.seat.now.number c.args.seat.now.journal at.seat.journal c.answer-kept.new.seat.journal done.0 done.1 line.now reply.0 done.3
-            (subst (λ (n : ℕ). IsSeatReply n at.seat.journal line.now reply.0 c.answer-kept.new.seat.journal) at.invariant.number reply.1),
+        lawful_more seat_ways done.0 line.now done.1 reply.0 c.args.seat.now at.seat c.answer-kept.new.seat done.3 reply.1,
         ap kept_text grown.items ∙ kept_more at.replies.items c.answer-kept.result done.1 reply.0 done.4 reply.2,
       );
       room = omega arith;

@@ -2,6 +2,7 @@ use Rattle.std.proofs.Common.{◌∙◌, sym}
 use Rattle.std.proofs.lemmas.Option.{none-some, slice_get_within}
 use Rattle.solver.proofs.Naming.{dependency_apart, dependency_numbered}
 use Rattle.solver.proofs.Obstacles.{dependency_decides, entry_contained, entry_unmet}
+use Rattle.solver.proofs.Pushed.{exactly_dependents}
 use Rattle.solver.proofs.meeting.meet_dependency.Goals as goal
 
 pub unreachable-requires : goal.unreachable-requires
@@ -16,11 +17,10 @@ push_dependency-requires-clause-apart c =
     (entry_contained c.args.task.now.registry.now.packages c.args.search.now.partial c.args.pkg c.args.ordinal c.args.index _ c.index-facts-index.result c.facts-facts.ensures c.requires.unmet c.index-facts-index.is)
     (sym c.number.ensures ∙ c.in-Some.is)
 
-pub push_dependency-requires-clause-used : goal.push_dependency-requires-clause-used
-push_dependency-requires-clause-used c = (
-  c.args.ordinal,
-  entry_contained c.args.task.now.registry.now.packages c.args.search.now.partial c.args.pkg c.args.ordinal c.args.index _ c.index-facts-index.result c.facts-facts.ensures c.requires.unmet c.index-facts-index.is,
-)
+pub push_dependency-requires-clause-dependents : goal.push_dependency-requires-clause-dependents
+push_dependency-requires-clause-dependents c =
+    exactly_dependents c.args.task.now.registry.now.packages c.args.pkg c.args.ordinal _ c.in_ok-versions.versions c.in_ok-versions.ensures.exactly
+    (entry_contained c.args.task.now.registry.now.packages c.args.search.now.partial c.args.pkg c.args.ordinal c.args.index _ c.index-facts-index.result c.facts-facts.ensures c.requires.unmet c.index-facts-index.is)
 
 pub act-requires-clause-within : goal.act-requires-clause-within
 act-requires-clause-within c = slice_get_within c.push_dependency.new.known.items c.in_ok-at.at c.in_ok-at.ensures.place.0 c.in_ok-at.ensures.place.1
@@ -33,5 +33,6 @@ decide_on-requires-clause-decide c =
     let used = entry_contained packages made c.args.pkg c.args.ordinal c.args.index _ c.index-facts-index.result c.facts-facts.ensures c.requires.unmet c.index-facts-index.is in
     let unmet = entry_unmet packages made c.args.pkg c.args.ordinal c.args.index _ c.index-facts-index.result c.facts-facts.ensures c.requires.unmet c.index-facts-index.is in
     let numbered = sym c.number.ensures ∙ c.in-Some.is in
-    dependency_decides c.args.task.now made c.act.new.search.partial c.push_dependency.new.known.items c.in_ok-at.at c.args.pkg c.args.ordinal c.in-Some.target _ c.assignments-made.ensures.lawful
-    (dependency_apart packages c.args.pkg c.args.ordinal c.in-Some.target _ c.packages-packages.ensures.reachable used numbered) c.requires.chosen used numbered unmet c.in_ok-at.ensures.place unused.0.0 unused.1
+    let here = (c.in_ok-versions.ensures.exactly c.args.ordinal).1 used in
+    dependency_decides c.args.task.now made c.act.new.search.partial c.push_dependency.new.known.items c.in_ok-at.at c.args.pkg c.args.ordinal c.in-Some.target _ c.in_ok-versions.versions c.in_ok-within.within c.assignments-made.ensures.lawful
+    (dependency_apart packages c.args.pkg c.args.ordinal c.in-Some.target _ c.packages-packages.ensures.reachable used numbered) c.requires.chosen here numbered unmet c.in_ok-within.ensures.members c.in_ok-at.ensures.place unused.0.0 unused.1

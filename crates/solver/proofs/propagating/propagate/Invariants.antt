@@ -6,4 +6,4 @@ abbrev pub invariant-packages : goal.invariant-packages
 invariant-packages l = record { search : Searches l.task l.search; same : l.search.partial ≡ l.fn.search.partial }
 
 abbrev pub decreases-packages : goal.decreases-packages
-decreases-packages l = length l.agenda.changed.items
+decreases-packages l = length l.worklist.changed.items

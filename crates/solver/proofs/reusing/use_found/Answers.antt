@@ -6,10 +6,10 @@ pub members-preserved : goal.members-preserved
 members-preserved c = elim c.match-branch-2.branch [
   | in-Neither w ↦
       let idle = rw w.in-Neither.is at c.in_ok-use_member.ensures.acts in
-      rw (w.last-is, w.agenda-is) (record {
+      rw (w.last-is, w.worklist-is) (record {
         search = idle.1;
         same = idle_more c.args.task.now c.args.search.now c.members.search c.use_member.new.search c.members.last c.members.invariant.same idle;
-        left = left_more c.members.last c.args.agenda.now.changed.items c.members.agenda.changed.items c.use_member.new.agenda.changed.items c.members.invariant.left c.in_ok-use_member.ensures.changed;
+        left = left_more c.members.last c.args.worklist.now.changed.items c.members.worklist.changed.items c.use_member.new.worklist.changed.items c.members.invariant.left c.in_ok-use_member.ensures.changed;
         fell = fell_idle c.args.task.now c.args.search.now c.members.search c.use_member.new.search c.members.last c.members.invariant.fell idle;
       })
   | in-Derived+in-Some-last+in_ok-push-in-Derived w ↦

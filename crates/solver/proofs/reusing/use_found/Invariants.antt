@@ -9,6 +9,6 @@ abbrev pub invariant-members : goal.invariant-members
 invariant-members l = record {
   search : Searches l.task l.search;
   same : IfNone l.last (IsIdle l.task l.fn.search l.search);
-  left : IfNone l.last (l.agenda.changed.items ≡ l.fn.agenda.changed.items);
+  left : IfNone l.last (l.worklist.changed.items ≡ l.fn.worklist.changed.items);
   fell : IfSome l.last (λ pkg. rank l.search.partial < rank l.fn.search.partial);
 }

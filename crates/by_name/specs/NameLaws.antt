@@ -1,0 +1,16 @@
+-- Laws of derivations by name.
+use Rattle.std.specs.Prelude.{◌≡◌, List}
+use Rattle.registry.specs.Registry.{Packages}
+use Rattle.registry.specs.Requests.{Wanted}
+use Rattle.derivations.specs.Derivations.{AreIncompats, IsDerivation}
+use Rattle.derivations.specs.declared.line.Line.{Line}
+use Rattle.by_name.specs.Named.{AllHaveNames, IsNumbered}
+use Rattle.by_name.specs.declared.derivation.NamedLine.{NamedLine}
+
+-- every package of a derivation whose conclusions are incompatibilities has a name
+abbrev pub DerivedPackagesHaveNames : Type 0
+DerivedPackagesHaveNames = (packages : Packages) (wanted : Wanted) (lines : List Line) → AreIncompats lines → IsDerivation packages wanted lines → AllHaveNames packages lines
+
+-- names stand for one derivation at most
+abbrev pub OneNumbering : Type 0
+OneNumbering = (packages : Packages) (named : List NamedLine) (one two : List Line) → IsNumbered packages named one → IsNumbered packages named two → one ≡ two

@@ -1,0 +1,137 @@
+//! Derivations by number, turned into those by name that lines carry.
+ghost use Rattle.std.specs.Prelude.{◌≡◌, Some, IfErr, IfOk, IsSome};
+ghost use Rattle.registry.specs.Registry.{number_of, package_at};
+ghost use Rattle.terms.specs.Incompats.{IsIncompat};
+ghost use Rattle.by_name.specs.Named.{number_in, numbered_cause, numbered_line, numbered_premise, numbered_terms, AllHaveNames, CauseHasNames, HasName, HaveNames, IsNumbered, LineHasNames};
+
+use crate::derivation::{NamedCause, NamedDerivation, NamedLine, NamedPremise, NamedTerms};
+use crate::numbering::ROOT;
+use derivations::{Cause, Derivation, Line, Premise};
+use registry::Registry;
+use std::alloc::Global;
+use terms::{Pkg, Term};
+use versions::{Name, Refusal};
+
+/// The name of a package.
+fn package_name(registry: &Registry, pkg: Pkg) -> Result<Name, Refusal>
+    requires { IsSome (package_at registry.now.packages pkg) }
+    ensures same { IfOk result (λ name. number_of registry.now.packages name ≡ Some pkg) }
+    ensures only { IfErr result (λ e. e ≡ Refusal.NoMemory) }
+{
+    // That a registry has few packages is told with their count.
+    let _packages = registry.packages();
+    Ok(registry.name(pkg).copy()?)
+}
+
+/// The name of what has a number; the request has none.
+fn name_of(registry: &Registry, pkg: Pkg) -> Result<Option<Name>, Refusal>
+    requires { HasName registry.now.packages pkg }
+    ensures same { IfOk result (λ name. number_in registry.now.packages name ≡ Some pkg) }
+    ensures only { IfErr result (λ e. e ≡ Refusal.NoMemory) }
+{
+    if pkg == ROOT {
+        return Ok(None);
+    }
+    Ok(Some(package_name(registry, pkg)?))
+}
+
+fn named_terms(
+    alloc: Global,
+    registry: &Registry,
+    terms: &[(Pkg, Term)],
+) -> Result<NamedTerms, Refusal>
+    requires { HaveNames registry.now.packages terms.now }
+    ensures same { IfOk result (λ named. numbered_terms registry.now.packages named ≡ Some terms.now) }
+    ensures only { IfErr result (λ e. e ≡ Refusal.NoMemory) }
+{
+    let mut named = Vec::with_capacity(alloc, terms.len())?;
+    for entry in terms {
+        named.push((name_of(registry, entry.0)?, entry.1.copy(alloc)?))?;
+    }
+    Ok(NamedTerms::new(named))
+}
+
+fn named_premise(
+    alloc: Global,
+    registry: &Registry,
+    premise: &Premise,
+) -> Result<NamedPremise, Refusal>
+    requires package { IsSome (package_at registry.now.packages premise.now.package) }
+    requires target { HasName registry.now.packages premise.now.target }
+    ensures same { IfOk result (λ named. numbered_premise registry.now.packages named ≡ Some premise.now) }
+    ensures only { IfErr result (λ e. e ≡ Refusal.NoMemory) }
+{
+    Ok(NamedPremise {
+        package: package_name(registry, premise.package)?,
+        versions: premise.versions.copy(alloc)?,
+        target: name_of(registry, premise.target)?,
+        need: premise.need.copy()?,
+        within: premise.within.copy(alloc)?,
+    })
+}
+
+fn named_cause(alloc: Global, registry: &Registry, cause: &Cause) -> Result<NamedCause, Refusal>
+    requires { CauseHasNames registry.now.packages cause.now }
+    ensures same { IfOk result (λ named. numbered_cause registry.now.packages named ≡ Some cause.now) }
+    ensures only { IfErr result (λ e. e ≡ Refusal.NoMemory) }
+{
+    match cause {
+        Cause::Line(number) => Ok(NamedCause::Line(*number)),
+        Cause::Premise(premise) => Ok(NamedCause::Premise(named_premise(
+            alloc, registry, premise,
+        )?)),
+        Cause::Need(index) => Ok(NamedCause::Need(*index)),
+        Cause::NotAllowed(pkg, versions) => {
+            let name = package_name(registry, *pkg)?;
+            Ok(NamedCause::NotAllowed(name, versions.copy(alloc)?))
+        }
+        Cause::Root => Ok(NamedCause::Root),
+    }
+}
+
+fn named_causes(
+    alloc: Global,
+    registry: &Registry,
+    causes: &(Cause, Cause),
+) -> Result<(NamedCause, NamedCause), Refusal>
+    requires one { CauseHasNames registry.now.packages causes.now.0 }
+    requires two { CauseHasNames registry.now.packages causes.now.1 }
+    ensures one { IfOk result (λ named. numbered_cause registry.now.packages named.0 ≡ Some causes.now.0) }
+    ensures two { IfOk result (λ named. numbered_cause registry.now.packages named.1 ≡ Some causes.now.1) }
+    ensures only { IfErr result (λ e. e ≡ Refusal.NoMemory) }
+{
+    let one = named_cause(alloc, registry, &causes.0)?;
+    Ok((one, named_cause(alloc, registry, &causes.1)?))
+}
+
+fn named_line(alloc: Global, registry: &Registry, line: &Line) -> Result<NamedLine, Refusal>
+    requires { LineHasNames registry.now.packages line.now }
+    ensures same { IfOk result (λ named. numbered_line registry.now.packages named ≡ Some line.now) }
+    ensures lawful { IsIncompat line.now.conclusion }
+    ensures only { IfErr result (λ e. e ≡ Refusal.NoMemory) }
+{
+    Ok(NamedLine {
+        conclusion: named_terms(alloc, registry, line.conclusion.terms())?,
+        causes: named_causes(alloc, registry, &line.causes)?,
+        pivot: name_of(registry, line.pivot)?,
+    })
+}
+
+/// The derivation by the names of its packages, each of which has one. By the same registry its names
+/// stand for the same derivation again.
+pub fn named(
+    alloc: Global,
+    registry: &Registry,
+    derivation: &Derivation,
+) -> Result<NamedDerivation, Refusal>
+    requires names { AllHaveNames registry.now.packages derivation.now }
+    ensures back { IfOk result (λ named. IsNumbered registry.now.packages named derivation.now) }
+    ensures only { IfErr result (λ e. e ≡ Refusal.NoMemory) }
+{
+    let lines = derivation.lines();
+    let mut named = Vec::with_capacity(alloc, lines.len())?;
+    for line in lines {
+        named.push(named_line(alloc, registry, line)?)?;
+    }
+    Ok(NamedDerivation::new(named))
+}

@@ -1,0 +1,148 @@
+// Which lines are looked at, and which package is decided.
+
+ghost use Rattle.std.specs.Prelude.{◌≡◌, IfErr};
+ghost use Rattle.versions.specs.declared.refusal.Refusal.TheVariants.{NoMemory};
+
+use crate::occurrences::Occurrences;
+use crate::question::{Question, ROOM};
+use crate::queue::Queue;
+use crate::spent::Spent;
+use partial::Partial;
+use std::alloc::Global;
+use terms::{Incompat, Pkg};
+use versions::Refusal;
+
+/// What is to be looked at and to be decided. Lines are known by their places in the search.
+#[derive(Drop)]
+pub struct Agenda {
+    occurrences: Occurrences,
+    /// The lines that are looked at now.
+    pub ripe: Vec<usize>,
+    /// The lines by which something was derived since a package was last looked at.
+    pub used: Vec<usize>,
+    /// The packages that are to be decided.
+    queue: Queue,
+    /// Lines that are not looked at until the search jumps back.
+    spent: Spent,
+}
+
+impl Agenda {
+    pub fn new(alloc: Global) -> Result<Agenda, Refusal>
+        ensures { IfErr result (λ e. e ≡ NoMemory) }
+    {
+        Ok(Agenda {
+            occurrences: Occurrences::new(alloc)?,
+            ripe: Vec::with_capacity(alloc, ROOM)?,
+            used: Vec::with_capacity(alloc, ROOM)?,
+            queue: Queue::new(alloc)?,
+            spent: Spent::new(alloc)?,
+        })
+    }
+
+    /// Notes the line at a place, which concludes this, with each package that it names.
+    pub fn note(&mut self, alloc: Global, conclusion: &Incompat, at: usize) -> Result<(), Refusal>
+        ensures { IfErr result (λ e. e ≡ NoMemory) }
+    {
+        self.occurrences.note(alloc, conclusion, at)
+    }
+
+    /// Whether the dependency of a version on another package is not among the lines: a version has at
+    /// most one.
+    pub fn is_new(&self, pkg: Pkg, ordinal: u32, target: Pkg) -> bool {
+        !self.occurrences.covers(pkg, ordinal, target)
+    }
+
+    /// Notes the line at a place, which concludes this for a dependency of versions of a package on
+    /// another one.
+    pub fn note_dependency(
+        &mut self,
+        alloc: Global,
+        conclusion: &Incompat,
+        at: usize,
+        pkg: Pkg,
+        target: Pkg,
+    ) -> Result<(), Refusal>
+        ensures { IfErr result (λ e. e ≡ NoMemory) }
+    {
+        self.occurrences.note(alloc, conclusion, at)?;
+        match conclusion.term_on(pkg) {
+            None => Ok(()),
+            Some(versions) => self.occurrences.cover(alloc, pkg, target, versions),
+        }
+    }
+
+    /// Whether the dependencies of a version are not all among the lines; they are taken to be from now
+    /// on.
+    pub fn enters(&mut self, pkg: Pkg, ordinal: u32) -> Result<bool, Refusal>
+        ensures { IfErr result (λ e. e ≡ NoMemory) }
+    {
+        self.occurrences.enters(pkg, ordinal)
+    }
+
+    /// Whether the dependencies of a package are to be put among the lines before it is decided: it has
+    /// several versions, all have the same, and this is asked for the first time.
+    pub fn enters_alike(&mut self, question: &Question<'_>, pkg: Pkg) -> bool {
+        self.occurrences.enters_alike(question, pkg)
+    }
+
+    /// Looks at a package of which something was settled: puts it into the queue, if it is to be
+    /// decided, and gathers the lines from which something may follow now.
+    pub fn look(
+        &mut self,
+        question: &Question<'_>,
+        partial: &Partial,
+        pkg: Pkg,
+    ) -> Result<(), Refusal>
+        ensures { IfErr result (λ e. e ≡ NoMemory) }
+    {
+        self.ripe.clear();
+        self.spend(partial.level())?;
+        self.queue
+            .offer(question, &mut self.occurrences, partial, pkg)?;
+        match partial.said(pkg) {
+            None => Ok(()),
+            Some(said) => self
+                .occurrences
+                .gather(partial, pkg, said, &mut self.spent, &mut self.ripe),
+        }
+    }
+
+    /// Puts the lines by that were used at this level.
+    fn spend(&mut self, level: usize) -> Result<(), Refusal>
+        ensures { IfErr result (λ e. e ≡ NoMemory) }
+    {
+        for at in self.used.as_slice() {
+            self.spent.add(*at, level)?;
+        }
+        self.used.clear();
+        Ok(())
+    }
+
+    /// The package that is to be decided next.
+    pub fn next(
+        &mut self,
+        question: &Question<'_>,
+        partial: &Partial,
+    ) -> Result<Option<Pkg>, Refusal>
+        ensures { IfErr result (λ e. e ≡ NoMemory) }
+    {
+        self.queue.next(question, &mut self.occurrences, partial)
+    }
+
+    /// Takes back what was noted above the level to which the search has jumped back, where it used the
+    /// line at a place.
+    pub fn backjump(
+        &mut self,
+        question: &Question<'_>,
+        partial: &Partial,
+        at: usize,
+    ) -> Result<(), Refusal>
+        ensures { IfErr result (λ e. e ≡ NoMemory) }
+    {
+        self.queue
+            .backjump(question, &mut self.occurrences, partial)?;
+        self.used.clear();
+        self.spent.backjump(partial.level())?;
+        self.spent.add(at, partial.level())
+    }
+}

@@ -1,0 +1,26 @@
+// Packages whose versions all depend on the same.
+
+use crate::question::Question;
+use registry::Registry;
+use terms::Pkg;
+use walk::Asker;
+
+/// From how many versions on the dependencies of a package are put among the lines before one is
+/// decided. Packages with fewer are decided early, since those with the fewest versions come first.
+const SEVERAL: usize = 4;
+
+/// Whether all versions of a package depend on the same. It costs a look at each of them at most.
+pub(crate) fn are_alike(registry: &Registry, pkg: Pkg) -> bool {
+    registry.repeats(pkg).iter().skip(1).all(|repeats| *repeats)
+}
+
+/// Whether all versions of a package have the same dependencies, and some.
+pub(crate) fn depend_alike(question: &Question<'_>, pkg: Pkg) -> bool {
+    let first = Asker::Version(pkg, 0).needs(question.registry, question.request);
+    !first.is_empty() && are_alike(question.registry, pkg)
+}
+
+/// Whether several versions of a package, which are all, have the same dependencies, and some.
+pub(crate) fn several_depend_alike(question: &Question<'_>, pkg: Pkg) -> bool {
+    question.registry.versions(pkg) >= SEVERAL && depend_alike(question, pkg)
+}

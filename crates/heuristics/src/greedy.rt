@@ -1,0 +1,439 @@
+// A greedy search, tried before the one that jumps back.
+//
+// It decides in the same order, and keeps of each package the versions that its dependents leave, but
+// no lines. Where all versions of a package depend on the same, that is met as soon as the package is
+// needed. Else a version whose dependencies don't fit beside what is decided is passed over for the
+// next one of its package; where none is left, it gives up. What it decides is validated by the walk.
+
+ghost use Rattle.std.specs.Prelude.{◌≡◌, IfErr};
+
+use crate::alike::depend_alike;
+use crate::obstacle::Obstacle;
+use crate::order::Order;
+use crate::question::{Question, ROOM, locked_version};
+use indexmap::IndexMap;
+use registry::Matching;
+use terms::{Pkg, Term, VSet};
+use versions::Refusal;
+use walk::Asker;
+
+/// How many versions may be looked at, for each package of the registry, before it gives up.
+const PATIENCE: usize = 4;
+
+/// What is known of a package that is needed.
+#[derive(Drop)]
+struct Needed {
+    pkg: Pkg,
+    /// The allowed versions that meet each requirement so far.
+    left: Term,
+    decided: Option<u32>,
+    /// Whether all its versions depend on the same, which is met before one is decided.
+    alike: bool,
+}
+
+/// What is left of the packages that are needed, and what is decided of them.
+#[derive(Drop)]
+struct Greedy {
+    /// By number of the package, up to the highest that is needed: one more than the index of what is
+    /// known of it, or 0.
+    numbers: Vec<usize>,
+    needed: Vec<Needed>,
+    /// Packages in the order of decisions; some of it is out of date.
+    order: Order,
+    /// Packages whose versions all depend on the same, and how many of them are met.
+    alike: Vec<Pkg>,
+    met: usize,
+    /// What the dependencies of the version at hand leave of their packages.
+    beside: Vec<(Pkg, Term)>,
+    /// What is taken to be needed beforehand.
+    obstacle: Option<Obstacle>,
+}
+
+/// The versions of a set that are allowed.
+fn allowed_of(question: &Question<'_>, pkg: Pkg, versions: VSet) -> Result<VSet, Refusal>
+    ensures { IfErr result (λ e. e ≡ Refusal.NoMemory) }
+{
+    if !question.registry.has_yanks(pkg) {
+        return Ok(versions);
+    }
+    if versions.iter().all(|ordinal| question.registry.allowed(question.request, pkg, ordinal)) {
+        return Ok(versions);
+    }
+    let mut allowed = VSet::new(question.alloc);
+    for ordinal in versions.iter() {
+        if question.registry.allowed(question.request, pkg, ordinal) {
+            allowed.insert(ordinal)?;
+        }
+    }
+    Ok(allowed)
+}
+
+/// How many versions a term leaves.
+fn count_of(left: &Term) -> usize {
+    match left {
+        Term::In(versions) => versions.len(),
+        Term::NotIn(_) => 0,
+    }
+}
+
+/// The version to decide for: the lock's, else the highest of those that are left.
+fn best_of(question: &Question<'_>, pkg: Pkg, left: &Term) -> Option<u32> {
+    let Term::In(versions) = left else {
+        return None;
+    };
+    match locked_ordinal(question, pkg) {
+        Some(ordinal) if versions.has(ordinal) => Some(ordinal),
+        Some(_) | None => question.registry.highest(pkg, versions),
+    }
+}
+
+/// The ordinal of the version that the lock names.
+fn locked_ordinal(question: &Question<'_>, pkg: Pkg) -> Option<u32> {
+    question.registry.find(pkg, locked_version(question, pkg)?)
+}
+
+impl Greedy {
+    fn new(question: &Question<'_>, obstacle: Option<Obstacle>) -> Result<Greedy, Refusal>
+        ensures { IfErr result (λ e. e ≡ Refusal.NoMemory) }
+    {
+        Ok(Greedy {
+            numbers: Vec::with_capacity(question.alloc, ROOM)?,
+            needed: Vec::with_capacity(question.alloc, ROOM)?,
+            order: Order::new(question.alloc)?,
+            alike: Vec::with_capacity(question.alloc, ROOM)?,
+            met: 0,
+            beside: Vec::new(question.alloc),
+            obstacle,
+        })
+    }
+
+    /// What is known of a package, if it is needed.
+    fn get(&self, pkg: Pkg) -> Option<&Needed> {
+        let number = *self.numbers.as_slice().get(pkg as usize)?;
+        self.needed.as_slice().get(number.checked_sub(1)?)
+    }
+
+    /// As `get`, to write there.
+    fn get_mut(&mut self, pkg: Pkg) -> Option<&mut Needed> {
+        let number = *self.numbers.as_slice().get(pkg as usize)?;
+        self.needed.as_mut_slice().get_mut(number.checked_sub(1)?)
+    }
+
+    /// Adds a package that was not needed before.
+    fn add(&mut self, question: &Question<'_>, pkg: Pkg, left: Term) -> Result<(), Refusal>
+        ensures { IfErr result (λ e. e ≡ Refusal.NoMemory) }
+    {
+        let alike = depend_alike(question, pkg);
+        if alike {
+            self.alike.push(pkg)?;
+        }
+        for _ in self.numbers.len()..pkg as usize + 1 {
+            self.numbers.push(0)?;
+        }
+        self.needed.push(Needed {
+            pkg,
+            left,
+            decided: None,
+            alike,
+        })?;
+        if let Some(number) = self.numbers.as_mut_slice().get_mut(pkg as usize) {
+            *number = self.needed.len();
+        }
+        Ok(())
+    }
+
+    /// What the obstacle leaves of a package beside a requirement.
+    fn beside_obstacle(
+        &self,
+        question: &Question<'_>,
+        pkg: Pkg,
+        left: Term,
+    ) -> Result<Term, Refusal>
+        ensures { IfErr result (λ e. e ≡ Refusal.NoMemory) }
+    {
+        match &self.obstacle {
+            Some(obstacle) if obstacle.target == pkg => Ok(left.and(
+                question.alloc,
+                &obstacle.within,
+            )?),
+            Some(_) | None => Ok(left),
+        }
+    }
+
+    /// Notes what a requirement leaves of a package, given the versions that meet it. Answers whether
+    /// some version meets it beside the others.
+    fn meet(
+        &mut self,
+        question: &Question<'_>,
+        pkg: Pkg,
+        matching: &Matching<'_>,
+    ) -> Result<bool, Refusal>
+        ensures { IfErr result (λ e. e ≡ Refusal.NoMemory) }
+    {
+        let left = match self.get(pkg) {
+            None => {
+                let allowed = allowed_of(question, pkg, matching.set(question.alloc)?)?;
+                self.beside_obstacle(question, pkg, Term::In(allowed))?
+            }
+            Some(needed) => match needed.decided {
+                Some(ordinal) => return Ok(matching.has(ordinal)),
+                None => needed
+                    .left
+                    .and(question.alloc, &Term::In(matching.set(question.alloc)?))?,
+            },
+        };
+        if count_of(&left) == 0 {
+            return Ok(false);
+        }
+        self.beside.push((pkg, left))?;
+        Ok(true)
+    }
+
+    /// Notes what the request's needs leave, up to the first that nothing meets.
+    fn meet_needs(&mut self, question: &Question<'_>) -> Result<bool, Refusal>
+        ensures { IfErr result (λ e. e ≡ Refusal.NoMemory) }
+    {
+        self.beside.clear();
+        for (name, need) in question.request.needs() {
+            let Some(pkg) = question.registry.number(name) else {
+                return Ok(false);
+            };
+            let matching = question.registry.matching_set(pkg, need)?;
+            if !self.meet(question, pkg, &matching)? {
+                return Ok(false);
+            }
+        }
+        Ok(true)
+    }
+
+    /// Notes what a version's dependencies leave, up to the first that nothing meets.
+    fn meet_dependencies(
+        &mut self,
+        question: &Question<'_>,
+        pkg: Pkg,
+        ordinal: u32,
+    ) -> Result<bool, Refusal>
+        ensures { IfErr result (λ e. e ≡ Refusal.NoMemory) }
+    {
+        self.beside.clear();
+        let count = Asker::Version(pkg, ordinal)
+            .needs(question.registry, question.request)
+            .len();
+        for index in 0..count {
+            let (target, matching) = question.registry.dependency(pkg, ordinal, index)?;
+            if !self.meet(question, target, &matching)? {
+                return Ok(false);
+            }
+        }
+        Ok(true)
+    }
+
+    /// Keeps what is left of a package, and puts it into the order.
+    fn keep(&mut self, question: &Question<'_>, pkg: Pkg, left: Term) -> Result<(), Refusal>
+        ensures { IfErr result (λ e. e ≡ Refusal.NoMemory) }
+    {
+        self.order.add(count_of(&left), pkg)?;
+        match self.get_mut(pkg) {
+            None => self.add(question, pkg, left),
+            Some(needed) => {
+                needed.left = left;
+                Ok(())
+            }
+        }
+    }
+
+    /// Keeps what was noted.
+    fn keep_all(&mut self, question: &Question<'_>) -> Result<(), Refusal>
+        ensures { IfErr result (λ e. e ≡ Refusal.NoMemory) }
+    {
+        for _ in 0..self.beside.len() {
+            if let Some((pkg, left)) = self.beside.pop() {
+                self.keep(question, pkg, left)?;
+            }
+        }
+        Ok(())
+    }
+
+    /// Rules out a version of a package. Answers whether others are left.
+    fn pass_over(
+        &mut self,
+        question: &Question<'_>,
+        pkg: Pkg,
+        ordinal: u32,
+    ) -> Result<bool, Refusal>
+        ensures { IfErr result (λ e. e ≡ Refusal.NoMemory) }
+    {
+        let Some(needed) = self.get(pkg) else {
+            return Ok(false);
+        };
+        let others = needed.left.and(
+            question.alloc,
+            &Term::NotIn(VSet::single(question.alloc, ordinal)?),
+        )?;
+        if count_of(&others) == 0 {
+            return Ok(false);
+        }
+        self.keep(question, pkg, others)?;
+        Ok(true)
+    }
+
+    /// Whether an entry of the order is of an undecided package and up to date.
+    fn is_next(&self, count: usize, pkg: Pkg) -> bool {
+        match self.get(pkg) {
+            None => false,
+            Some(needed) => count_of(&needed.left) == count && needed.decided.is_none(),
+        }
+    }
+
+    /// The undecided package that comes first.
+    fn next(&mut self) -> Option<Pkg> {
+        for _ in 0..self.order.len() {
+            let (count, pkg) = self.order.pop()?;
+            if self.is_next(count, pkg) {
+                return Some(pkg);
+            }
+        }
+        None
+    }
+
+    /// Decides on a package, or passes a version of it over. Answers whether some version can be met
+    /// beside what is decided.
+    fn decide(&mut self, question: &Question<'_>, pkg: Pkg) -> Result<bool, Refusal>
+        ensures { IfErr result (λ e. e ≡ Refusal.NoMemory) }
+    {
+        let Some(needed) = self.get(pkg) else {
+            return Ok(false);
+        };
+        let Some(ordinal) = best_of(question, pkg, &needed.left) else {
+            return Ok(false);
+        };
+        if needed.alike {
+            self.settle(pkg, ordinal);
+            return Ok(true);
+        }
+        if !self.meet_dependencies(question, pkg, ordinal)? {
+            return Ok(self.pass_over(question, pkg, ordinal)?);
+        }
+        self.settle(pkg, ordinal);
+        self.keep_all(question)?;
+        Ok(true)
+    }
+
+    /// Decides for a version.
+    fn settle(&mut self, pkg: Pkg, ordinal: u32) {
+        if let Some(needed) = self.get_mut(pkg) {
+            needed.decided = Some(ordinal);
+        }
+    }
+
+    /// The next package whose versions all depend on the same, if one has not been met.
+    fn next_alike(&mut self) -> Option<Pkg> {
+        let pkg = *self.alike.as_slice().get(self.met)?;
+        self.met = self.met.saturating_add(1);
+        Some(pkg)
+    }
+
+    /// Keeps what all versions of a package depend on. Answers whether it can be met beside what is
+    /// decided.
+    fn meet_alike(&mut self, question: &Question<'_>, pkg: Pkg) -> Result<bool, Refusal>
+        ensures { IfErr result (λ e. e ≡ Refusal.NoMemory) }
+    {
+        if !self.meet_dependencies(question, pkg, 0)? {
+            return Ok(false);
+        }
+        self.keep_all(question)?;
+        Ok(true)
+    }
+
+    /// A step towards what is needed: what is alike in all versions is met, and else a package is decided
+    /// on. Answers whether it could be made, and nothing where nothing is left to do.
+    fn step(&mut self, question: &Question<'_>) -> Result<Option<bool>, Refusal>
+        ensures { IfErr result (λ e. e ≡ Refusal.NoMemory) }
+    {
+        if let Some(pkg) = self.next_alike() {
+            return Ok(Some(self.meet_alike(question, pkg)?));
+        }
+        match self.next() {
+            None => Ok(None),
+            Some(pkg) => Ok(Some(self.decide(question, pkg)?)),
+        }
+    }
+
+    /// Decides on all packages that are needed. Answers whether each could be met.
+    fn decide_all(&mut self, question: &Question<'_>) -> Result<bool, Refusal>
+        ensures { IfErr result (λ e. e ≡ Refusal.NoMemory) }
+    {
+        if !self.meet_needs(question)? {
+            return Ok(false);
+        }
+        self.keep_all(question)?;
+        for _ in 0..question.registry.packages().saturating_mul(PATIENCE) {
+            match self.step(question)? {
+                None => return Ok(true),
+                Some(true) => {}
+                Some(false) => return Ok(false),
+            }
+        }
+        Ok(false)
+    }
+
+    /// Whether an obstacle was minded that no package has which is needed.
+    fn is_misled(&self) -> bool {
+        match &self.obstacle {
+            None => false,
+            Some(obstacle) => self.get(obstacle.pkg).is_none(),
+        }
+    }
+
+    /// What is decided, by package.
+    fn decisions(&self, question: &Question<'_>) -> Result<IndexMap<Pkg, u32>, Refusal>
+        ensures { IfErr result (λ e. e ≡ Refusal.NoMemory) }
+    {
+        let mut decided = IndexMap::with_capacity(question.alloc, self.needed.len())?;
+        for needed in self.needed.as_slice() {
+            if let Some(ordinal) = needed.decided {
+                decided.insert(needed.pkg, ordinal)?;
+            }
+        }
+        Ok(decided)
+    }
+}
+
+/// A greedy search that has come to its end, if none of its steps failed.
+fn finished(question: &Question<'_>, obstacle: Option<Obstacle>) -> Result<Option<Greedy>, Refusal>
+    ensures { IfErr result (λ e. e ≡ Refusal.NoMemory) }
+{
+    let mut greedy = Greedy::new(question, obstacle)?;
+    if !greedy.decide_all(question)? {
+        return Ok(None);
+    }
+    Ok(Some(greedy))
+}
+
+/// What a greedy search decided, if it came to its end.
+fn decisions_of(
+    question: &Question<'_>,
+    found: &Option<Greedy>,
+) -> Result<Option<IndexMap<Pkg, u32>>, Refusal>
+    ensures { IfErr result (λ e. e ≡ Refusal.NoMemory) }
+{
+    match found {
+        None => Ok(None),
+        Some(greedy) => Ok(Some(greedy.decisions(question)?)),
+    }
+}
+
+/// Decisions on all packages that are needed, if each could be met.
+pub fn decide_greedily(
+    question: &Question<'_>,
+    obstacle: Option<Obstacle>,
+) -> Result<Option<IndexMap<Pkg, u32>>, Refusal>
+    ensures { IfErr result (λ e. e ≡ Refusal.NoMemory) }
+{
+    let mut found = finished(question, obstacle)?;
+    if matches!(&found, Some(greedy) if greedy.is_misled()) {
+        // The obstacle's package is not needed, so it must not bind another one.
+        found = finished(question, None)?;
+    }
+    decisions_of(question, &found)
+}

@@ -1,0 +1,38 @@
+//! No proof rests on this: it only chooses what a search looks at next, and what it decides first.
+//!
+//! What it leaves out is found by the walk that ends a search, and what it names twice costs time. So
+//! its calls promise no more than that nothing but want of memory refuses them. The section is that of
+//! Dart pub's doc/solver.md.
+//!
+//! | File | What it does | Section |
+//! |---|---|---|
+//! | `question.rt` | what is asked of which registry | |
+//! | `agenda.rt` | which lines are looked at, and which package is decided | Unit Propagation, Decision Making |
+//! | `occurrences.rt` | occurrence lists: the lines that name a package | Unit Propagation |
+//! | `spent.rt` | the lines that are not looked at until the search jumps back | Unit Propagation |
+//! | `queue.rt` | the packages that are to be decided | Decision Making |
+//! | `order.rt` | the order of decisions | Decision Making |
+//! | `covered.rt` | which dependencies are among the lines | Decision Making |
+//! | `alike.rt` | packages whose versions all depend on the same | Decision Making |
+//! | `sharing.rt` | where versions of a package may have the same dependency | Decision Making |
+//! | `greedy.rt` | a greedy search, tried before the one that jumps back | |
+//! | `obstacle.rt` | what stands in the way of the preferred selection | |
+#![tactic(auto)]
+
+mod agenda;
+mod alike;
+mod covered;
+mod greedy;
+mod obstacle;
+mod occurrences;
+mod order;
+mod question;
+mod queue;
+mod sharing;
+mod spent;
+
+pub use agenda::Agenda;
+pub use greedy::decide_greedily;
+pub use obstacle::{Obstacle, obstacle_at};
+pub use question::{Question, ROOM, locked_version};
+pub use sharing::{Place, Sharing};

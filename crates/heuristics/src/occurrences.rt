@@ -1,0 +1,395 @@
+// Occurrence lists: for each package the lines that name it, and what is kept of it beside.
+
+ghost use Rattle.std.specs.Prelude.{◌≡◌, IfErr};
+ghost use Rattle.versions.specs.declared.refusal.Refusal.TheVariants.{NoMemory};
+
+use crate::alike::several_depend_alike;
+use crate::covered::{Covered, Targets};
+use crate::question::{Question, ROOM, version_count};
+use crate::spent::Spent;
+use partial::Partial;
+use std::alloc::Global;
+use terms::{Incompat, Pkg, Relation, Term, VSet, relation};
+use versions::Refusal;
+
+/// A line that names a package. These are read far more often than what the lines say, so they stand by
+/// themselves, and as numbers of 32 bits. A line beyond those is not noted, though none ever fitted a
+/// memory.
+#[derive(Clone, Copy)]
+struct Occurrence {
+    /// The line's place.
+    at: u32,
+    /// The number of the package's next occurrence, 0 at its last one.
+    next: u32,
+}
+
+/// What a line says of a package that it names.
+#[derive(Drop)]
+struct Saying {
+    pkg: Pkg,
+    term: Term,
+    /// The number of the line's other occurrence, 0 where there are not two.
+    other: u32,
+}
+
+/// What is kept of a package.
+#[derive(Drop)]
+struct Kept {
+    /// The numbers of the first and of the last occurrence of it, 0 where there is none.
+    first: u32,
+    last: u32,
+    /// The packages on which dependencies of its versions stand among the lines.
+    targets: Targets,
+    /// The versions of which all dependencies are among the lines.
+    entered: VSet,
+    /// Whether it was asked if all its versions depend on the same.
+    asked: bool,
+    allowed: Allowed,
+}
+
+/// Which versions of a package are allowed.
+#[derive(Drop)]
+enum Allowed {
+    /// This was not asked for yet.
+    Unknown,
+    All,
+    Only(VSet),
+}
+
+/// What is kept of the packages that lines name.
+///
+/// The occurrences of all packages stand in one list, and what is said there in another: so a package takes
+/// no list of its own. The number of an occurrence is one more than its index in both.
+#[derive(Drop)]
+pub(crate) struct Occurrences {
+    /// By number of the package, up to the highest that a line names: one more than the index of what
+    /// is kept of it, or 0. So a look costs two steps, and few packages take little memory.
+    numbers: Vec<usize>,
+    kept: Vec<Kept>,
+    occurrences: Vec<Occurrence>,
+    sayings: Vec<Saying>,
+    covered: Covered,
+}
+
+/// Which versions of a package are allowed.
+fn allowed_of(question: &Question<'_>, pkg: Pkg) -> Result<Allowed, Refusal>
+    ensures { IfErr result (λ e. e ≡ NoMemory) }
+{
+    if !question.registry.has_yanks(pkg) {
+        return Ok(Allowed::All);
+    }
+    let count = version_count(question.registry, pkg);
+    if (0..count).all(|ordinal| question.registry.allowed(question.request, pkg, ordinal)) {
+        return Ok(Allowed::All);
+    }
+    let mut allowed = VSet::new(question.alloc);
+    for ordinal in 0..count {
+        if question.registry.allowed(question.request, pkg, ordinal) {
+            allowed.insert(ordinal)?;
+        }
+    }
+    Ok(Allowed::Only(allowed))
+}
+
+/// Of what use a line is now.
+#[derive(Clone, Copy)]
+enum Use {
+    /// Something may follow from it.
+    Ripe,
+    /// Nothing follows from it until more is settled.
+    Unripe,
+    /// One of its terms is contradicted, so that nothing follows from it until the search jumps back.
+    Contradicted,
+}
+
+impl Kept {
+    /// Of a package that was named once, by the occurrence of this number.
+    fn new(alloc: Global, occurrence: u32) -> Kept {
+        Kept {
+            first: occurrence,
+            last: occurrence,
+            targets: Targets::none(),
+            entered: VSet::new(alloc),
+            asked: false,
+            allowed: Allowed::Unknown,
+        }
+    }
+
+    /// How many of the allowed versions a positive term leaves; none of a negative one.
+    #[inline(always)]
+    fn count(&mut self, question: &Question<'_>, pkg: Pkg, said: &Term) -> Result<usize, Refusal>
+        ensures { IfErr result (λ e. e ≡ NoMemory) }
+    {
+        let Term::In(left) = said else {
+            return Ok(0);
+        };
+        if let Allowed::Unknown = self.allowed {
+            self.allowed = allowed_of(question, pkg)?;
+        }
+        Ok(match &self.allowed {
+            Allowed::Unknown | Allowed::All => left.len(),
+            Allowed::Only(allowed) => said.count_in(allowed),
+        })
+    }
+}
+
+impl Occurrences {
+    pub fn new(alloc: Global) -> Result<Occurrences, Refusal>
+        ensures { IfErr result (λ e. e ≡ NoMemory) }
+    {
+        Ok(Occurrences {
+            numbers: Vec::with_capacity(alloc, ROOM)?,
+            kept: Vec::with_capacity(alloc, ROOM)?,
+            occurrences: Vec::with_capacity(alloc, 2 * ROOM)?,
+            sayings: Vec::with_capacity(alloc, 2 * ROOM)?,
+            covered: Covered::new(alloc)?,
+        })
+    }
+
+    /// What is kept of a package, if a line names it.
+    fn get(&self, pkg: Pkg) -> Option<&Kept> {
+        let number = *self.numbers.as_slice().get(pkg as usize)?;
+        self.kept.as_slice().get(number.checked_sub(1)?)
+    }
+
+    /// As `get`, to write there.
+    fn get_mut(&mut self, pkg: Pkg) -> Option<&mut Kept> {
+        let number = *self.numbers.as_slice().get(pkg as usize)?;
+        self.kept.as_mut_slice().get_mut(number.checked_sub(1)?)
+    }
+
+    /// Begins to keep something of a package that has none.
+    fn add(&mut self, pkg: Pkg, kept: Kept) -> Result<(), Refusal>
+        ensures { IfErr result (λ e. e ≡ NoMemory) }
+    {
+        for _ in self.numbers.len()..pkg as usize + 1 {
+            self.numbers.push(0)?;
+        }
+        self.kept.push(kept)?;
+        if let Some(number) = self.numbers.as_mut_slice().get_mut(pkg as usize) {
+            *number = self.kept.len();
+        }
+        Ok(())
+    }
+
+    /// The number of the next occurrence.
+    fn next_number(&self) -> u32 {
+        u32::try_from(self.occurrences.len())
+            .unwrap_or(u32::MAX)
+            .saturating_add(1)
+    }
+
+    /// Puts the line at a place behind those that name a package, given the number of its other occurrence.
+    fn add_occurrence(
+        &mut self,
+        alloc: Global,
+        at: usize,
+        entry: &(Pkg, Term),
+        other: u32,
+    ) -> Result<(), Refusal>
+        ensures { IfErr result (λ e. e ≡ NoMemory) }
+    {
+        let Ok(at) = u32::try_from(at) else {
+            return Ok(());
+        };
+        let pkg = entry.0;
+        let number = self.next_number();
+        self.occurrences.push(Occurrence { at, next: 0 })?;
+        self.sayings.push(Saying {
+            pkg,
+            term: entry.1.copy(alloc)?,
+            other,
+        })?;
+        match self.get_mut(pkg) {
+            None => self.add(pkg, Kept::new(alloc, number)),
+            Some(kept) => {
+                let before = kept.last;
+                kept.last = number;
+                self.link(before, number);
+                Ok(())
+            }
+        }
+    }
+
+    /// Makes the occurrence of one number the next after that of another.
+    fn link(&mut self, before: u32, number: u32) {
+        if let Some(index) = before.checked_sub(1) {
+            if let Some(occurrence) = self.occurrences.as_mut_slice().get_mut(index as usize) {
+                occurrence.next = number;
+            }
+        }
+    }
+
+    /// The occurrence of this number, if there is one.
+    #[inline(always)]
+    fn occurrence_of(&self, number: u32) -> Option<Occurrence> {
+        let index = number.checked_sub(1)?;
+        self.occurrences.as_slice().get(index as usize).copied()
+    }
+
+    /// What is said at the occurrence of this number, if there is one.
+    #[inline(always)]
+    fn saying_of(&self, number: u32) -> Option<&Saying> {
+        let index = number.checked_sub(1)?;
+        self.sayings.as_slice().get(index as usize)
+    }
+
+    /// Whether the dependency of a version on another package stands among the lines.
+    pub fn covers(&self, pkg: Pkg, ordinal: u32, target: Pkg) -> bool {
+        match self.get(pkg) {
+            None => false,
+            Some(kept) => self.covered.has(kept.targets, pkg, ordinal, target),
+        }
+    }
+
+    /// Notes that the dependencies of these versions of a package on a target stand among the lines.
+    pub fn cover(
+        &mut self,
+        alloc: Global,
+        pkg: Pkg,
+        target: Pkg,
+        versions: &Term,
+    ) -> Result<(), Refusal>
+        ensures { IfErr result (λ e. e ≡ NoMemory) }
+    {
+        let before = match self.get(pkg) {
+            None => return Ok(()),
+            Some(kept) => kept.targets,
+        };
+        let after = self.covered.add(alloc, before, (pkg, target), versions)?;
+        if let Some(kept) = self.get_mut(pkg) {
+            kept.targets = after;
+        }
+        Ok(())
+    }
+
+    /// Notes the line at a place, which concludes this, with each package that it names.
+    pub fn note(&mut self, alloc: Global, conclusion: &Incompat, at: usize) -> Result<(), Refusal>
+        ensures { IfErr result (λ e. e ≡ NoMemory) }
+    {
+        let terms = conclusion.terms();
+        if let [one, another] = terms {
+            let number = self.next_number();
+            self.add_occurrence(alloc, at, one, number.saturating_add(1))?;
+            return self.add_occurrence(alloc, at, another, number);
+        }
+        for entry in terms {
+            self.add_occurrence(alloc, at, entry, 0)?;
+        }
+        Ok(())
+    }
+
+    /// Whether the dependencies of a version are not all among the lines; they are taken to be from now
+    /// on.
+    pub fn enters(&mut self, pkg: Pkg, ordinal: u32) -> Result<bool, Refusal>
+        ensures { IfErr result (λ e. e ≡ NoMemory) }
+    {
+        let Some(kept) = self.get_mut(pkg) else {
+            return Ok(true);
+        };
+        if kept.entered.has(ordinal) {
+            return Ok(false);
+        }
+        kept.entered.insert(ordinal)?;
+        Ok(true)
+    }
+
+    /// Whether several versions of a package, which are all, depend on the same, and this is asked for the
+    /// first time.
+    pub fn enters_alike(&mut self, question: &Question<'_>, pkg: Pkg) -> bool {
+        let Some(kept) = self.get_mut(pkg) else {
+            return false;
+        };
+        if kept.asked {
+            return false;
+        }
+        kept.asked = true;
+        several_depend_alike(question, pkg)
+    }
+
+    /// How many versions a positive term leaves of those of a package that are allowed; none of a package
+    /// that no line names.
+    pub fn count(
+        &mut self,
+        question: &Question<'_>,
+        pkg: Pkg,
+        said: &Term,
+    ) -> Result<usize, Refusal>
+        ensures { IfErr result (λ e. e ≡ NoMemory) }
+    {
+        match self.get_mut(pkg) {
+            None => Ok(0),
+            Some(kept) => Ok(kept.count(question, pkg, said)?),
+        }
+    }
+
+    /// Whether what is said contradicts the term at the occurrence of this number, if there is one.
+    #[inline(always)]
+    fn is_contradicted(&self, partial: &Partial, number: u32) -> bool {
+        let Some(saying) = self.saying_of(number) else {
+            return false;
+        };
+        match partial.said(saying.pkg) {
+            None => false,
+            Some(said) => match relation(said, &saying.term) {
+                Relation::Contradicts => true,
+                Relation::Satisfies | Relation::Inconclusive => false,
+            },
+        }
+    }
+
+    /// Of what use a line is, by its term on a package of which this is said, and by its other term, where
+    /// it has two.
+    #[inline(always)]
+    fn use_of(&self, partial: &Partial, number: u32, said: &Term) -> Use {
+        let Some(saying) = self.saying_of(number) else {
+            return Use::Unripe;
+        };
+        match relation(said, &saying.term) {
+            Relation::Contradicts => Use::Contradicted,
+            Relation::Inconclusive => Use::Unripe,
+            Relation::Satisfies => {
+                if self.is_contradicted(partial, saying.other) {
+                    Use::Contradicted
+                } else {
+                    Use::Ripe
+                }
+            }
+        }
+    }
+
+    /// Gathers the places of those lines that are not spent and whose term on a package is satisfied by
+    /// what is said of it. Of the others nothing new follows: their term on the package is contradicted,
+    /// or is the one that is left. Those that are contradicted are spent at this level.
+    pub fn gather(
+        &self,
+        partial: &Partial,
+        pkg: Pkg,
+        said: &Term,
+        spent: &mut Spent,
+        ripe: &mut Vec<usize>,
+    ) -> Result<(), Refusal>
+        ensures { IfErr result (λ e. e ≡ NoMemory) }
+    {
+        let Some(kept) = self.get(pkg) else {
+            return Ok(());
+        };
+        let level = partial.level();
+        let mut number = kept.first;
+        for _ in 0..self.occurrences.len() {
+            let Some(occurrence) = self.occurrence_of(number) else {
+                return Ok(());
+            };
+            let at = occurrence.at as usize;
+            if !spent.has(at) {
+                match self.use_of(partial, number, said) {
+                    Use::Ripe => ripe.push(at)?,
+                    Use::Unripe => {}
+                    Use::Contradicted => spent.add(at, level)?,
+                }
+            }
+            number = occurrence.next;
+        }
+        Ok(())
+    }
+}

@@ -1,0 +1,118 @@
+// The packages that are to be decided.
+
+ghost use Rattle.std.specs.Prelude.{◌≡◌, IfErr};
+ghost use Rattle.versions.specs.declared.refusal.Refusal.TheVariants.{NoMemory};
+
+use crate::occurrences::Occurrences;
+use crate::order::Order;
+use crate::question::{Question, ROOM};
+use partial::Partial;
+use std::alloc::Global;
+use terms::{Pkg, Term};
+use versions::Refusal;
+
+/// Undecided packages with a positive term, in the order in which they are decided.
+#[derive(Drop)]
+pub(crate) struct Queue {
+    /// Counts with their packages. Each package that is to be decided has an entry whose count is not
+    /// above its own; one that is out of date is put right when it comes out.
+    order: Order,
+    /// The packages that came out, in order.
+    decided: Vec<Pkg>,
+    /// The package that came out last, until it is known to be decided.
+    last: Option<Pkg>,
+}
+
+/// What is said of a package that is selected and has no decision.
+#[inline(always)]
+fn undecided(partial: &Partial, pkg: Pkg) -> Option<&Term> {
+    let settled = partial.settled(pkg)?;
+    if settled.decision.is_some() {
+        return None;
+    }
+    match settled.said {
+        Term::In(_) => Some(settled.said),
+        Term::NotIn(_) => None,
+    }
+}
+
+impl Queue {
+    pub fn new(alloc: Global) -> Result<Queue, Refusal>
+        ensures { IfErr result (λ e. e ≡ NoMemory) }
+    {
+        Ok(Queue {
+            order: Order::new(alloc)?,
+            decided: Vec::with_capacity(alloc, ROOM)?,
+            last: None,
+        })
+    }
+
+    /// Puts a package into the queue, if it is to be decided.
+    pub fn offer(
+        &mut self,
+        question: &Question<'_>,
+        occurrences: &mut Occurrences,
+        partial: &Partial,
+        pkg: Pkg,
+    ) -> Result<(), Refusal>
+        ensures decided { self.new.decided.items ≡ self.old.decided.items }
+        ensures only { IfErr result (λ e. e ≡ NoMemory) }
+    {
+        if let Some(said) = undecided(partial, pkg) {
+            let count = occurrences.count(question, pkg, said)?;
+            self.order.add(count, pkg)?;
+        }
+        Ok(())
+    }
+
+    /// Puts back into the queue what was decided and is not any more, after the search jumped back.
+    pub fn backjump(
+        &mut self,
+        question: &Question<'_>,
+        occurrences: &mut Occurrences,
+        partial: &Partial,
+    ) -> Result<(), Refusal>
+        ensures { IfErr result (λ e. e ≡ NoMemory) }
+    {
+        'decisions: while let Some(pkg) = self.decided.pop() {
+            if partial.decision(pkg).is_some() {
+                self.decided.push(pkg)?;
+                return Ok(());
+            }
+            self.offer(question, occurrences, partial, pkg)?;
+        }
+        Ok(())
+    }
+
+    /// The package that comes first in the queue and is to be decided: the one with the fewest versions
+    /// to choose from, of several the one with the lowest number. It leaves the queue, unless it is
+    /// not decided then.
+    pub fn next(
+        &mut self,
+        question: &Question<'_>,
+        occurrences: &mut Occurrences,
+        partial: &Partial,
+    ) -> Result<Option<Pkg>, Refusal>
+        ensures { IfErr result (λ e. e ≡ NoMemory) }
+    {
+        if let Some(pkg) = self.last.take() {
+            self.offer(question, occurrences, partial, pkg)?;
+        }
+        // An entry that is out of date comes out twice at the most.
+        for _ in 0..self.order.len().saturating_mul(2) {
+            let Some((offered, pkg)) = self.order.pop() else {
+                return Ok(None);
+            };
+            if let Some(said) = undecided(partial, pkg) {
+                let count = occurrences.count(question, pkg, said)?;
+                if count == offered {
+                    self.decided.push(pkg)?;
+                    self.last = Some(pkg);
+                    return Ok(Some(pkg));
+                }
+                self.order.add(count, pkg)?;
+            }
+        }
+        Ok(None)
+    }
+}

@@ -1,0 +1,188 @@
+// Where versions of a package may have the same dependency.
+
+ghost use Rattle.std.specs.Prelude.{◌≡◌, IfErr};
+ghost use Rattle.versions.specs.declared.refusal.Refusal.TheVariants.{NoMemory};
+
+use crate::question::{Question, version_count};
+use indexmap::IndexMap;
+use std::alloc::Global;
+use std::hash::{DefaultHasher, Hash, Hasher};
+use terms::Pkg;
+use versions::{Name, Need, Refusal};
+use walk::Asker;
+
+/// Up to this many dependencies of a package are compared with each that is looked for, which takes less
+/// than a table of them.
+const FEW: usize = 256;
+
+/// Where a dependency stands: the ordinal of its version, and its index there.
+#[derive(Clone, Copy)]
+pub struct Place {
+    pub ordinal: u32,
+    pub index: usize,
+}
+
+/// A dependency in the table.
+#[derive(Clone, Copy)]
+struct Listed {
+    place: Place,
+    /// The number of the one before it with the same key, 0 where there is none.
+    before: usize,
+}
+
+/// The dependencies of those packages that have many, by what they say. Of versions that repeat each
+/// other only the first is listed.
+#[derive(Drop)]
+pub struct Sharing {
+    /// Whether a package has many dependencies, once that was asked.
+    has_many: IndexMap<Pkg, bool>,
+    /// Their numbers are one more than their indexes.
+    listed: Vec<Listed>,
+    /// By the package and the key of a dependency, the number of the last one.
+    last: IndexMap<(Pkg, u64), usize>,
+    /// What was found last.
+    found: Vec<Place>,
+}
+
+/// A key of a dependency: equal ones have the same, and others hardly ever.
+fn key_of(entry: &(Name, Need)) -> u64 {
+    let mut state = DefaultHasher::new();
+    entry.0.text().hash(&mut state);
+    entry.1.text().hash(&mut state);
+    state.finish()
+}
+
+/// What a version of a package depends on.
+fn needs<'a>(question: &Question<'a>, pkg: Pkg, ordinal: u32) -> &'a [(Name, Need)] {
+    Asker::Version(pkg, ordinal).needs(question.registry, question.request)
+}
+
+/// Whether a version depends on the same as the one before it.
+fn is_repeated(question: &Question<'_>, pkg: Pkg, ordinal: u32) -> bool {
+    let repeats = question
+        .registry
+        .repeats(pkg)
+        .get(ordinal as usize)
+        .copied();
+    repeats == Some(true)
+}
+
+/// Whether a package has many dependencies, where those count once that versions repeat.
+fn has_many(question: &Question<'_>, pkg: Pkg) -> bool {
+    let mut count = 0usize;
+    for ordinal in 0..version_count(question.registry, pkg) {
+        if !is_repeated(question, pkg, ordinal) {
+            count = count.saturating_add(needs(question, pkg, ordinal).len());
+        }
+        if count > FEW {
+            return true;
+        }
+    }
+    false
+}
+
+impl Sharing {
+    pub fn new(alloc: Global) -> Sharing {
+        Sharing {
+            has_many: IndexMap::new(alloc),
+            listed: Vec::new(alloc),
+            last: IndexMap::new(alloc),
+            found: Vec::new(alloc),
+        }
+    }
+
+    /// Whether the dependencies of a package are listed, which they are from now on if they are many.
+    pub fn lists(&mut self, question: &Question<'_>, pkg: Pkg) -> Result<bool, Refusal>
+        ensures { IfErr result (λ e. e ≡ NoMemory) }
+    {
+        if let Some(many) = self.has_many.get(&pkg) {
+            return Ok(*many);
+        }
+        let many = has_many(question, pkg);
+        self.has_many.insert(pkg, many)?;
+        if many {
+            self.list_package(question, pkg)?;
+        }
+        Ok(many)
+    }
+
+    fn list_package(&mut self, question: &Question<'_>, pkg: Pkg) -> Result<(), Refusal>
+        ensures { IfErr result (λ e. e ≡ NoMemory) }
+    {
+        for ordinal in 0..version_count(question.registry, pkg) {
+            if !is_repeated(question, pkg, ordinal) {
+                self.list_version(question, pkg, ordinal)?;
+            }
+        }
+        Ok(())
+    }
+
+    fn list_version(
+        &mut self,
+        question: &Question<'_>,
+        pkg: Pkg,
+        ordinal: u32,
+    ) -> Result<(), Refusal>
+        ensures { IfErr result (λ e. e ≡ NoMemory) }
+    {
+        for (index, entry) in needs(question, pkg, ordinal).iter().enumerate() {
+            self.list(pkg, Place { ordinal, index }, entry)?;
+        }
+        Ok(())
+    }
+
+    fn list(&mut self, pkg: Pkg, place: Place, entry: &(Name, Need)) -> Result<(), Refusal>
+        ensures { IfErr result (λ e. e ≡ NoMemory) }
+    {
+        let number = self.listed.len().saturating_add(1);
+        let before = self.last.insert((pkg, key_of(entry)), number)?.unwrap_or(0);
+        self.listed.push(Listed { place, before })?;
+        Ok(())
+    }
+
+    /// The dependency of a number in the table, if there is one.
+    fn listed_at(&self, number: usize) -> Option<Listed> {
+        self.listed.as_slice().get(number.checked_sub(1)?).copied()
+    }
+
+    /// Finds the places where versions of a package that is listed may have a dependency.
+    pub fn find(
+        &mut self,
+        question: &Question<'_>,
+        pkg: Pkg,
+        entry: &(Name, Need),
+    ) -> Result<(), Refusal>
+        ensures { IfErr result (λ e. e ≡ NoMemory) }
+    {
+        self.found.clear();
+        let mut number = self.last.get(&(pkg, key_of(entry))).copied().unwrap_or(0);
+        for _ in 0..self.listed.len() {
+            let Some(listed) = self.listed_at(number) else {
+                return Ok(());
+            };
+            self.find_from(question, pkg, listed.place)?;
+            number = listed.before;
+        }
+        Ok(())
+    }
+
+    /// Finds a place, and that in each of the next versions that repeat its own.
+    fn find_from(&mut self, question: &Question<'_>, pkg: Pkg, place: Place) -> Result<(), Refusal>
+        ensures { IfErr result (λ e. e ≡ NoMemory) }
+    {
+        self.found.push(place)?;
+        let index = place.index;
+        for ordinal in place.ordinal.saturating_add(1)..version_count(question.registry, pkg) {
+            if !is_repeated(question, pkg, ordinal) {
+                return Ok(());
+            }
+            self.found.push(Place { ordinal, index })?;
+        }
+        Ok(())
+    }
+
+    /// The places that were found last.
+    pub fn found(&self) -> &[Place] {
+        &self.found
+    }
+}

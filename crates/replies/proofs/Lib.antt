@@ -1,0 +1,7 @@
+pub mod PlainLemmas
+pub mod RequirementLemmas
+pub mod ReplyLemmas
+pub mod PutLemmas
+pub mod ListingLemmas
+pub mod WrittenLemmas
+pub mod PlainJson

@@ -1,0 +1,30 @@
+use Rattle.std.proofs.Common.{refl}
+use Rattle.std.proofs.lemmas.Option.{slice_get_read}
+use Rattle.std.proofs.lemmas.Result.{err_from_is_err_and}
+use Rattle.replies.specs.Entries.{entry_json}
+use Rattle.replies.proofs.PutLemmas.{fails_in, in_fails, put_in, value_fails, value_put, value_room, value_waits}
+use Rattle.replies.proofs.listing.text.put_rows.Goals as goal
+
+pub returns-in_err-put_row-clause-text : goal.returns-in_err-put_row-clause-text
+returns-in_err-put_row-clause-text g c =
+    let err = err_from_is_err_and c.from_residual.result c.from_residual.ensures.1 in
+    let here = slice_get_read c.args.entries.now _ c.loop-place.place _ refl c.loop-place-test.true c.index-entries-place.is in
+    rw err.1 (in_fails (value_fails (entry_json c.args.registry.now.packages) c.args.entries.now c.loop-place.place _ here c.loop-place.invariant.put (fails_in c.in_err-put_row.ensures.text)))
+
+pub returns-in_err-put_row-clause-waits : goal.returns-in_err-put_row-clause-waits
+returns-in_err-put_row-clause-waits g c = λ fits.
+    let here = slice_get_read c.args.entries.now _ c.loop-place.place _ refl c.loop-place-test.true c.index-entries-place.is in
+    let room = value_room (entry_json c.args.registry.now.packages) c.args.entries.now c.loop-place.place _ here c.args.outbox.now c.loop-place.outbox fits (c.loop-place.invariant.waits fits) in
+    let failed = (c.in_err-put_row.ensures.waits room).0 in
+    absurd (cc)
+
+pub loop-place-preserved : goal.loop-place-preserved
+loop-place-preserved g c =
+    let here = slice_get_read c.args.entries.now _ c.loop-place.place _ refl c.loop-place-test.true c.index-entries-place.is in
+    record {
+      put = value_put (entry_json c.args.registry.now.packages) c.args.entries.now c.loop-place.place _ here c.loop-place.invariant.put (put_in c.in_ok-put_row.ensures.text);
+      waits = λ fits. let before = c.loop-place.invariant.waits fits in
+          let room = value_room (entry_json c.args.registry.now.packages) c.args.entries.now c.loop-place.place _ here c.args.outbox.now c.loop-place.outbox fits before in
+          value_waits (entry_json c.args.registry.now.packages) c.args.entries.now c.loop-place.place _ here c.args.outbox.now c.loop-place.outbox c.put_row.new.outbox before
+          (c.in_ok-put_row.ensures.waits room).1;
+    }

@@ -1,0 +1,8 @@
+use Rattle.std.proofs.Common.{◌<◌, arith, length}
+use Rattle.solver.proofs.Decisions.{index_within}
+use Rattle.solver.proofs.entering.add_dependencies.Goals as goal
+
+pub add_dependency-requires : goal.add_dependency-requires
+add_dependency-requires c =
+    let lt : c.loop-index.index < length c.facts.result.needs.now = omega (arith, c.loop-index-test.true) in
+    index_within c.args.task.now.registry.now.packages c.args.pkg c.args.ordinal _ c.loop-index.index c.facts.ensures lt

@@ -1,0 +1,35 @@
+use Rattle.std.proofs.Common.{◌≡◌, ◌∙◌, ℕ, List, ap, subst, sym}
+use Rattle.std.specs.Prelude.{Contains, Some}
+use Rattle.terms.specs.Sets.{has}
+use Rattle.versions.specs.Words.{Text}
+use Rattle.registry.specs.Registry.{meets_at, needs_of, number_of}
+use Rattle.registry.proofs.RegistryLaws.{published-needing}
+use Rattle.solver.proofs.Decisions.{entry_there, entry_used, index_read}
+use Rattle.solver.proofs.entering.add_dependency.Goals as goal
+
+pub facts-requires : goal.facts-requires
+facts-requires c = published-needing c.args.task.now.registry.now.packages c.args.pkg c.args.ordinal c.args.index c.requires
+
+pub bounds-facts-index : goal.bounds-facts-index
+bounds-facts-index c = index_read c.args.task.now.registry.now.packages c.args.pkg c.args.ordinal _ c.args.index c.facts.ensures c.requires
+
+pub push_dependency-requires-clause-numbered : goal.push_dependency-requires-clause-numbered
+push_dependency-requires-clause-numbered c =
+    let packages = c.args.task.now.registry.now.packages in
+    let found = c.in_ok-target.ensures.dependency in
+    let there = entry_there packages c.args.pkg c.args.ordinal _ c.args.index c.index-facts-index.result (found.name, found.need) c.facts.ensures found.at in
+    subst (λ (x : Text × Text). number_of packages x.0 ≡ Some c.in_ok-target.target) (sym there) found.number
+
+pub versions_sharing-requires : goal.versions_sharing-requires
+versions_sharing-requires c =
+    let packages = c.args.task.now.registry.now.packages in
+    let lt = index_read packages c.args.pkg c.args.ordinal _ c.args.index c.facts.ensures c.requires in
+    let used = entry_used packages c.args.pkg c.args.ordinal _ c.args.index c.index-facts-index.result c.facts.ensures lt c.index-facts-index.is in
+    subst (λ (x : Text × Text). Contains (needs_of packages c.args.pkg c.args.ordinal) x) c.index-facts-index.is used
+
+pub push_dependency-requires-clause-within : goal.push_dependency-requires-clause-within
+push_dependency-requires-clause-within c k =
+    let packages = c.args.task.now.registry.now.packages in
+    let found = c.in_ok-target.ensures.dependency in
+    let there = entry_there packages c.args.pkg c.args.ordinal _ c.args.index c.index-facts-index.result (found.name, found.need) c.facts.ensures found.at in
+    ap (λ (s : List ℕ). has s k) c.in_ok-within.ensures.same ∙ found.members k ∙ ap (λ (x : Text × Text). meets_at packages c.in_ok-target.target k x.1) (sym there)

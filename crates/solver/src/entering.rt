@@ -1,0 +1,104 @@
+// The dependencies of versions, put among the lines (doc/solver.md, "Decision Making").
+
+ghost use Rattle.std.specs.Prelude.{◌≡◌, ◌<◌, true, length, IfErr, OnOk};
+ghost use Rattle.registry.specs.Registry.{is_published, needs_of};
+ghost use Rattle.solver.specs.Pushing.{Extends};
+
+use crate::dependents::versions_sharing;
+use crate::facts::{push_dependency, version_count};
+use crate::picking::is_open;
+use crate::task::Task;
+use crate::worklist::Worklist;
+use derivations::Known;
+use partial::Partial;
+use terms::Pkg;
+use versions::Refusal;
+
+/// Puts the dependency of a version at an index behind the lines, unless it is there.
+fn add_dependency(
+    task: &Task<'_>,
+    known: &mut Vec<Known>,
+    worklist: &mut Worklist,
+    pkg: Pkg,
+    ordinal: u32,
+    index: usize,
+) -> Result<(), Refusal>
+    requires { index < length (needs_of task.now.registry.now.packages pkg ordinal) }
+    ensures extends { OnOk result (Extends task.now known.old.items known.new.items) }
+    ensures changed { OnOk result (worklist.new.changed.items ≡ worklist.old.changed.items) }
+    ensures only { IfErr result (λ e. e ≡ Refusal.NoMemory) }
+{
+    let (target, matching) = task.registry.dependency(pkg, ordinal, index)?;
+    if target == pkg {
+        return Ok(());
+    }
+    if !worklist.agenda.is_new(pkg, ordinal, target) {
+        return Ok(());
+    }
+    let entry = &task.registry.facts(pkg, ordinal).needs[index];
+    let versions = versions_sharing(task, &mut worklist.sharing, pkg, ordinal, entry)?;
+    let within = matching.set(task.alloc)?;
+    let at = push_dependency(task, known, pkg, versions, entry, target, within)?;
+    Ok(worklist.note_dependency(task.alloc, known, at, pkg, target)?)
+}
+
+/// Puts the dependencies of a package that is needed behind the lines, if all its versions have the same:
+/// they follow before one is decided.
+pub(crate) fn enter_alike(
+    task: &Task<'_>,
+    partial: &Partial,
+    known: &mut Vec<Known>,
+    worklist: &mut Worklist,
+    pkg: Pkg,
+) -> Result<(), Refusal>
+    ensures extends { OnOk result (Extends task.now known.old.items known.new.items) }
+    ensures changed { OnOk result (worklist.new.changed.items ≡ worklist.old.changed.items) }
+    ensures only { IfErr result (λ e. e ≡ Refusal.NoMemory) }
+{
+    if !is_open(partial, pkg) {
+        return Ok(());
+    }
+    let count = version_count(task.registry, pkg);
+    if count == 0 || !worklist.agenda.enters_alike(&task.question(), pkg) {
+        return Ok(());
+    }
+    Ok(add_dependencies(task, known, worklist, pkg, 0)?)
+}
+
+/// Puts the dependencies of a version behind the lines, all of them before it is first decided.
+pub(crate) fn enter(
+    task: &Task<'_>,
+    known: &mut Vec<Known>,
+    worklist: &mut Worklist,
+    pkg: Pkg,
+    ordinal: u32,
+) -> Result<(), Refusal>
+    requires { is_published task.now.registry.now.packages pkg ordinal ≡ true }
+    ensures extends { OnOk result (Extends task.now known.old.items known.new.items) }
+    ensures only { IfErr result (λ e. e ≡ Refusal.NoMemory) }
+{
+    if !worklist.agenda.enters(pkg, ordinal)? {
+        return Ok(());
+    }
+    Ok(add_dependencies(task, known, worklist, pkg, ordinal)?)
+}
+
+/// Puts the dependencies of a version behind the lines that are not there.
+fn add_dependencies(
+    task: &Task<'_>,
+    known: &mut Vec<Known>,
+    worklist: &mut Worklist,
+    pkg: Pkg,
+    ordinal: u32,
+) -> Result<(), Refusal>
+    requires { is_published task.now.registry.now.packages pkg ordinal ≡ true }
+    ensures extends { OnOk result (Extends task.now known.old.items known.new.items) }
+    ensures changed { OnOk result (worklist.new.changed.items ≡ worklist.old.changed.items) }
+    ensures only { IfErr result (λ e. e ≡ Refusal.NoMemory) }
+{
+    let count = task.registry.facts(pkg, ordinal).needs.len();
+    for index in 0..count {
+        add_dependency(task, known, worklist, pkg, ordinal, index)?;
+    }
+    Ok(())
+}

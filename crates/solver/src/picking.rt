@@ -1,0 +1,166 @@
+// What is decided: a package, and a version of it (doc/solver.md, "Decision Making").
+
+ghost use Rattle.std.specs.Prelude.{◌≡◌, ◌<◌, ℕ, true, false, not, None, length, IfErr, IfNone, IfOk, IfSome, IsSome};
+ghost use Rattle.registry.specs.Highest.{IsHighest};
+ghost use Rattle.registry.specs.Registry.{package_at, versions_or_none};
+ghost use Rattle.terms.specs.Terms.{true_of};
+ghost use Rattle.terms.specs.declared.term.Term.TheVariants.{In};
+ghost use Rattle.partial.specs.Assignments.{is_decided, says};
+ghost use Rattle.solver.specs.Picking.{is_choosable, AreBarred, IsToDecide, IsWithin, PicksBy};
+
+use crate::task::Task;
+use crate::worklist::Worklist;
+use heuristics::locked_version;
+use partial::Partial;
+use terms::{Pkg, Term, VSet};
+use versions::Refusal;
+
+// ---- the package
+
+/// Whether a package is numbered.
+fn is_package(task: &Task<'_>, pkg: Pkg) -> bool
+    ensures { result ≡ true → IsSome (package_at task.now.registry.now.packages pkg) }
+{
+    pkg >= 1 && pkg as usize <= task.registry.packages()
+}
+
+/// Whether a term says that its package is selected.
+fn is_positive(term: &Term) -> bool
+    ensures { result ≡ not (true_of term.now None) }
+{
+    match term {
+        Term::In(_) => true,
+        Term::NotIn(_) => false,
+    }
+}
+
+/// Whether a package is selected and has no decision, by one look at what is settled of it.
+pub(crate) fn is_open(partial: &Partial, pkg: Pkg) -> bool
+    ensures undecided { result ≡ true → is_decided partial.now pkg ≡ false }
+    ensures needed { result ≡ true → says partial.now pkg None ≡ false }
+{
+    match partial.settled(pkg) {
+        None => false,
+        Some(settled) => match settled.decision {
+            Some(_) => false,
+            None => is_positive(settled.said),
+        },
+    }
+}
+
+/// Whether a package is to be decided.
+fn is_to_decide(task: &Task<'_>, partial: &Partial, pkg: Pkg) -> bool
+    ensures { result ≡ true → IsToDecide task.now partial.now pkg }
+{
+    is_package(task, pkg) && is_open(partial, pkg)
+}
+
+/// The package to decide with the fewest versions to choose from, of several the one with the lowest
+/// number.
+pub(crate) fn choose_package(
+    task: &Task<'_>,
+    partial: &Partial,
+    worklist: &mut Worklist,
+) -> Result<Option<Pkg>, Refusal>
+    ensures chosen { IfOk result (λ chosen. IfSome chosen (IsToDecide task.now partial.now)) }
+    ensures only { IfErr result (λ e. e ≡ Refusal.NoMemory) }
+{
+    let Some(pkg) = worklist.agenda.next(&task.question(), partial)? else {
+        return Ok(None);
+    };
+    if is_to_decide(task, partial, pkg) {
+        Ok(Some(pkg))
+    } else {
+        Ok(None)
+    }
+}
+
+// ---- the version
+
+/// What may be decided of a package.
+#[derive(Drop)]
+pub(crate) enum Picked {
+    /// This version.
+    Version(u32),
+    /// Nothing: these are the versions that are left, and none is allowed.
+    Barred(VSet),
+}
+
+/// The version that the lock names, if it is allowed and within a term.
+fn locked_within(task: &Task<'_>, pkg: Pkg, said: &Term) -> Option<u32>
+    ensures { IfSome result (IsWithin task.now pkg said.now) }
+{
+    let locked = locked_version(&task.question(), pkg)?;
+    let ordinal = task.registry.find(pkg, locked)?;
+    if is_choosable(task, pkg, said, ordinal) {
+        Some(ordinal)
+    } else {
+        None
+    }
+}
+
+/// Whether a version is allowed and within a term.
+#[inline(always)]
+fn is_choosable(task: &Task<'_>, pkg: Pkg, said: &Term, ordinal: u32) -> bool
+    ensures { result ≡ is_choosable task.now pkg said.now ordinal }
+{
+    said.allows(ordinal) && task.registry.allowed(task.request, pkg, ordinal)
+}
+
+/// The highest version that is allowed and within a term.
+fn highest_within(task: &Task<'_>, pkg: Pkg, said: &Term) -> Option<u32>
+    ensures some { IfSome result (IsHighest (λ k b. is_choosable task.now pkg said.now k ≡ b) (versions_or_none (package_at task.now.registry.now.packages pkg))) }
+    ensures none { IfNone result ((k : ℕ) → k < length (versions_or_none (package_at task.now.registry.now.packages pkg)) → is_choosable task.now pkg said.now k ≡ false) }
+{
+    task.registry
+        .highest_where(pkg, |ordinal| is_choosable(task, pkg, said, ordinal))
+}
+
+/// The highest version of a set, where it is not asked which are allowed.
+fn highest_in(task: &Task<'_>, pkg: Pkg, versions: &VSet) -> Option<u32>
+    ensures some { IfSome result (IsWithin task.now pkg (In versions.now)) }
+    ensures none { IfNone result (AreBarred task.now pkg (In versions.now)) }
+{
+    task.registry.highest(pkg, versions)
+}
+
+/// The highest version that is allowed and within a term, if one is.
+fn best_within(task: &Task<'_>, pkg: Pkg, said: &Term) -> Option<u32>
+    ensures some { IfSome result (IsWithin task.now pkg said.now) }
+    ensures none { IfNone result (AreBarred task.now pkg said.now) }
+{
+    match said {
+        // Where none is yanked, each is allowed.
+        Term::In(versions) if !task.registry.has_yanks(pkg) => highest_in(task, pkg, versions),
+        Term::In(_) | Term::NotIn(_) => highest_within(task, pkg, said),
+    }
+}
+
+/// The version to decide for: the lock's, else the highest that is allowed and within a term.
+fn version_within(task: &Task<'_>, pkg: Pkg, said: &Term) -> Option<u32>
+    ensures some { IfSome result (IsWithin task.now pkg said.now) }
+    ensures none { IfNone result (AreBarred task.now pkg said.now) }
+{
+    match locked_within(task, pkg, said) {
+        Some(ordinal) => Some(ordinal),
+        None => best_within(task, pkg, said),
+    }
+}
+
+/// What may be decided of a package that is selected.
+pub(crate) fn pick(task: &Task<'_>, partial: &Partial, pkg: Pkg) -> Result<Picked, Refusal>
+    requires { says partial.now pkg None ≡ false }
+    ensures picks { IfOk result (PicksBy task.now partial.now pkg) }
+    ensures only { IfErr result (λ e. e ≡ Refusal.NoMemory) }
+{
+    let Some(said) = partial.said(pkg) else {
+        unreachable!()
+    };
+    if let Some(ordinal) = version_within(task, pkg, said) {
+        return Ok(Picked::Version(ordinal));
+    }
+    match said {
+        Term::In(versions) => Ok(Picked::Barred(versions.copy(task.alloc)?)),
+        Term::NotIn(_versions) => unreachable!(),
+    }
+}

@@ -1,0 +1,123 @@
+// What a search is to look at.
+//
+// No proof rests on it but for one thing: what only looks leaves the list of changed packages as it is,
+// so that propagation ends.
+
+ghost use Rattle.std.specs.Prelude.{◌≡◌, IfErr};
+ghost use Rattle.versions.specs.declared.refusal.Refusal.TheVariants.{NoMemory};
+
+use crate::acting::Acted;
+use crate::asked::Asked;
+use crate::task::Task;
+use derivations::Known;
+use heuristics::{Agenda, ROOM, Sharing};
+use partial::Partial;
+use std::alloc::Global;
+use terms::Pkg;
+use versions::Refusal;
+
+/// The packages that changed, and what chooses among the lines and the packages.
+#[derive(Drop)]
+pub(crate) struct Worklist {
+    /// The packages of which something was settled since their lines were looked at.
+    pub changed: Vec<Pkg>,
+    /// The places of the lines that conflicts led to.
+    pub learnt: Vec<usize>,
+    /// Which lines are looked at, and which package is decided.
+    pub agenda: Agenda,
+    /// Which versions may have the same dependency.
+    pub sharing: Sharing,
+    /// What was asked of the store.
+    pub asked: Asked,
+}
+
+impl Worklist {
+    pub fn new(alloc: Global) -> Result<Worklist, Refusal>
+        ensures { IfErr result (λ e. e ≡ NoMemory) }
+    {
+        Ok(Worklist {
+            changed: Vec::with_capacity(alloc, ROOM)?,
+            learnt: Vec::new(alloc),
+            agenda: Agenda::new(alloc)?,
+            sharing: Sharing::new(alloc),
+            asked: Asked::new(alloc),
+        })
+    }
+
+    /// Notes the line at a place with each package that it names.
+    pub fn note(&mut self, alloc: Global, known: &[Known], at: usize) -> Result<(), Refusal>
+        ensures changed { self.new.changed.items ≡ self.old.changed.items }
+        ensures only { IfErr result (λ e. e ≡ NoMemory) }
+    {
+        match known.get(at) {
+            None => Ok(()),
+            Some(line) => self.agenda.note(alloc, &line.conclusion, at),
+        }
+    }
+
+    /// Notes the line at a place, which is for a dependency of versions of a package on another one.
+    pub fn note_dependency(
+        &mut self,
+        alloc: Global,
+        known: &[Known],
+        at: usize,
+        pkg: Pkg,
+        target: Pkg,
+    ) -> Result<(), Refusal>
+        ensures changed { self.new.changed.items ≡ self.old.changed.items }
+        ensures only { IfErr result (λ e. e ≡ NoMemory) }
+    {
+        match known.get(at) {
+            None => Ok(()),
+            Some(line) => self
+                .agenda
+                .note_dependency(alloc, &line.conclusion, at, pkg, target),
+        }
+    }
+
+    /// Notes that the lines of the member in a place of the store are among the lines, the last of them
+    /// at a place there.
+    pub fn take(
+        &mut self,
+        alloc: Global,
+        known: &[Known],
+        place: u32,
+        at: usize,
+    ) -> Result<(), Refusal>
+        ensures changed { self.new.changed.items ≡ self.old.changed.items }
+        ensures only { IfErr result (λ e. e ≡ NoMemory) }
+    {
+        self.note(alloc, known, at)?;
+        self.asked.take(place, known.len())
+    }
+
+    /// Notes what changed by an attempt to go on, before which there were so many lines. After a
+    /// conflict only the package of the new derivation is changed (doc/solver.md, "Unit
+    /// Propagation"). A line by which the search jumps back is learnt, unless it was there, or is the
+    /// last one of a member of the store.
+    pub fn follow(
+        &mut self,
+        task: &Task<'_>,
+        partial: &Partial,
+        known: &[Known],
+        before: usize,
+        acted: Acted,
+    ) -> Result<(), Refusal>
+        ensures { IfErr result (λ e. e ≡ NoMemory) }
+    {
+        match acted {
+            Acted::Derived(pkg) => self.changed.push(pkg)?,
+            Acted::Backjumped(at, pkg) => {
+                self.changed.clear();
+                self.changed.push(pkg)?;
+                self.agenda.backjump(&task.question(), partial, at)?;
+                if at >= before && self.asked.is_behind(at) {
+                    self.learnt.push(at)?;
+                    self.note(task.alloc, known, at)?;
+                }
+            }
+            Acted::Refused(_) | Acted::Neither => {}
+        }
+        Ok(())
+    }
+}

@@ -1,5 +1,0 @@
-use Rattle.wire.proofs.NumberLemmas.{one_numbering}
-use Rattle.wire.proofs.laws.names_stand_for_one.Goals as goal
-
-pub returns : goal.returns
-returns c = one_numbering

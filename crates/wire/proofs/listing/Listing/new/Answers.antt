@@ -1,6 +1,0 @@
-use Rattle.wire.proofs.ListingLemmas.{IsListing-sorted}
-use Rattle.wire.proofs.listing.Listing.new.Goals as goal
-
-pub returns-clause-listed : goal.returns-clause-listed
-returns-clause-listed c =
-    IsListing-sorted _ _ _ c.in_ok-published.ensures.rows c.sorted-entries.ensures.same c.sorted-entries.ensures.ascending

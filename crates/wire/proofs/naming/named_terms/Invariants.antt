@@ -1,6 +1,0 @@
-use Rattle.std.proofs.Common.{◌≡◌, Some, take}
-use Rattle.wire.specs.Named.{numbered_terms}
-use Rattle.wire.proofs.naming.named_terms.Given as goal
-
-abbrev pub invariant-loop-entry : goal.invariant-loop-entry
-invariant-loop-entry l = numbered_terms l.registry.packages l.named.items ≡ Some (take l.entry-index l.terms)
