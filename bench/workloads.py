@@ -175,7 +175,7 @@ def crossed():
 
 # ---- what each version says anew
 
-VERSIONS = 1024
+VERSIONS = 4096
 
 
 def bumped(bumps, versions=VERSIONS):

@@ -90,15 +90,15 @@ def a_listing_longer_than_the_room_of_replies():
 
 
 def the_most_versions_and_dependencies():
-    """A package has at most 1,024 versions, and a version at most 64 dependencies."""
+    """A package has at most 4,096 versions, and a version at most 64 dependencies."""
     def line(name, version, needs):
         return publish(name, version, [f"d{number} *" for number in range(needs)]).encode()
 
-    yield from accepted([line("a", f"{number}.0.0", 0) for number in range(1024)])
-    yield line("a", "1024.0.0", 0), '{"error":8,"name":"TooManyVersions","revision":1024}'
-    yield line("a", "5.0.0+again", 0), '{"error":7,"name":"AlreadyPublished","revision":1024}'
-    yield line("b", "0.0.0", 65), '{"error":6,"name":"TooManyDependencies","revision":1024}'
-    yield from accepted([line("b", "0.0.0", 64)], 1024)
+    yield from accepted([line("a", f"{number}.0.0", 0) for number in range(4096)])
+    yield line("a", "4096.0.0", 0), '{"error":8,"name":"TooManyVersions","revision":4096}'
+    yield line("a", "5.0.0+again", 0), '{"error":7,"name":"AlreadyPublished","revision":4096}'
+    yield line("b", "0.0.0", 65), '{"error":6,"name":"TooManyDependencies","revision":4096}'
+    yield from accepted([line("b", "0.0.0", 64)], 4096)
 
 
 def the_most_names_of_packages():

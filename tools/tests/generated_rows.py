@@ -56,30 +56,36 @@ def comparators_at_the_limit():
 
 # ---- releases
 
+# as many versions as a package may have
+MOST_VERSIONS = 4096
+# met by the upper half of their patches
+UPPER = f">=0.0.{MOST_VERSIONS // 2}"
+
+
 def patch_of(ordinal, step):
-    return ordinal * step % 1024
+    return ordinal * step % MOST_VERSIONS
 
 
 def published_in_steps(step):
-    """As many versions as a package may have: 0.0.0, and then each time so many patches more, modulo 1,024."""
-    rows = [row("releases", "name_need", 0, need=">=0.0.512")]
-    return rows + [row("releases", "publish", version=f"0.0.{patch_of(k, step)}") for k in range(1024)]
+    """As many versions as a package may have: 0.0.0, and then each time so many patches more, modulo their number."""
+    rows = [row("releases", "name_need", 0, need=UPPER)]
+    return rows + [row("releases", "publish", version=f"0.0.{patch_of(k, step)}") for k in range(MOST_VERSIONS)]
 
 
 @rows_of("low")
 def versions_in_rising_falling_and_mixed_precedence():
     """A patch and its ordinal tell each other, and patches are ordered as numbers (Semantic Versioning 2.0.0, section
     11)."""
-    for step in (1, 1023, 389):
-        rising = sorted(range(1024), key=lambda k: patch_of(k, step))
-        upper = [k for k in range(1024) if patch_of(k, step) >= 512]
-        yield f"1,024 versions, each {step} patches from the one before", [
+    for step in (1, MOST_VERSIONS - 1, 389):
+        rising = sorted(range(MOST_VERSIONS), key=lambda k: patch_of(k, step))
+        upper = [k for k in range(MOST_VERSIONS) if patch_of(k, step) >= MOST_VERSIONS // 2]
+        yield f"{MOST_VERSIONS} versions, each {step} patches from the one before", [
             *published_in_steps(step),
-            row("releases", "len", 1024),
+            row("releases", "len", MOST_VERSIONS),
             row("releases", "rising", rising),
-            row("releases", "is_kept", True, need=">=0.0.512"),
-            row("releases", "matching_has", upper, need=">=0.0.512", below=1024),
-            row("releases", "matching", upper, need=">=0.0.512"),
+            row("releases", "is_kept", True, need=UPPER),
+            row("releases", "matching_has", upper, need=UPPER, below=MOST_VERSIONS),
+            row("releases", "matching", upper, need=UPPER),
             row("releases", "highest", rising[-1], set=upper)]
 
 
@@ -88,11 +94,11 @@ def each_of_many_versions_is_found():
     """Build metadata does not count in precedence, and a pre-release comes before its version (Semantic Versioning
     2.0.0, sections 9 to 11)."""
     rows = published_in_steps(389)
-    for ordinal in range(1024):
+    for ordinal in range(MOST_VERSIONS):
         patch = patch_of(ordinal, 389)
         rows += [row("releases", "find", ordinal, version=f"0.0.{patch}+x"),
                  row("releases", "find", version=f"0.0.{patch}-rc")]
-    yield "each of 1,024 versions is found, and none before it", rows
+    yield f"each of {MOST_VERSIONS} versions is found, and none before it", rows
 
 
 @rows_of("low")

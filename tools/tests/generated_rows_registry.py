@@ -69,11 +69,12 @@ def repeats_in_short_and_long_lists():
 
 @rows_of("low")
 def versions_at_their_limit():
-    rows = [_publish("a", f"0.0.{number}", [], number + 1) for number in range(1_024)]
-    rows.append(_publish("a", "0.0.1024", [], _refused(8)))
-    rows.append(_publish("a", "0.0.1023+x", [], _refused(7)))
-    rows.append(_registry("versions", 1_024, pkg=1))
-    yield "A package has at most 1,024 versions, and one more of equal precedence is refused for that", rows
+    rows = [_publish("a", f"0.0.{number}", [], number + 1) for number in range(4_096)]
+    rows.append(_publish("a", "0.0.4096", [], _refused(8)))
+    rows.append(_publish("a", "0.0.4095+x", [], _refused(7)))
+    rows.append(_publish("b", "0.0.4096", [], 4_097))
+    rows.append(_registry("versions", 4_096, pkg=1))
+    yield "A package has at most 4,096 versions, and one more of equal precedence is refused for that", rows
 
 
 @rows_of("low")
@@ -98,12 +99,12 @@ def names_at_their_limit():
 
 @rows_of("low")
 def many_versions_in_any_order():
-    """The patch numbers below 1,024, each once: in steps of 1,023 they fall, in steps of 389 they are mixed."""
-    for order, step in (("falling", 1_023), ("mixed", 389)):
-        patches = [number * step % 1_024 for number in range(1_024)]
+    """The patch numbers below 4,096, each once: in steps of 4,095 they fall, in steps of 389 they are mixed."""
+    for order, step in (("falling", 4_095), ("mixed", 389)):
+        patches = [number * step % 4_096 for number in range(4_096)]
         rows = [_publish("a", f"0.0.{patch}", [], at) for at, patch in enumerate(patches, 1)]
-        rows.append(_registry("versions", 1_024, pkg=1))
-        for yanked, patch in enumerate((1, 2, 63, 64, 500, 1_023), 1):
+        rows.append(_registry("versions", 4_096, pkg=1))
+        for yanked, patch in enumerate((1, 2, 63, 64, 1_024, 4_095), 1):
             within = [ordinal for ordinal, other in enumerate(patches) if other <= patch]
             given = {"name": "a", "version": f"0.0.{patch}+x"}
             rows += [
@@ -112,9 +113,9 @@ def many_versions_in_any_order():
                 _registry("find", patches.index(patch), pkg=1, version=f"0.0.{patch}+x"),
                 _registry("publish", _refused(7), needs=[], **given),
                 _registry("unyank", _refused(13), **given),
-                _registry("yank", 1_024 + yanked, **given),
+                _registry("yank", 4_096 + yanked, **given),
             ]
-        yield f"Of 1,024 versions in {order} order each is found, and the highest of a set", rows
+        yield f"Of 4,096 versions in {order} order each is found, and the highest of a set", rows
 
 
 @rows_of("low")

@@ -7,8 +7,8 @@ from program import TOP
 
 # These answer a refusal and take no memory.
 TAKES_NONE = {"registry::Registry::check", "derivations::Store::check", "book::Replica::check", "book::Replica::judge"}
-# A library of tests, what the probes stand on, and what is tried through the calls of the solver.
-NO_PART = {"rows", "rows_learnt", "rims", "heuristics"}
+# What the probes stand on, and what is tried through the calls of the solver.
+NO_PART = {"rows", "rims", "heuristics"}
 TAKES_MEMORY = re.compile(r"-> (?:io::)?Result<")
 
 

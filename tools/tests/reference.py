@@ -42,7 +42,7 @@ class Registry:
         if request["op"] == "publish":
             targets = [need[0] for need in needs]
             tests = [(4, len(set(targets)) < len(targets)), (5, name in targets), (6, len(targets) > 64), (7, found),
-                     (8, len(held) >= 1024), (9, len({*self.names, name, *targets}) > 65535)]
+                     (8, len(held) >= 4096), (9, len({*self.names, name, *targets}) > 65535)]
         else:
             tests = [(11, not found), (12, request["op"] == "yank" and found and found[0][2]),
                      (13, request["op"] == "unyank" and found and not found[0][2])]

@@ -1,9 +1,9 @@
 """Tables of rows: each row names one public call of a crate, what it is given and what it is to give. rows/README.md
 says how they are written.
 
-The calls are made by four programs, `probe_low`, `probe_texts`, `probe_search` and `probe_high`, as the gate built
-them. While a crate is not proved yet, the environment variable PROBES may name a folder with programs of these names
-to be run instead: unproved builds, or scripts that run `rt try` in the crate's folder.
+The calls are made by two programs, `probe_low` and `probe_high`, as the gate built them. While a crate is not proved
+yet, the environment variable PROBES may name a folder with programs of these names to be run instead: unproved builds,
+or scripts that run `rt try` in the crate's folder.
 """
 import glob
 import json
@@ -15,7 +15,7 @@ from program import TOP
 
 ROWS = os.path.join(TOP, "rows")
 # The program that makes the calls of each folder of rows.
-PROGRAMS = {"low": "probe_low", "texts": "probe_texts", "search": "probe_search", "high": "probe_high"}
+PROGRAMS = {"low": "probe_low", "texts": "probe_high", "search": "probe_low", "high": "probe_high"}
 # At each table the program begins anew, so that no table rests on another one.
 BEGIN = '{"of":"session","call":"new"}'
 # How much of a long row or answer is shown, and how many rows of a table.

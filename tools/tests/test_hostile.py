@@ -37,8 +37,8 @@ class Hostile(unittest.TestCase):
         ] * 4)
 
     def test_the_session_limit(self):
-        # 48 packages of 1,024 versions are 49,152 commands
-        lines = [publish(f"p{p}", f"1.{v}.0") for p in range(48) for v in range(1024)]
+        # 12 packages of 4,096 versions are 49,152 commands
+        lines = [publish(f"p{p}", f"1.{v}.0") for p in range(12) for v in range(4096)]
         replies = serve(lines + [
             publish("q", "1.0.0"),
             '{"op":"yank","name":"p0","version":"9.0.0"}',

@@ -135,8 +135,8 @@ class Race(unittest.TestCase):
                          "registry-journal 1\nend 0\n")
 
     def test_a_full_row(self):
-        # 66 packages of 1,024 versions are more than 65,536 cells
-        lines = [publish(f"p{p}", f"1.{v}.0") for p in range(66) for v in range(1024)]
+        # 17 packages of 4,096 versions are more than 65,536 cells
+        lines = [publish(f"p{p}", f"1.{v}.0") for p in range(17) for v in range(4096)]
         replies, journal = self.printed([*lines[:65536], *lines[65536:65538], lines[0]])
         self.assertEqual(replies[0][65535], '{"ok":true,"place":65536,"revision":65536,"seat":1}')
         full = '{"error":10,"name":"JournalFull","place":65536,"revision":65536,"seat":1}'

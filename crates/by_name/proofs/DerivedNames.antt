@@ -8,10 +8,11 @@ use Rattle.terms.specs.Sets.{has}
 use Rattle.terms.specs.Incompats.{Follows, IsIncompat, OrderedFrom, has_term, joined, pair_of, true_at, unless_always}
 use Rattle.terms.specs.declared.term.Term.{Term}
 use Rattle.terms.specs.declared.term.Term.TheVariants.{In, NotIn}
-use Rattle.registry.specs.Registry.{Package, Packages, is_named, needs_or_none, number_from, number_of, package_at, publication_at}
+use Rattle.registry.specs.Registry.{Package, Packages, is_named, matching, needs_or_none, number_from, number_of, package_at, publication_at}
 use Rattle.registry.specs.Requests.{Wanted}
-use Rattle.derivations.specs.Facts.{DependsOn, Stands, Terms, matching, need_terms_at}
+use Rattle.derivations.specs.Facts.{DependsOn, Stands, Terms, need_terms_at}
 use Rattle.derivations.specs.Derivations.{AreDerivedBy, AreIncompats, IsDerivation, IsFact, Yields}
+use Rattle.derivations.specs.Learning.{AllStand, CauseStands, IsLearnt, Offers}
 use Rattle.derivations.specs.declared.facts.Cause.{Cause}
 use Rattle.derivations.specs.declared.facts.Cause.TheVariants as cause
 use Rattle.derivations.specs.declared.facts.Premise.{Premise}
@@ -216,3 +217,35 @@ lines_named packages wanted earlier (line ∷ rest) all lawful derived =
 
 pub derived_names : (packages : Packages) (wanted : Wanted) (lines : List Line) → AreIncompats lines → IsDerivation packages wanted lines → AllHaveNames packages lines
 derived_names packages wanted lines lawful derivation = lines_named packages wanted [] lines (λ i terms at. absurd (cc)) lawful derivation.derived
+
+-- ---- what was learnt
+
+-- what a cause offers of every registry is a fact of one in which it stands
+offered_yields : (packages : Packages) (wanted : Wanted) (earlier : List Terms) (c : Cause) (terms : Terms) → Offers earlier c terms → CauseStands packages c → Yields packages wanted earlier c terms
+offered_yields packages wanted earlier (cause.Line n) terms offered stands = offered
+offered_yields packages wanted earlier (cause.Premise premise) terms offered stands = (stands, offered.2)
+offered_yields packages wanted earlier (cause.Need i) terms offered stands = absurd offered
+offered_yields packages wanted earlier (cause.NotAllowed p versions) terms offered stands = absurd offered
+offered_yields packages wanted earlier cause.Root terms offered stands = absurd offered
+
+learnt_yields : (packages : Packages) (wanted : Wanted) (earlier : List Terms) (lines : List Line) → AreDerivedBy Offers earlier lines → AllStand packages lines
+    → AreDerivedBy (Yields packages wanted) earlier lines
+learnt_yields packages wanted earlier [] derived stand = tt
+learnt_yields packages wanted earlier (line ∷ rest) derived stand =
+    let own = derived.0 in (
+      record {
+        one = own.one;
+        two = own.two;
+        gives_one = offered_yields packages wanted earlier line.causes.0 own.one own.gives_one stand.0;
+        gives_two = offered_yields packages wanted earlier line.causes.1 own.two own.gives_two stand.1;
+        follows = own.follows;
+      },
+      learnt_yields packages wanted (earlier ++ line.conclusion ∷ []) rest derived.1 stand.2,
+    )
+
+nothing_wanted : Wanted
+nothing_wanted = record { needs = []; lock = [] }
+
+pub learnt_names : (packages : Packages) (lines : List Line) → AreIncompats lines → IsLearnt lines → AllStand packages lines → AllHaveNames packages lines
+learnt_names packages lines lawful learnt stand =
+    lines_named packages nothing_wanted [] lines (λ i terms at. absurd (cc)) lawful (learnt_yields packages nothing_wanted [] lines learnt.derived stand)

@@ -1,3 +1,4 @@
 -- The definitions that contracts cite.
 pub mod Named
+pub mod Naming
 pub mod NameLaws

@@ -3,6 +3,7 @@ use Rattle.std.specs.Prelude.{◌≡◌, List}
 use Rattle.registry.specs.Registry.{Packages}
 use Rattle.registry.specs.Requests.{Wanted}
 use Rattle.derivations.specs.Derivations.{AreIncompats, IsDerivation}
+use Rattle.derivations.specs.Learning.{AllStand, IsLearnt}
 use Rattle.derivations.specs.declared.line.Line.{Line}
 use Rattle.by_name.specs.Named.{AllHaveNames, IsNumbered}
 use Rattle.by_name.specs.declared.derivation.NamedLine.{NamedLine}
@@ -10,6 +11,10 @@ use Rattle.by_name.specs.declared.derivation.NamedLine.{NamedLine}
 -- every package of a derivation whose conclusions are incompatibilities has a name
 abbrev pub DerivedPackagesHaveNames : Type 0
 DerivedPackagesHaveNames = (packages : Packages) (wanted : Wanted) (lines : List Line) → AreIncompats lines → IsDerivation packages wanted lines → AllHaveNames packages lines
+
+-- so has every package of what was learnt where its premises stand
+abbrev pub LearntPackagesHaveNames : Type 0
+LearntPackagesHaveNames = (packages : Packages) (lines : List Line) → AreIncompats lines → IsLearnt lines → AllStand packages lines → AllHaveNames packages lines
 
 -- names stand for one derivation at most
 abbrev pub OneNumbering : Type 0

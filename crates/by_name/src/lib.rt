@@ -9,6 +9,8 @@ mod naming;
 mod numbering;
 
 pub use derivation::{NamedCause, NamedDerivation, NamedLine, NamedPremise, NamedTerms};
-pub use laws::{derived_packages_have_names, names_stand_for_one};
-pub use naming::named;
-pub use numbering::numbered;
+pub use laws::{
+    derived_packages_have_names, learnt_packages_have_names, named_again, names_stand_for_one,
+};
+pub use naming::{named, named_lines};
+pub use numbering::{numbered, numbered_lines};

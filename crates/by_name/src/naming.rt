@@ -5,9 +5,8 @@ ghost use Rattle.terms.specs.Incompats.{IsIncompat};
 ghost use Rattle.by_name.specs.Named.{number_in, numbered_cause, numbered_line, numbered_premise, numbered_terms, AllHaveNames, CauseHasNames, HasName, HaveNames, IsNumbered, LineHasNames};
 
 use crate::derivation::{NamedCause, NamedDerivation, NamedLine, NamedPremise, NamedTerms};
-use crate::numbering::ROOT;
-use derivations::{Cause, Derivation, Line, Premise};
-use registry::Registry;
+use derivations::{Cause, Derivation, Line, Premise, ROOT};
+use registry::{Registry, names_have_their_numbers};
 use std::alloc::Global;
 use terms::{Pkg, Term};
 use versions::{Name, Refusal};
@@ -18,9 +17,11 @@ fn package_name(registry: &Registry, pkg: Pkg) -> Result<Name, Refusal>
     ensures same { IfOk result (λ name. number_of registry.now.packages name ≡ Some pkg) }
     ensures only { IfErr result (λ e. e ≡ Refusal.NoMemory) }
 {
-    // That a registry has few packages is told with their count.
-    let _packages = registry.packages();
-    Ok(registry.name(pkg).copy()?)
+    names_have_their_numbers();
+    let Some(name) = registry.name_at(pkg) else {
+        unreachable!()
+    };
+    Ok(name.copy()?)
 }
 
 /// The name of what has a number; the request has none.
@@ -128,7 +129,19 @@ pub fn named(
     ensures back { IfOk result (λ named. IsNumbered registry.now.packages named derivation.now) }
     ensures only { IfErr result (λ e. e ≡ Refusal.NoMemory) }
 {
-    let lines = derivation.lines();
+    named_lines(alloc, registry, derivation.lines())
+}
+
+/// Lines by the names of their packages, as [`named`] tells those of a derivation.
+pub fn named_lines(
+    alloc: Global,
+    registry: &Registry,
+    lines: &[Line],
+) -> Result<NamedDerivation, Refusal>
+    requires names { AllHaveNames registry.now.packages lines.now }
+    ensures back { IfOk result (λ named. IsNumbered registry.now.packages named lines.now) }
+    ensures only { IfErr result (λ e. e ≡ Refusal.NoMemory) }
+{
     let mut named = Vec::with_capacity(alloc, lines.len())?;
     for line in lines {
         named.push(named_line(alloc, registry, line)?)?;

@@ -4,14 +4,11 @@ ghost use Rattle.terms.specs.Incompats.{IsIncompat};
 ghost use Rattle.by_name.specs.Named.{number_in, numbered_cause, numbered_line, numbered_premise, numbered_terms, FindsOne, IsNumbered};
 
 use crate::derivation::{NamedCause, NamedDerivation, NamedLine, NamedPremise};
-use derivations::{Cause, Derivation, Line, Premise};
+use derivations::{Cause, Derivation, Line, Premise, ROOT};
 use registry::Registry;
 use std::alloc::Global;
 use terms::{Incompat, Pkg, Term};
 use versions::{Name, Refusal};
-
-/// The number of the request itself, which has no name.
-pub const ROOT: Pkg = 0;
 
 /// The number of what is named.
 fn number_in(registry: &Registry, name: &Option<Name>) -> Option<Pkg>
@@ -146,7 +143,8 @@ fn numbered_line(
     }))
 }
 
-fn numbered_lines(
+/// The lines that names stand for in a registry, under the same conditions as [`numbered`].
+pub fn numbered_lines(
     alloc: Global,
     registry: &Registry,
     lines: &[NamedLine],

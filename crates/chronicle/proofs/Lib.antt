@@ -1,4 +1,5 @@
 -- Lemmas.
+pub mod SerialLemmas
 pub mod JournalLemmas
 pub mod RefusalLemmas
 pub mod CallLemmas

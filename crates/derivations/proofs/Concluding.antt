@@ -10,12 +10,14 @@ use Rattle.versions.specs.declared.refusal.Refusal.TheVariants as refusal
 use Rattle.terms.specs.declared.term.Term.{Term}
 use Rattle.terms.specs.declared.term.Term.TheVariants.{In, NotIn}
 use Rattle.registry.specs.Registry.{Packages}
+use Rattle.registry.specs.Laws.{MatchingIsWhatMeets}
 use Rattle.derivations.specs.Facts.{Terms}
 use Rattle.derivations.specs.Derivations.{last_conclusion}
 use Rattle.derivations.specs.Slots.{concludes}
 use Rattle.derivations.specs.Learning.{AllStand}
 use Rattle.derivations.specs.Stored.{all_stand, conclusion_of, is_stored, learn_refusal, same_on, same_term, same_terms, terms_or_none}
 use Rattle.derivations.specs.declared.line.Line.{Line}
+use Rattle.derivations.specs.declared.store.TheConstants.{STORE_LIMIT}
 use Rattle.derivations.proofs.Tested.{all_from, all_to}
 
 same_term-Decides : (s t : Term) → Decides (same_term s t) (s ≡ t)
@@ -44,10 +46,10 @@ concluded_as lines terms a answer e tells =
 
 -- ---- the lowest refusal
 
-pub is_stale : (packages : Packages) (members : List (List Line)) (lines : List Line) → (AllStand packages lines → ⊥) → learn_refusal packages members lines ≡ Some refusal.Stale
+pub is_stale : MatchingIsWhatMeets → (packages : Packages) (members : List (List Line)) (lines : List Line) → (AllStand packages lines → ⊥) → learn_refusal packages members lines ≡ Some refusal.Stale
 unfolding learn_refusal
-is_stale packages members lines apart =
-    by (all_stand packages lines) _ (false_from_ne_true (all_stand packages lines) (λ t. apart (all_from packages lines t)))
+is_stale matched packages members lines apart =
+    by (all_stand packages lines) _ (false_from_ne_true (all_stand packages lines) (λ t. apart (all_from matched packages lines t)))
   where
     by : (a : Bool) (o : Option Refusal) → a ≡ false → (if not a then Some refusal.Stale else o) ≡ Some refusal.Stale
     by true o e = absurd (true≢false e)
@@ -60,17 +62,17 @@ fresh : (a b c : Bool) → a ≡ true
 fresh true b c e = refl
 fresh false b c e = absurd (true≢false (sym e))
 
-pub is_known : (packages : Packages) (members : List (List Line)) (lines : List Line) → AllStand packages lines → is_stored members lines ≡ true → learn_refusal packages members lines ≡ Some refusal.Known
+pub is_known : MatchingIsWhatMeets → (packages : Packages) (members : List (List Line)) (lines : List Line) → AllStand packages lines → is_stored members lines ≡ true → learn_refusal packages members lines ≡ Some refusal.Known
 unfolding learn_refusal
-is_known packages members lines stand known =
-    fresh (all_stand packages lines) (is_stored members lines) (nat_le 4096 (length members)) (all_to packages lines stand)
-    ∙ ap (λ b. if b then Some refusal.Known else (if nat_le 4096 (length members) then Some refusal.StoreFull else None)) known
+is_known matched packages members lines stand known =
+    fresh (all_stand packages lines) (is_stored members lines) (nat_le STORE_LIMIT (length members)) (all_to matched packages lines stand)
+    ∙ ap (λ b. if b then Some refusal.Known else (if nat_le STORE_LIMIT (length members) then Some refusal.StoreFull else None)) known
 
 -- where its conclusion is new, only the limit is asked
-pub is_new : (packages : Packages) (members : List (List Line)) (lines : List Line) (full : Bool) → AllStand packages lines → is_stored members lines ≡ false → nat_le 4096 (length members) ≡ full
+pub is_new : MatchingIsWhatMeets → (packages : Packages) (members : List (List Line)) (lines : List Line) (full : Bool) → AllStand packages lines → is_stored members lines ≡ false → nat_le STORE_LIMIT (length members) ≡ full
     → learn_refusal packages members lines ≡ (if full then Some refusal.StoreFull else None)
 unfolding learn_refusal
-is_new packages members lines full stand known e =
-    fresh (all_stand packages lines) (is_stored members lines) (nat_le 4096 (length members)) (all_to packages lines stand)
-    ∙ ap (λ b. if b then Some refusal.Known else (if nat_le 4096 (length members) then Some refusal.StoreFull else None)) known
+is_new matched packages members lines full stand known e =
+    fresh (all_stand packages lines) (is_stored members lines) (nat_le STORE_LIMIT (length members)) (all_to matched packages lines stand)
+    ∙ ap (λ b. if b then Some refusal.Known else (if nat_le STORE_LIMIT (length members) then Some refusal.StoreFull else None)) known
     ∙ ap (λ b. if b then Some refusal.StoreFull else None) e

@@ -7,9 +7,9 @@ use Rattle.terms.specs.declared.term.Term.{Term}
 use Rattle.terms.specs.declared.term.Term.TheVariants.{In, NotIn}
 use Rattle.terms.specs.Incompats.{has_term, term_on, true_at}
 use Rattle.terms.specs.Terms.{true_of}
-use Rattle.registry.specs.Registry.{Packages, number_of}
+use Rattle.registry.specs.Registry.{Packages, matching, number_of}
 use Rattle.registry.specs.Requests.{Wanted}
-use Rattle.derivations.specs.Facts.{Terms, dependency, matching, need_terms_at}
+use Rattle.derivations.specs.Facts.{Terms, dependency, need_terms_at}
 use Rattle.derivations.proofs.Soundness.{dependency-nil}
 use Rattle.derivations.specs.Derivations.{IsFact}
 use Rattle.derivations.specs.Known.{AreLawful, EndsAt, IsResolved, StandsBy}

@@ -1,5 +1,5 @@
 -- Members that are found by an index.
-use Rattle.std.proofs.Common.{◌≡◌, ◌∙◌, ◌<◌, ◌≤◌, ◌+◌, ◌-◌, ◌⊎◌, inl, inr, ℕ, zero, suc, Bool, true, false, true≢false, List, [], ◌∷◌, ◌++◌, length, set, refl, sym, ap, subst, arith}
+use Rattle.std.proofs.Common.{◌≡◌, ◌∙◌, ◌<◌, ◌≤◌, ◌+◌, ◌-◌, inl, inr, ℕ, Bool, true, false, true≢false, List, [], ◌∷◌, ◌++◌, length, sym, ap, subst, arith}
 use Rattle.std.proofs.lemmas.Bool.{cases_lt, false_from_ne_true}
 use Rattle.std.proofs.lemmas.Option.{slice_get_within}
 use Rattle.std.specs.Prelude.{IfSome, None, Option, Some, slice_get}
@@ -7,7 +7,7 @@ use Rattle.std.specs.List.{list_any}
 use Rattle.derivations.specs.Facts.{Terms}
 use Rattle.derivations.specs.Indexes.{Extends, HasNone, Indexed, IsNewest, IsUnder, chain_of}
 use Rattle.derivations.specs.Keys.{key_of}
-use Rattle.derivations.specs.Slots.{AreFewer, AreFound, AreFoundBelow, HasKey, IsDroppedAt, IsMemberAt, Slots, concludes, kept, passes_at}
+use Rattle.derivations.specs.Slots.{AreFound, AreFoundBelow, HasKey, IsDroppedAt, IsMemberAt, Slots, concludes, kept, passes_at}
 use Rattle.derivations.specs.Stored.{conclusion_of}
 use Rattle.derivations.specs.declared.index.Link.{Link}
 use Rattle.derivations.specs.declared.line.Line.{Line}

@@ -7,7 +7,7 @@ use Rattle.versions.specs.Words.{Text, same_precedence}
 use Rattle.registry.specs.Needs.{names_of}
 use Rattle.registry.specs.Registry.{Package, Packages, Publication, is_known, is_named, meets_at, needs_of, needs_or_none, number_from, number_of, package_at, publication_at, publication_meets, versions_or_none}
 use Rattle.registry.specs.Step.{publish, set_yanked, with_listed, with_name, with_named, with_versions}
-use Rattle.registry.proofs.GrowthLemmas.{number_of-with_listed}
+use Rattle.registry.specs.Laws.{NumbersLast}
 
 -- packages keep their numbers and versions what they depend on, and what now meets a requirement did before, but for fresh versions
 pub record Grows (old new : Packages) (Fresh : ℕ → ℕ → Type 0) : Type 0 where
@@ -213,15 +213,15 @@ pub record IsLast (packages : Packages) (name : Text) (q k : ℕ) : Type 0 where
   pub place : k ≡ length (versions_or_none (package_at packages q)) - 1
 
 -- after a publication only its own version is fresh
-pub grows_published : (packages : Packages) (name version : Text) (needs : List (Text × Text)) → Grows packages (publish packages name version needs) (IsLast (publish packages name version needs) name)
-grows_published packages name version needs =
+pub grows_published : NumbersLast → (packages : Packages) (name version : Text) (needs : List (Text × Text)) → Grows packages (publish packages name version needs) (IsLast (publish packages name version needs) name)
+grows_published lasting packages name version needs =
     let added : Publication = record { version = version; needs = needs; yanked = false } in
     let grows = grows_versions name (λ versions. versions ++ added ∷ []) (λ versions k. k ≡ length versions) (record {
       needs = λ versions k d h. needs-push versions added k d h;
       meets = λ versions k need h. meets-push versions added k need h;
     }) (with_named packages name needs) in
     record {
-      numbers = λ other n e. grows.numbers other n (number_of-with_listed packages (name ∷ names_of needs) other n e);
+      numbers = λ other n e. grows.numbers other n (lasting packages (name ∷ names_of needs) other n e);
       needs = λ q k d h. grows.needs q k d (subst (λ (o : Option Publication). Contains (needs_or_none o) d) (sym (publication_at-listed packages (name ∷ names_of needs) q k)) h);
       meets = λ q k need h. elim (grows.meets q k need h) [
         | inl before ↦ inl (subst (λ (o : Option Publication). publication_meets o need ≡ true) (publication_at-listed packages (name ∷ names_of needs) q k) before)

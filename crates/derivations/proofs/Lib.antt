@@ -1,10 +1,10 @@
 -- Lemmas.
 pub mod Published
 pub mod Asking
-pub mod Matching
 pub mod Soundness
 pub mod Lasting
 pub mod Walking
+pub mod Early
 pub mod Taken
 pub mod Judging
 pub mod LastLine

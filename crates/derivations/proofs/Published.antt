@@ -2,12 +2,12 @@
 use Rattle.std.proofs.Common.{◌≡◌, ◌↔◌, ◌<◌, ◌≤◌, ◌+◌, ◌∙◌, ◌⊎◌, inl, inr, ℕ, zero, suc, List, [], ◌∷◌, length, refl, sym, ap, subst, arith, Bool, true, false, true≢false, ◌||◌, nat_eq, nat_le, nat_lt, rules}
 use Rattle.std.proofs.lemmas.Bool.{cases_Bool, cases_eq, eqb-true, eq-eqb}
 use Rattle.std.specs.Prelude.{Option, None, Some, slice_get, is_some, Contains, IsSome, IsTrue}
-use Rattle.std.specs.Option.{option_and_then}
 use Rattle.versions.specs.Words.{Text, meets}
 use Rattle.terms.specs.Sets.{has}
 use Rattle.terms.specs.declared.term.Term.{Term}
 use Rattle.terms.specs.declared.term.Term.TheVariants.{In}
-use Rattle.registry.specs.Registry.{Package, Packages, Publication, is_published, meets_at, needs_or_none, package_at, publication_at, publication_meets, versions_or_none}
+use Rattle.registry.specs.Laws.{UnpublishedFrom}
+use Rattle.registry.specs.Registry.{Packages, Publication, meets_at, needs_or_none, package_at, publication_at, publication_meets, versions_or_none}
 use Rattle.derivations.specs.Facts.{Covers, DependsOn, HasNeed}
 use Rattle.derivations.specs.declared.facts.Premise.{Premise}
 
@@ -20,33 +20,10 @@ there [] k lt = absurd (omega arith)
 there (x ∷ xs) zero lt = refl
 there (x ∷ xs) (suc k) lt = there xs k (omega arith)
 
-gone : {A : Type 0} (xs : List A) (k : ℕ) → length xs ≤ k → slice_get xs k ≡ None
-gone [] k le = refl
-gone (x ∷ xs) zero le = absurd (omega arith)
-gone (x ∷ xs) (suc k) le = gone xs k (omega arith)
-
--- an ordinal below the count is published
-pub published-below : (packages : Packages) (p k : ℕ) → k < count packages p → is_published packages p k ≡ true
-unfolding publication_at
-published-below packages p k lt = by (package_at packages p) lt
-  where
-    by : (o : Option Package) → k < length (versions_or_none o) → is_some (option_and_then (λ (pack : Package). slice_get pack.versions k) o) ≡ true
-    by None h = absurd (omega arith)
-    by (Some pack) h = there pack.versions k h
-
--- an ordinal from the count on is not
-pub unpublished-from : (packages : Packages) (p k : ℕ) → count packages p ≤ k → publication_at packages p k ≡ None
-unfolding publication_at
-unpublished-from packages p k le = by (package_at packages p) le
-  where
-    by : (o : Option Package) → length (versions_or_none o) ≤ k → option_and_then (λ (pack : Package). slice_get pack.versions k) o ≡ None
-    by None h = refl
-    by (Some pack) h = gone pack.versions k h
-
 -- what is not published depends on nothing
-pub independent : (packages : Packages) (p k target : ℕ) (need : Text) → count packages p ≤ k → DependsOn packages p k target need → ⊥
-independent packages p k target need le d =
-    nothing (d.0, need) (subst (λ (o : Option Publication). Contains (needs_or_none o) (d.0, need)) (unpublished-from packages p k le) d.2)
+pub independent : (packages : Packages) (p k target : ℕ) (need : Text) → publication_at packages p k ≡ None → DependsOn packages p k target need → ⊥
+independent packages p k target need none d =
+    nothing (d.0, need) (subst (λ (o : Option Publication). Contains (needs_or_none o) (d.0, need)) none d.2)
   where
     nothing : (x : Text × Text) → Contains [] x → ⊥
     nothing x h = omega (arith, h.1)
@@ -70,10 +47,10 @@ covers_more packages premise n before here k below met = elim (cases_eq k n) [
   | inl same ↦ subst (λ j. has premise.within j ≡ true) (sym same) (here (subst (λ j. meets_at packages premise.target j premise.need ≡ true) same met))
 ]
 
-pub covers_all : (packages : Packages) (premise : Premise) (n : ℕ) → count packages premise.target ≤ n → CoversBelow packages premise n → Covers packages premise
-covers_all packages premise n le all k met = elim (cases_lt k) [
+pub covers_all : UnpublishedFrom → (packages : Packages) (premise : Premise) (n : ℕ) → count packages premise.target ≤ n → CoversBelow packages premise n → Covers packages premise
+covers_all unpublished packages premise n le all k met = elim (cases_lt k) [
   | inl lt ↦ all k lt met
-  | inr from ↦ absurd (true≢false (sym met ∙ ap (λ (o : Option Publication). publication_meets o premise.need) (unpublished-from packages premise.target k (omega (arith, le, from)))))
+  | inr from ↦ absurd (true≢false (sym met ∙ ap (λ (o : Option Publication). publication_meets o premise.need) (unpublished packages premise.target k (omega (arith, le, from)))))
 ]
   where
     cases_lt : (k : ℕ) → (k < n) ⊎ (n ≤ k)

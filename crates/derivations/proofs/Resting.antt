@@ -1,10 +1,9 @@
 -- Which members rest on a package, and what a publication drops.
-use Rattle.std.proofs.Common.{◌≡◌, ◌∙◌, ◌-◌, inl, inr, ℕ, ◌&&◌, ◌||◌, Bool, true, true≢false, false, not, List, [], ◌∷◌, ◌++◌, length, get_or, refl, sym, ap, subst, arith, nat_eq}
-use Rattle.std.proofs.lemmas.Bool.{cases_Bool, and_left, and_right, cases_eq, or_from, or_parts}
-use Rattle.std.proofs.lemmas.List.Elements.{All-cons, All-filter, All-head, All-nil, All-push, All-tail, All-weaker, filter_agree}
+use Rattle.std.proofs.Common.{◌≡◌, ◌∙◌, ◌-◌, inl, inr, ℕ, ◌&&◌, ◌||◌, Bool, true, true≢false, false, not, List, [], ◌∷◌, ◌++◌, length, get_or, refl, sym, ap, nat_eq}
+use Rattle.std.proofs.lemmas.Bool.{cases_Bool, and_left, and_right, or_from, or_parts}
+use Rattle.std.proofs.lemmas.List.Elements.{All-head, All-tail, filter_agree}
 use Rattle.std.proofs.lemmas.List.Folds.{list_any-append}
-use Rattle.std.specs.Prelude.{All, Option, Some, cond, filter, slice_get}
-use Rattle.std.specs.List.{list_any}
+use Rattle.std.specs.Prelude.{All, None, Option, Some, cond, filter}
 use Rattle.versions.specs.Words.{Text, meets}
 use Rattle.terms.specs.Sets.{has}
 use Rattle.registry.specs.Registry.{Packages, Publication, meets_at, package_at, publication_at, publication_meets, versions_or_none}
@@ -14,7 +13,7 @@ use Rattle.derivations.specs.Stored.{cause_is_on, is_on, last_meets, published}
 use Rattle.derivations.specs.declared.facts.Cause.{Cause}
 use Rattle.derivations.specs.declared.facts.Cause.TheVariants as cause
 use Rattle.derivations.specs.declared.line.Line.{Line}
-use Rattle.derivations.proofs.Published.{meets_read, unpublished-from}
+use Rattle.derivations.proofs.Published.{meets_read}
 
 -- ---- targets
 
@@ -106,9 +105,9 @@ published-by packages p version members kept same e =
 
 -- ---- the last version
 
-pub last-read : (packages : Packages) (p n : ℕ) (publication : Publication) → n ≡ length (versions_or_none (package_at packages p)) → publication_at packages p (n - 1) ≡ Some publication
+pub last-read : (packages : Packages) (p k : ℕ) (publication : Publication) → k ≡ length (versions_or_none (package_at packages p)) - 1 → publication_at packages p k ≡ Some publication
     → (need : Text) → last_meets packages p need ≡ meets need publication.version
-last-read packages p n publication e at need = ap (λ k. meets_at packages p (k - 1) need) (sym e) ∙ meets_read packages p (n - 1) need publication at
+last-read packages p k publication e at need = ap (λ j. meets_at packages p j need) (sym e) ∙ meets_read packages p k need publication at
 
-pub last-none : (packages : Packages) (p n : ℕ) → n ≡ length (versions_or_none (package_at packages p)) → n ≡ 0 → (need : Text) → last_meets packages p need ≡ false
-last-none packages p n e zero_is need = ap (λ (o : Option Publication). publication_meets o need) (unpublished-from packages p _ (omega (arith, e, zero_is)))
+pub last-none : (packages : Packages) (p k : ℕ) → k ≡ length (versions_or_none (package_at packages p)) - 1 → publication_at packages p k ≡ None → (need : Text) → last_meets packages p need ≡ false
+last-none packages p k e none need = ap (λ j. meets_at packages p j need) (sym e) ∙ ap (λ (o : Option Publication). publication_meets o need) none

@@ -1,20 +1,20 @@
 -- A derivation leaves no selection that meets the request.
 use Rattle.std.proofs.Common.{◌≡◌, ◌≢◌, ◌≤◌, ◌∙◌, ◌⊎◌, inl, inr, ℕ, zero, suc, List, [], ◌∷◌, ◌++◌, refl, sym, ap, subst, arith, Bool, true, false, not, ◌||◌, ◌&&◌, true≢false, rules, nat_eq, nat_lt, if◌then◌else◌}
 use Rattle.std.specs.Prelude.{Option, Some, None, Contains, slice_get, IsSome}
-use Rattle.std.proofs.lemmas.Bool.{cases_Bool, eqb-true}
-use Rattle.std.proofs.lemmas.Option.{get_or_from_slice_get, slice_get_within}
+use Rattle.std.proofs.lemmas.Bool.{cases_Bool, eq-eqb, eqb-true, ne_eqb}
+use Rattle.std.proofs.lemmas.Option.{get_or_from_slice_get, same_Some, slice_get_within}
 use Rattle.versions.specs.Words.{Text}
 use Rattle.terms.specs.Sets.{has}
 use Rattle.terms.specs.Incompats.{Follows, joined, true_at}
 use Rattle.terms.specs.Terms.{true_of, is_in}
 use Rattle.terms.specs.declared.term.Term.{Term}
 use Rattle.terms.specs.declared.term.Term.TheVariants.{In, NotIn}
-use Rattle.registry.specs.Registry.{Packages, meets_at, needs_of, number_of, number_from, package_at, publication_at, is_named}
+use Rattle.registry.specs.Registry.{Packages, is_named, matching, meets_at, needs_of, number_from, number_of, package_at, publication_at}
 use Rattle.registry.specs.Requests.{Wanted, is_allowed}
 use Rattle.registry.specs.Selections.{Choices, IsSelection, Meets, with_root}
-use Rattle.derivations.specs.Facts.{AllTrue, DependsOn, Holds, Stands, Terms, dependency, matching, need_terms, need_terms_at, premise_terms}
+use Rattle.derivations.specs.Facts.{AllTrue, DependsOn, Holds, Stands, Terms, dependency, need_terms, need_terms_at, premise_terms}
 use Rattle.derivations.specs.Derivations.{AreDerived, IsDerivation, IsDerivedBy, IsEnd, IsFact, NoSelection, Yields, last_conclusion}
-use Rattle.derivations.proofs.Matching.{has-matching}
+use Rattle.registry.specs.Laws.{MatchingIsWhatMeets}
 use Rattle.derivations.specs.declared.facts.Cause.{Cause}
 use Rattle.derivations.specs.declared.facts.Cause.TheVariants as cause
 use Rattle.derivations.specs.declared.facts.Premise.{Premise}
@@ -67,12 +67,6 @@ Holds-Follows packages c i j pivot hold_i hold_j follows s selection closed =
 never : {P : Type 0} → false ≡ true → P
 never e = absurd (true≢false (sym e))
 
-itself : (x : ℕ) → nat_eq x x ≡ true
-itself x = search rules
-
-differ : (x y : ℕ) → (x ≡ y → ⊥) → nat_eq x y ≡ false
-differ x y h = elim (cases_Bool (nat_eq x y)) [ inl e ↦ absurd (h (eqb-true x y e)) | inr e ↦ e ]
-
 -- two terms in order of packages
 abbrev two_terms : ℕ → Term → ℕ → Term → Terms
 two_terms p t q u = if nat_lt p q then (p, t) ∷ (q, u) ∷ [] else (q, u) ∷ (p, t) ∷ []
@@ -87,13 +81,13 @@ dependency-cons p versions q k rest = elim (cases_Bool (nat_lt p q)) [ inl e ↦
 -- what two terms on different packages say
 two_terms-one : (p q : ℕ) (t u : Term) (choice : Option ℕ) → p ≢ q → true_at (two_terms p t q u) p choice ≡ true_of t choice
 two_terms-one p q t u choice apart =
-    let other : nat_eq q p ≡ false = differ q p (λ e. apart (sym e)) in
-    elim (cases_Bool (nat_lt p q)) [ inl e ↦ rw (e, itself p) refl | inr e ↦ rw (e, other, itself p) refl ]
+    let other : nat_eq q p ≡ false = ne_eqb q p (λ e. apart (sym e)) in
+    elim (cases_Bool (nat_lt p q)) [ inl e ↦ rw (e, eq-eqb p p refl) refl | inr e ↦ rw (e, other, eq-eqb p p refl) refl ]
 
 two_terms-two : (p q : ℕ) (t u : Term) (choice : Option ℕ) → p ≢ q → true_at (two_terms p t q u) q choice ≡ true_of u choice
 two_terms-two p q t u choice apart =
-    let other : nat_eq p q ≡ false = differ p q apart in
-    elim (cases_Bool (nat_lt p q)) [ inl e ↦ rw (e, other, itself q) refl | inr e ↦ rw (e, itself q) refl ]
+    let other : nat_eq p q ≡ false = ne_eqb p q apart in
+    elim (cases_Bool (nat_lt p q)) [ inl e ↦ rw (e, other, eq-eqb q q refl) refl | inr e ↦ rw (e, eq-eqb q q refl) refl ]
 
 is_in-some : (set : List ℕ) (choice : Option ℕ) → is_in set choice ≡ true → (k : ℕ) × (choice ≡ Some k) × (has set k ≡ true)
 is_in-some set None h = never h
@@ -107,7 +101,7 @@ not-true false h = refl
 dependency-all : (s : Choices) (p : ℕ) (versions : List ℕ) (q : ℕ) (within : List ℕ) → p ≢ q → AllTrue (dependency p versions q within) s
     → (is_in versions (s p) ≡ true) × (is_in within (s q) ≡ false)
 dependency-all s p versions q [] apart all =
-    let one : true_at ((p, In versions) ∷ []) p (s p) ≡ is_in versions (s p) = rw (itself p) refl in
+    let one : true_at ((p, In versions) ∷ []) p (s p) ≡ is_in versions (s p) = rw (eq-eqb p p refl) refl in
     let alone : AllTrue ((p, In versions) ∷ []) s = subst (λ t. AllTrue t s) (dependency-nil p versions q) all in
     (sym one ∙ alone p, elim (s q) as (λ c. is_in [] c ≡ false) [ None ↦ refl | Some k ↦ refl ])
 dependency-all s p versions q (k ∷ rest) apart all =
@@ -116,14 +110,11 @@ dependency-all s p versions q (k ∷ rest) apart all =
       not-true (is_in (k ∷ rest) (s q)) (sym (two_terms-two p q (In versions) (NotIn (k ∷ rest)) (s q) apart) ∙ both q),
     )
 
-some-same : {A : Type 0} (x y : A) → Some x ≡ Some y → x ≡ y
-some-same x y e = cc e
-
 -- packages are numbered from 1
 number_from-above : (n : ℕ) (packages : Packages) (name : Text) (q : ℕ) → number_from n packages name ≡ Some q → n ≤ q
 number_from-above n [] name q e = absurd (cc e)
 number_from-above n (p ∷ rest) name q e = elim (cases_Bool (is_named name p)) [
-  | inl t ↦ let same : n ≡ q = some-same n q (rw t at e) in omega (arith, same)
+  | inl t ↦ let same : n ≡ q = same_Some n q (rw t at e) in omega (arith, same)
   | inr f ↦ let more = number_from-above (suc n) rest name q (rw f at e) in omega (arith, more)
 ]
 
@@ -149,7 +140,7 @@ Holds-numbered packages premise from_p from_q stands s selection closed all =
     let chosen = is_in-some premise.versions (s premise.package) (subst (λ c. is_in premise.versions c ≡ true) (with_root-other s premise.package from_p) d.0) in
     let depends = stands.depends.each chosen.0 chosen.2 in
     let met = closed premise.package chosen.0 depends.0 premise.need chosen.1 depends.2 in
-    let same : met.target ≡ premise.target = some-same met.target premise.target (sym met.numbered ∙ depends.1) in
+    let same : met.target ≡ premise.target = same_Some met.target premise.target (sym met.numbered ∙ depends.1) in
     let meeting : meets_at packages premise.target met.ordinal premise.need ≡ true = subst (λ t. meets_at packages t met.ordinal premise.need ≡ true) same met.meeting in
     let inside : has premise.within met.ordinal ≡ true = stands.covers met.ordinal meeting in
     let target : s premise.target ≡ Some met.ordinal = subst (λ t. s t ≡ Some met.ordinal) same met.selected in
@@ -169,7 +160,7 @@ Stands-positive packages premise stands = by premise.versions stands.depends.som
     by : (versions : List ℕ) → versions ≢ [] → ((k : ℕ) → has versions k ≡ true → DependsOn packages premise.package k premise.target premise.need) → (1 ≤ premise.package) × (1 ≤ premise.target)
     by [] some each = absurd (some refl)
     by (k ∷ rest) some each =
-        let first : has (k ∷ rest) k ≡ true = rw (itself k) refl in
+        let first : has (k ∷ rest) k ≡ true = rw (eq-eqb k k refl) refl in
         let depends = each k first in
         (no_needs packages premise.package k (depends.0, premise.need) depends.2, number_of-positive packages depends.0 premise.target depends.1)
 
@@ -180,14 +171,14 @@ Holds-Stands packages premise stands =
     Holds-numbered packages premise places.0 places.1 stands
 
 -- what a need of the request says is refuted by a selection that meets it
-Refutes-need : (packages : Packages) (wanted : Wanted) (s : Choices) → Meets packages wanted s → (name need : Text) → Contains wanted.needs (name, need) → Refutes s (need_terms packages name need)
-Refutes-need packages wanted s m name need asked all =
+Refutes-need : MatchingIsWhatMeets → (packages : Packages) (wanted : Wanted) (s : Choices) → Meets packages wanted s → (name need : Text) → Contains wanted.needs (name, need) → Refutes s (need_terms packages name need)
+Refutes-need matched packages wanted s m name need asked all =
     let met = m.needs name need asked in
     let apart : 0 ≢ met.target = λ e. omega (arith, number_of-positive packages name met.target met.numbered, e) in
     let terms : AllTrue (dependency 0 (0 ∷ []) met.target (matching packages met.target need)) (with_root s) =
     subst (λ o. AllTrue (need_terms_at packages o need) (with_root s)) met.numbered all in
     let d = dependency-all (with_root s) 0 (0 ∷ []) met.target (matching packages met.target need) apart terms in
-    let inside : has (matching packages met.target need) met.ordinal ≡ true = has-matching packages met.target need met.ordinal ∙ met.meeting in
+    let inside : has (matching packages met.target need) met.ordinal ≡ true = matched packages met.target need met.ordinal ∙ met.meeting in
     let outside : is_in (matching packages met.target need) (Some met.ordinal) ≡ false =
     subst (λ c. is_in (matching packages met.target need) c ≡ false) (with_root-other s met.target (number_of-positive packages name met.target met.numbered) ∙ met.selected) d.1 in
     true≢false (sym inside ∙ outside)
@@ -203,7 +194,7 @@ package-positive packages (suc n) h = omega arith
 Refutes-NotAllowed : (packages : Packages) (wanted : Wanted) (s : Choices) → Meets packages wanted s → (p : ℕ) (versions : List ℕ) → 1 ≤ p
     → ((k : ℕ) → has versions k ≡ true → is_allowed packages wanted p k ≡ false) → Refutes s ((p, In versions) ∷ [])
 Refutes-NotAllowed packages wanted s m p versions from_p barred all =
-    let one : is_in versions (with_root s p) ≡ true = rw (itself p) at (all p) in
+    let one : is_in versions (with_root s p) ≡ true = rw (eq-eqb p p refl) at (all p) in
     let chosen = is_in-some versions (s p) (subst (λ c. is_in versions c ≡ true) (with_root-other s p from_p) one) in
     true≢false (sym (m.allowed p chosen.0 chosen.1) ∙ barred chosen.0 chosen.2)
 
@@ -211,15 +202,15 @@ Refutes-Root : (s : Choices) → Refutes s ((0, NotIn (0 ∷ [])) ∷ [])
 Refutes-Root s all = true≢false (sym (all 0))
 
 -- a fact is refuted by each selection that meets the request
-pub Refutes-fact : (packages : Packages) (wanted : Wanted) (s : Choices) → Meets packages wanted s → (c : Cause) (terms : Terms) → IsFact packages wanted c terms → Refutes s terms
-Refutes-fact packages wanted s m (cause.Line n) terms f = absurd f
-Refutes-fact packages wanted s m (cause.Premise premise) terms f =
+pub Refutes-fact : MatchingIsWhatMeets → (packages : Packages) (wanted : Wanted) (s : Choices) → Meets packages wanted s → (c : Cause) (terms : Terms) → IsFact packages wanted c terms → Refutes s terms
+Refutes-fact matched packages wanted s m (cause.Line n) terms f = absurd f
+Refutes-fact matched packages wanted s m (cause.Premise premise) terms f =
     subst (Refutes s) (sym f.1) (Holds-Stands packages premise f.0 s m.selection m.closed)
-Refutes-fact packages wanted s m (cause.Need i) terms f =
-    subst (Refutes s) (sym f.2) (Refutes-need packages wanted s m f.0.0 f.0.1 (Contains-from_get wanted.needs i f.0 f.1))
-Refutes-fact packages wanted s m (cause.NotAllowed p versions) terms f =
+Refutes-fact matched packages wanted s m (cause.Need i) terms f =
+    subst (Refutes s) (sym f.2) (Refutes-need matched packages wanted s m f.0.0 f.0.1 (Contains-from_get wanted.needs i f.0 f.1))
+Refutes-fact matched packages wanted s m (cause.NotAllowed p versions) terms f =
     subst (Refutes s) (sym f.2) (Refutes-NotAllowed packages wanted s m p versions (package-positive packages p f.0) f.1)
-Refutes-fact packages wanted s m cause.Root terms f = subst (Refutes s) (sym f) (Refutes-Root s)
+Refutes-fact matched packages wanted s m cause.Root terms f = subst (Refutes s) (sym f) (Refutes-Root s)
 
 -- ---- lines
 
@@ -228,18 +219,18 @@ abbrev pub AllRefuted : Choices → List Terms → Type 0
 AllRefuted s earlier = (i : ℕ) (terms : Terms) → slice_get earlier i ≡ Some terms → Refutes s terms
 
 AllRefuted-push : (s : Choices) (earlier : List Terms) (last : Terms) → AllRefuted s earlier → Refutes s last → AllRefuted s (earlier ++ last ∷ [])
-AllRefuted-push s [] last each refuted zero terms e = subst (Refutes s) (some-same last terms e) refuted
+AllRefuted-push s [] last each refuted zero terms e = subst (Refutes s) (same_Some last terms e) refuted
 AllRefuted-push s [] last each refuted (suc i) terms e = absurd (cc e)
 AllRefuted-push s (x ∷ rest) last each refuted zero terms e = each zero terms e
 AllRefuted-push s (x ∷ rest) last each refuted (suc i) terms e = AllRefuted-push s rest last (λ j t h. each (suc j) t h) refuted i terms e
 
-module _ (packages : Packages) (wanted : Wanted) (s : Choices) (m : Meets packages wanted s) where
+module _ (matched : MatchingIsWhatMeets) (packages : Packages) (wanted : Wanted) (s : Choices) (m : Meets packages wanted s) where
   Refutes-Yields : (earlier : List Terms) (c : Cause) (terms : Terms) → AllRefuted s earlier → Yields packages wanted earlier c terms → Refutes s terms
   Refutes-Yields earlier (cause.Line n) terms each g = each g.0 terms g.2
-  Refutes-Yields earlier (cause.Premise p) terms each g = Refutes-fact packages wanted s m (cause.Premise p) terms g
-  Refutes-Yields earlier (cause.Need i) terms each g = Refutes-fact packages wanted s m (cause.Need i) terms g
-  Refutes-Yields earlier (cause.NotAllowed p versions) terms each g = Refutes-fact packages wanted s m (cause.NotAllowed p versions) terms g
-  Refutes-Yields earlier cause.Root terms each g = Refutes-fact packages wanted s m cause.Root terms g
+  Refutes-Yields earlier (cause.Premise p) terms each g = Refutes-fact matched packages wanted s m (cause.Premise p) terms g
+  Refutes-Yields earlier (cause.Need i) terms each g = Refutes-fact matched packages wanted s m (cause.Need i) terms g
+  Refutes-Yields earlier (cause.NotAllowed p versions) terms each g = Refutes-fact matched packages wanted s m (cause.NotAllowed p versions) terms g
+  Refutes-Yields earlier cause.Root terms each g = Refutes-fact matched packages wanted s m cause.Root terms g
 
   Refutes-line : (earlier : List Terms) (line : Line) → AllRefuted s earlier → IsDerivedBy (Yields packages wanted earlier) line → Refutes s line.conclusion
   Refutes-line earlier line each d =
@@ -248,7 +239,7 @@ module _ (packages : Packages) (wanted : Wanted) (s : Choices) (m : Meets packag
   Refutes-last : (earlier : List Terms) (lines : List Line) (conclusion : Terms) → AllRefuted s earlier → AreDerived packages wanted earlier lines
       → last_conclusion lines ≡ Some conclusion → Refutes s conclusion
   Refutes-last earlier [] conclusion each derived e = absurd (cc e)
-  Refutes-last earlier (line ∷ []) conclusion each derived e = subst (Refutes s) (some-same line.conclusion conclusion e) (Refutes-line earlier line each derived.0)
+  Refutes-last earlier (line ∷ []) conclusion each derived e = subst (Refutes s) (same_Some line.conclusion conclusion e) (Refutes-line earlier line each derived.0)
   Refutes-last earlier (line ∷ next ∷ rest) conclusion each derived e =
       Refutes-last (earlier ++ line.conclusion ∷ []) (next ∷ rest) conclusion (AllRefuted-push s earlier line.conclusion each (Refutes-line earlier line each derived.0)) derived.1 e
 
@@ -262,6 +253,6 @@ AllTrue-end s terms (inr e) = rw e (λ p. by p)
     by (suc n) = let other : nat_eq 0 (suc n) ≡ false = search rules in rw other refl
 
 -- where there is a derivation, no selection meets the request
-pub NoSelection-IsDerivation : (packages : Packages) (wanted : Wanted) (lines : List Line) → IsDerivation packages wanted lines → NoSelection packages wanted
-NoSelection-IsDerivation packages wanted lines d s m =
-    Refutes-last packages wanted s m [] lines d.conclusion (λ i terms e. absurd (cc e)) d.derived d.last (AllTrue-end s d.conclusion d.ended)
+pub NoSelection-IsDerivation : MatchingIsWhatMeets → (packages : Packages) (wanted : Wanted) (lines : List Line) → IsDerivation packages wanted lines → NoSelection packages wanted
+NoSelection-IsDerivation matched packages wanted lines d s m =
+    Refutes-last matched packages wanted s m [] lines d.conclusion (λ i terms e. absurd (cc e)) d.derived d.last (AllTrue-end s d.conclusion d.ended)

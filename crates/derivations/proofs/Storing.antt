@@ -1,13 +1,14 @@
 -- What is stored stands at every place.
-use Rattle.std.proofs.Common.{◌≡◌, ◌∙◌, ◌-◌, inl, inr, ℕ, zero, suc, Bool, true, false, true≢false, not, List, [], ◌∷◌, ◌++◌, refl, sym, subst, ◌||◌, take, nat_eq, length}
-use Rattle.std.proofs.lemmas.Bool.{and_from, cases_Bool, eq-eqb, not-true, or_parts}
-use Rattle.std.proofs.lemmas.List.Elements.{All-filter, All-nil, All-push, All-weaker, filter_passes}
-use Rattle.std.specs.Prelude.{All, None, Option, Some, is_none, if◌then◌else◌, Ok, Err, Result, OnOk, OnErr}
+use Rattle.std.proofs.Common.{◌≡◌, ◌∙◌, ◌-◌, inl, inr, ℕ, Bool, true, false, true≢false, not, List, [], ◌∷◌, ◌++◌, refl, sym, subst, ◌||◌, nat_eq, length}
+use Rattle.std.proofs.lemmas.Bool.{and_from, eq-eqb, not-true, or_parts}
+use Rattle.std.proofs.lemmas.List.Elements.{All-filter, All-push, All-weaker, filter_passes}
+use Rattle.std.specs.Prelude.{All, None, Option, Some, if◌then◌else◌, Ok, Err, Result, OnOk, OnErr}
 use Rattle.versions.specs.Words.{Text}
 use Rattle.versions.specs.declared.refusal.Refusal.{Refusal}
 use Rattle.registry.specs.Registry.{Packages, meets_at, number_of, package_at, versions_or_none}
 use Rattle.registry.specs.Step as registry
 use Rattle.registry.specs.Step.{Change, Publish, Unyank, Yank, publish, set_yanked, with_versions}
+use Rattle.registry.specs.Laws.{MatchingIsWhatMeets, NumbersLast}
 use Rattle.derivations.specs.Facts.{Stands}
 use Rattle.derivations.specs.Learning.{AllStand, CauseStands, IsLearnt}
 use Rattle.derivations.specs.Laws.{CommandsKeep, LearningKeeps}
@@ -17,7 +18,6 @@ use Rattle.derivations.specs.declared.facts.Cause.TheVariants as cause
 use Rattle.derivations.specs.declared.facts.Premise.{Premise}
 use Rattle.derivations.specs.declared.line.Line.{Line}
 use Rattle.derivations.proofs.Grown.{Grows, IsLast, Nothing, grows_published, grows_yanked}
-use Rattle.derivations.proofs.Sound.{learnt_conclusion}
 use Rattle.derivations.proofs.Tested.{all_from}
 
 -- ---- premises and lines, where packages grow
@@ -107,15 +107,15 @@ kept_published old new name grows members stand (Some p) e =
 
 -- ---- the laws
 
-pub commands-keep : CommandsKeep
+pub commands-keep : NumbersLast → CommandsKeep
 unfolding registry.after stored_after
-commands-keep packages (Publish name version needs) members accepted stand =
-    kept_published packages (publish packages name version needs) name (grows_published packages name version needs) members stand
+commands-keep lasting packages (Publish name version needs) members accepted stand =
+    kept_published packages (publish packages name version needs) name (grows_published lasting packages name version needs) members stand
     (number_of (publish packages name version needs) name) refl
-commands-keep packages (Yank name version) members accepted stand =
+commands-keep lasting packages (Yank name version) members accepted stand =
     All-weaker (AllStand packages) (AllStand (with_versions name (set_yanked version true) packages))
     (AllStand-Grows packages (with_versions name (set_yanked version true) packages) Nothing (grows_yanked packages name version true) (λ q k f. f)) members stand
-commands-keep packages (Unyank name version) members accepted stand =
+commands-keep lasting packages (Unyank name version) members accepted stand =
     All-weaker (AllStand packages) (AllStand (with_versions name (set_yanked version false) packages))
     (AllStand-Grows packages (with_versions name (set_yanked version false) packages) Nothing (grows_yanked packages name version false) (λ q k f. f)) members stand
 
@@ -124,25 +124,25 @@ not_stale : (a : Bool) (r : Refusal) (o : Option Refusal) → (if not a then Som
 not_stale true r o e = refl
 not_stale false r o e = absurd (cc e)
 
-pub learnt_stand : (packages : Packages) (members : List (List Line)) (lines : List Line) → learn_refusal packages members lines ≡ None → AllStand packages lines
+pub learnt_stand : MatchingIsWhatMeets → (packages : Packages) (members : List (List Line)) (lines : List Line) → learn_refusal packages members lines ≡ None → AllStand packages lines
 unfolding learn_refusal
-learnt_stand packages members lines accepted = all_from packages lines (not_stale (all_stand packages lines) _ _ accepted)
+learnt_stand matched packages members lines accepted = all_from matched packages lines (not_stale (all_stand packages lines) _ _ accepted)
 
-pub learning-keeps : LearningKeeps
-learning-keeps packages members lines accepted stand = All-push (AllStand packages) members lines stand (learnt_stand packages members lines accepted)
+pub learning-keeps : MatchingIsWhatMeets → LearningKeeps
+learning-keeps matched packages members lines accepted stand = All-push (AllStand packages) members lines stand (learnt_stand matched packages members lines accepted)
 
 -- told of what a store has before and after
-pub followed-stand : (old new : Packages) (change : Change) (before kept : List (List Line)) → kept ≡ stored_after new change before → registry.refusal_of old change ≡ None → new ≡ registry.after old change
+pub followed-stand : CommandsKeep → (old new : Packages) (change : Change) (before kept : List (List Line)) → kept ≡ stored_after new change before → registry.refusal_of old change ≡ None → new ≡ registry.after old change
     → All (AllStand old) before → All (AllStand new) kept
-followed-stand old new change before kept is accepted e stand =
+followed-stand keeps old new change before kept is accepted e stand =
     subst (λ (l : List (List Line)). All (AllStand new) l) (sym is)
-    (subst (λ (p : Packages). All (AllStand p) (stored_after p change before)) (sym e) (commands-keep old change before accepted stand))
+    (subst (λ (p : Packages). All (AllStand p) (stored_after p change before)) (sym e) (keeps old change before accepted stand))
 
-pub learned-stand : {A E : Type 0} (r : Result A E) (packages : Packages) (before kept : List (List Line)) (lines : List Line) → OnOk r (learn_refusal packages before lines ≡ None)
+pub learned-stand : LearningKeeps → {A E : Type 0} (r : Result A E) (packages : Packages) (before kept : List (List Line)) (lines : List Line) → OnOk r (learn_refusal packages before lines ≡ None)
     → OnOk r (kept ≡ before ++ lines ∷ []) → OnErr r (kept ≡ before) → All (AllStand packages) before → All (AllStand packages) kept
-learned-stand (Ok x) packages before kept lines accepted is same stand =
-    subst (λ (l : List (List Line)). All (AllStand packages) l) (sym is) (learning-keeps packages before lines accepted stand)
-learned-stand (Err e) packages before kept lines accepted is same stand = subst (λ (l : List (List Line)). All (AllStand packages) l) (sym same) stand
+learned-stand keeps (Ok x) packages before kept lines accepted is same stand =
+    subst (λ (l : List (List Line)). All (AllStand packages) l) (sym is) (keeps packages before lines accepted stand)
+learned-stand keeps (Err e) packages before kept lines accepted is same stand = subst (λ (l : List (List Line)). All (AllStand packages) l) (sym same) stand
 
 -- ---- what is learnt
 

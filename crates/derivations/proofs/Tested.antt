@@ -7,15 +7,15 @@ use Rattle.std.specs.List.{list_all}
 use Rattle.std.specs.Str.{bytes_eq}
 use Rattle.versions.specs.Words.{Text}
 use Rattle.terms.specs.Sets.{has}
-use Rattle.registry.specs.Registry.{Packages, needs_of, number_of}
-use Rattle.derivations.specs.Facts.{HasNeed, Stands, matching}
+use Rattle.registry.specs.Registry.{Packages, matching, needs_of, number_of}
+use Rattle.derivations.specs.Facts.{HasNeed, Stands}
 use Rattle.derivations.specs.Learning.{AllStand, CauseStands}
 use Rattle.derivations.specs.Stored.{all_stand, cause_stands, has_need, is_number, stands}
 use Rattle.derivations.specs.declared.facts.Cause.{Cause}
 use Rattle.derivations.specs.declared.facts.Cause.TheVariants as cause
 use Rattle.derivations.specs.declared.facts.Premise.{Premise}
 use Rattle.derivations.specs.declared.line.Line.{Line}
-use Rattle.derivations.proofs.Matching.{has-matching}
+use Rattle.registry.specs.Laws.{MatchingIsWhatMeets}
 
 number_is : (o : Option ℕ) (n : ℕ) → is_number o n ≡ true → o ≡ Some n
 number_is None n e = absurd (true≢false (sym e))
@@ -68,9 +68,9 @@ length_some (x ∷ xs) some = ne_eqb (length (x ∷ xs)) 0 (λ e. omega (arith, 
 
 -- ---- premises
 
-stands_from : (packages : Packages) (premise : Premise) → stands packages premise ≡ true → Stands packages premise
+stands_from : MatchingIsWhatMeets → (packages : Packages) (premise : Premise) → stands packages premise ≡ true → Stands packages premise
 unfolding stands
-stands_from packages premise t =
+stands_from matched packages premise t =
     let first = and_parts _ _ t in let second = and_parts _ _ first.1 in let third = and_parts _ _ second.1 in
     record {
       depends = record {
@@ -79,44 +79,44 @@ stands_from packages premise t =
         each = λ k h. need_found packages (needs_of packages premise.package k) premise.target premise.need
             (all_has (λ j. has_need packages (needs_of packages premise.package j) premise.target premise.need) premise.versions third.0 k h);
       };
-      covers = λ k m. all_has (λ j. has premise.within j) (matching packages premise.target premise.need) third.1 k (has-matching packages premise.target premise.need k ∙ m);
+      covers = λ k m. all_has (λ j. has premise.within j) (matching packages premise.target premise.need) third.1 k (matched packages premise.target premise.need k ∙ m);
     }
 
-stands_to : (packages : Packages) (premise : Premise) → Stands packages premise → stands packages premise ≡ true
+stands_to : MatchingIsWhatMeets → (packages : Packages) (premise : Premise) → Stands packages premise → stands packages premise ≡ true
 unfolding stands
-stands_to packages premise s =
+stands_to matched packages premise s =
     and_from _ _ (not_from_false _ (false_from_ne_true (nat_eq premise.package premise.target) (λ e. s.depends.different (eqb-true premise.package premise.target e))))
     (and_from _ _ (not_from_false _ (length_some premise.versions s.depends.some))
     (and_from _ _
     (has_all (λ j. has_need packages (needs_of packages premise.package j) premise.target premise.need) premise.versions
     (λ k h. let d = s.depends.each k h in need_at packages (needs_of packages premise.package k) premise.target premise.need d.0 d.2.0 d.1 d.2.1 d.2.2))
     (has_all (λ j. has premise.within j) (matching packages premise.target premise.need)
-    (λ k h. s.covers k (sym (has-matching packages premise.target premise.need k) ∙ h)))))
+    (λ k h. s.covers k (sym (matched packages premise.target premise.need k) ∙ h)))))
 
-cause_from : (packages : Packages) (c : Cause) → cause_stands packages c ≡ true → CauseStands packages c
-cause_from packages (cause.Line n) t = tt
-cause_from packages (cause.Premise premise) t = stands_from packages premise t
-cause_from packages (cause.Need i) t = tt
-cause_from packages (cause.NotAllowed p versions) t = tt
-cause_from packages cause.Root t = tt
+cause_from : MatchingIsWhatMeets → (packages : Packages) (c : Cause) → cause_stands packages c ≡ true → CauseStands packages c
+cause_from matched packages (cause.Line n) t = tt
+cause_from matched packages (cause.Premise premise) t = stands_from matched packages premise t
+cause_from matched packages (cause.Need i) t = tt
+cause_from matched packages (cause.NotAllowed p versions) t = tt
+cause_from matched packages cause.Root t = tt
 
-cause_to : (packages : Packages) (c : Cause) → CauseStands packages c → cause_stands packages c ≡ true
-cause_to packages (cause.Line n) s = refl
-cause_to packages (cause.Premise premise) s = stands_to packages premise s
-cause_to packages (cause.Need i) s = refl
-cause_to packages (cause.NotAllowed p versions) s = refl
-cause_to packages cause.Root s = refl
+cause_to : MatchingIsWhatMeets → (packages : Packages) (c : Cause) → CauseStands packages c → cause_stands packages c ≡ true
+cause_to matched packages (cause.Line n) s = refl
+cause_to matched packages (cause.Premise premise) s = stands_to matched packages premise s
+cause_to matched packages (cause.Need i) s = refl
+cause_to matched packages (cause.NotAllowed p versions) s = refl
+cause_to matched packages cause.Root s = refl
 
-pub all_from : (packages : Packages) (lines : List Line) → all_stand packages lines ≡ true → AllStand packages lines
-all_from packages [] t = tt
-all_from packages (line ∷ rest) t =
+pub all_from : MatchingIsWhatMeets → (packages : Packages) (lines : List Line) → all_stand packages lines ≡ true → AllStand packages lines
+all_from matched packages [] t = tt
+all_from matched packages (line ∷ rest) t =
     let parts = and_parts (cause_stands packages line.causes.0 && cause_stands packages line.causes.1) (all_stand packages rest) t in
     let both = and_parts (cause_stands packages line.causes.0) (cause_stands packages line.causes.1) parts.0 in
-    (cause_from packages line.causes.0 both.0, cause_from packages line.causes.1 both.1, all_from packages rest parts.1)
+    (cause_from matched packages line.causes.0 both.0, cause_from matched packages line.causes.1 both.1, all_from matched packages rest parts.1)
 
-pub all_to : (packages : Packages) (lines : List Line) → AllStand packages lines → all_stand packages lines ≡ true
-all_to packages [] s = refl
-all_to packages (line ∷ rest) s =
+pub all_to : MatchingIsWhatMeets → (packages : Packages) (lines : List Line) → AllStand packages lines → all_stand packages lines ≡ true
+all_to matched packages [] s = refl
+all_to matched packages (line ∷ rest) s =
     and_from (cause_stands packages line.causes.0 && cause_stands packages line.causes.1) (all_stand packages rest)
-    (and_from (cause_stands packages line.causes.0) (cause_stands packages line.causes.1) (cause_to packages line.causes.0 s.0) (cause_to packages line.causes.1 s.1))
-    (all_to packages rest s.2)
+    (and_from (cause_stands packages line.causes.0) (cause_stands packages line.causes.1) (cause_to matched packages line.causes.0 s.0) (cause_to matched packages line.causes.1 s.1))
+    (all_to matched packages rest s.2)

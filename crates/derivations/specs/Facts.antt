@@ -1,11 +1,11 @@
 -- What holds of a registry, and the premises that stand in it.
-use Rattle.std.specs.Prelude.{◌≡◌, ◌≢◌, ℕ, suc, true, List, [], ◌∷◌, Option, Some, None, Contains, if◌then◌else◌}
-use Rattle.versions.specs.Words.{Text, meets}
+use Rattle.std.specs.Prelude.{◌≡◌, ◌≢◌, ℕ, true, List, [], ◌∷◌, Option, Some, None, Contains}
+use Rattle.versions.specs.Words.{Text}
 use Rattle.terms.specs.Sets.{has}
 use Rattle.terms.specs.Incompats.{pair_of, true_at}
 use Rattle.terms.specs.declared.term.Term.{Term}
 use Rattle.terms.specs.declared.term.Term.TheVariants.{In, NotIn}
-use Rattle.registry.specs.Registry.{Packages, Publication, meets_at, needs_of, number_of, package_at, versions_or_none}
+use Rattle.registry.specs.Registry.{Packages, matching, meets_at, needs_of, number_of}
 use Rattle.registry.specs.Selections.{Choices, IsClosed, IsSelection, with_root}
 use Rattle.derivations.specs.declared.facts.Premise.{Premise}
 
@@ -62,15 +62,6 @@ premise_terms premise = dependency premise.package premise.versions premise.targ
 -- the terms are what the premise says; one on its own package says nothing
 abbrev pub Says : Premise → Terms → Type 0
 Says premise terms = (premise.package ≢ premise.target) × (terms ≡ premise_terms premise)
-
--- the ordinals from k on of the publications that meet a requirement
-abbrev pub matching_from : ℕ → List Publication → Text → List ℕ
-matching_from k [] need = []
-matching_from k (v ∷ rest) need = if meets need v.version then k ∷ matching_from (suc k) rest need else matching_from (suc k) rest need
-
--- the ordinals of the published versions that meet a requirement
-unfoldable pub matching : Packages → ℕ → Text → List ℕ
-matching packages p need = matching_from 0 (versions_or_none (package_at packages p)) need
 
 -- root In({0}), target NotIn(what meets the need); only the first where the name has no number
 abbrev pub need_terms_at : Packages → Option ℕ → Text → Terms

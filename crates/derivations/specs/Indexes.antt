@@ -1,5 +1,5 @@
 -- Lists of places by number.
-use Rattle.std.specs.Prelude.{◌≡◌, ◌<◌, ◌≤◌, ◌+◌, ◌-◌, ◌%◌, ◌⊎◌, ℕ, Bool, true, List, All, Some, length, slice_get}
+use Rattle.std.specs.Prelude.{◌≡◌, ◌<◌, ◌≤◌, ◌+◌, ◌%◌, ◌⊎◌, ℕ, Bool, true, List, All, Some, length, slice_get}
 use Rattle.derivations.specs.declared.index.Link.{Link}
 
 -- whether it has all places that were added, and its links in the order of adding

@@ -1,7 +1,8 @@
 -- The lines of a search: facts, and what follows from lines before.
-use Rattle.std.specs.Prelude.{◌≡◌, ◌<◌, ◌⊎◌, ℕ, suc, ◌||◌, length, Bool, true, false, List, [], Some, nat_eq, slice_get, Contains}
+use Rattle.std.specs.Prelude.{◌≡◌, ◌<◌, ◌⊎◌, ℕ, suc, ◌||◌, length, Bool, true, false, List, [], ◌∷◌, Some, nat_eq, slice_get, Contains}
 use Rattle.std.proofs.Common.{get_or}
 use Rattle.terms.specs.Incompats.{Follows, has_term}
+use Rattle.terms.specs.declared.term.Term.TheVariants.{In}
 use Rattle.registry.specs.Registry.{Packages}
 use Rattle.registry.specs.Requests.{Wanted}
 use Rattle.derivations.specs.Facts.{Terms}
@@ -123,6 +124,22 @@ pub record IsEndLine (known : List Known) (end : ℕ) : Type 0 where
   pub at : slice_get known end ≡ Some line
   pub resolved : IsResolved line.reason
   pub ended : IsEnd line.conclusion
+
+-- the line follows from others, and says only that the root is chosen, so that it may end a derivation
+abbrev pub SaysRootAlone : Known → Type 0
+SaysRootAlone line = IsResolved line.reason × (line.conclusion ≡ (0, In (0 ∷ [])) ∷ [])
+
+-- the first line that the end cites may end a derivation already
+pub record EndsBefore (known : List Known) (end : ℕ) : Type 0 where
+  pub own : Known
+  pub before : Known
+  pub i : ℕ
+  pub j : ℕ
+  pub pivot : ℕ
+  pub at : slice_get known end ≡ Some own
+  pub reason : own.reason ≡ Resolved i j pivot
+  pub before_at : slice_get known i ≡ Some before
+  pub says : SaysRootAlone before
 
 -- ---- what is cut from the lines of a search
 

@@ -9,14 +9,15 @@ use Rattle.versions.specs.declared.refusal.Refusal.TheVariants as refusal
 use Rattle.terms.specs.Sets.{has}
 use Rattle.terms.specs.declared.term.Term.{Term}
 use Rattle.terms.specs.declared.term.Term.TheVariants.{In, NotIn}
-use Rattle.registry.specs.Registry.{Packages, meets_at, needs_of, number_of, package_at, versions_or_none}
+use Rattle.registry.specs.Registry.{Packages, matching, meets_at, needs_of, number_of, package_at, versions_or_none}
 use Rattle.registry.specs.Step.{Change, Publish, Unyank, Yank, first_that_holds}
-use Rattle.derivations.specs.Facts.{Terms, matching}
+use Rattle.derivations.specs.Facts.{Terms}
 use Rattle.derivations.specs.Derivations.{last_conclusion}
 use Rattle.derivations.specs.declared.facts.Cause.{Cause}
 use Rattle.derivations.specs.declared.facts.Cause.TheVariants as cause
 use Rattle.derivations.specs.declared.facts.Premise.{Premise}
 use Rattle.derivations.specs.declared.line.Line.{Line}
+use Rattle.derivations.specs.declared.store.TheConstants.{STORE_LIMIT}
 
 -- what is stored, each with its lines, in order of learning, and how many more take no memory
 pub record Stored : Type 0 where
@@ -83,12 +84,12 @@ has_conclusion members terms = list_any (λ member. same_terms (conclusion_of me
 abbrev pub is_stored : List (List Line) → List Line → Bool
 is_stored members lines = has_conclusion members (conclusion_of lines)
 
--- the lowest refusal of what is to be learnt: each premise stands, its conclusion is not stored, and at most 4,096 are stored
+-- the lowest refusal of what is to be learnt: each premise stands, its conclusion is not stored, and at most STORE_LIMIT are stored
 unfoldable pub learn_refusal : Packages → List (List Line) → List Line → Option Refusal
 learn_refusal packages members lines = first_that_holds (
     (not (all_stand packages lines), refusal.Stale)
     ∷ (is_stored members lines, refusal.Known)
-    ∷ (nat_le 4096 (length members), refusal.StoreFull)
+    ∷ (nat_le STORE_LIMIT (length members), refusal.StoreFull)
     ∷ [])
 
 -- ---- after a publication

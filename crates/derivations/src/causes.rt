@@ -17,8 +17,8 @@ use std::alloc::Global;
 use terms::{Incompat, Pkg, Term, VSet};
 use versions::{Name, Need, Refusal};
 
-/// The package of the request itself, which has the one version 0.
-const ROOT: Pkg = 0;
+/// The package of the request itself, which has the one version 0 and no name.
+pub const ROOT: Pkg = 0;
 
 /// The conclusion of an earlier line, or what a fact says.
 #[derive(Drop)]

@@ -1,11 +1,12 @@
 // The lines of a search, cut down to a derivation.
 
-ghost use Rattle.std.specs.Prelude.{◌≡◌, ◌≢◌, ◌<◌, ◌↔◌, ℕ, None, false, true, length, slice_index, IfErr, IfOk, IfSome, IfNone, IsTrue};
+ghost use Rattle.std.specs.Prelude.{◌≡◌, ◌≢◌, ◌<◌, ◌↔◌, ◌∷◌, [], ℕ, None, Some, false, true, length, slice_index, IfErr, IfOk, IfSome, IfNone, IsTrue};
 ghost use Rattle.registry.specs.Registry.{Packages};
 ghost use Rattle.registry.specs.Requests.{Wanted};
-ghost use Rattle.derivations.specs.Derivations.{IsDerivation};
-ghost use Rattle.derivations.specs.Known.{cited, is_open, AreCited, AreClear, AreLawful, AreNumberedAt, AreOrdered, EndsAt, IsCauseOf, IsEndLine, IsLineFor, IsOpen, IsReady, IsResolved, IsResolvedAt, ShowsLine};
-ghost use Rattle.derivations.specs.Taking.{line_at, lines_at, places_of, ArePlaced};
+ghost use Rattle.derivations.specs.Derivations.{IsDerivation, last_conclusion};
+ghost use Rattle.derivations.specs.Known.{cited, is_open, AreCited, AreClear, AreLawful, AreNumberedAt, AreOrdered, EndsAt, EndsBefore, IsCauseOf, IsEndLine, IsLineFor, IsOpen, IsReady, IsResolved, IsResolvedAt, SaysRootAlone, ShowsLine};
+ghost use Rattle.derivations.specs.Taking.{line_at, lines_at, places_of, said_at, ArePlaced};
+ghost use Rattle.terms.specs.declared.term.Term.TheVariants.{In};
 
 use crate::derivation::Derivation;
 use crate::facts::Cause;
@@ -317,29 +318,37 @@ pub fn is_resolved(line: &Known) -> bool
     }
 }
 
+/// Whether the line follows from others, and says only that the root is chosen.
+fn says_root_alone(line: &Known) -> bool
+    ensures { IsTrue result ↔ SaysRootAlone line.now }
+{
+    is_resolved(line) && is_root_alone(&line.conclusion)
+}
+
 /// The end, or the line that it resolves with the root's fact.
 fn last_step(known: &[Known], end: usize) -> usize
     requires ordered { AreOrdered known.now }
     requires end { EndsAt known.now end }
-    ensures { IsEndLine known.now result }
+    ensures ends { IsEndLine known.now result }
+    ensures early { EndsBefore known.now end → said_at known.now result ≡ (0, In (0 ∷ [])) ∷ [] }
 {
     let (i, _, _) = cites(&known[end]);
-    let before = &known[i];
-    if is_resolved(before) && is_root_alone(&before.conclusion) {
-        i
-    } else {
-        end
+    if says_root_alone(&known[i]) {
+        return i;
     }
+    end
 }
 
 /// The derivation of a refusal, cut from the lines of a search: those that the one at `end` rests
-/// on, each written once, from facts. What they say is moved and not copied. Linear in the lines of
-/// the search.
+/// on, each written once, from facts. Where the end only resolves with the root's fact a line that may
+/// end a derivation, the derivation ends with that line. What they say is moved and not copied. Linear
+/// in the lines of the search.
 pub fn cut(alloc: Global, known: Vec<Known>, end: usize) -> Result<Derivation, Refusal>
     requires ordered { AreOrdered known.items }
     requires end { EndsAt known.items end }
     ensures derived { IfOk result (λ derivation. (packages : Packages) (wanted : Wanted) →
         AreLawful packages wanted known.items → IsDerivation packages wanted derivation) }
+    ensures early { IfOk result (λ derivation. EndsBefore known.items end → last_conclusion derivation ≡ Some ((0, In (0 ∷ [])) ∷ [])) }
     ensures cited { IfOk result AreCited }
     ensures only { IfErr result (λ e. e ≡ Refusal.NoMemory) }
 {

@@ -5,6 +5,7 @@ ghost use Rattle.std.specs.Bool.{OnTrue};
 ghost use Rattle.derivations.specs.Derivations.{AreIncompats, IsDerivation, NoSelection};
 
 use crate::following::are_derived;
+use crate::laws::derivations_refute;
 use crate::line::{Line, conclusions_are_lawful, copied, is_end, last_conclusion};
 use registry::{Registry, Request};
 use std::alloc::Global;
@@ -76,6 +77,7 @@ pub fn check(
         OnTrue yes (NoSelection registry.now.packages request.now)) }
     ensures only { IfErr result (λ e. e ≡ Refusal.NoMemory) }
 {
+    derivations_refute();
     let lines = derivation.lines();
     match last_conclusion(lines) {
         None => Ok(false),

@@ -1,6 +1,8 @@
 // Laws: why derivations and what is learnt can be trusted.
 
-ghost use Rattle.derivations.specs.Laws.{CommandsKeep, DerivationsRefute, DerivedPremisesStand, EmptyIsNoFact, LearningKeeps, LearntHolds, PremisesHold, ResolventsHold};
+ghost use Rattle.derivations.specs.Laws.{CommandsKeep, CommandsKeepLearnt, DerivationsRefute, DerivedPremisesStand, EmptyIsNoFact, LearningKeeps, LearntHolds, PremisesHold, ResolventsHold};
+
+use registry::{matching_is_what_meets, numbers_last};
 
 /// What a premise that stands says holds of the registry. It does nothing when it runs.
 pub fn premises_hold()
@@ -21,7 +23,9 @@ pub fn learnt_holds()
 /// Where there is a derivation, no selection meets the request. It does nothing when it runs.
 pub fn derivations_refute()
     ensures { DerivationsRefute }
-{}
+{
+    matching_is_what_meets();
+}
 
 /// The premises stand of lines that are derived from facts, so that what is learnt of such lines
 /// stands. It does nothing when it runs.
@@ -38,10 +42,15 @@ pub fn empty_is_no_fact()
 /// What stands before an accepted command, and is still stored after it, stands after it; after a yank
 /// or its undoing that is all. It does nothing when it runs.
 pub fn commands_keep()
-    ensures { CommandsKeep }
-{}
+    ensures stand { CommandsKeep }
+    ensures learnt { CommandsKeepLearnt }
+{
+    numbers_last();
+}
 
 /// What is learnt stands, as what was stored before. It does nothing when it runs.
 pub fn learning_keeps()
     ensures { LearningKeeps }
-{}
+{
+    matching_is_what_meets();
+}

@@ -21,7 +21,7 @@ mod standing;
 mod store;
 mod taking;
 
-pub use causes::need_incompat;
+pub use causes::{ROOT, need_incompat};
 pub use cutting::{Known, Reason, cut, lines_of};
 pub use derivation::{Derivation, check};
 pub use facts::{Cause, Premise};

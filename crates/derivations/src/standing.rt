@@ -1,11 +1,11 @@
 // Whether premises stand: loops over what packages publish.
 
-ghost use Rattle.std.specs.Prelude.{◌≡◌, ◌≤◌, ◌↔◌, length, IfErr, IfOk, IsTrue, Some};
-ghost use Rattle.registry.specs.Registry.{number_of, package_at, versions_or_none};
+ghost use Rattle.std.specs.Prelude.{◌≡◌, ◌↔◌, IfErr, IfOk, IsTrue, Some};
+ghost use Rattle.registry.specs.Registry.{number_of};
 ghost use Rattle.derivations.specs.Facts.{AllDepend, Covers, DependsOn, HasNeed, IsDependent, Stands};
 
 use crate::facts::Premise;
-use registry::Registry;
+use registry::{Registry, ordinals_are_below_the_count};
 use terms::Pkg;
 use versions::{Name, Need, Refusal};
 
@@ -29,23 +29,14 @@ fn has_need(registry: &Registry, needs: &[(Name, Need)], target: Pkg, need: &Nee
     false
 }
 
-/// How many versions of a package are published.
-pub fn version_count(registry: &Registry, pkg: Pkg) -> u32
-    ensures { result ≡ length (versions_or_none (package_at registry.now.packages pkg)) }
-{
-    // That a registry has few versions a package is told with the count of its packages.
-    let _packages = registry.packages();
-    registry.versions(pkg) as u32
-}
-
 /// Whether the version is published and depends on the target with this requirement.
 fn depends_on(registry: &Registry, pkg: Pkg, ordinal: u32, target: Pkg, need: &Need) -> bool
     ensures { IsTrue result ↔ DependsOn registry.now.packages pkg ordinal target need.now }
 {
-    if ordinal >= version_count(registry, pkg) {
-        return false;
+    match registry.facts_at(pkg, ordinal) {
+        None => false,
+        Some(facts) => has_need(registry, facts.needs, target, need),
     }
-    has_need(registry, registry.facts(pkg, ordinal).needs, target, need)
 }
 
 /// Whether each of the versions depends on the target.
@@ -79,7 +70,8 @@ pub fn is_dependent(registry: &Registry, premise: &Premise) -> bool
 pub fn covers(registry: &Registry, premise: &Premise) -> bool
     ensures { IsTrue result ↔ Covers registry.now.packages premise.now }
 {
-    for ordinal in 0..version_count(registry, premise.target) {
+    ordinals_are_below_the_count();
+    for ordinal in 0..registry.version_count(premise.target) {
         let version = registry.facts(premise.target, ordinal).version;
         if premise.need.admits(version) && !premise.within.has(ordinal) {
             return false;

@@ -11,14 +11,14 @@ ghost use Rattle.derivations.specs.Slots.{unmet};
 ghost use Rattle.derivations.specs.Stored.{has_conclusion, last_meets, learn_refusal, meets_some, published, stored_after};
 
 use crate::index::Index;
+use crate::laws::{commands_keep, learning_keeps};
 use crate::learnt::{LINE_LIMIT, Learnt};
 use crate::members::{Members, members_in};
 use crate::slots::{
     add_all_names, add_all_targets, add_key, add_keys, add_names, add_targets, drop_met,
     has_concluded, member_at,
 };
-use crate::standing::version_count;
-use registry::{Command, Registry};
+use registry::{Command, Registry, matching_is_what_meets};
 use std::alloc::Global;
 use std::marker::Model;
 use terms::{Incompat, Pkg};
@@ -117,6 +117,7 @@ impl Store {
         ensures accepted { OnOk result (learn_refusal registry.now.packages self.now.members learnt.now ≡ None) }
         ensures refused { IfErr result (λ e. learn_refusal registry.now.packages self.now.members learnt.now ≡ Some e) }
     {
+        matching_is_what_meets();
         if !learnt.stands(registry) {
             return Err(Refusal::Stale);
         }
@@ -172,6 +173,7 @@ impl Store {
         ensures succeeds { learn_refusal registry.now.packages self.old.members learnt ≡ None → 0 < self.old.room → IsOk result }
         ensures stand { All (AllStand registry.now.packages) self.old.members → All (AllStand registry.now.packages) self.new.members }
     {
+        learning_keeps();
         self.add(registry, learnt)
     }
 
@@ -226,6 +228,7 @@ impl Store {
             → registry.now.packages ≡ after packages (change_of command.now)
             → All (AllStand packages) self.old.members → All (AllStand registry.now.packages) self.new.members }
     {
+        commands_keep();
         self.drop_ended(registry, command);
     }
 
@@ -275,9 +278,6 @@ impl Store {
 fn last_version(registry: &Registry, pkg: Pkg) -> Option<&Published>
     ensures { (need : Text) → last_meets registry.now.packages pkg need ≡ meets_some (option_copied result) need }
 {
-    let count = version_count(registry, pkg);
-    if count == 0 {
-        return None;
-    }
-    Some(registry.facts(pkg, count - 1).version)
+    let last = registry.version_count(pkg).saturating_sub(1);
+    Some(registry.facts_at(pkg, last)?.version)
 }

@@ -1,9 +1,10 @@
 -- Texts one behind another, as they are put.
-use Rattle.std.proofs.Common.{◌≡◌, ◌∙◌, ℕ, zero, suc, ◌+◌, add-one, List, [], ◌∷◌, ◌++◌, take, map, Bool, true, false, ◌||◌, nat_eq, nat_lt, Some, None, codes, decimal, length, ◌<◌, ◌≤◌, refl, sym, ap, arith, rules}
+use Rattle.std.proofs.Common.{◌≡◌, ◌∙◌, ℕ, zero, suc, ◌+◌, add-one, List, [], ◌∷◌, ◌++◌, take, map, Bool, true, false, ◌||◌, nat_eq, nat_lt, Some, None, Option, codes, decimal, length, ◌<◌, ◌≤◌, refl, sym, ap, arith, rules}
 use Rattle.std.specs.List.{slice_get}
+use Rattle.std.specs.Option.{option_map}
 use Rattle.std.proofs.lemmas.List.{append-nil, append_assoc, map-append}
 use Rattle.versions.specs.Words.{Text}
-use Rattle.registry.specs.Registry.{Packages, package_at, publication_at}
+use Rattle.registry.specs.Registry.{Package, Packages, package_at, publication_at}
 use Rattle.registry.specs.Requests.{Wanted}
 use Rattle.derivations.specs.declared.line.Line.{Line}
 use Rattle.explain.specs.Choices.{listed, listed_after, name_or_none, package_text, separator, version_or_number, version_text}
@@ -72,20 +73,24 @@ numbered-push bytes packages wanted lines i line before after made at so_far pus
 pub unpublished_text : (packages : Packages) (p k : ℕ) → publication_at packages p k ≡ None → version_text packages p k ≡ codes "#" ++ decimal k
 unpublished_text packages p k none = ap (version_or_number k) none
 
--- a package beyond the last has no name
-beyond : (packages : Packages) (n : ℕ) → length packages ≤ n → package_at packages (suc n) ≡ None
-unfolding package_at
-beyond [] n le = refl
-beyond (p ∷ rest) zero le = absurd (omega arith)
-beyond (p ∷ rest) (suc n) le = later rest n (omega arith)
+-- a package that has a name is told by it
+pub named : (packages : Packages) (p : ℕ) (name : Text) → (p ≡ 0 → ⊥) → Some name ≡ option_map (λ (x : Package). x.name) (package_at packages p) → package_text packages p ≡ name
+named packages zero name other is = absurd (other refl)
+named packages (suc n) name other is =
+    let no : nat_eq (suc n) 0 ≡ false = search rules in
+    rw no (by (package_at packages (suc n)) is)
   where
-    later : (xs : Packages) (n : ℕ) → length xs ≤ n → slice_get xs n ≡ None
-    later [] n le = refl
-    later (x ∷ xs) zero le = absurd (omega arith)
-    later (x ∷ xs) (suc n) le = later xs n (omega arith)
+    by : (o : Option Package) → Some name ≡ option_map (λ (x : Package). x.name) o → name_or_none o ≡ name
+    by None e = absurd (cc)
+    by (Some x) e = let same : x.name ≡ name = cc in same
 
-pub unnamed : (packages : Packages) (p : ℕ) → length packages < p → package_text packages p ≡ []
-unnamed packages zero lt = absurd (omega arith)
-unnamed packages (suc n) lt =
-    let other : nat_eq (suc n) 0 ≡ false = search rules in
-    rw other (ap name_or_none (beyond packages n (omega arith)))
+-- and one that has none by nothing
+pub unnamed : (packages : Packages) (p : ℕ) → (p ≡ 0 → ⊥) → None ≡ option_map (λ (x : Package). x.name) (package_at packages p) → package_text packages p ≡ []
+unnamed packages zero other is = absurd (other refl)
+unnamed packages (suc n) other is =
+    let no : nat_eq (suc n) 0 ≡ false = search rules in
+    rw no (by (package_at packages (suc n)) is)
+  where
+    by : (o : Option Package) → None ≡ option_map (λ (x : Package). x.name) o → name_or_none o ≡ []
+    by None e = refl
+    by (Some x) e = absurd (cc)

@@ -1,12 +1,11 @@
 -- Worked explanations, computed from the definitions.
 use Rattle.std.specs.Fmt.{digits}
 use Rattle.std.proofs.Common.{◌≡◌, ℕ, List, [], ◌∷◌, codes, refl, false, true}
-use Rattle.versions.proofs.OnLiterals.{semver_on_literals}
+use Rattle.versions.specs.OnLiterals.{semver_on_literals}
 use Rattle.versions.specs.Words.{Text, meets}
 use Rattle.terms.specs.declared.term.Term.TheVariants.{In, NotIn}
-use Rattle.registry.specs.Registry.{Packages, number_of, package_at, publication_at}
+use Rattle.registry.specs.Registry.{Packages, matching, number_of, package_at, publication_at}
 use Rattle.registry.specs.Requests.{Wanted}
-use Rattle.derivations.specs.Facts.{matching}
 use Rattle.derivations.specs.declared.facts.Cause.{Cause}
 use Rattle.derivations.specs.declared.facts.Cause.TheVariants as cause
 use Rattle.derivations.specs.declared.line.Line.{Line}

@@ -5,7 +5,6 @@ use Rattle.std.specs.Io.KnownBytes.{Appends}
 use Rattle.std.proofs.KnownBytes.{Appends-trans}
 use Rattle.std.proofs.lemmas.List.{append_assoc}
 use Rattle.lines.specs.Texts.{IsBeginning}
-use Rattle.lines.proofs.TextLemmas.{append-beginning, beginning-append}
 use Rattle.versions.specs.Words.{Text}
 use Rattle.explain.specs.Explanations.{text_of}
 
@@ -24,6 +23,13 @@ text-split text (y ∷ xs) (suc i) x here =
       ap (λ (l : Text). ended (text y) ++ l) later.1 ∙ simp append_assoc,
     )
 
+-- a beginning of a text in the middle
+beginning-within : (before front text more : Text) → IsBeginning front text → IsBeginning (before ++ front) ((before ++ text) ++ more)
+beginning-within before front text more (rest, is) = (
+  rest ++ more,
+  append_assoc before front (rest ++ more) ∙ ap (λ l. before ++ l) (sym (append_assoc front rest more) ∙ ap (λ l. l ++ more) is) ∙ sym (append_assoc before text more),
+)
+
 -- what was written where the write of a line failed
 pub writes_line_fails : {A : Type 0} (text : A → Text) (a b c : Option Text) (xs : List A) (i : ℕ) (x : A) (written : Text) → slice_get xs i ≡ Some x
     → Appends a b (text_of (map text (take i xs))) → Appends b c written → IsBeginning written (ended (text x))
@@ -33,5 +39,5 @@ writes_line_fails text a b c xs i x written at before here front =
       text_of (map text (take i xs)) ++ written,
       Appends-trans a b c _ _ before here,
       subst (IsBeginning (text_of (map text (take i xs)) ++ written)) (sym split.1)
-          (beginning-append _ _ split.0 (append-beginning (text_of (map text (take i xs))) written (ended (text x)) front)),
+          (beginning-within (text_of (map text (take i xs))) written (ended (text x)) split.0 front),
     )

@@ -3,9 +3,9 @@ use Rattle.std.specs.Prelude.{ℕ, suc, List, [], ◌∷◌, ◌++◌, codes, de
 use Rattle.versions.specs.Words.{Text}
 use Rattle.terms.specs.declared.term.Term.{Term}
 use Rattle.terms.specs.declared.term.Term.TheVariants.{In, NotIn}
-use Rattle.registry.specs.Registry.{Packages, number_of}
+use Rattle.registry.specs.Registry.{Packages, matching, number_of}
 use Rattle.registry.specs.Requests.{Wanted}
-use Rattle.derivations.specs.Facts.{Terms, matching}
+use Rattle.derivations.specs.Facts.{Terms}
 use Rattle.derivations.specs.declared.facts.Premise.{Premise}
 use Rattle.derivations.specs.declared.facts.Cause.{Cause}
 use Rattle.derivations.specs.declared.facts.Cause.TheVariants as cause

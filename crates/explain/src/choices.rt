@@ -2,14 +2,12 @@
 ghost use Rattle.std.specs.Prelude.{◌≡◌, ◌++◌, codes, decimal, map, string_bytes, IfErr, OnOk};
 ghost use Rattle.explain.specs.Choices.{choice_text, is_request, listed, package_text, separator, set_text, version_text};
 
+use derivations::ROOT;
 use itoa::Buffer;
 use registry::Registry;
 use std::alloc::Global;
 use terms::{Pkg, VSet};
 use versions::Refusal;
-
-/// The package of the request itself.
-const ROOT: Pkg = 0;
 
 /// Puts a number in decimal.
 pub fn put_number(text: &mut String, number: usize) -> Result<(), Refusal>
@@ -27,10 +25,9 @@ pub fn name_of(registry: &Registry, pkg: Pkg) -> &str
     if pkg == ROOT {
         return "the request";
     }
-    if pkg as usize <= registry.packages() {
-        registry.name(pkg).text()
-    } else {
-        ""
+    match registry.name_at(pkg) {
+        Some(name) => name.text(),
+        None => "",
     }
 }
 
@@ -52,8 +49,7 @@ fn put_version(
         ≡ string_bytes text.old ++ version_text registry.now.packages pkg ordinal) }
     ensures only { IfErr result (λ e. e ≡ Refusal.NoMemory) }
 {
-    if (ordinal as usize) < registry.versions(pkg) {
-        let facts = registry.facts(pkg, ordinal);
+    if let Some(facts) = registry.facts_at(pkg, ordinal) {
         return Ok(text.push_str(facts.version.text())?);
     }
     text.push_str("#")?;

@@ -111,6 +111,7 @@ pub fn write_lines<W: Write>(
 ) -> io::Result<()>
     ensures written { Writes (W.contents writer.old) (W.contents writer.new) result
         (text_of (explanation registry.now.packages request.now derivation.now)) }
+    ensures retried { IfErr result (λ e. error_kind e ≢ ErrorKind.Interrupted) }
 {
     match explanation(alloc, registry, request, derivation) {
         Ok(lines) => write_all(writer, &lines),

@@ -142,7 +142,7 @@ impl Agenda {
         self.queue
             .backjump(question, &mut self.occurrences, partial)?;
         self.used.clear();
-        self.spent.backjump(partial.level())?;
+        self.occurrences.backjump(&mut self.spent, partial.level());
         self.spent.add(at, partial.level())
     }
 }

@@ -9,6 +9,7 @@
 //! | `question.rt` | what is asked of which registry | |
 //! | `agenda.rt` | which lines are looked at, and which package is decided | Unit Propagation, Decision Making |
 //! | `occurrences.rt` | occurrence lists: the lines that name a package | Unit Propagation |
+//! | `kept.rt` | what is kept of a package that lines name | Unit Propagation, Decision Making |
 //! | `spent.rt` | the lines that are not looked at until the search jumps back | Unit Propagation |
 //! | `queue.rt` | the packages that are to be decided | Decision Making |
 //! | `order.rt` | the order of decisions | Decision Making |
@@ -23,6 +24,7 @@ mod agenda;
 mod alike;
 mod covered;
 mod greedy;
+mod kept;
 mod obstacle;
 mod occurrences;
 mod order;

@@ -4,13 +4,18 @@ ghost use Rattle.std.specs.Prelude.{◌≡◌, IfErr};
 ghost use Rattle.versions.specs.declared.refusal.Refusal.TheVariants.{NoMemory};
 
 use crate::alike::several_depend_alike;
-use crate::covered::{Covered, Targets};
-use crate::question::{Question, ROOM, version_count};
+use crate::covered::Covered;
+use crate::kept::Kept;
+use crate::question::{Question, ROOM};
 use crate::spent::Spent;
 use partial::Partial;
 use std::alloc::Global;
-use terms::{Incompat, Pkg, Relation, Term, VSet, relation};
+use terms::{Incompat, Pkg, Relation, Term, relation};
 use versions::Refusal;
+
+/// How many spent lines of a package are passed over before they are put aside: so a package with very many
+/// lines costs no look at each of them whenever it changes, and short lists are left as they are.
+const PASSED: usize = 32;
 
 /// A line that names a package. These are read far more often than what the lines say, so they stand by
 /// themselves, and as numbers of 32 bits. A line beyond those is not noted, though none ever fitted a
@@ -30,30 +35,9 @@ struct Saying {
     term: Term,
     /// The number of the line's other occurrence, 0 where there are not two.
     other: u32,
-}
-
-/// What is kept of a package.
-#[derive(Drop)]
-struct Kept {
-    /// The numbers of the first and of the last occurrence of it, 0 where there is none.
-    first: u32,
-    last: u32,
-    /// The packages on which dependencies of its versions stand among the lines.
-    targets: Targets,
-    /// The versions of which all dependencies are among the lines.
-    entered: VSet,
-    /// Whether it was asked if all its versions depend on the same.
-    asked: bool,
-    allowed: Allowed,
-}
-
-/// Which versions of a package are allowed.
-#[derive(Drop)]
-enum Allowed {
-    /// This was not asked for yet.
-    Unknown,
-    All,
-    Only(VSet),
+    /// The number of the occurrence behind which this one is put back into its package's list, 0 where it is
+    /// the first, if it was put aside.
+    aside: Option<u32>,
 }
 
 /// What is kept of the packages that lines name.
@@ -68,27 +52,9 @@ pub(crate) struct Occurrences {
     kept: Vec<Kept>,
     occurrences: Vec<Occurrence>,
     sayings: Vec<Saying>,
+    /// How many occurrences are put aside. Their lines are spent.
+    aside: usize,
     covered: Covered,
-}
-
-/// Which versions of a package are allowed.
-fn allowed_of(question: &Question<'_>, pkg: Pkg) -> Result<Allowed, Refusal>
-    ensures { IfErr result (λ e. e ≡ NoMemory) }
-{
-    if !question.registry.has_yanks(pkg) {
-        return Ok(Allowed::All);
-    }
-    let count = version_count(question.registry, pkg);
-    if (0..count).all(|ordinal| question.registry.allowed(question.request, pkg, ordinal)) {
-        return Ok(Allowed::All);
-    }
-    let mut allowed = VSet::new(question.alloc);
-    for ordinal in 0..count {
-        if question.registry.allowed(question.request, pkg, ordinal) {
-            allowed.insert(ordinal)?;
-        }
-    }
-    Ok(Allowed::Only(allowed))
 }
 
 /// Of what use a line is now.
@@ -102,37 +68,6 @@ enum Use {
     Contradicted,
 }
 
-impl Kept {
-    /// Of a package that was named once, by the occurrence of this number.
-    fn new(alloc: Global, occurrence: u32) -> Kept {
-        Kept {
-            first: occurrence,
-            last: occurrence,
-            targets: Targets::none(),
-            entered: VSet::new(alloc),
-            asked: false,
-            allowed: Allowed::Unknown,
-        }
-    }
-
-    /// How many of the allowed versions a positive term leaves; none of a negative one.
-    #[inline(always)]
-    fn count(&mut self, question: &Question<'_>, pkg: Pkg, said: &Term) -> Result<usize, Refusal>
-        ensures { IfErr result (λ e. e ≡ NoMemory) }
-    {
-        let Term::In(left) = said else {
-            return Ok(0);
-        };
-        if let Allowed::Unknown = self.allowed {
-            self.allowed = allowed_of(question, pkg)?;
-        }
-        Ok(match &self.allowed {
-            Allowed::Unknown | Allowed::All => left.len(),
-            Allowed::Only(allowed) => said.count_in(allowed),
-        })
-    }
-}
-
 impl Occurrences {
     pub fn new(alloc: Global) -> Result<Occurrences, Refusal>
         ensures { IfErr result (λ e. e ≡ NoMemory) }
@@ -142,6 +77,7 @@ impl Occurrences {
             kept: Vec::with_capacity(alloc, ROOM)?,
             occurrences: Vec::with_capacity(alloc, 2 * ROOM)?,
             sayings: Vec::with_capacity(alloc, 2 * ROOM)?,
+            aside: 0,
             covered: Covered::new(alloc)?,
         })
     }
@@ -199,23 +135,107 @@ impl Occurrences {
             pkg,
             term: entry.1.copy(alloc)?,
             other,
+            aside: None,
         })?;
         match self.get_mut(pkg) {
             None => self.add(pkg, Kept::new(alloc, number)),
             Some(kept) => {
                 let before = kept.last;
                 kept.last = number;
-                self.link(before, number);
+                self.link(pkg, before, number);
                 Ok(())
             }
         }
     }
 
-    /// Makes the occurrence of one number the next after that of another.
-    fn link(&mut self, before: u32, number: u32) {
-        if let Some(index) = before.checked_sub(1) {
-            if let Some(occurrence) = self.occurrences.as_mut_slice().get_mut(index as usize) {
-                occurrence.next = number;
+    /// Makes the occurrence of one number the next after that of another, or the first of a package.
+    fn link(&mut self, pkg: Pkg, before: u32, number: u32) {
+        match before.checked_sub(1) {
+            None => {
+                if let Some(kept) = self.get_mut(pkg) {
+                    kept.first = number;
+                }
+            }
+            Some(index) => {
+                if let Some(occurrence) = self.occurrences.as_mut_slice().get_mut(index as usize) {
+                    occurrence.next = number;
+                }
+            }
+        }
+    }
+
+    /// The number of the occurrence after that of another, or of the first of a package.
+    fn after(&self, pkg: Pkg, before: u32) -> u32 {
+        if before == 0 {
+            return self.get(pkg).map_or(0, |kept| kept.first);
+        }
+        self.occurrence_of(before)
+            .map_or(0, |occurrence| occurrence.next)
+    }
+
+    /// Makes the occurrence of a number the last of a package, where this is the one after it.
+    fn end_at(&mut self, pkg: Pkg, number: u32, next: u32) {
+        if next == 0 {
+            if let Some(kept) = self.get_mut(pkg) {
+                kept.last = number;
+            }
+        }
+    }
+
+    /// Takes an occurrence out of its package's list, where it stands between two others.
+    fn put_aside(&mut self, pkg: Pkg, before: u32, number: u32, next: u32) {
+        if let Some(saying) = self.saying_mut(number) {
+            saying.aside = Some(before);
+        }
+        self.aside = self.aside.saturating_add(1);
+        self.link(pkg, before, next);
+        self.end_at(pkg, before, next);
+    }
+
+    /// Puts an occurrence that was put aside into its package's list again, behind the one that it was
+    /// taken out from. That stands there: it was spent later, if at all, and so it came back before.
+    fn put_back(&mut self, number: u32) {
+        let Some(saying) = self.saying_mut(number) else {
+            return;
+        };
+        let pkg = saying.pkg;
+        let Some(before) = saying.aside.take() else {
+            return;
+        };
+        self.aside = self.aside.saturating_sub(1);
+        let next = self.after(pkg, before);
+        self.link(pkg, number, next);
+        self.link(pkg, before, number);
+        self.end_at(pkg, number, next);
+    }
+
+    /// As `put_back`, for each occurrence of the line at a place. They stand one behind the other, by the
+    /// order of the lines.
+    fn put_back_line(&mut self, at: usize) {
+        if self.aside == 0 {
+            return;
+        }
+        let before = self
+            .occurrences
+            .as_slice()
+            .partition_point(|occurrence| (occurrence.at as usize) < at);
+        let Ok(before) = u32::try_from(before) else {
+            return;
+        };
+        for number in before.saturating_add(1)..self.next_number() {
+            match self.occurrence_of(number) {
+                Some(occurrence) if occurrence.at as usize == at => self.put_back(number),
+                Some(_) | None => return,
+            }
+        }
+    }
+
+    /// Takes back what was spent above a level.
+    pub fn backjump(&mut self, spent: &mut Spent, level: usize) {
+        for _ in 0..spent.len() {
+            match spent.pop_above(level) {
+                None => return,
+                Some(at) => self.put_back_line(at),
             }
         }
     }
@@ -232,6 +252,12 @@ impl Occurrences {
     fn saying_of(&self, number: u32) -> Option<&Saying> {
         let index = number.checked_sub(1)?;
         self.sayings.as_slice().get(index as usize)
+    }
+
+    /// As `saying_of`, to write there.
+    fn saying_mut(&mut self, number: u32) -> Option<&mut Saying> {
+        let index = number.checked_sub(1)?;
+        self.sayings.as_mut_slice().get_mut(index as usize)
     }
 
     /// Whether the dependency of a version on another package stands among the lines.
@@ -358,11 +384,62 @@ impl Occurrences {
         }
     }
 
+    /// Puts the spent lines of a package aside.
+    fn sweep(&mut self, pkg: Pkg, spent: &Spent) {
+        let mut before = 0;
+        let mut number = self.after(pkg, 0);
+        for _ in 0..self.occurrences.len() {
+            let Some(occurrence) = self.occurrence_of(number) else {
+                return;
+            };
+            if spent.has(occurrence.at as usize) {
+                self.put_aside(pkg, before, number, occurrence.next);
+            } else {
+                before = number;
+            }
+            number = occurrence.next;
+        }
+    }
+
     /// Gathers the places of those lines that are not spent and whose term on a package is satisfied by
     /// what is said of it. Of the others nothing new follows: their term on the package is contradicted,
-    /// or is the one that is left. Those that are contradicted are spent at this level.
-    pub fn gather(
+    /// or is the one that is left. Those that are contradicted are spent at this level. Answers how many
+    /// lines were spent before.
+    fn gather_ripe(
         &self,
+        partial: &Partial,
+        pkg: Pkg,
+        said: &Term,
+        spent: &mut Spent,
+        ripe: &mut Vec<usize>,
+    ) -> Result<usize, Refusal>
+        ensures { IfErr result (λ e. e ≡ NoMemory) }
+    {
+        let level = partial.level();
+        let mut passed = 0usize;
+        let mut number = self.after(pkg, 0);
+        for _ in 0..self.occurrences.len() {
+            let Some(occurrence) = self.occurrence_of(number) else {
+                return Ok(passed);
+            };
+            let at = occurrence.at as usize;
+            if spent.has(at) {
+                passed = passed.saturating_add(1);
+            } else {
+                match self.use_of(partial, number, said) {
+                    Use::Ripe => ripe.push(at)?,
+                    Use::Unripe => {}
+                    Use::Contradicted => spent.add(at, level)?,
+                }
+            }
+            number = occurrence.next;
+        }
+        Ok(passed)
+    }
+
+    /// As `gather_ripe`; where many lines were spent, they are put aside.
+    pub fn gather(
+        &mut self,
         partial: &Partial,
         pkg: Pkg,
         said: &Term,
@@ -371,24 +448,8 @@ impl Occurrences {
     ) -> Result<(), Refusal>
         ensures { IfErr result (λ e. e ≡ NoMemory) }
     {
-        let Some(kept) = self.get(pkg) else {
-            return Ok(());
-        };
-        let level = partial.level();
-        let mut number = kept.first;
-        for _ in 0..self.occurrences.len() {
-            let Some(occurrence) = self.occurrence_of(number) else {
-                return Ok(());
-            };
-            let at = occurrence.at as usize;
-            if !spent.has(at) {
-                match self.use_of(partial, number, said) {
-                    Use::Ripe => ripe.push(at)?,
-                    Use::Unripe => {}
-                    Use::Contradicted => spent.add(at, level)?,
-                }
-            }
-            number = occurrence.next;
+        if self.gather_ripe(partial, pkg, said, spent, ripe)? > PASSED {
+            self.sweep(pkg, spent);
         }
         Ok(())
     }

@@ -17,19 +17,11 @@ pub struct Question<'a> {
     pub request: &'a Request,
 }
 
-/// How many versions of a package are published; none of one that is not numbered.
-pub(crate) fn version_count(registry: &Registry, pkg: Pkg) -> u32 {
-    u32::try_from(registry.versions(pkg)).unwrap_or(u32::MAX)
-}
-
 /// The version of a package that the lock names.
 pub fn locked_version<'a>(question: &Question<'a>, pkg: Pkg) -> Option<&'a Published> {
     // Most requests have no lock, and then no name is looked up.
-    if question.request.lock().is_empty()
-        || pkg == 0
-        || pkg as usize > question.registry.packages()
-    {
+    if question.request.lock().is_empty() {
         return None;
     }
-    question.request.locked(question.registry.name(pkg))
+    question.request.locked(question.registry.name_at(pkg)?)
 }

@@ -3,7 +3,7 @@
 ghost use Rattle.std.specs.Prelude.{◌≡◌, IfErr};
 ghost use Rattle.versions.specs.declared.refusal.Refusal.TheVariants.{NoMemory};
 
-use crate::question::{Question, version_count};
+use crate::question::Question;
 use indexmap::IndexMap;
 use std::alloc::Global;
 use std::hash::{DefaultHasher, Hash, Hasher};
@@ -70,7 +70,7 @@ fn is_repeated(question: &Question<'_>, pkg: Pkg, ordinal: u32) -> bool {
 /// Whether a package has many dependencies, where those count once that versions repeat.
 fn has_many(question: &Question<'_>, pkg: Pkg) -> bool {
     let mut count = 0usize;
-    for ordinal in 0..version_count(question.registry, pkg) {
+    for ordinal in 0..question.registry.version_count(pkg) {
         if !is_repeated(question, pkg, ordinal) {
             count = count.saturating_add(needs(question, pkg, ordinal).len());
         }
@@ -109,7 +109,7 @@ impl Sharing {
     fn list_package(&mut self, question: &Question<'_>, pkg: Pkg) -> Result<(), Refusal>
         ensures { IfErr result (λ e. e ≡ NoMemory) }
     {
-        for ordinal in 0..version_count(question.registry, pkg) {
+        for ordinal in 0..question.registry.version_count(pkg) {
             if !is_repeated(question, pkg, ordinal) {
                 self.list_version(question, pkg, ordinal)?;
             }
@@ -172,7 +172,7 @@ impl Sharing {
     {
         self.found.push(place)?;
         let index = place.index;
-        for ordinal in place.ordinal.saturating_add(1)..version_count(question.registry, pkg) {
+        for ordinal in place.ordinal.saturating_add(1)..question.registry.version_count(pkg) {
             if !is_repeated(question, pkg, ordinal) {
                 return Ok(());
             }

@@ -38,10 +38,13 @@ impl Spent {
         self.is_spent.as_slice().get(at).copied() == Some(true)
     }
 
-    /// Notes that the line at a place is spent at a level.
+    /// Notes that the line at a place is spent at a level, unless it is noted.
     pub fn add(&mut self, at: usize, level: usize) -> Result<(), Refusal>
         ensures { IfErr result (λ e. e ≡ NoMemory) }
     {
+        if self.has(at) {
+            return Ok(());
+        }
         for _ in self.is_spent.len()..at.saturating_add(1) {
             self.is_spent.push(false)?;
         }
@@ -50,17 +53,19 @@ impl Spent {
         Ok(())
     }
 
-    /// Takes back what was noted above a level.
-    pub fn backjump(&mut self, level: usize) -> Result<(), Refusal>
-        ensures { IfErr result (λ e. e ≡ NoMemory) }
-    {
-        'order: while let Some((at, made)) = self.order.pop() {
-            if made <= level {
-                self.order.push((at, made))?;
-                return Ok(());
-            }
-            mark(&mut self.is_spent, at, false);
+    /// How many lines are spent.
+    pub fn len(&self) -> usize {
+        self.order.len()
+    }
+
+    /// Takes back what was noted last, if it was above a level, and answers the place of the line.
+    pub fn pop_above(&mut self, level: usize) -> Option<usize> {
+        let (at, made) = *self.order.as_slice().last()?;
+        if made <= level {
+            return None;
         }
-        Ok(())
+        self.order.pop();
+        mark(&mut self.is_spent, at, false);
+        Some(at)
     }
 }

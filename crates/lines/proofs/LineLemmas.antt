@@ -6,7 +6,7 @@ use Rattle.std.proofs.Math.Seq.{drop-length}
 use Rattle.lines.specs.Unread.{Unread, StandsFor, line_limit}
 use Rattle.std.specs.List.{AllByRecursion}
 use Rattle.std.proofs.lemmas.List.Elements.{recursion_from_All}
-use Rattle.lines.specs.Lines.{line_feed, HasNoFeed, lines_of, whole_lines_of}
+use Rattle.lines.specs.Lines.{line_feed, HasNoFeed, lines_of, whole_lines_of, with_feeds}
 
 other : (b : ℕ) → b ≢ line_feed → (b == line_feed) ≡ false
 other b h = search rules
@@ -57,17 +57,8 @@ whole_lines_of-rest_by (b ∷ line) h = rw (other b h.0, whole_lines_of-rest_by 
 pub whole_lines_of-rest : (line : List ℕ) → HasNoFeed line → whole_lines_of line ≡ []
 whole_lines_of-rest line h = whole_lines_of-rest_by line (recursion_from_All _ line h)
 
--- lines, each with its line feed
-abbrev pub with_feeds : List (List ℕ) → List ℕ
-with_feeds lines = flat_map (λ line. line ++ line_feed ∷ []) lines
-
-pub with_feeds-cons : (line : List ℕ) (lines : List (List ℕ)) (rest : List ℕ) → with_feeds (line ∷ lines) ++ rest ≡ line ++ line_feed ∷ (with_feeds lines ++ rest)
+with_feeds-cons : (line : List ℕ) (lines : List (List ℕ)) (rest : List ℕ) → with_feeds (line ∷ lines) ++ rest ≡ line ++ line_feed ∷ (with_feeds lines ++ rest)
 with_feeds-cons line lines rest = append_assoc (line ++ line_feed ∷ []) (with_feeds lines) rest ∙ append_assoc line (line_feed ∷ []) (with_feeds lines ++ rest)
-
-pub with_feeds-more : (lines : List (List ℕ)) (line rest : List ℕ) → with_feeds (lines ++ line ∷ []) ++ rest ≡ with_feeds lines ++ (line ++ line_feed ∷ rest)
-with_feeds-more [] line rest = with_feeds-cons line [] rest
-with_feeds-more (first ∷ lines) line rest = with_feeds-cons first (lines ++ line ∷ []) rest
-    ∙ ap (λ l. first ++ line_feed ∷ l) (with_feeds-more lines line rest) ∙ sym (with_feeds-cons first lines (line ++ line_feed ∷ rest))
 
 pub lines_of-with_feeds : (lines : List (List ℕ)) (rest : List ℕ) → AllByRecursion HasNoFeed lines → lines_of (with_feeds lines ++ rest) ≡ lines ++ lines_of rest
 lines_of-with_feeds [] rest h = refl
@@ -78,10 +69,6 @@ pub whole_lines_of-with_feeds : (lines : List (List ℕ)) (rest : List ℕ) → 
 whole_lines_of-with_feeds [] rest h = refl
 whole_lines_of-with_feeds (line ∷ lines) rest h = ap whole_lines_of (with_feeds-cons line lines rest) ∙ whole_lines_of-feed line (with_feeds lines ++ rest) h.0
     ∙ ap (λ ls. line ∷ ls) (whole_lines_of-with_feeds lines rest h.1)
-
-pub no_feeds-more : (lines : List (List ℕ)) (line : List ℕ) → AllByRecursion HasNoFeed lines → HasNoFeed line → AllByRecursion HasNoFeed (lines ++ line ∷ [])
-no_feeds-more [] line h here = (here, tt)
-no_feeds-more (first ∷ lines) line h here = (h.0, no_feeds-more lines line h.1 here)
 
 -- more of the text is read
 pub StandsFor-more : (old new : Unread) (text piece : List ℕ) → StandsFor old text → new.bytes ≡ old.bytes ++ piece → new.is_long ≡ old.is_long → StandsFor new (text ++ piece)

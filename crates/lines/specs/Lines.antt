@@ -1,5 +1,5 @@
 -- A text as lines, each ended by a line feed.
-use Rattle.std.specs.Prelude.{◌≢◌, ℕ, List, [], ◌∷◌, ◌==◌, if◌then◌else◌, All}
+use Rattle.std.specs.Prelude.{◌≢◌, ℕ, List, [], ◌∷◌, ◌++◌, ◌==◌, if◌then◌else◌, All, flat_map}
 
 abbrev pub line_feed : ℕ
 line_feed = 10
@@ -27,3 +27,7 @@ onto_whole b (line ∷ lines) = (b ∷ line) ∷ lines
 abbrev pub whole_lines_of : List ℕ → List (List ℕ)
 whole_lines_of [] = []
 whole_lines_of (b ∷ bytes) = if b == line_feed then [] ∷ whole_lines_of bytes else onto_whole b (whole_lines_of bytes)
+
+-- lines, each ended by its line feed
+abbrev pub with_feeds : List (List ℕ) → List ℕ
+with_feeds lines = flat_map (λ line. line ++ line_feed ∷ []) lines

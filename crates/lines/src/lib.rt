@@ -5,6 +5,7 @@
 #![tactic(auto)]
 
 mod buffer;
+mod laws;
 mod outbox;
 mod read;
 mod retry;
@@ -12,6 +13,7 @@ mod slices;
 mod write;
 
 pub use buffer::{LINE_LIMIT, LineBuffer, Next};
+pub use laws::{lines_end_at_feeds, reading_goes_on};
 pub use outbox::Outbox;
 pub use slices::{count_lines, first_line};
 pub use write::{write_text, write_texts};

@@ -1,5 +1,6 @@
 //! Text that waits to be written, so that many short texts become one write.
-ghost use Rattle.std.specs.Prelude.{◌≡◌, ◌≢◌, ◌+◌, ◌≤◌, List, [], ◌++◌, ℕ, length, IsOk, IfOk, IfErr, OnErr, vec_len, vec_capacity, flat_map};
+ghost use Rattle.std.specs.Prelude.{◌≡◌, ◌≢◌, ◌+◌, ◌≤◌, List, [], ◌++◌, ℕ, length, IsOk, IfOk, IfErr, OnErr, vec_len, vec_capacity, flat_map, Option};
+ghost use Rattle.std.specs.Io.KnownBytes.{Appends};
 ghost use Rattle.std.specs.IoError.{error_kind};
 ghost use Rattle.lines.specs.Texts.{Writes, Puts, outbox_room};
 
@@ -42,6 +43,9 @@ impl Outbox {
     /// Writes what waits, and flushes the writer. Call it before a read that may wait for an answer.
     pub fn send<W: Write>(&mut self, writer: &mut W) -> io::Result<()>
         ensures sent { Writes (W.contents writer.old) (W.contents writer.new) result self.old }
+        // Where a part of a text was written and the rest waits, all of the text is written.
+        ensures rest { (before : Option (List ℕ)) (written text : List ℕ) → Appends before (W.contents writer.old) written
+            → written ++ self.old ≡ text → Writes before (W.contents writer.new) result text }
         ensures empty { self.new ≡ [] }
         ensures retried { IfErr result (λ e. error_kind e ≢ ErrorKind.Interrupted) }
     {

@@ -5,8 +5,7 @@ ghost use Rattle.book.specs.Items.{refusal};
 
 use crate::item_texts::{ItemText, item_at};
 use book::{Item, Replica};
-use rows::{Answer, Unread, member};
-use rows_learnt::{StoreText, all_stand, count};
+use rows::{Answer, StoreText, Unread, all_stand, count, member, shown};
 use serde_json::Value;
 use std::alloc::Global;
 
@@ -17,21 +16,36 @@ pub fn book_call(
     row: &Value,
 ) -> Result<Answer, Unread> {
     match name {
-        "reserve" => reserve(alloc, replica, row),
-        "apply" => apply(alloc, replica, row),
-        "enter" => enter(alloc, replica, row),
-        "replay" => replay(alloc, replica, row),
-        _ => about(alloc, replica, name, row),
+        "stored" => shown(alloc, &StoreText(replica.store())),
+        "standing" => Ok(standing(replica)),
+        _ => item_call(alloc, replica, name, row),
     }
 }
 
-fn about(alloc: Global, replica: &Replica, name: &str, row: &Value) -> Result<Answer, Unread> {
+fn item_call(
+    alloc: Global,
+    replica: &mut Replica,
+    name: &str,
+    row: &Value,
+) -> Result<Answer, Unread> {
+    about_item(alloc, replica, name, row, &item_at(alloc, row)?)
+}
+
+fn about_item(
+    alloc: Global,
+    replica: &mut Replica,
+    name: &str,
+    row: &Value,
+    item: &Item,
+) -> Result<Answer, Unread> {
     match name {
-        "check" => check(alloc, replica, row),
-        "judge" => judge(alloc, replica, row),
-        "shared" => shared(alloc, replica, row),
-        "stored" => stored(alloc, replica),
-        "standing" => Ok(standing(replica)),
+        "check" => check(replica, item),
+        "judge" => judge(replica, row, item),
+        "shared" => shared(alloc, replica, item),
+        "reserve" => reserve(replica, item),
+        "apply" => apply(replica, item),
+        "enter" => enter(replica, item),
+        "replay" => replay(replica, item),
         _ => Err(Unread::Row),
     }
 }
@@ -46,55 +60,36 @@ fn standing(replica: &Replica) -> Answer {
     Answer::Places(revision as usize, count(replica.store()))
 }
 
-fn check(alloc: Global, replica: &Replica, row: &Value) -> Result<Answer, Unread> {
-    replica.check(&item_at(alloc, row)?)?;
+fn check(replica: &Replica, item: &Item) -> Result<Answer, Unread> {
+    replica.check(item)?;
     Ok(Answer::None)
 }
 
-fn judge(alloc: Global, replica: &Replica, row: &Value) -> Result<Answer, Unread> {
+fn judge(replica: &Replica, row: &Value, item: &Item) -> Result<Answer, Unread> {
     let full = member(row, "full")?.as_bool().ok_or(Unread::Row)?;
-    replica.judge(full, &item_at(alloc, row)?)?;
+    replica.judge(full, item)?;
     Ok(Answer::None)
 }
 
-fn stored(alloc: Global, replica: &Replica) -> Result<Answer, Unread> {
-    Ok(Answer::Text(format!(in alloc; "{}", StoreText(replica.store()))?))
+/// The equal item that the book answers.
+fn shared(alloc: Global, replica: &Replica, item: &Item) -> Result<Answer, Unread> {
+    shown(alloc, &ItemText(&replica.shared(item)?))
 }
 
-fn shared(alloc: Global, replica: &Replica, row: &Value) -> Result<Answer, Unread> {
-    shared_told(alloc, &replica.shared(&item_at(alloc, row)?)?)
-}
-
-fn shared_told(alloc: Global, copy: &Item) -> Result<Answer, Unread> {
-    Ok(Answer::Text(format!(in alloc; "{}", ItemText(copy))?))
-}
-
-fn reserve(alloc: Global, replica: &mut Replica, row: &Value) -> Result<Answer, Unread> {
-    reserved(replica, &item_at(alloc, row)?)
-}
-
-fn reserved(replica: &mut Replica, item: &Item) -> Result<Answer, Unread> {
+fn reserve(replica: &mut Replica, item: &Item) -> Result<Answer, Unread> {
     replica.check(item)?;
     replica.reserve(item)?;
     Ok(standing(replica))
 }
 
 /// Carries out an item for which no room was made.
-fn apply(alloc: Global, replica: &mut Replica, row: &Value) -> Result<Answer, Unread> {
-    applied(replica, &item_at(alloc, row)?)
-}
-
-fn applied(replica: &mut Replica, item: &Item) -> Result<Answer, Unread> {
+fn apply(replica: &mut Replica, item: &Item) -> Result<Answer, Unread> {
     replica.check(item)?;
     carried_out(replica, item)
 }
 
 /// Carries out an item by all steps.
-fn enter(alloc: Global, replica: &mut Replica, row: &Value) -> Result<Answer, Unread> {
-    entered(replica, &item_at(alloc, row)?)
-}
-
-fn entered(replica: &mut Replica, item: &Item) -> Result<Answer, Unread> {
+fn enter(replica: &mut Replica, item: &Item) -> Result<Answer, Unread> {
     replica.check(item)?;
     replica.reserve(item)?;
     carried_out(replica, item)
@@ -112,10 +107,10 @@ fn carried_out(replica: &mut Replica, item: &Item) -> Result<Answer, Unread>
 }
 
 /// Carries out an item if it is accepted; a refused one changes nothing.
-fn replay(alloc: Global, replica: &mut Replica, row: &Value) -> Result<Answer, Unread> {
+fn replay(replica: &mut Replica, item: &Item) -> Result<Answer, Unread> {
     if replica.registry().revision() == u64::MAX {
         return Ok(Answer::Skipped);
     }
-    replica.replay(&item_at(alloc, row)?)?;
+    replica.replay(item)?;
     Ok(standing(replica))
 }

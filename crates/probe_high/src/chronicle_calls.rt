@@ -5,8 +5,7 @@ ghost use Rattle.std.specs.Prelude.{◌≡◌, ◌≤◌, IfOk};
 
 use crate::seat_steps::{made, seat_step};
 use chronicle::{CAPACITY_LIMIT, Mark, Row, SEAT_LIMIT, Seat, agree, seats};
-use rows::{Answer, Unread, items, member, size_at, text, whole};
-use rows_learnt::{Answers, all_stand};
+use rows::{Answer, Answers, Unread, all_stand, items, member, size_at, text, whole};
 use serde_json::Value;
 use std::alloc::Global;
 

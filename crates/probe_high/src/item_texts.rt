@@ -1,8 +1,7 @@
 //! Items of rows and of answers.
 
 use book::Item;
-use rows::{CommandText, Unread, command_of, text_at, write_terms};
-use rows_learnt::learnt_at;
+use rows::{CommandText, Unread, command_of, learnt_at, text_at, write_terms};
 use serde_json::Value;
 use std::alloc::Global;
 use std::fmt;

@@ -9,9 +9,9 @@ use chronicle::{Entry, Mark, Seat, Stamp};
 use derivations::Learnt;
 use registry::Request;
 use rows::{
-    Answer, LockText, Unread, command_of, name_at, needs_at, request_at, text_at, version_at,
+    Answer, LockText, StoreText, Unread, command_of, count, learnt_at, name_at, needs_at,
+    request_at, shown, text_at, version_at,
 };
-use rows_learnt::{StoreText, count, learnt_at};
 use serde_json::Value;
 use solver::Outcome;
 use std::alloc::Global;
@@ -45,13 +45,9 @@ fn step_alone(
     ensures { seat.new.row ≡ seat.old.row }
 {
     match name {
-        "publish" => entered_told(alloc, name, given, seat),
-        "yank" => entered_told(alloc, name, given, seat),
-        "unyank" => entered_told(alloc, name, given, seat),
-        "enter" => entered_told(alloc, name, given, seat),
-        "learn" => entered_told(alloc, name, given, seat),
-        "resolve" => resolved_told(alloc, given, seat),
-        "resolve_and_learn" => resolved_and_learnt(alloc, given, seat),
+        "publish" | "yank" | "unyank" | "enter" | "learn" => entered_told(alloc, name, given, seat),
+        "resolve" => resolve(alloc, false, given, seat),
+        "resolve_and_learn" => resolve(alloc, true, given, seat),
         "catch_up" => end_told(caught_up(seat)),
         _ => about(alloc, name, seat),
     }
@@ -65,19 +61,10 @@ fn about(alloc: Global, name: &str, seat: &Seat<'_>) -> Result<Answer, Unread> {
         "revision" => Ok(Answer::Number(seat.revision() as usize)),
         "number" => Ok(Answer::Number(seat.number() as usize)),
         "registry" => Ok(Answer::Number(seat.registry().revision() as usize)),
-        "journal" => journal(alloc, seat.journal()),
-        "stored" => stored(alloc, seat),
+        "journal" => shown(alloc, &JournalText(seat.journal())),
+        "stored" => shown(alloc, &StoreText(seat.store())),
         _ => Err(Unread::Row),
     }
-}
-
-fn journal(alloc: Global, entries: &[&Entry]) -> Result<Answer, Unread> {
-    Ok(Answer::Text(format!(in alloc; "{}", JournalText(entries))?))
-}
-
-/// What is stored, in order of learning.
-fn stored(alloc: Global, seat: &Seat<'_>) -> Result<Answer, Unread> {
-    Ok(Answer::Text(format!(in alloc; "{}", StoreText(seat.store()))?))
 }
 
 /// Of each entry the number of the seat that made it, its serial, and its item.
@@ -204,8 +191,7 @@ fn entered(alloc: Global, name: &str, given: &Value, seat: &mut Seat<'_>) -> Res
 {
     match name {
         "publish" => published(alloc, given, seat),
-        "yank" => yanked(alloc, given, seat),
-        "unyank" => unyanked(alloc, given, seat),
+        "yank" | "unyank" => yanked(alloc, name, given, seat),
         "learn" => Ok(seat.learn(learnt_at(alloc, given)?)?),
         _ => command_entered(alloc, given, seat),
     }
@@ -220,20 +206,16 @@ fn published(alloc: Global, given: &Value, seat: &mut Seat<'_>) -> Result<Stamp,
     Ok(seat.publish(name, version, needs)?)
 }
 
-fn yanked(alloc: Global, given: &Value, seat: &mut Seat<'_>) -> Result<Stamp, Unread>
+/// Yanks a version, or takes its yank back.
+fn yanked(alloc: Global, kind: &str, given: &Value, seat: &mut Seat<'_>) -> Result<Stamp, Unread>
     ensures { seat.new.row ≡ seat.old.row }
 {
     let name = name_at(alloc, given, "name")?;
     let version = version_at(alloc, given, "version")?;
-    Ok(seat.yank(name, version)?)
-}
-
-fn unyanked(alloc: Global, given: &Value, seat: &mut Seat<'_>) -> Result<Stamp, Unread>
-    ensures { seat.new.row ≡ seat.old.row }
-{
-    let name = name_at(alloc, given, "name")?;
-    let version = version_at(alloc, given, "version")?;
-    Ok(seat.unyank(name, version)?)
+    match kind {
+        "yank" => Ok(seat.yank(name, version)?),
+        _ => Ok(seat.unyank(name, version)?),
+    }
 }
 
 fn command_entered(alloc: Global, given: &Value, seat: &mut Seat<'_>) -> Result<Stamp, Unread>
@@ -244,26 +226,48 @@ fn command_entered(alloc: Global, given: &Value, seat: &mut Seat<'_>) -> Result<
 
 // ---- resolving
 
-fn resolved_told(alloc: Global, given: &Value, seat: &mut Seat<'_>) -> Result<Answer, Unread>
+/// Resolves, and then maybe learns at once what is offered, refusals dropped. The answer then has also how many are
+/// stored.
+fn resolve(
+    alloc: Global,
+    learns: bool,
+    given: &Value,
+    seat: &mut Seat<'_>,
+) -> Result<Answer, Unread>
     ensures { seat.new.row ≡ seat.old.row }
 {
     let budget = budget_at(given)?;
-    let request = request_at(alloc, given)?;
-    match resolved_again(seat, &request, budget) {
-        Ok((stamp, outcome)) => outcome_told(alloc, stamp, &outcome),
+    resolve_told(alloc, learns, seat, &request_at(alloc, given)?, budget)
+}
+
+fn resolve_told(
+    alloc: Global,
+    learns: bool,
+    seat: &mut Seat<'_>,
+    request: &Request,
+    budget: Option<u32>,
+) -> Result<Answer, Unread>
+    ensures { seat.new.row ≡ seat.old.row }
+{
+    match resolved_again(seat, request, budget) {
+        Ok((stamp, outcome)) => outcome_told(alloc, learns, stamp, &outcome, seat),
         Err(why) => refusal_told(Unread::Refused(why)),
     }
 }
 
-/// Resolves, and then learns at once what is offered, refusals dropped. The answer has also how many are stored then.
-fn resolved_and_learnt(alloc: Global, given: &Value, seat: &mut Seat<'_>) -> Result<Answer, Unread>
+fn outcome_told(
+    alloc: Global,
+    learns: bool,
+    stamp: Stamp,
+    outcome: &Outcome,
+    seat: &mut Seat<'_>,
+) -> Result<Answer, Unread>
     ensures { seat.new.row ≡ seat.old.row }
 {
-    let budget = budget_at(given)?;
-    let request = request_at(alloc, given)?;
-    match resolved_again(seat, &request, budget) {
-        Ok((stamp, outcome)) => learnt_told(alloc, stamp, &outcome, seat),
-        Err(why) => refusal_told(Unread::Refused(why)),
+    if learns {
+        learnt_told(alloc, stamp, outcome, seat)
+    } else {
+        shown(alloc, &ResolvedText { stamp, outcome })
     }
 }
 
@@ -324,11 +328,6 @@ fn resolved(
         Some(budget) => seat.resolve_within(request, budget),
         None => seat.resolve(request),
     }
-}
-
-fn outcome_told(alloc: Global, stamp: Stamp, outcome: &Outcome) -> Result<Answer, Unread> {
-    let resolved = ResolvedText { stamp, outcome };
-    Ok(Answer::Text(format!(in alloc; "{resolved}")?))
 }
 
 /// `{"at":[1,1],"selected":[["a","1.0.0"]]}`, where nothing was selected with null.

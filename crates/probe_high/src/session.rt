@@ -1,11 +1,17 @@
 //! What rows change.
 
 use crate::book_calls::book_call;
+use crate::by_name_calls::by_name_call;
 use crate::chronicle_calls::chronicle_call;
+use crate::explain_calls::explain_call;
+use crate::journal_calls::journal_call;
+use crate::lines_calls::lines_call;
+use crate::reply_calls::replies_call;
 use crate::solver_calls::solver_call;
+use crate::wire_calls::wire_call;
 use book::Replica;
 use registry::Registry;
-use rows::{Answer, Calls, Unread, command_call};
+use rows::{Answer, Calls, Unread, command_call, derivation_check};
 use serde_json::Value;
 use std::alloc::Global;
 
@@ -25,21 +31,40 @@ impl Session {
     }
 }
 
-impl Calls for Session {
-    fn call(&mut self, alloc: Global, of: &str, name: &str, row: &Value) -> Result<Answer, Unread> {
+impl<R: AllocGlobal> Calls<R> for Session {
+    fn call(&mut self, rt: &R, of: &str, name: &str, row: &Value) -> Result<Answer, Unread> {
+        let alloc = rt.alloc();
         match of {
             "session" => anew(alloc, self),
             "registry" => command_call(alloc, &mut self.registry, name, row),
             "book" => book_call(alloc, &mut self.replica, name, row),
             "chronicle" => chronicle_call(alloc, name, row),
-            "solver" => solver_call(alloc, &self.registry, name, row),
-            _ => Err(Unread::Row),
+            _ => call_for(alloc, &self.registry, of, name, row),
         }
     }
 }
 
 fn anew(alloc: Global, session: &mut Session) -> Result<Answer, Unread> {
-    session.registry = Registry::new(alloc);
-    session.replica = Replica::new(alloc);
+    *session = Session::new(alloc);
     Ok(Answer::None)
+}
+
+fn call_for(
+    alloc: Global,
+    registry: &Registry,
+    of: &str,
+    name: &str,
+    row: &Value,
+) -> Result<Answer, Unread> {
+    match (of, name) {
+        ("derivation", "check") => derivation_check(alloc, registry, row),
+        ("solver", _) => solver_call(alloc, registry, name, row),
+        ("explain", _) => explain_call(alloc, registry, name, row),
+        ("by_name", _) => by_name_call(alloc, registry, name, row),
+        ("replies", _) => replies_call(alloc, registry, name, row),
+        ("lines", _) => lines_call(alloc, name, row),
+        ("wire", _) => wire_call(alloc, name, row),
+        ("journals", _) => journal_call(alloc, name, row),
+        _ => Err(Unread::Row),
+    }
 }

@@ -3,10 +3,9 @@
 use crate::outcomes::{budget_at, offered};
 use derivations::{Cause, Derivation, Learnt, Store, check};
 use registry::{Registry, Request};
-use rows::{Answer, LockText, Unread, request_at, size_at};
-use rows_learnt::{LinesText, write_conclusion};
+use rows::{Answer, LinesText, LockText, Unread, request_at, shown, size_at, write_conclusion};
 use serde_json::Value;
-use solver::{Outcome, solve, solve_within};
+use solver::{Outcome, solve_under};
 use std::alloc::{AllocError, Global};
 use std::fmt;
 use versions::{Name, Published, Refusal};
@@ -18,10 +17,19 @@ pub fn solver_call(
     name: &str,
     row: &Value,
 ) -> Result<Answer, Unread> {
+    answered(alloc, registry, &request_at(alloc, row)?, name, row)
+}
+
+fn answered(
+    alloc: Global,
+    registry: &Registry,
+    request: &Request,
+    name: &str,
+    row: &Value,
+) -> Result<Answer, Unread> {
     let budget = budget_at(row)?;
-    let request = request_at(alloc, row)?;
-    let outcome = solved(alloc, registry, &request, budget)?;
-    told(alloc, registry, &request, &outcome, name, row)
+    let outcome = solved(alloc, registry, request, budget)?;
+    told(alloc, registry, request, &outcome, name, row)
 }
 
 /// What a request is answered, within the budget of conflicts that there may be.
@@ -31,11 +39,7 @@ fn solved(
     request: &Request,
     budget: Option<u32>,
 ) -> Result<Outcome, Refusal> {
-    let store = Store::new(alloc);
-    match budget {
-        None => solve(alloc, registry, request, &store),
-        Some(budget) => solve_within(alloc, registry, request, &store, budget),
-    }
+    solve_under(alloc, registry, request, &Store::new(alloc), budget)
 }
 
 fn told(
@@ -47,18 +51,13 @@ fn told(
     row: &Value,
 ) -> Result<Answer, Unread> {
     match name {
-        "solve" => answer(alloc, outcome),
+        "solve" => shown(alloc, &OutcomeText(outcome)),
         "judge" => judged(alloc, registry, request, outcome),
-        "offered" => conclusions(alloc, offered(outcome)),
-        "counts" => counts(alloc, offered(outcome)),
+        "offered" => shown(alloc, &ConclusionsText(offered(outcome))),
+        "counts" => Ok(Answer::Numbers(counts(alloc, offered(outcome))?)),
         "cited_beyond" => cited_beyond(alloc, offered(outcome), row),
         _ => Err(Unread::Row),
     }
-}
-
-/// The whole answer: a selection or a derivation, and what is offered to be learnt.
-fn answer(alloc: Global, outcome: &Outcome) -> Result<Answer, Unread> {
-    Ok(Answer::Text(format!(in alloc; "{}", OutcomeText(outcome))?))
 }
 
 /// The selection, or whether the derivation is one, and whether all that is offered stands.
@@ -102,14 +101,13 @@ fn all_stand(registry: &Registry, offered: &[Learnt]) -> bool {
     true
 }
 
-/// What each that is offered says.
-fn conclusions(alloc: Global, offered: &[Learnt]) -> Result<Answer, Unread> {
-    Ok(Answer::Text(format!(in alloc; "{}", ConclusionsText(offered))?))
-}
-
 /// How many lines each that is offered has.
-fn counts(alloc: Global, offered: &[Learnt]) -> Result<Answer, Unread> {
-    Ok(Answer::Text(format!(in alloc; "{}", CountsText(offered))?))
+fn counts(alloc: Global, offered: &[Learnt]) -> Result<Vec<u32>, AllocError> {
+    let mut counts = Vec::new(alloc);
+    for learnt in offered {
+        counts.push(learnt.lines().len().min(u32::MAX as usize) as u32)?;
+    }
+    Ok(counts)
 }
 
 // ---- lines that are cited more than once
@@ -190,6 +188,7 @@ impl fmt::Display for OffersText<'_> {
     }
 }
 
+/// What each that is offered says.
 #[derive(Clone, Copy)]
 struct ConclusionsText<'a>(&'a [Learnt]);
 
@@ -200,21 +199,6 @@ impl fmt::Display for ConclusionsText<'_> {
         for learnt in self.0 {
             write_conclusion(f, learnt, is_first)?;
             is_first = false;
-        }
-        f.write_str("]")
-    }
-}
-
-#[derive(Clone, Copy)]
-struct CountsText<'a>(&'a [Learnt]);
-
-impl fmt::Display for CountsText<'_> {
-    fn fmt<W: fmt::Write>(&self, f: &mut fmt::Formatter<W>) -> fmt::Result {
-        let mut before = "";
-        f.write_str("[")?;
-        for learnt in self.0 {
-            write!(f, "{before}{}", learnt.lines().len())?;
-            before = ",";
         }
         f.write_str("]")
     }

@@ -1,7 +1,7 @@
 //! Calls of commands, by themselves and of the registry of a session, and of lists of dependencies.
 
 use registry::{Command, Dependencies, Registry};
-use rows::{Answer, CommandText, NeedsText, Unread, command_at, dependencies_at, shown};
+use rows::{Answer, CommandText, NeedsText, Unread, apply, command_at, dependencies_at, shown};
 use serde_json::Value;
 use std::alloc::Global;
 
@@ -35,16 +35,6 @@ fn about(
         "copy" | "shared" => equal_told(alloc, registry, name, command),
         _ => Err(Unread::Row),
     }
-}
-
-/// Enters a copy of a command, for which this call makes no room, and answers the revision after it.
-fn apply(registry: &mut Registry, command: &Command) -> Result<Answer, Unread> {
-    registry.check(command)?;
-    if registry.revision() == u64::MAX {
-        return Ok(Answer::Skipped);
-    }
-    registry.apply(command.copy()?)?;
-    Ok(Answer::Number(registry.revision() as usize))
 }
 
 fn equal_told(

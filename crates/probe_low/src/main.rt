@@ -1,23 +1,29 @@
-//! The program `probe_low`: makes one call of `versions`, `terms`, `releases`, `registry` or `partial` for each row
-//! that it reads, and writes what the call answered.
+//! The program `probe_low`: makes one call of `versions`, `terms`, `releases`, `registry`, `partial`, `derivations` or
+//! `walk` for each row that it reads, and writes what the call answered.
 //!
 //! A call is guarded by what the crate offers to test what the call requires; where that does not hold, the answer
 //! says that the call was left out.
 #![tactic(auto)]
 
 mod command_calls;
+mod derivation_calls;
 mod held_calls;
 mod incompat_calls;
+mod known_rows;
+mod learnt_calls;
 mod package_calls;
 mod partial_calls;
 mod refusal_calls;
 mod registry_calls;
 mod releases_calls;
 mod request_calls;
+mod search_calls;
 mod session;
 mod set_calls;
+mod store_calls;
 mod term_calls;
 mod text_calls;
+mod walk_calls;
 
 use rows::serve;
 use session::Session;

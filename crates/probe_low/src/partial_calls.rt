@@ -5,7 +5,10 @@ ghost use Rattle.terms.specs.Terms.{true_of};
 ghost use Rattle.partial.specs.Assignments.{is_decided, says, IsOpenTo};
 
 use partial::{Assignment, Partial, Standing, Why};
-use rows::{Answer, TermText, Unread, incompat_at, shown, size_at, term_at, whole_at, write_term};
+use rows::{
+    Answer, ChoiceText, TermText, Unread, incompat_at, shown, size_at, term_at, whole_at,
+    write_term,
+};
 use serde_json::Value;
 use std::alloc::Global;
 use std::fmt;
@@ -41,12 +44,10 @@ fn about(alloc: Global, partial: &Partial, name: &str, row: &Value) -> Result<An
         "level" => Ok(Answer::Number(partial.level())),
         "undecided" => Ok(Answer::Numbers(partial.undecided()?)),
         "assignments" => shown(alloc, &Listed(partial.assignments())),
-        "relation" => Ok(relation_to(partial, &incompat_at(alloc, row, "terms")?)),
-        "satisfier" => satisfier(partial, &incompat_at(alloc, row, "terms")?),
         "decision" => Ok(Answer::Choice(partial.decision(whole_at(row, "pkg")?))),
         "said" => said(alloc, partial, row),
         "settled" => settled(alloc, partial, row),
-        _ => Err(Unread::Row),
+        _ => on_terms(partial, name, &incompat_at(alloc, row, "terms")?),
     }
 }
 
@@ -84,11 +85,12 @@ fn is_left(partial: &Partial, pkg: Pkg, ordinal: u32) -> bool
 
 fn derive(alloc: Global, partial: &mut Partial, row: &Value) -> Result<Answer, Unread> {
     let pkg = whole_at(row, "pkg")?;
+    let cause = size_at(row, "cause")?;
     let term = term_at(alloc, row, "term")?;
     if !is_open_to(alloc, partial, pkg, &term) {
         return Ok(Answer::Skipped);
     }
-    partial.derive(pkg, term, size_at(row, "cause")?)?;
+    partial.derive(pkg, term, cause)?;
     Ok(Answer::None)
 }
 
@@ -100,6 +102,14 @@ fn decide(partial: &mut Partial, row: &Value) -> Result<Answer, Unread> {
     }
     partial.decide(pkg, ordinal)?;
     Ok(Answer::None)
+}
+
+fn on_terms(partial: &Partial, name: &str, incompat: &Incompat) -> Result<Answer, Unread> {
+    match name {
+        "relation" => Ok(relation_to(partial, incompat)),
+        "satisfier" => satisfier(partial, incompat),
+        _ => Err(Unread::Row),
+    }
 }
 
 fn relation_to(partial: &Partial, incompat: &Incompat) -> Answer {
@@ -134,7 +144,7 @@ fn said(alloc: Global, partial: &Partial, row: &Value) -> Result<Answer, Unread>
 fn settled(alloc: Global, partial: &Partial, row: &Value) -> Result<Answer, Unread> {
     match partial.settled(whole_at(row, "pkg")?) {
         Some(settled) => {
-            let (said, decision) = (TermText(settled.said), Answer::Choice(settled.decision));
+            let (said, decision) = (TermText(settled.said), ChoiceText(settled.decision));
             Ok(Answer::Text(format!(in alloc; "{{\"said\":{said},\"decision\":{decision}}}")?))
         }
         None => Ok(Answer::None),

@@ -105,9 +105,14 @@ fn matching(
             let below = whole_at(row, "below")?;
             Ok(Answer::Numbers(those_below(alloc, matching, below)?))
         }
-        "is_kept" => Ok(Answer::Bool(matches!(matching, Matching::Known(_)))),
+        "is_kept" => Ok(Answer::Bool(is_kept(matching))),
         _ => Err(Unread::Row),
     }
+}
+
+/// Whether a matching set is kept, and was not computed for this call.
+pub fn is_kept(matching: &Matching<'_>) -> bool {
+    matches!(matching, Matching::Known(_))
 }
 
 /// The ordinals below a number that a matching set has.

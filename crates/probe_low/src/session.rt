@@ -1,16 +1,22 @@
 //! What rows change.
 
 use crate::command_calls::{command_call, dependencies_call};
+use crate::derivation_calls::derivation_call;
 use crate::held_calls::{growing_set_call, held_set_call};
 use crate::incompat_calls::incompat_call;
+use crate::learnt_calls::learnt_call;
 use crate::partial_calls::partial_call;
 use crate::refusal_calls::refusal_call;
 use crate::registry_calls::registry_call;
 use crate::releases_calls::releases_call;
 use crate::request_calls::request_call;
+use crate::search_calls::search_call;
 use crate::set_calls::set_call;
+use crate::store_calls::follow_call;
 use crate::term_calls::term_call;
 use crate::text_calls::{name_call, need_call, version_call};
+use crate::walk_calls::walk_call;
+use derivations::Store;
 use partial::Partial;
 use registry::Registry;
 use releases::Releases;
@@ -19,7 +25,7 @@ use serde_json::Value;
 use std::alloc::Global;
 use terms::{GrowingSet, VSet};
 
-/// One of each thing that rows change, until a row asks for a new session.
+/// One of each thing that rows change, until a row asks for a new session. The store stands beside the registry.
 #[derive(Drop)]
 pub struct Session {
     set: VSet,
@@ -27,6 +33,7 @@ pub struct Session {
     releases: Releases,
     partial: Partial,
     registry: Registry,
+    store: Store,
 }
 
 impl Session {
@@ -37,12 +44,14 @@ impl Session {
             releases: Releases::new(alloc),
             partial: Partial::new(alloc),
             registry: Registry::new(alloc),
+            store: Store::new(alloc),
         }
     }
 }
 
-impl Calls for Session {
-    fn call(&mut self, alloc: Global, of: &str, name: &str, row: &Value) -> Result<Answer, Unread> {
+impl<R: AllocGlobal> Calls<R> for Session {
+    fn call(&mut self, rt: &R, of: &str, name: &str, row: &Value) -> Result<Answer, Unread> {
+        let alloc = rt.alloc();
         match of {
             "session" => anew(alloc, self),
             "held_set" => held_set_call(alloc, &mut self.set, name, row),
@@ -51,17 +60,14 @@ impl Calls for Session {
             "partial" => partial_call(alloc, &mut self.partial, name, row),
             "registry" => registry_call(alloc, &mut self.registry, name, row),
             "command" => command_call(alloc, &mut self.registry, name, row),
+            "store" => follow_call(alloc, &mut self.registry, &mut self.store, name, row),
             _ => call_for(alloc, &self.registry, of, name, row),
         }
     }
 }
 
 fn anew(alloc: Global, session: &mut Session) -> Result<Answer, Unread> {
-    put(&mut session.set, VSet::new(alloc));
-    put(&mut session.growing, GrowingSet::new(alloc));
-    put(&mut session.releases, Releases::new(alloc));
-    put(&mut session.partial, Partial::new(alloc));
-    put(&mut session.registry, Registry::new(alloc));
+    put(session, Session::new(alloc));
     Ok(Answer::None)
 }
 
@@ -87,6 +93,22 @@ fn call_for(
         "incompat" => incompat_call(alloc, name, row),
         "dependencies" => dependencies_call(alloc, name, row),
         "request" => request_call(alloc, registry, name, row),
+        _ => search_for(alloc, registry, of, name, row),
+    }
+}
+
+fn search_for(
+    alloc: Global,
+    registry: &Registry,
+    of: &str,
+    name: &str,
+    row: &Value,
+) -> Result<Answer, Unread> {
+    match of {
+        "derivation" => derivation_call(alloc, registry, name, row),
+        "learnt" => learnt_call(alloc, registry, name, row),
+        "search" => search_call(alloc, name, row),
+        "walk" => walk_call(alloc, registry, name, row),
         _ => Err(Unread::Row),
     }
 }

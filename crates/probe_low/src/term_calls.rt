@@ -14,10 +14,14 @@ fn about(alloc: Global, name: &str, row: &Value, term: &Term) -> Result<Answer, 
         "negate" => Ok(Answer::Term(term.copy(alloc)?.negate())),
         "copy" => Ok(Answer::Term(term.copy(alloc)?)),
         "allows" => Ok(Answer::Bool(term.allows(whole_at(row, "k")?))),
-        "count_in" => Ok(Answer::Number(term.count_in(&set_at(alloc, row, "set")?))),
+        "count_in" => count_in(alloc, row, term),
         "highest_in" => highest_in(alloc, row, term),
         _ => beside(alloc, name, term, &term_at(alloc, row, "b")?),
     }
+}
+
+fn count_in(alloc: Global, row: &Value, term: &Term) -> Result<Answer, Unread> {
+    Ok(Answer::Number(term.count_in(&set_at(alloc, row, "set")?)))
 }
 
 fn highest_in(alloc: Global, row: &Value, term: &Term) -> Result<Answer, Unread> {

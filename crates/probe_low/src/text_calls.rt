@@ -9,7 +9,7 @@ use std::fmt;
 use versions::{Name, Need, Published, order};
 
 /// A text as JSON: no name, version or requirement has a byte that JSON would write otherwise.
-fn quoted(alloc: Global, text: &str) -> Result<Answer, Unread> {
+pub fn quoted(alloc: Global, text: &str) -> Result<Answer, Unread> {
     Ok(Answer::Text(format!(in alloc; "{text:?}")?))
 }
 
@@ -126,7 +126,8 @@ pub fn need_call(alloc: Global, name: &str, row: &Value) -> Result<Answer, Unrea
         "copy" => copy_need(alloc, row),
         "admits" => admits(alloc, row),
         "copies_admit" => copies_admit(alloc, row),
-        "distinct" | "is_in" => among_needs(alloc, row),
+        "distinct" => distinct_needs(alloc, row),
+        "is_in" => is_need_in(alloc, row),
         "is_same" => is_same(alloc, row),
         _ => Err(Unread::Row),
     }
@@ -158,14 +159,18 @@ fn put_needs(alloc: Global, set: &mut HashSet<Need>, texts: &[Value]) -> Result<
     Ok(())
 }
 
-/// How many requirements a set of them has, or whether it has one that is equal to another.
-fn among_needs(alloc: Global, row: &Value) -> Result<Answer, Unread> {
+/// How many requirements a set of them has.
+fn distinct_needs(alloc: Global, row: &Value) -> Result<Answer, Unread> {
     let mut set = HashSet::new(alloc);
     put_needs(alloc, &mut set, items(member(row, "texts")?)?)?;
-    match row.get("text") {
-        Some(other) => Ok(Answer::Bool(set.contains(&Need::read(alloc, text(other)?)?))),
-        None => Ok(Answer::Number(set.len())),
-    }
+    Ok(Answer::Number(set.len()))
+}
+
+/// Whether a set of requirements has an equal one.
+fn is_need_in(alloc: Global, row: &Value) -> Result<Answer, Unread> {
+    let mut set = HashSet::new(alloc);
+    put_needs(alloc, &mut set, items(member(row, "texts")?)?)?;
+    Ok(Answer::Bool(set.contains(&need_at(alloc, row, "text")?)))
 }
 
 /// Whether two requirements are equal, and whether they are unequal.

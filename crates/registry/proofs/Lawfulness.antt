@@ -10,13 +10,14 @@ use Rattle.std.proofs.lemmas.Map.Keys.{IsDistinct-push}
 use Rattle.versions.specs.NameLaws.{same_name}
 use Rattle.versions.specs.Words.{Text, same_precedence}
 use Rattle.versions.specs.declared.refusal.Refusal.{Refusal}
-use Rattle.versions.proofs.PrecedenceLemmas.{same_precedence_equiv}
+use Rattle.versions.specs.Precedence.{EqualPrecedenceIsAnEquivalence}
 use Rattle.registry.specs.Lawful.{IsPackage, IsPublication, IsRegistry}
 use Rattle.registry.specs.Needs.{has_name, names_of, repeats_name}
 use Rattle.registry.specs.Registry.{Package, Packages, Publication, has_version, is_known, is_named, versions_of}
 use Rattle.registry.specs.Step.{publish, publish_refusal, set_yanked, with_listed, with_name, with_named, with_versions}
 use Rattle.registry.proofs.GrowthLemmas.{is_known-grows}
 use Rattle.registry.proofs.PackageLemmas.{map-push}
+use Rattle.registry.specs.declared.registry.TheConstants.{NEED_LIMIT, PACKAGE_LIMIT, VERSION_LIMIT}
 
 abbrev names_in : Packages → List Text
 names_in packages = map (λ (p : Package). p.name) packages
@@ -183,20 +184,20 @@ none-first false e rest h = (refl, h)
 pub record Accepted (packages : Packages) (name version : Text) (needs : List (Text × Text)) : Type 0 where
   pub once : repeats_name needs ≡ false
   pub others : has_name needs name ≡ false
-  pub few : length needs ≤ 64
+  pub few : length needs ≤ NEED_LIMIT
   pub new : has_version (versions_of packages name) version ≡ false
-  pub room : length (versions_of packages name) < 1024
-  pub names : length (with_named packages name needs) ≤ 65535
+  pub room : length (versions_of packages name) < VERSION_LIMIT
+  pub names : length (with_named packages name needs) ≤ PACKAGE_LIMIT
 
 pub accepted_by : (packages : Packages) (name version : Text) (needs : List (Text × Text)) → publish_refusal packages name version needs ≡ None → Accepted packages name version needs
 accepted_by packages name version needs e =
     let a = none-first (repeats_name needs) _ _ e in
     let b = none-first (has_name needs name) _ _ a.1 in
-    let c = none-first (nat_lt 64 (length needs)) _ _ b.1 in
+    let c = none-first (nat_lt NEED_LIMIT (length needs)) _ _ b.1 in
     let d = none-first (has_version (versions_of packages name) version) _ _ c.1 in
-    let f = none-first (nat_le 1024 (length (versions_of packages name))) _ _ d.1 in
-    let g = none-first (nat_lt 65535 (length (with_named packages name needs))) _ _ f.1 in
-    record { once = a.0; others = b.0; few = not_above 64 (length needs) c.0; new = d.0; room = not_from 1024 (length (versions_of packages name)) f.0; names = not_above 65535 (length (with_named packages name needs)) g.0 }
+    let f = none-first (nat_le VERSION_LIMIT (length (versions_of packages name))) _ _ d.1 in
+    let g = none-first (nat_lt PACKAGE_LIMIT (length (with_named packages name needs))) _ _ f.1 in
+    record { once = a.0; others = b.0; few = not_above NEED_LIMIT (length needs) c.0; new = d.0; room = not_from VERSION_LIMIT (length (versions_of packages name)) f.0; names = not_above PACKAGE_LIMIT (length (with_named packages name needs)) g.0 }
   where
     not_above : (m n : ℕ) → nat_lt m n ≡ false → n ≤ m
     not_above m n h = search rules
@@ -204,7 +205,7 @@ accepted_by packages name version needs e =
     not_from : (m n : ℕ) → nat_le m n ≡ false → n < m
     not_from m n h = search rules
 
-module _ (packages : Packages) (name version : Text) (needs : List (Text × Text)) (lawful : IsRegistry packages) (accepted : Accepted packages name version needs) where
+module _ (equal : EqualPrecedenceIsAnEquivalence) (packages : Packages) (name version : Text) (needs : List (Text × Text)) (lawful : IsRegistry packages) (accepted : Accepted packages name version needs) where
   abbrev publication : Publication
   publication = record { version = version; needs = needs; yanked = false }
 
@@ -230,7 +231,7 @@ module _ (packages : Packages) (name version : Text) (needs : List (Text × Text
       record {
         few = omega (arith, length-append p.versions (publication ∷ []), ap length versions, accepted.room);
         distinct = subst (λ (l : List Text). IsDistinct same_precedence l) (sym (map-push (λ (v : Publication). v.version) p.versions publication))
-            (IsDistinct-push same_precedence_equiv (versions_in p.versions) version h.distinct (listed p.versions ∙ ap (λ (l : List Publication). has_version l version) versions ∙ accepted.new));
+            (IsDistinct-push equal (versions_in p.versions) version h.distinct (listed p.versions ∙ ap (λ (l : List Publication). has_version l version) versions ∙ accepted.new));
         publications = All-append (IsPublication final p.name) p.versions (publication ∷ []) h.publications
             (All-cons (IsPublication final p.name) publication [] (record {
               few = accepted.few;
@@ -253,8 +254,8 @@ module _ (packages : Packages) (name version : Text) (needs : List (Text × Text
         published;
   }
 
-pub lawful-publish : (packages : Packages) (name version : Text) (needs : List (Text × Text)) → IsRegistry packages → publish_refusal packages name version needs ≡ None → IsRegistry (publish packages name version needs)
-lawful-publish packages name version needs lawful accepted = lawful-final packages name version needs lawful (accepted_by packages name version needs accepted)
+pub lawful-publish : EqualPrecedenceIsAnEquivalence → (packages : Packages) (name version : Text) (needs : List (Text × Text)) → IsRegistry packages → publish_refusal packages name version needs ≡ None → IsRegistry (publish packages name version needs)
+lawful-publish equal packages name version needs lawful accepted = lawful-final equal packages name version needs lawful (accepted_by packages name version needs accepted)
 
 -- ---- a yank
 

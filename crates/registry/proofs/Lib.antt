@@ -8,6 +8,8 @@ pub mod GrowthLemmas
 pub mod ReadyLemmas
 pub mod Lawfulness
 pub mod RegistryLaws
+pub mod MatchingSets
+pub mod Finding
 pub mod RequestLemmas
 pub mod SelectionLaws
 pub mod WorkedRows

@@ -1,7 +1,6 @@
 -- The publications of a package, by its releases and what each depends on.
 use Rattle.std.proofs.Common.{◌≡◌, ◌<◌, ◌∙◌, inl, inr, ℕ, zero, suc, List, [], ◌∷◌, ◌++◌, length, refl, sym, ap, arith, Bool, true, false, ◌||◌, get_or}
 use Rattle.std.specs.Prelude.{Option, Some, None, IfNone, IfOk, IfSome, Result, Ok, Err, slice_get, if◌then◌else◌}
-use Rattle.std.specs.declared.cmp.Ordering.TheVariants.{Less}
 use Rattle.std.proofs.lemmas.Bool.{cases_Bool}
 use Rattle.std.proofs.lemmas.List.{length-map}
 use Rattle.versions.specs.Words.{Text, precedence, same_precedence}

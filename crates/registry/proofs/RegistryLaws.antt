@@ -10,11 +10,12 @@ use Rattle.std.proofs.lemmas.Option.{get_or_from_slice_get, none-some, same_Some
 use Rattle.std.proofs.lemmas.Map.Keys.{IsDistinct-head, IsDistinct-tail, apart_from_distinct}
 use Rattle.std.proofs.Math.ListN.{get_or-map}
 use Rattle.versions.specs.Words.{Text, same_precedence}
-use Rattle.versions.proofs.PrecedenceLemmas.{same_precedence-symm}
+use Rattle.versions.specs.Precedence.{EqualPrecedenceIsAnEquivalence}
 use Rattle.registry.specs.Lawful.{IsPackage, IsPublication, IsRegistry}
 use Rattle.registry.specs.Publications.{PublicationList, packages_in}
 use Rattle.registry.specs.Registry.{Package, Packages, Publication, is_known, is_named, is_published, needs_of, needs_or_none, number_from, number_of, package_at, publication_at, versions_or_none}
 use Rattle.registry.proofs.PackageLemmas.{length-mapped, name-at}
+use Rattle.registry.specs.declared.registry.TheConstants.{VERSION_LIMIT}
 
 -- what holds of each element holds of the one at a place
 all-at : {A : Type 0} (P : A → Type 0) (xs : List A) (i : ℕ) (x : A) → All P xs → slice_get xs i ≡ Some x → P x
@@ -81,12 +82,12 @@ number-stands names lists i name paired lawful at = by (slice_get (packages_in n
         let place : suc i ≡ i + 1 = omega arith in
         ap (number_of (packages_in names lists)) (sym named) ∙ number_of-name (packages_in names lists) (suc i) pack lawful e ∙ ap (λ n. Some n) place
 
-few-versions : (packages : Packages) (p : ℕ) (o : Option Package) → package_at packages p ≡ o → IsRegistry packages → length (versions_or_none o) ≤ 1024
+few-versions : (packages : Packages) (p : ℕ) (o : Option Package) → package_at packages p ≡ o → IsRegistry packages → length (versions_or_none o) ≤ VERSION_LIMIT
 few-versions packages p None e lawful = omega arith
 few-versions packages p (Some pack) e lawful = (package-lawful packages p pack lawful e).few
 
--- a package has at most 1,024 versions
-pub length-versions_at : (packages : Packages) (p : ℕ) → IsRegistry packages → length (versions_or_none (package_at packages p)) ≤ 1024
+-- a package has at most VERSION_LIMIT versions
+pub length-versions_at : (packages : Packages) (p : ℕ) → IsRegistry packages → length (versions_or_none (package_at packages p)) ≤ VERSION_LIMIT
 length-versions_at packages p lawful = few-versions packages p (package_at packages p) refl lawful
 
 -- ---- publications
@@ -165,9 +166,9 @@ same-place i j below above = elim (cases_Bool (nat_lt i j)) [
 ]
 
 -- no two publications of a package have equal precedence
-pub distinct-precedence : (packages : Packages) (p i j : ℕ) (u v : Publication) → IsRegistry packages → publication_at packages p i ≡ Some u → publication_at packages p j ≡ Some v
+pub distinct-precedence : EqualPrecedenceIsAnEquivalence → (packages : Packages) (p i j : ℕ) (u v : Publication) → IsRegistry packages → publication_at packages p i ≡ Some u → publication_at packages p j ≡ Some v
     → same_precedence u.version v.version ≡ true → i ≡ j
-distinct-precedence packages p i j u v lawful at_i at_j same =
+distinct-precedence equal packages p i j u v lawful at_i at_j same =
     let one = publication_at-package packages p i u at_i in
     let two = publication_at-package packages p j v at_j in
     let pack : one.0 ≡ two.0 = cc (sym one.1 ∙ two.1) in
@@ -175,4 +176,4 @@ distinct-precedence packages p i j u v lawful at_i at_j same =
     let distinct = (package-lawful packages p one.0 lawful one.1).distinct in
     same-place i j
     (λ lt. true≢false (sym same ∙ versions-apart one.0.versions i j u v distinct one.2 there lt))
-    (λ lt. true≢false (sym same ∙ same_precedence-symm u.version v.version ∙ versions-apart one.0.versions j i v u distinct there one.2 lt))
+    (λ lt. true≢false (sym same ∙ equal.symm u.version v.version ∙ versions-apart one.0.versions j i v u distinct there one.2 lt))

@@ -14,12 +14,14 @@ use Rattle.versions.specs.Words.{Text, meets, same_precedence}
 use Rattle.versions.specs.declared.refusal.Refusal.{Refusal}
 use Rattle.versions.specs.declared.refusal.Refusal.TheVariants as refusal
 use Rattle.registry.specs.Needs.{repeats, repeats_name}
-use Rattle.registry.specs.Preference.{meets_needs}
+use Rattle.registry.specs.Preference.{admits, meets_needs}
 use Rattle.registry.specs.Registry.{Package, Packages, Publication, is_published, package_at, publication_at, versions_or_none}
-use Rattle.registry.specs.Requests.{Wanted, allows, allows_some, is_allowed, is_locked, request_in, request_refusal, unless_refused}
+use Rattle.registry.specs.Requests.{Wanted, allows, allows_some, is_allowed, is_locked, locks, request_in, request_refusal, unless_refused}
 use Rattle.registry.specs.Step.{first_that_holds}
 use Rattle.registry.proofs.NeedLemmas.{both_false, distinct-once, repeats_name-names}
 use Rattle.registry.proofs.RegistryLaws.{publication_at-package}
+use Rattle.registry.specs.declared.registry.TheConstants.{NEED_LIMIT}
+use Rattle.registry.specs.declared.requests.TheConstants.{LOCK_LIMIT}
 
 -- ---- which requests there are
 
@@ -35,7 +37,7 @@ module _ (needs lock : List (Text × Text)) where
   wanted = record { needs = needs; lock = lock }
 
   abbrev many_lines : Bool
-  many_lines = nat_lt 64 (length needs) || nat_lt 65535 (length lock)
+  many_lines = nat_lt NEED_LIMIT (length needs) || nat_lt LOCK_LIMIT (length lock)
 
   repeated-names : (repeats_name needs || repeats_name lock) ≡ (repeats (keys_of needs) || repeats (keys_of lock))
   repeated-names =
@@ -58,20 +60,20 @@ module _ (needs lock : List (Text × Text)) where
     once = ap (λ b. b || repeats (keys_of lock)) no_need ∙ no_line
 
     -- no name comes twice, and there are too many needs
-    pub request-many_needs : 64 < length needs → request_in needs lock ≡ Err refusal.TooManyDependencies
+    pub request-many_needs : NEED_LIMIT < length needs → request_in needs lock ≡ Err refusal.TooManyDependencies
     request-many_needs lt =
-        ap (λ o. unless_refused o wanted) (refuses false true once (ap (λ b. b || nat_lt 65535 (length lock)) (lt-ltb 64 (length needs) lt)))
+        ap (λ o. unless_refused o wanted) (refuses false true once (ap (λ b. b || nat_lt LOCK_LIMIT (length lock)) (lt-ltb NEED_LIMIT (length needs) lt)))
 
     -- no name comes twice, and the lock has too many lines
-    pub request-many_lines : 65535 < length lock → request_in needs lock ≡ Err refusal.TooManyDependencies
+    pub request-many_lines : LOCK_LIMIT < length lock → request_in needs lock ≡ Err refusal.TooManyDependencies
     request-many_lines lt =
         ap (λ o. unless_refused o wanted)
-        (refuses false true once (ap (λ b. nat_lt 64 (length needs) || b) (lt-ltb 65535 (length lock) lt) ∙ or-true (nat_lt 64 (length needs))))
+        (refuses false true once (ap (λ b. nat_lt NEED_LIMIT (length needs) || b) (lt-ltb LOCK_LIMIT (length lock) lt) ∙ or-true (nat_lt NEED_LIMIT (length needs))))
 
     -- there is no fault
-    pub request-lawful : length needs ≤ 64 → length lock ≤ 65535 → request_refusal wanted ≡ None
+    pub request-lawful : length needs ≤ NEED_LIMIT → length lock ≤ LOCK_LIMIT → request_refusal wanted ≡ None
     request-lawful few lines =
-        refuses false false once (ap (λ b. b || nat_lt 65535 (length lock)) (le-ltb 64 (length needs) few) ∙ le-ltb 65535 (length lock) lines)
+        refuses false false once (ap (λ b. b || nat_lt LOCK_LIMIT (length lock)) (le-ltb NEED_LIMIT (length needs) few) ∙ le-ltb LOCK_LIMIT (length lock) lines)
 
   pub request-made : request_refusal wanted ≡ None → request_in needs lock ≡ Ok wanted
   request-made e = ap (λ o. unless_refused o wanted) e
@@ -101,16 +103,6 @@ and-true : (b : Bool) → (b && true) ≡ b
 and-true true = refl
 and-true false = refl
 
--- a lock's line of the package, if there is one, names the version
-abbrev pub locks : Text → Option Text → Bool
-locks version None = false
-locks version (Some locked) = same_precedence locked version
-
--- a need on the package, if there is one, is met by the version
-abbrev pub admits : Text → Option Text → Bool
-admits version None = true
-admits version (Some need) = meets need version
-
 module _ (name version : Text) where
   not_locked : (lock : List (Text × Text)) → NonePasses (bytes_eq name) lock → is_locked lock name version ≡ false
   not_locked [] h = refl
@@ -121,41 +113,41 @@ module _ (name version : Text) where
   not_needed (n ∷ rest) h = ap (λ b. (not b || meets n.1 version) && meets_needs rest name version) h.0 ∙ not_needed rest h.1
 
   -- the lock names a version by its line of the package
-  pub is_locked-lookup : (lock : List (Text × Text)) → IsDistinct bytes_eq (keys_of lock) → is_locked lock name version ≡ locks version (lookup (bytes_eq name) lock)
+  pub is_locked-lookup : (lock : List (Text × Text)) → IsDistinct bytes_eq (keys_of lock) → is_locked lock name version ≡ locks (lookup (bytes_eq name) lock) version
   is_locked-lookup [] h = refl
   is_locked-lookup (l ∷ rest) h = elim (cases_Bool (bytes_eq name l.0)) [
     | inl t ↦
         ap (λ b. (b && same_precedence l.1 version) || is_locked rest name version) t
         ∙ ap (λ b. same_precedence l.1 version || b) (not_locked rest (none_past_head nat_list_eq_equiv name l rest h t))
         ∙ or-false (same_precedence l.1 version)
-        ∙ sym (ap (λ b. locks version (cond b (Some l.1) (lookup (bytes_eq name) rest))) t)
+        ∙ sym (ap (λ b. locks (cond b (Some l.1) (lookup (bytes_eq name) rest)) version) t)
     | inr f ↦
         ap (λ b. (b && same_precedence l.1 version) || is_locked rest name version) f
         ∙ is_locked-lookup rest (IsDistinct-tail bytes_eq l.0 (keys_of rest) h)
-        ∙ sym (ap (λ b. locks version (cond b (Some l.1) (lookup (bytes_eq name) rest))) f)
+        ∙ sym (ap (λ b. locks (cond b (Some l.1) (lookup (bytes_eq name) rest)) version) f)
   ]
 
   -- a version meets the needs by the one on its package
-  pub meets_needs-lookup : (needs : List (Text × Text)) → IsDistinct bytes_eq (keys_of needs) → meets_needs needs name version ≡ admits version (lookup (bytes_eq name) needs)
+  pub meets_needs-lookup : (needs : List (Text × Text)) → IsDistinct bytes_eq (keys_of needs) → meets_needs needs name version ≡ admits (lookup (bytes_eq name) needs) version
   meets_needs-lookup [] h = refl
   meets_needs-lookup (n ∷ rest) h = elim (cases_Bool (bytes_eq name n.0)) [
     | inl t ↦
         ap (λ b. (not b || meets n.1 version) && meets_needs rest name version) t
         ∙ ap (λ b. meets n.1 version && b) (not_needed rest (none_past_head nat_list_eq_equiv name n rest h t))
         ∙ and-true (meets n.1 version)
-        ∙ sym (ap (λ b. admits version (cond b (Some n.1) (lookup (bytes_eq name) rest))) t)
+        ∙ sym (ap (λ b. admits (cond b (Some n.1) (lookup (bytes_eq name) rest)) version) t)
     | inr f ↦
         ap (λ b. (not b || meets n.1 version) && meets_needs rest name version) f
         ∙ meets_needs-lookup rest (IsDistinct-tail bytes_eq n.0 (keys_of rest) h)
-        ∙ sym (ap (λ b. admits version (cond b (Some n.1) (lookup (bytes_eq name) rest))) f)
+        ∙ sym (ap (λ b. admits (cond b (Some n.1) (lookup (bytes_eq name) rest)) version) f)
   ]
 
   -- what the line that was found of the package says of the version
-  pub is_locked-found : (lock : List (Text × Text)) (o : Option Text) → repeats (keys_of lock) ≡ false → o ≡ lookup (bytes_eq name) lock → is_locked lock name version ≡ locks version o
-  is_locked-found lock o once e = is_locked-lookup lock (distinct-once (keys_of lock) once) ∙ sym (ap (locks version) e)
+  pub is_locked-found : (lock : List (Text × Text)) (o : Option Text) → repeats (keys_of lock) ≡ false → o ≡ lookup (bytes_eq name) lock → is_locked lock name version ≡ locks o version
+  is_locked-found lock o once e = is_locked-lookup lock (distinct-once (keys_of lock) once) ∙ sym (ap (λ x. locks x version) e)
 
-  pub meets_needs-found : (needs : List (Text × Text)) (o : Option Text) → repeats (keys_of needs) ≡ false → o ≡ lookup (bytes_eq name) needs → meets_needs needs name version ≡ admits version o
-  meets_needs-found needs o once e = meets_needs-lookup needs (distinct-once (keys_of needs) once) ∙ sym (ap (admits version) e)
+  pub meets_needs-found : (needs : List (Text × Text)) (o : Option Text) → repeats (keys_of needs) ≡ false → o ≡ lookup (bytes_eq name) needs → meets_needs needs name version ≡ admits o version
+  meets_needs-found needs o once e = meets_needs-lookup needs (distinct-once (keys_of needs) once) ∙ sym (ap (λ x. admits x version) e)
 
 -- ---- which versions are allowed
 
@@ -188,6 +180,26 @@ is_allowed-unpublished packages wanted p k e = ap (λ o. allows_some wanted (pac
     by : (pack : Option Package) → allows_some wanted pack None ≡ false
     by None = refl
     by (Some x) = refl
+
+-- one that is allowed is published
+pub allowed-published : (packages : Packages) (wanted : Wanted) (p k : ℕ) → is_allowed packages wanted p k ≡ true → is_published packages p k ≡ true
+allowed-published packages wanted p k t = by (publication_at packages p k) refl
+  where
+    by : (o : Option Publication) → publication_at packages p k ≡ o → is_some o ≡ true
+    by None e = absurd (true≢false (sym t ∙ is_allowed-unpublished packages wanted p k e))
+    by (Some v) e = refl
+
+-- ---- what the lines of a request say
+
+-- the lock names a version exactly where its line of the package does
+pub locked-by_line : (wanted : Wanted) (name version : Text) (line : Option Text) → request_refusal wanted ≡ None → line ≡ lookup (bytes_eq name) wanted.lock
+    → is_locked wanted.lock name version ≡ locks line version
+locked-by_line wanted name version line lawful e = is_locked-found name version wanted.lock line (lawful-once wanted.needs wanted.lock lawful).1 e
+
+-- a version meets the needs exactly where it meets the one on its package
+pub met-by_need : (wanted : Wanted) (name version : Text) (need : Option Text) → request_refusal wanted ≡ None → need ≡ lookup (bytes_eq name) wanted.needs
+    → meets_needs wanted.needs name version ≡ admits need version
+met-by_need wanted name version need lawful e = meets_needs-found name version wanted.needs need (lawful-once wanted.needs wanted.lock lawful).0 e
 
 -- ---- what a package's number and count tell
 

@@ -4,7 +4,7 @@ use Rattle.std.specs.Prelude.{Some, None, Ok, Err, Contains}
 use Rattle.std.specs.List.{AllByRecursion}
 use Rattle.std.specs.Map.{lookup}
 use Rattle.std.proofs.lemmas.Bool.{cases_Bool, eqb-true}
-use Rattle.versions.proofs.OnLiterals.{semver_on_literals}
+use Rattle.versions.specs.OnLiterals.{semver_on_literals}
 use Rattle.versions.specs.Words.{Text, meets, parts_of_text, precedence, same_precedence}
 use Rattle.versions.specs.declared.refusal.Refusal.TheVariants as refusal
 use Rattle.registry.specs.Registry.{Packages, is_published, meets_at, needs_of, number_of, package_at, publication_at}

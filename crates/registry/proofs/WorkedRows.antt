@@ -1,7 +1,7 @@
 -- Worked rows, computed from the definitions.
 use Rattle.std.proofs.Common.{◌≡◌, [], ◌∷◌, codes, refl, true, false}
 use Rattle.std.specs.Prelude.{None, Some, Ok, Err}
-use Rattle.versions.proofs.OnLiterals.{semver_on_literals}
+use Rattle.versions.specs.OnLiterals.{semver_on_literals}
 use Rattle.versions.specs.Words.{parts_of_text, precedence, same_precedence}
 use Rattle.versions.specs.declared.refusal.Refusal.TheVariants as refusal
 use Rattle.registry.specs.Registry.{Packages, is_published, number_of, package_at, publication_at}

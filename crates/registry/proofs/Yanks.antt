@@ -1,5 +1,5 @@
 -- Releases of which one is yanked, or none.
-use Rattle.std.proofs.Common.{◌≡◌, ◌<◌, ◌∙◌, ◌||◌, ℕ, zero, suc, List, [], ◌∷◌, ◌++◌, length, refl, sym, ap, arith, Bool, true, false}
+use Rattle.std.proofs.Common.{◌≡◌, ◌<◌, ◌∙◌, ◌||◌, ℕ, zero, suc, List, [], ◌∷◌, ◌++◌, length, refl, ap, arith, Bool, true, false}
 use Rattle.releases.specs.declared.release.Release.{Release}
 use Rattle.releases.specs.Releases.{marked}
 use Rattle.versions.specs.Words.{Text}

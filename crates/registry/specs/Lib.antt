@@ -12,3 +12,4 @@ pub mod Dependencies
 pub mod Requests
 pub mod Selections
 pub mod Preference
+pub mod Laws

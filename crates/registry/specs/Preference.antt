@@ -1,5 +1,5 @@
 -- The preferred version of a package, and the preferred selection.
-use Rattle.std.specs.Prelude.{◌≡◌, ℕ, ◌&&◌, ◌||◌, Bool, not, List, Option, Some, filter, find}
+use Rattle.std.specs.Prelude.{◌≡◌, ℕ, ◌&&◌, ◌||◌, Bool, true, not, List, Option, None, Some, filter, find}
 use Rattle.std.specs.Option.{option_and_then, option_map, option_or}
 use Rattle.std.specs.List.{enumerate_from, list_all}
 use Rattle.std.specs.Ordering.{is_lt}
@@ -12,6 +12,11 @@ use Rattle.registry.specs.Selections.{Choices, IsReached}
 -- the version meets the need on the package of this name, where there is one
 abbrev pub meets_needs : List (Text × Text) → Text → Text → Bool
 meets_needs needs name version = list_all (λ (n : Text × Text). not (bytes_eq name n.0) || meets n.1 version) needs
+
+-- the version meets the need, if there is one
+abbrev pub admits : Option Text → Text → Bool
+admits None version = true
+admits (Some need) version = meets need version
 
 -- whether a publication is allowed to the request and meets its need on the package
 abbrev pub is_candidate : Wanted → Text → Publication → Bool

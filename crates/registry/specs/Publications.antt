@@ -1,5 +1,5 @@
 -- What a contract sees of the publications of a package as they are stored, and of the lists of them.
-use Rattle.std.specs.Prelude.{◌≡◌, ◌↔◌, ◌<◌, ◌+◌, ℕ, Bool, true, false, List, [], ◌∷◌, length, map, slice_get, Option, None, Some}
+use Rattle.std.specs.Prelude.{◌≡◌, ◌↔◌, ◌<◌, ◌+◌, ℕ, Bool, true, List, [], ◌∷◌, length, map, slice_get, Option, None, Some}
 use Rattle.std.specs.List.{list_any}
 use Rattle.releases.specs.declared.release.Release.{Release}
 use Rattle.versions.specs.Words.{Text}

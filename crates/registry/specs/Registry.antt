@@ -88,6 +88,15 @@ publication_meets (Some publication) need = meets need publication.version
 abbrev pub meets_at : Packages → ℕ → ℕ → Text → Bool
 meets_at packages p k need = publication_meets (publication_at packages p k) need
 
+-- the ordinals from k on of the publications that meet a requirement
+abbrev pub matching_from : ℕ → List Publication → Text → List ℕ
+matching_from k [] need = []
+matching_from k (v ∷ rest) need = if meets need v.version then k ∷ matching_from (suc k) rest need else matching_from (suc k) rest need
+
+-- the ordinals of the published versions that meet a requirement
+unfoldable pub matching : Packages → ℕ → Text → List ℕ
+matching packages p need = matching_from 0 (versions_or_none (package_at packages p)) need
+
 abbrev pub publication_equals : Option Publication → Text → Bool
 publication_equals None version = false
 publication_equals (Some publication) version = same_precedence version publication.version

@@ -10,6 +10,8 @@ use Rattle.registry.specs.ByName.{IsByName}
 use Rattle.registry.specs.Needs.{repeats_name}
 use Rattle.registry.specs.Registry.{Package, Packages, Publication, package_at, publication_at}
 use Rattle.registry.specs.Step.{first_that_holds}
+use Rattle.registry.specs.declared.registry.TheConstants.{NEED_LIMIT}
+use Rattle.registry.specs.declared.requests.TheConstants.{LOCK_LIMIT}
 
 -- what is asked for
 pub record Wanted : Type 0 where
@@ -20,11 +22,11 @@ pub record Wanted : Type 0 where
 
 -- ---- which requests there are
 
--- the lowest refusal of a request: no need and no lock line names a package twice, and there are at most 64 needs and 65,535 lock lines
+-- the lowest refusal of a request: no need and no lock line names a package twice, and there are at most NEED_LIMIT needs and LOCK_LIMIT lock lines
 abbrev pub request_refusal : Wanted → Option Refusal
 request_refusal wanted = first_that_holds (
     (repeats_name wanted.needs || repeats_name wanted.lock, refusal.RepeatedDependency)
-    ∷ (nat_lt 64 (length wanted.needs) || nat_lt 65535 (length wanted.lock), refusal.TooManyDependencies)
+    ∷ (nat_lt NEED_LIMIT (length wanted.needs) || nat_lt LOCK_LIMIT (length wanted.lock), refusal.TooManyDependencies)
     ∷ [])
 
 abbrev pub unless_refused : Option Refusal → Wanted → Result Wanted Refusal
@@ -46,6 +48,11 @@ pub record IsRequest (wanted : Wanted) (needs_by_name lock_by_name : List ℕ) :
 -- whether the lock names this version of the package, by equal precedence
 abbrev pub is_locked : List (Text × Text) → Text → Text → Bool
 is_locked lock name version = list_any (λ (l : Text × Text). bytes_eq name l.0 && same_precedence l.1 version) lock
+
+-- a lock's line of the package, if there is one, names the version
+abbrev pub locks : Option Text → Text → Bool
+locks None version = false
+locks (Some locked) version = same_precedence locked version
 
 -- whether a publication of the package of this name is not yanked or is named by the lock
 abbrev pub allows : Wanted → Text → Publication → Bool

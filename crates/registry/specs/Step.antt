@@ -5,6 +5,7 @@ use Rattle.versions.specs.declared.refusal.Refusal.{Refusal}
 use Rattle.versions.specs.declared.refusal.Refusal.TheVariants as refusal
 use Rattle.registry.specs.Needs.{has_name, names_of, repeats_name}
 use Rattle.registry.specs.Registry.{Packages, Publication, has_version, is_known, is_named, versions_of}
+use Rattle.registry.specs.declared.registry.TheConstants.{NEED_LIMIT, PACKAGE_LIMIT, VERSION_LIMIT}
 
 -- a command, by its texts
 pub data Change : Type 0 where
@@ -31,15 +32,15 @@ with_listed packages (name ∷ rest) = with_listed (with_name packages name) res
 abbrev pub with_named : Packages → Text → List (Text × Text) → Packages
 with_named packages name needs = with_listed (with_name packages name) (names_of needs)
 
--- at most 64 dependencies, 1,024 versions a package and 65,535 names
+-- at most NEED_LIMIT dependencies, VERSION_LIMIT versions a package and PACKAGE_LIMIT names
 abbrev pub publish_refusal : Packages → Text → Text → List (Text × Text) → Option Refusal
 publish_refusal packages name version needs = first_that_holds (
     (repeats_name needs, refusal.RepeatedDependency)
     ∷ (has_name needs name, refusal.SelfDependency)
-    ∷ (nat_lt 64 (length needs), refusal.TooManyDependencies)
+    ∷ (nat_lt NEED_LIMIT (length needs), refusal.TooManyDependencies)
     ∷ (has_version (versions_of packages name) version, refusal.AlreadyPublished)
-    ∷ (nat_le 1024 (length (versions_of packages name)), refusal.TooManyVersions)
-    ∷ (nat_lt 65535 (length (with_named packages name needs)), refusal.TooManyPackages)
+    ∷ (nat_le VERSION_LIMIT (length (versions_of packages name)), refusal.TooManyVersions)
+    ∷ (nat_lt PACKAGE_LIMIT (length (with_named packages name needs)), refusal.TooManyPackages)
     ∷ [])
 
 -- whether the publication of equal precedence is yanked, if there is one

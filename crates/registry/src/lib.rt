@@ -5,6 +5,7 @@ mod by_name;
 mod commands;
 mod dependencies;
 mod growing;
+mod laws;
 mod listed;
 mod publications;
 mod ready;
@@ -13,9 +14,14 @@ mod requests;
 
 pub use commands::Command;
 pub use dependencies::Dependencies;
+pub use laws::{
+    allowed_is_published, matching_is_what_meets, names_have_their_numbers, numbers_last,
+    one_preferred_selection, ordinals_are_below_the_count, publications_are_lawful,
+    the_highest_is_one,
+};
 pub use registry::{Facts, NEED_LIMIT, PACKAGE_LIMIT, Registry, VERSION_LIMIT};
 pub use releases::Matching;
-pub use requests::{LOCK_LIMIT, Request};
+pub use requests::{LOCK_LIMIT, Request, admits, locks};
 
 /// The number of a package, from 1 on.
 pub type Pkg = u32;

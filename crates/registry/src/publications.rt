@@ -4,6 +4,7 @@ ghost use Rattle.std.specs.Prelude.{◌≡◌, ◌↔◌, ◌<◌, ◌+◌, ◌�
 ghost use Rattle.std.specs.Option.{option_copied};
 ghost use Rattle.releases.specs.Matching.{ordinals_of};
 ghost use Rattle.terms.specs.Sets.{has};
+ghost use Rattle.registry.specs.declared.registry.TheConstants.{VERSION_LIMIT};
 ghost use Rattle.registry.specs.Highest.{IsHighest};
 ghost use Rattle.registry.specs.Publications.{any_yanked, publications_in, EndsWith};
 ghost use Rattle.registry.specs.Registry.{has_version, has_yank, needs_or_none, publication_equals, publication_meets};
@@ -177,7 +178,7 @@ impl Publications {
     pub fn push(&mut self, version: Published, needs: Dependencies)
         requires room { 0 < self.old.room }
         requires new { has_version self.old.publications version ≡ false }
-        requires few { length self.old.publications < 1024 }
+        requires few { length self.old.publications < VERSION_LIMIT }
         ensures { self.new.publications ≡ self.old.publications ++ (record { version = version; needs = needs; yanked = false }) ∷ [] }
     {
         self.repeats.push(end_with(&self.needs, &needs)).unwrap();

@@ -10,7 +10,7 @@ ghost use Rattle.registry.specs.Highest.{IsHighest};
 ghost use Rattle.registry.specs.Lawful.{IsRegistry};
 ghost use Rattle.registry.specs.Needs.{has_name, repeats_name};
 ghost use Rattle.registry.specs.Publications.{publications_in};
-ghost use Rattle.registry.specs.Registry.{Repeats, equals_at, has_version, has_yank, is_published, meets_at, needs_of, number_of, package_at, publication_at, versions_of, versions_or_none};
+ghost use Rattle.registry.specs.Registry.{Repeats, equals_at, has_version, has_yank, is_published, matching, meets_at, needs_of, number_of, package_at, publication_at, versions_of, versions_or_none};
 ghost use Rattle.registry.specs.Requests.{is_allowed};
 ghost use Rattle.registry.specs.Rooms.{HasRoomFor};
 ghost use Rattle.registry.specs.Step as step;
@@ -27,14 +27,14 @@ use indexmap::IndexSet;
 use releases::Matching;
 use std::alloc::Global;
 use std::marker::Model;
-use terms::{GrowingSet, VSet};
-use versions::{Name, Need, Published, Refusal};
+use terms::{GrowingSet, VSet, same_set};
+use versions::{Name, Need, Published, Refusal, equal_precedence_is_an_equivalence};
 
 /// The most names that are numbered.
 pub const PACKAGE_LIMIT: usize = 65_535;
 
 /// The most versions of a package.
-pub const VERSION_LIMIT: usize = 1_024;
+pub const VERSION_LIMIT: usize = 4_096;
 
 /// The most dependencies of a version.
 pub const NEED_LIMIT: usize = 64;
@@ -130,11 +130,43 @@ impl Registry {
         self.names.get_index(pkg as usize - 1).unwrap()
     }
 
+    /// The name of a package, if the package is numbered.
+    pub fn name_at(&self, pkg: Pkg) -> Option<&Name>
+        ensures name { option_copied result ≡ option_map (λ p. p.name) (package_at self.now.packages pkg) }
+        ensures reachable { IsRegistry self.now.packages }
+    {
+        let names = &self.names;
+        let place = (pkg as usize).checked_sub(1)?;
+        names.get_index(place)
+    }
+
     /// How many versions of a package are published; none of one that is not numbered.
     pub fn versions(&self, pkg: Pkg) -> usize
         ensures { result ≡ length (versions_or_none (package_at self.now.packages pkg)) }
     {
         count(self.publications_at(pkg))
+    }
+
+    /// As [`Registry::versions`], in the type of an ordinal.
+    pub fn version_count(&self, pkg: Pkg) -> u32
+        ensures { result ≡ length (versions_or_none (package_at self.now.packages pkg)) }
+    {
+        count(self.publications_at(pkg)) as u32
+    }
+
+    /// The version of a package with this ordinal, if it is published.
+    pub fn facts_at(&self, pkg: Pkg, ordinal: u32) -> Option<Facts<'_>>
+        ensures some { IfSome result (λ facts. publication_at self.now.packages pkg ordinal ≡ Some (record {
+          version = facts.version.now;
+          needs = facts.needs.now;
+          yanked = facts.yanked;
+        })) }
+        ensures none { IfNone result (publication_at self.now.packages pkg ordinal ≡ None) }
+    {
+        if ordinal as usize >= self.versions(pkg) {
+            return None;
+        }
+        Some(self.facts(pkg, ordinal))
     }
 
     /// The version of a package with this ordinal.
@@ -196,8 +228,10 @@ impl Registry {
     pub fn matching(&self, pkg: Pkg, need: &Need) -> Result<VSet, Refusal>
         ensures members { IfOk result (λ set. (k : ℕ) → has set k ≡ meets_at self.now.packages pkg k need.now) }
         ensures ascending { IfOk result IsAscending }
+        ensures set { IfOk result (λ set. set ≡ matching self.now.packages pkg need.now) }
         ensures only { IfErr result (λ e. e ≡ Refusal.NoMemory) }
     {
+        same_set();
         let set = self.matching_set(pkg, need)?;
         Ok(set.set(self.alloc)?)
     }
@@ -244,7 +278,10 @@ impl Registry {
     pub fn find(&self, pkg: Pkg, version: &Published) -> Option<u32>
         ensures there { is_some result ≡ has_version (versions_or_none (package_at self.now.packages pkg)) version.now }
         ensures found { IfSome result (λ k. equals_at self.now.packages pkg k version.now ≡ true) }
+        ensures only { IfSome result (λ k. (j : ℕ) → equals_at self.now.packages pkg j version.now ≡ true → j ≡ k) }
+        ensures none { IfNone result ((k : ℕ) → equals_at self.now.packages pkg k version.now ≡ false) }
     {
+        equal_precedence_is_an_equivalence();
         self.publications_at(pkg)?.find(version)
     }
 
@@ -373,10 +410,12 @@ impl Registry {
 
     /// The publications of the package of this number.
     fn publications_at(&self, pkg: Pkg) -> Option<&Publications>
-        ensures { publications_in (option_copied result) ≡ versions_or_none (package_at self.now.packages pkg) }
+        ensures publications { publications_in (option_copied result) ≡ versions_or_none (package_at self.now.packages pkg) }
+        ensures reachable { IsRegistry self.now.packages }
     {
+        let lists = &self.lists;
         let index = (pkg as usize).checked_sub(1)?;
-        self.lists.get(index)
+        lists.get(index)
     }
 
     /// The publications of the package of this name.
@@ -429,10 +468,10 @@ impl Registry {
 
     /// Whether too many packages are numbered once these names are.
     fn exceeds_numbers(&self, name: &Name, needs: &[(Name, Need)]) -> bool
-        requires few { length needs.now ≤ 64 }
+        requires few { length needs.now ≤ NEED_LIMIT }
         requires apart { has_name needs.now name.now ≡ false }
         requires once { repeats_name needs.now ≡ false }
-        ensures { result ≡ nat_lt 65535 (length (with_named self.now.packages name.now needs.now)) }
+        ensures { result ≡ nat_lt PACKAGE_LIMIT (length (with_named self.now.packages name.now needs.now)) }
     {
         // Only near the limit are the names looked up.
         if self.names.len() + 1 + needs.len() <= PACKAGE_LIMIT {
@@ -443,7 +482,7 @@ impl Registry {
 
     /// How many packages are numbered once these names are.
     fn numbered_with(&self, name: &Name, needs: &[(Name, Need)]) -> usize
-        requires few { length needs.now ≤ 64 }
+        requires few { length needs.now ≤ NEED_LIMIT }
         requires apart { has_name needs.now name.now ≡ false }
         requires once { repeats_name needs.now ≡ false }
         ensures { result ≡ length (with_named self.now.packages name.now needs.now) }
@@ -496,6 +535,8 @@ impl Registry {
         ensures packages { self.new.packages ≡ publish self.old.packages name version needs }
         ensures revision { self.new.revision ≡ self.old.revision }
     {
+        // So that no two versions of the package have equal precedence.
+        equal_precedence_is_an_equivalence();
         let Some(ready) = self.ready.take() else {
             unreachable!()
         };

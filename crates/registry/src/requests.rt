@@ -5,8 +5,9 @@ ghost use Rattle.std.specs.Map.{lookup};
 ghost use Rattle.std.specs.Option.{option_copied};
 ghost use Rattle.std.specs.Str.{bytes_eq};
 ghost use Rattle.versions.specs.Refusals.{Gives};
-ghost use Rattle.registry.specs.Preference.{meets_needs};
-ghost use Rattle.registry.specs.Requests.{is_locked, request_in, request_refusal};
+ghost use Rattle.versions.specs.Words.{Text};
+ghost use Rattle.registry.specs.Preference.{admits, meets_needs};
+ghost use Rattle.registry.specs.Requests.{is_locked, locks, request_in, request_refusal};
 
 use crate::by_name::{find, places_by_name, repeats};
 use crate::registry::NEED_LIMIT;
@@ -82,7 +83,8 @@ impl Request {
 
     /// The need on a package. The cost grows with the logarithm of the number of needs.
     pub fn need_on(&self, name: &Name) -> Option<&Need>
-        ensures { option_copied result ≡ lookup (bytes_eq name.now) self.now.needs }
+        ensures need { option_copied result ≡ lookup (bytes_eq name.now) self.now.needs }
+        ensures met { (version : Text) → meets_needs self.now.needs name.now version ≡ admits (option_copied result) version }
     {
         find(&self.needs, &self.needs_by_name, name)
     }
@@ -90,7 +92,8 @@ impl Request {
     /// The version that the lock names of a package. The cost grows with the logarithm of the
     /// number of lines.
     pub fn locked(&self, name: &Name) -> Option<&Published>
-        ensures { option_copied result ≡ lookup (bytes_eq name.now) self.now.lock }
+        ensures line { option_copied result ≡ lookup (bytes_eq name.now) self.now.lock }
+        ensures named { (version : Text) → is_locked self.now.lock name.now version ≡ locks (option_copied result) version }
     {
         find(&self.lock, &self.lock_by_name, name)
     }
@@ -99,19 +102,33 @@ impl Request {
     pub fn is_locked(&self, name: &Name, version: &Published) -> bool
         ensures { result ≡ is_locked self.now.lock name.now version.now }
     {
-        match find(&self.lock, &self.lock_by_name, name) {
-            None => false,
-            Some(locked) => order(locked, version).is_eq(),
-        }
+        locks(self.locked(name), version)
     }
 
     /// Whether a version of a package meets the need on it, where there is one.
     pub fn admits(&self, name: &Name, version: &Published) -> bool
         ensures { result ≡ meets_needs self.now.needs name.now version.now }
     {
-        match find(&self.needs, &self.needs_by_name, name) {
-            None => true,
-            Some(need) => need.admits(version),
-        }
+        admits(self.need_on(name), version)
+    }
+}
+
+/// Whether a lock's line of the package, if there is one, names a version.
+pub fn locks(line: Option<&Published>, version: &Published) -> bool
+    ensures { result ≡ locks (option_copied line.entry) version.now }
+{
+    match line {
+        None => false,
+        Some(locked) => order(locked, version).is_eq(),
+    }
+}
+
+/// Whether a version meets a need on its package, if there is one.
+pub fn admits(need: Option<&Need>, version: &Published) -> bool
+    ensures { result ≡ admits (option_copied need.entry) version.now }
+{
+    match need {
+        None => true,
+        Some(need) => need.admits(version),
     }
 }

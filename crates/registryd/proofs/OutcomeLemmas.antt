@@ -7,7 +7,7 @@ use Rattle.registry.specs.Preference.{IsPreferredSelection}
 use Rattle.registry.specs.Registry.{Packages}
 use Rattle.registry.specs.Requests.{Wanted}
 use Rattle.registry.specs.Selections.{Choices, Meets}
-use Rattle.derivations.proofs.Soundness.{NoSelection-IsDerivation}
+use Rattle.derivations.specs.Laws.{DerivationsRefute}
 use Rattle.derivations.specs.Derivations.{IsDerivation}
 use Rattle.derivations.specs.declared.line.Line.{Line}
 use Rattle.solver.specs.Outcomes.{Tells, TellsOne}
@@ -29,19 +29,19 @@ found_selection packages wanted explain list lawful preferred =
     inl (list, answer, refl)
 
 -- a derivation that there is none
-pub refuted_by : (packages : Packages) (wanted : Wanted) (lines : List Line) → IsDerivation packages wanted lines → IsRefuted packages wanted
-refuted_by packages wanted lines derivation = record { lines = lines; derivation = derivation; none = NoSelection-IsDerivation packages wanted lines derivation }
+refuted_by : DerivationsRefute → (packages : Packages) (wanted : Wanted) (lines : List Line) → IsDerivation packages wanted lines → IsRefuted packages wanted
+refuted_by refute packages wanted lines derivation = record { lines = lines; derivation = derivation; none = refute packages wanted lines derivation }
 
 -- told without its reason
-pub told_none : (packages : Packages) (wanted : Wanted) (lines : List Line) → IsDerivation packages wanted lines → TellsNone packages wanted false no_selection
-told_none packages wanted lines derivation = (refuted_by packages wanted lines derivation, refl)
+pub told_none : DerivationsRefute → (packages : Packages) (wanted : Wanted) (lines : List Line) → IsDerivation packages wanted lines → TellsNone packages wanted false no_selection
+told_none refute packages wanted lines derivation = (refuted_by refute packages wanted lines derivation, refl)
 
 -- told by names, with the lines that explain it
-pub told_explained : (packages : Packages) (wanted : Wanted) (lines : List Line) (named : List NamedLine) (texts : List Text) → IsDerivation packages wanted lines
+pub told_explained : DerivationsRefute → (packages : Packages) (wanted : Wanted) (lines : List Line) (named : List NamedLine) (texts : List Text) → IsDerivation packages wanted lines
     → IsNumbered packages named lines → texts ≡ explanation packages wanted lines → TellsNone packages wanted true (explained named texts)
 unfolding refuted_by
-told_explained packages wanted lines named texts derivation same told = record {
-  refuted = refuted_by packages wanted lines derivation;
+told_explained refute packages wanted lines named texts derivation same told = record {
+  refuted = refuted_by refute packages wanted lines derivation;
   named = named;
   same = same;
   told = ap (λ (l : List Text). explained named l) told;

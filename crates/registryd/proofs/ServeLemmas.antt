@@ -5,10 +5,10 @@ use Rattle.std.proofs.lemmas.List.Concat.{flat_map-append}
 use Rattle.std.specs.List.{AllByRecursion}
 use Rattle.std.specs.Io.KnownBytes.{Appends, Consumes, Keeps, IsAtEnd}
 use Rattle.std.proofs.KnownBytes.{Appends-nil, Appends-trans, Consumes-nil, Consumes-trans, Consumes-kept}
-use Rattle.lines.specs.Lines.{HasNoFeed, lines_of, whole_lines_of}
+use Rattle.lines.specs.Laws.{LinesInFront, NoWholeLine, ReadingGoesOn, WholeLinesInFront}
+use Rattle.lines.specs.Lines.{HasNoFeed, line_feed, lines_of, whole_lines_of, with_feeds}
 use Rattle.lines.specs.Texts.{IsBeginning}
 use Rattle.lines.specs.Unread.{Unread, StandsFor, BeginsWith}
-use Rattle.lines.proofs.LineLemmas.{with_feeds, with_feeds-more, lines_of-with_feeds, whole_lines_of-with_feeds, no_feeds-more, whole_lines_of-rest, StandsFor-more}
 use Rattle.replies.specs.Replies.{Reply, reply_text, replies_text}
 use Rattle.book.specs.declared.item.Item.{Item}
 use Rattle.registryd.specs.Lawful.{AreLawful, IsLawful}
@@ -29,6 +29,22 @@ pub record Progress (r0 r w0 w : Option (List ℕ)) (old new : List Item) (held 
   pub session : AreLawful session_ways lines old replies new
   pub written : Appends w0 w text
   pub said : text ++ waiting ≡ replies_text replies
+
+-- ---- lines that end in line feeds
+
+with_feeds-cons : (line : List ℕ) (lines : List (List ℕ)) (rest : List ℕ) → with_feeds (line ∷ lines) ++ rest ≡ line ++ line_feed ∷ (with_feeds lines ++ rest)
+with_feeds-cons line lines rest = append_assoc (line ++ line_feed ∷ []) (with_feeds lines) rest ∙ append_assoc line (line_feed ∷ []) (with_feeds lines ++ rest)
+
+with_feeds-more : (lines : List (List ℕ)) (line rest : List ℕ) → with_feeds (lines ++ line ∷ []) ++ rest ≡ with_feeds lines ++ (line ++ line_feed ∷ rest)
+with_feeds-more [] line rest = with_feeds-cons line [] rest
+with_feeds-more (first ∷ lines) line rest = with_feeds-cons first (lines ++ line ∷ []) rest
+    ∙ ap (λ l. first ++ line_feed ∷ l) (with_feeds-more lines line rest) ∙ sym (with_feeds-cons first lines (line ++ line_feed ∷ rest))
+
+no_feeds-more : (lines : List (List ℕ)) (line : List ℕ) → AllByRecursion HasNoFeed lines → HasNoFeed line → AllByRecursion HasNoFeed (lines ++ line ∷ [])
+no_feeds-more [] line h here = (here, tt)
+no_feeds-more (first ∷ lines) line h here = (h.0, no_feeds-more lines line h.1 here)
+
+-- ---- the steps
 
 replies_text-more : (replies : List Reply) (reply : Reply) → replies_text (replies ++ reply ∷ []) ≡ replies_text replies ++ reply_text reply
 replies_text-more replies reply = flat_map-append reply_text replies (reply ∷ []) ∙ ap (λ l. replies_text replies ++ l) (append-nil (reply_text reply))
@@ -71,10 +87,10 @@ answers r0 r w0 w w' old mid new held held' waiting waiting' line reply written 
 }
 
 -- a line was found and the write of its reply failed
-pub answer_fails : (r0 r w0 w w' : Option (List ℕ)) (old mid new : List Item) (held held' : Unread) (waiting line : List ℕ) (reply : Reply) (written : List ℕ)
+pub answer_fails : LinesInFront → WholeLinesInFront → (r0 r w0 w w' : Option (List ℕ)) (old mid new : List Item) (held held' : Unread) (waiting line : List ℕ) (reply : Reply) (written : List ℕ)
     → (p : Progress r0 r w0 w old mid held waiting) → BeginsWith p.rest line held' → IsLawful session_ways line mid reply new → Appends w w' written
     → IsBeginning written (waiting ++ reply_text reply) → Breaks r0 r w0 w' old
-answer_fails r0 r w0 w w' old mid new held held' waiting line reply written p begins lawful appends (more, is) = record {
+answer_fails in_front whole_in_front r0 r w0 w w' old mid new held held' waiting line reply written p begins lawful appends (more, is) = record {
   input = p.input;
   count = length (p.lines ++ line ∷ []);
   replies = p.replies ++ reply ∷ [];
@@ -96,11 +112,11 @@ answer_fails r0 r w0 w w' old mid new held held' waiting line reply written p be
     all = p.split ∙ ap (λ l. with_feeds p.lines ++ l) begins.whole ∙ sym (with_feeds-more p.lines line begins.rest)
 
     whole : whole_lines_of p.input ≡ (p.lines ++ line ∷ []) ++ whole_lines_of begins.rest
-    whole = ap whole_lines_of all ∙ whole_lines_of-with_feeds (p.lines ++ line ∷ []) begins.rest (no_feeds-more p.lines line p.no_feeds begins.no_feed)
+    whole = ap whole_lines_of all ∙ whole_in_front (p.lines ++ line ∷ []) begins.rest (no_feeds-more p.lines line p.no_feeds begins.no_feed)
 
     front : take (length (p.lines ++ line ∷ [])) (lines_of p.input) ≡ p.lines ++ line ∷ []
     front = ap (λ l. take (length (p.lines ++ line ∷ [])) (lines_of l)) all
-        ∙ ap (take (length (p.lines ++ line ∷ []))) (lines_of-with_feeds (p.lines ++ line ∷ []) begins.rest (no_feeds-more p.lines line p.no_feeds begins.no_feed))
+        ∙ ap (take (length (p.lines ++ line ∷ []))) (in_front (p.lines ++ line ∷ []) begins.rest (no_feeds-more p.lines line p.no_feeds begins.no_feed))
         ∙ take_at (p.lines ++ line ∷ []) (lines_of begins.rest) _ refl
 
 -- what waited was sent
@@ -126,9 +142,9 @@ sends r0 r w0 w w' old new held held' waiting waiting' written p no_feed stands 
 )
 
 -- the write of what waited failed
-pub send_fails : (r0 r w0 w w' : Option (List ℕ)) (old new : List Item) (held : Unread) (waiting written : List ℕ)
+pub send_fails : LinesInFront → WholeLinesInFront → (r0 r w0 w w' : Option (List ℕ)) (old new : List Item) (held : Unread) (waiting written : List ℕ)
     → (p : Progress r0 r w0 w old new held waiting) → Appends w w' written → IsBeginning written waiting → Breaks r0 r w0 w' old
-send_fails r0 r w0 w w' old new held waiting written p appends (more, is) = record {
+send_fails in_front whole_in_front r0 r w0 w w' old new held waiting written p appends (more, is) = record {
   input = p.input;
   count = length p.lines;
   replies = p.replies;
@@ -142,17 +158,17 @@ send_fails r0 r w0 w w' old new held waiting written p appends (more, is) = reco
 }
   where
     whole : whole_lines_of p.input ≡ p.lines ++ whole_lines_of p.rest
-    whole = ap whole_lines_of p.split ∙ whole_lines_of-with_feeds p.lines p.rest p.no_feeds
+    whole = ap whole_lines_of p.split ∙ whole_in_front p.lines p.rest p.no_feeds
 
     front : take (length p.lines) (lines_of p.input) ≡ p.lines
-    front = ap (λ l. take (length p.lines) (lines_of l)) p.split ∙ ap (take (length p.lines)) (lines_of-with_feeds p.lines p.rest p.no_feeds)
+    front = ap (λ l. take (length p.lines) (lines_of l)) p.split ∙ ap (take (length p.lines)) (in_front p.lines p.rest p.no_feeds)
         ∙ take_at p.lines (lines_of p.rest) _ refl
 
 -- more was read
-pub reads : (r0 r r' w0 w : Option (List ℕ)) (old new : List Item) (held held' : Unread) (waiting piece : List ℕ)
+pub reads : ReadingGoesOn → (r0 r r' w0 w : Option (List ℕ)) (old new : List Item) (held held' : Unread) (waiting piece : List ℕ)
     → Progress r0 r w0 w old new held waiting → Consumes r r' piece → held'.bytes ≡ held.bytes ++ piece → held'.is_long ≡ held.is_long
     → Progress r0 r' w0 w old new held' waiting
-reads r0 r r' w0 w old new held held' waiting piece p consumes bytes same = record {
+reads goes_on r0 r r' w0 w old new held held' waiting piece p consumes bytes same = record {
   input = p.input ++ piece;
   lines = p.lines;
   rest = p.rest ++ piece;
@@ -161,26 +177,26 @@ reads r0 r r' w0 w old new held held' waiting piece p consumes bytes same = reco
   read = Consumes-trans r0 r r' p.input piece p.read consumes;
   split = ap (λ l. l ++ piece) p.split ∙ append_assoc (with_feeds p.lines) p.rest piece;
   no_feeds = p.no_feeds;
-  stands = StandsFor-more held held' p.rest piece p.stands bytes same;
+  stands = goes_on held held' p.rest piece p.stands bytes same;
   session = p.session;
   written = p.written;
   said = p.said;
 }
 
 -- a read gave nothing
-pub reads_none : (r0 r r' w0 w : Option (List ℕ)) (old new : List Item) (held held' : Unread) (waiting piece : List ℕ)
+pub reads_none : ReadingGoesOn → (r0 r r' w0 w : Option (List ℕ)) (old new : List Item) (held held' : Unread) (waiting piece : List ℕ)
     → (p : Progress r0 r w0 w old new held waiting) → HasNoFeed p.rest → Consumes r r' piece → held'.bytes ≡ held.bytes ++ piece → held'.is_long ≡ held.is_long
     → piece ≡ [] → (q : Progress r0 r' w0 w old new held' waiting) × HasNoFeed q.rest
 unfolding reads
-reads_none r0 r r' w0 w old new held held' waiting piece p no_feed consumes bytes same none = (
-  reads r0 r r' w0 w old new held held' waiting piece p consumes bytes same,
+reads_none goes_on r0 r r' w0 w old new held held' waiting piece p no_feed consumes bytes same none = (
+  reads goes_on r0 r r' w0 w old new held held' waiting piece p consumes bytes same,
   subst HasNoFeed (sym (append-nil p.rest) ∙ ap (λ l. p.rest ++ l) (sym none)) no_feed,
 )
 
 -- a read failed when no whole line was left, and all replies were sent
-pub read_fails : (r0 r r' w0 w : Option (List ℕ)) (old new : List Item) (held : Unread) (waiting : List ℕ)
+pub read_fails : WholeLinesInFront → NoWholeLine → (r0 r r' w0 w : Option (List ℕ)) (old new : List Item) (held : Unread) (waiting : List ℕ)
     → (p : Progress r0 r w0 w old new held waiting) → HasNoFeed p.rest → waiting ≡ [] → Keeps r r' → Serves r0 r' w0 w whole_lines_of old new
-read_fails r0 r r' w0 w old new held waiting p no_feed none kept = record {
+read_fails whole_in_front no_line r0 r r' w0 w old new held waiting p no_feed none kept = record {
   input = p.input;
   replies = p.replies;
   read = Consumes-kept r0 r r' p.input p.read kept;
@@ -189,14 +205,14 @@ read_fails r0 r r' w0 w old new held waiting p no_feed none kept = record {
 }
   where
     all : whole_lines_of p.input ≡ p.lines
-    all = ap whole_lines_of p.split ∙ whole_lines_of-with_feeds p.lines p.rest p.no_feeds
-        ∙ ap (λ ls. p.lines ++ ls) (whole_lines_of-rest p.rest no_feed) ∙ append-nil p.lines
+    all = ap whole_lines_of p.split ∙ whole_in_front p.lines p.rest p.no_feeds
+        ∙ ap (λ ls. p.lines ++ ls) (no_line p.rest no_feed) ∙ append-nil p.lines
 
 -- the text ended, and the rest of it was answered
-pub ends : (r0 r w0 w w' : Option (List ℕ)) (old mid new : List Item) (held : Unread) (waiting : List ℕ) (after : List Reply) (written : List ℕ)
+pub ends : LinesInFront → (r0 r w0 w w' : Option (List ℕ)) (old mid new : List Item) (held : Unread) (waiting : List ℕ) (after : List Reply) (written : List ℕ)
     → (p : Progress r0 r w0 w old mid held waiting) → waiting ≡ [] → AreLawful session_ways (lines_of p.rest) mid after new → Appends w w' written → written ≡ replies_text after
     → Serves r0 r w0 w' lines_of old new
-ends r0 r w0 w w' old mid new held waiting after written p none session appends is = record {
+ends in_front r0 r w0 w w' old mid new held waiting after written p none session appends is = record {
   input = p.input;
   replies = p.replies ++ after;
   read = p.read;
@@ -205,17 +221,17 @@ ends r0 r w0 w w' old mid new held waiting after written p none session appends 
 }
   where
     all : lines_of p.input ≡ p.lines ++ lines_of p.rest
-    all = ap lines_of p.split ∙ lines_of-with_feeds p.lines p.rest p.no_feeds
+    all = ap lines_of p.split ∙ in_front p.lines p.rest p.no_feeds
 
     text : p.text ++ written ≡ replies_text (p.replies ++ after)
     text = ap (λ l. l ++ written) (sym (append-nil p.text) ∙ ap (λ l. p.text ++ l) (sym none) ∙ p.said) ∙ ap (λ l. replies_text p.replies ++ l) is
         ∙ sym (flat_map-append reply_text p.replies after)
 
 -- the text ended, and the write of the last reply failed
-pub end_fails : (r0 r w0 w w' : Option (List ℕ)) (old mid new : List Item) (held : Unread) (waiting : List ℕ) (after : List Reply) (written : List ℕ)
+pub end_fails : LinesInFront → (r0 r w0 w w' : Option (List ℕ)) (old mid new : List Item) (held : Unread) (waiting : List ℕ) (after : List Reply) (written : List ℕ)
     → (p : Progress r0 r w0 w old mid held waiting) → IsAtEnd r → waiting ≡ [] → AreLawful session_ways (lines_of p.rest) mid after new → Appends w w' written → IsBeginning written (replies_text after)
     → Breaks r0 r w0 w' old
-end_fails r0 r w0 w w' old mid new held waiting after written p at_end none session appends (more, is) = record {
+end_fails in_front r0 r w0 w w' old mid new held waiting after written p at_end none session appends (more, is) = record {
   input = p.input;
   count = length (p.lines ++ lines_of p.rest);
   replies = p.replies ++ after;
@@ -234,5 +250,5 @@ end_fails r0 r w0 w w' old mid new held waiting after written p at_end none sess
   where
     front : take (length (p.lines ++ lines_of p.rest)) (lines_of p.input) ≡ p.lines ++ lines_of p.rest
     front = ap (λ l. take (length (p.lines ++ lines_of p.rest)) (lines_of l)) p.split
-        ∙ ap (take (length (p.lines ++ lines_of p.rest))) (lines_of-with_feeds p.lines p.rest p.no_feeds ∙ sym (append-nil (p.lines ++ lines_of p.rest)))
+        ∙ ap (take (length (p.lines ++ lines_of p.rest))) (in_front p.lines p.rest p.no_feeds ∙ sym (append-nil (p.lines ++ lines_of p.rest)))
         ∙ take_at (p.lines ++ lines_of p.rest) [] _ refl

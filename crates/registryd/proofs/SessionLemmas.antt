@@ -5,7 +5,7 @@ use Rattle.lines.specs.Lines.{HasNoFeed, lines_of}
 use Rattle.lines.specs.Unread.{Unread, BeginsWith, IsFound, Finds, FindsLast}
 use Rattle.lines.specs.declared.buffer.Next.{Next}
 use Rattle.lines.specs.declared.buffer.Next.TheVariants.{Line, TooLong, More}
-use Rattle.lines.proofs.LineLemmas.{lines_of-last}
+use Rattle.lines.specs.Laws.{LastLine}
 use Rattle.replies.specs.Replies.{Reply}
 use Rattle.registryd.specs.Lawful.{AreLawful, IsLawful}
 use Rattle.registryd.specs.Session.{session_ways}
@@ -23,7 +23,7 @@ found_next TooLong text u some found = found
 found_next More text u some found = absurd (some refl)
 
 -- one line that is the whole text
-pub session_one : (old : List Item) (text : List ℕ) (new : List Item) (reply : Reply) → HasNoFeed text → 0 < length text → IsLawful session_ways text old reply new
+pub session_one : LastLine → (old : List Item) (text : List ℕ) (new : List Item) (reply : Reply) → HasNoFeed text → 0 < length text → IsLawful session_ways text old reply new
     → AreLawful session_ways (lines_of text) old (reply ∷ []) new
-session_one old text new reply no_feed some lawful =
-    subst (λ ls. AreLawful session_ways ls old (reply ∷ []) new) (sym (lines_of-last text no_feed some)) (new, lawful, refl)
+session_one last old text new reply no_feed some lawful =
+    subst (λ ls. AreLawful session_ways ls old (reply ∷ []) new) (sym (last text no_feed some)) (new, lawful, refl)

@@ -1,27 +1,26 @@
 -- Worked rows of resolve lines, computed from the definitions.
-use Rattle.std.proofs.Common.{◌≡◌, ◌∙◌, ◌||◌, ℕ, Bool, refl, sym, ap, subst, inl, inr, codes, List, [], ◌∷◌, arith, true, false, not, nat_eq}
+use Rattle.std.proofs.Common.{◌≡◌, ◌<◌, ◌∙◌, ◌||◌, ℕ, zero, suc, length, get_or, Bool, refl, sym, ap, subst, inl, inr, codes, List, [], ◌∷◌, arith, true, false, not, nat_eq}
 use Rattle.std.proofs.lemmas.Bool.{cases_Bool, eqb-true}
 use Rattle.std.proofs.lemmas.Option.{none-some, same_Some}
-use Rattle.std.specs.List.{IsDistinct}
+use Rattle.std.specs.List.{AllByRecursion, IsDistinct}
 use Rattle.std.specs.Prelude.{Option, None, Some, Contains}
-use Rattle.versions.proofs.OnLiterals.{semver_on_literals}
+use Rattle.versions.specs.OnLiterals.{semver_on_literals}
 use Rattle.versions.specs.Words.{Text, meets, parts_of_text, precedence, same_precedence}
 use Rattle.versions.specs.declared.refusal.Refusal.TheVariants.{BudgetSpent}
 use Rattle.registry.specs.Registry.{Packages, needs_of, number_of, package_at, publication_at}
 use Rattle.registry.specs.Requests.{Wanted, is_allowed}
-use Rattle.registry.specs.Selections.{Choices, IsMet, IsReached, Meets, needed}
+use Rattle.registry.specs.Selections.{Choices, IsMet, IsReached, Meets, along, needed}
 use Rattle.registry.specs.Preference.{IsPreferredSelection, preferred}
 use Rattle.registry.specs.Step as registry
 use Rattle.registry.specs.declared.commands.Command.TheVariants as command
 use Rattle.book.specs.Items.{after, empty, packages_of, refusal, revision_of, stepped}
 use Rattle.book.specs.declared.item.Item.{Item}
 use Rattle.book.specs.declared.item.Item.TheVariants as item
-use Rattle.registry.proofs.NeedLemmas.{each-need}
-use Rattle.registry.proofs.SelectionLaws.{holds-reached, preferred-once}
+use Rattle.registry.specs.Laws.{OnePreferredSelection}
 use Rattle.terms.specs.Incompats.{joined, true_at}
 use Rattle.terms.specs.Terms.{is_in}
 use Rattle.terms.specs.declared.term.Term.TheVariants.{In, NotIn}
-use Rattle.derivations.proofs.Soundness.{NoSelection-IsDerivation}
+use Rattle.derivations.specs.Laws.{DerivationsRefute}
 use Rattle.derivations.specs.Derivations.{FollowsOn, IsDerivation, IsDerivedBy, NoSelection, Yields}
 use Rattle.derivations.specs.Facts.{need_terms}
 use Rattle.derivations.specs.declared.facts.Cause.TheVariants.{Need, Root}
@@ -36,6 +35,15 @@ use Rattle.chronicle.specs.Answers.{NonePreferred}
 use Rattle.registryd.specs.Outcomes.{IsAnswer, IsRefuted, Proves, TellsNone, TellsSpent, TellsVerdict}
 use Rattle.registryd.specs.Lawful.{Answers, reply_at}
 use Rattle.registryd.specs.Session.{session_ways}
+
+-- what holds of the needs one by one holds of each that is among them
+each-need : (P : Text → Text → Type 0) (needs : List (Text × Text)) → AllByRecursion (λ (d : Text × Text). P d.0 d.1) needs → (name need : Text) → Contains needs (name, need) → P name need
+each-need P needs h name need among = by needs h among.0 among.1 among.2
+  where
+    by : (ds : List (Text × Text)) → AllByRecursion (λ (d : Text × Text). P d.0 d.1) ds → (i : ℕ) → i < length ds → get_or ds i (name, need) ≡ (name, need) → P name need
+    by [] a i lt e = absurd (omega arith)
+    by (d ∷ rest) a zero lt e = subst (λ (x : Text × Text). P x.0 x.1) e a.0
+    by (d ∷ rest) a (suc i) lt e = by rest a.1 i (omega arith) e
 
 -- ---- `a` 1.0.0 is published, and `a` with `^1` is asked for
 
@@ -113,7 +121,7 @@ first-meets = record {
 
 -- the request names no other package
 only-a : (s : Choices) → s 1 ≡ Some 0 → (p : ℕ) → IsReached a_alone needs_a.needs s p → p ≡ 1
-only-a s chosen = holds-reached a_alone needs_a.needs s (λ p. p ≡ 1) from_need from_version
+only-a s chosen = reached
   where
     same_number : (x y : ℕ) → Some x ≡ Some y → x ≡ y
     same_number x y e = cc
@@ -127,6 +135,10 @@ only-a s chosen = holds-reached a_alone needs_a.needs s (λ p. p ≡ 1) from_nee
         let zeroth : k ≡ 0 = same_number k 0 (sym e ∙ ap s is ∙ chosen) in
         let none : needs_of a_alone from k ≡ [] = ap (λ p. needs_of a_alone p k) is ∙ ap (λ j. needs_of a_alone 1 j) zeroth ∙ a-needs in
         absurd (among-none (needs_of a_alone from k) name need none among)
+
+    reached : (p : ℕ) → IsReached a_alone needs_a.needs s p → p ≡ 1
+    reached _ (needed p name need among at) = from_need p name need among at
+    reached _ (along from k to name need before taken among at) = from_version from k to name need (reached from before) taken among at
 
 first-preferred : IsPreferredSelection a_alone needs_a first
 first-preferred = record {
@@ -145,11 +157,11 @@ a-tells = record {
 }
 
 -- the reply that lists `a` 1.0.0 is lawful, under every budget and without one, whether an explanation is asked or not
-listed-a : (explain : Bool) (budget : Option ℕ) → Answers session_ways (resolve needs_a explain budget) one (record { revision = 1; stamp = None; body = selected a_selected }) one
-listed-a explain budget =
+listed-a : OnePreferredSelection → (explain : Bool) (budget : Option ℕ) → Answers session_ways (resolve needs_a explain budget) one (record { revision = 1; stamp = None; body = selected a_selected }) one
+listed-a once explain budget =
     let answer : IsAnswer a_alone needs_a a_selected = record {
       lawful = record { selection = first; meets = first-meets; tells = a-tells };
-      preferred = λ s is meets. subst (λ (x : Choices). Tells a_alone x a_selected) (λ i p. preferred-once a_alone needs_a first s first-preferred is p i) a-tells;
+      preferred = λ s is meets. subst (λ (x : Choices). Tells a_alone x a_selected) (λ i p. once a_alone needs_a first s first-preferred is p i) a-tells;
     } in
     let told = inl (a_selected, subst (λ packages. IsAnswer packages needs_a a_selected) (sym at-one) answer, refl) in
     inl (one, (refl, (selected a_selected, told, after-one (selected a_selected))), ([], refl))
@@ -217,19 +229,19 @@ zed-derivation =
     } in
     record { derived = (derived, tt); conclusion = []; last = refl; ended = inl refl }
 
-zed-none : NoSelection [] needs_zed
-zed-none = NoSelection-IsDerivation [] needs_zed (end ∷ []) zed-derivation
+zed-none : DerivationsRefute → NoSelection [] needs_zed
+zed-none refute = refute [] needs_zed (end ∷ []) zed-derivation
 
-zed-refuted : IsRefuted (packages_of []) needs_zed
-zed-refuted = subst (λ packages. IsRefuted packages needs_zed) (sym at-none) (record { lines = end ∷ []; derivation = zed-derivation; none = zed-none })
+zed-refuted : DerivationsRefute → IsRefuted (packages_of []) needs_zed
+zed-refuted refute = subst (λ packages. IsRefuted packages needs_zed) (sym at-none) (record { lines = end ∷ []; derivation = zed-derivation; none = zed-none refute })
 
-refused-zed : (budget : Option ℕ) → Answers session_ways (resolve needs_zed false budget) [] (record { revision = 0; stamp = None; body = no_selection }) []
-refused-zed budget = inl ([], (refl, (no_selection, inr (zed-refuted, refl), after-none no_selection)), ([], refl))
+refused-zed : DerivationsRefute → (budget : Option ℕ) → Answers session_ways (resolve needs_zed false budget) [] (record { revision = 0; stamp = None; body = no_selection }) []
+refused-zed refute budget = inl ([], (refl, (no_selection, inr (zed-refuted refute, refl), after-none no_selection)), ([], refl))
 
 -- under a budget it may be told that this is spent
-spent-zed : Answers session_ways (resolve needs_zed false (Some 0)) [] (record { revision = 0; stamp = None; body = refused BudgetSpent }) []
-spent-zed =
-    inr (refl, (refused BudgetSpent, (subst (λ packages. NonePreferred packages needs_zed) (sym at-none) (λ s is meets. zed-none s meets), refl), after-none (refused BudgetSpent)))
+spent-zed : DerivationsRefute → Answers session_ways (resolve needs_zed false (Some 0)) [] (record { revision = 0; stamp = None; body = refused BudgetSpent }) []
+spent-zed refute =
+    inr (refl, (refused BudgetSpent, (subst (λ packages. NonePreferred packages needs_zed) (sym at-none) (λ s is meets. zed-none refute s meets), refl), after-none (refused BudgetSpent)))
 
 -- and without one it may not
 unspent-zed : (body : Body) → TellsSpent [] needs_zed None body → ⊥

@@ -2,12 +2,12 @@
 use Rattle.std.specs.Prelude.{◌≡◌, ◌↔◌, ◌⊎◌, Bool, true, false, IsTrue, ℕ, List, Option, None, Some}
 use Rattle.versions.specs.Words.{Text}
 use Rattle.versions.specs.declared.refusal.Refusal.TheVariants.{BudgetSpent, NoMemory}
-use Rattle.registry.specs.Preference.{IsPreferredSelection}
 use Rattle.registry.specs.Registry.{Packages}
 use Rattle.registry.specs.Requests.{Wanted}
-use Rattle.registry.specs.Selections.{Choices, Meets}
+use Rattle.registry.specs.Selections.{Choices}
 use Rattle.derivations.specs.Derivations.{IsDerivation, NoSelection}
 use Rattle.derivations.specs.declared.line.Line.{Line}
+use Rattle.walk.specs.Preferring.{IfPreferredServes}
 use Rattle.solver.specs.Outcomes.{Tells, TellsOne}
 use Rattle.explain.specs.Explanations.{explanation}
 use Rattle.chronicle.specs.Answers.{NonePreferred}
@@ -21,7 +21,7 @@ use Rattle.by_name.specs.declared.derivation.NamedLine.{NamedLine}
 -- the list tells a selection that meets the request, which is the preferred one where that exists and meets it
 pub record IsAnswer (packages : Packages) (wanted : Wanted) (list : List (Text × Text)) : Type 0 where
   pub lawful : TellsOne packages wanted list
-  pub preferred : (s : Choices) → IsPreferredSelection packages wanted s → Meets packages wanted s → Tells packages s list
+  pub preferred : IfPreferredServes packages wanted (λ (s : Choices). Tells packages s list)
 
 -- there is a derivation, and no selection meets the request
 pub record IsRefuted (packages : Packages) (wanted : Wanted) : Type 0 where

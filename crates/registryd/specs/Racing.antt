@@ -1,5 +1,5 @@
 -- The seats of a race: their ledgers, what they answer, and what a race prints.
-use Rattle.std.specs.Prelude.{◌≡◌, ◌<◌, ℕ, ◌+◌, List, [], ◌∷◌, ◌++◌, flat_map, length, Option, Some}
+use Rattle.std.specs.Prelude.{◌≡◌, ◌<◌, ◌⊎◌, ℕ, ◌+◌, List, [], ◌∷◌, ◌++◌, All, Contains, flat_map, length, Option, Some}
 use Rattle.std.specs.Io.KnownBytes.{Appends}
 use Rattle.versions.specs.Words.{Text}
 use Rattle.versions.specs.declared.refusal.Refusal.TheVariants.{Stray}
@@ -12,15 +12,12 @@ use Rattle.chronicle.specs.Journals.{Begins, packages_of, refusal_at, revision_o
 use Rattle.chronicle.specs.Seats.{Accepted, MayHaveSeen, Place}
 use Rattle.chronicle.specs.declared.entry.Entry.{Entry}
 use Rattle.chronicle.specs.declared.entry.Stamp.{Stamp}
+use Rattle.chronicle.specs.declared.row.TheConstants.{CAPACITY_LIMIT}
 use Rattle.lines.specs.Lines.{lines_of}
 use Rattle.lines.specs.Texts.{IsBeginning}
 use Rattle.journals.specs.Journal.{journal_text}
 use Rattle.replies.specs.Replies.{Reply, replies_text}
 use Rattle.registryd.specs.Lawful.{AreLawful, Ways}
-
--- how many cells the row of a race has
-abbrev pub race_capacity : ℕ
-race_capacity = 65536
 
 -- ---- journals
 
@@ -52,24 +49,29 @@ fresh_seat row number = record { row = row; number = number; journal = [] }
 
 -- ---- files
 
--- These may be the replies to a file's lines by the seat of the row with this number, which has seen a beginning of the journal.
-pub record IsRun (row : Cells) (number : ℕ) (journal : List Entry) (file : Text) (replies : List Reply) : Type 0 where
+-- These may be the replies to a file's lines by the seat of the row with this number, which has then seen these entries.
+pub record IsRun (row : Cells) (number : ℕ) (file : Text) (replies : List Reply) (seen : List Entry) : Type 0 where
   pub end : Place
   pub session : AreLawful seat_ways (lines_of file) (fresh_seat row number) replies end
-  pub begins : Begins end.journal journal
+  pub journal : seen ≡ end.journal
 
--- Each file has its replies, by seats that are numbered in order from this one on.
-abbrev pub AreRun : Cells → ℕ → List Entry → List Text → List (List Reply) → Type 0
-AreRun row number journal [] [] = Unit {0}
-AreRun row number journal (file ∷ files) (replies ∷ rest) = IsRun row number journal file replies × AreRun row (number + 1) journal files rest
-AreRun row number journal [] (replies ∷ rest) = ⊥
-AreRun row number journal (file ∷ files) [] = ⊥
+-- Each file has its replies, by seats that are numbered in order from this one on, and each of these has then seen its entries.
+abbrev pub AreRun : Cells → ℕ → List Text → List (List Reply) → List (List Entry) → Type 0
+AreRun row number [] [] [] = Unit {0}
+AreRun row number (file ∷ files) (replies ∷ rest) (seen ∷ others) = IsRun row number file replies seen × AreRun row (number + 1) files rest others
+AreRun row number [] [] (seen ∷ others) = ⊥
+AreRun row number [] (replies ∷ rest) all = ⊥
+AreRun row number (file ∷ files) [] all = ⊥
+AreRun row number (file ∷ files) (replies ∷ rest) [] = ⊥
 
--- There is a row of so many cells, and each file has its replies by a seat of it.
+-- There is a row of so many cells, and each file has its replies by a seat of it, which has seen a beginning of the journal. Unless the journal is empty, one of them has seen all of it.
 pub record IsRace (files : List Text) (journal : List Entry) (replies : List (List Reply)) : Type 0 where
   pub row : Cells
-  pub sized : row.capacity ≡ race_capacity
-  pub runs : AreRun row 1 journal files replies
+  pub sized : row.capacity ≡ CAPACITY_LIMIT
+  pub seen : List (List Entry)
+  pub runs : AreRun row 1 files replies seen
+  pub begins : All (λ (entries : List Entry). Begins entries journal) seen
+  pub whole : (journal ≡ []) ⊎ Contains seen journal
 
 -- ---- what is printed
 
@@ -77,7 +79,7 @@ pub record IsRace (files : List Text) (journal : List Entry) (replies : List (Li
 abbrev pub race_text : List (List Reply) → List Entry → Text
 race_text replies journal = flat_map replies_text replies ++ journal_text (changes_in journal)
 
--- There is one journal, of which each seat has seen a beginning, each file's lines have their lawful replies, and what was written is these replies and the journal.
+-- There is one journal, of which each seat has seen a beginning and one has seen all, each file's lines have their lawful replies, and what was written is these replies and the journal.
 pub record Races (written_before written_after : Option (List ℕ)) (files : List Text) : Type 0 where
   pub journal : List Entry
   pub replies : List (List Reply)

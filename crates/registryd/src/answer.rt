@@ -1,10 +1,6 @@
 //! The answer to one line, of a session and of a seat of a race alike.
-ghost use Rattle.std.specs.Prelude.{◌≡◌, ◌⊎◌, All, IfErr, IfOk};
+ghost use Rattle.std.specs.Prelude.{◌⊎◌, IfErr, IfOk};
 ghost use Rattle.registry.specs.Commands.{change_of};
-ghost use Rattle.registry.specs.Preference.{IsPreferredSelection};
-ghost use Rattle.registry.specs.Selections.{Choices, Meets};
-ghost use Rattle.solver.specs.Outcomes as outcomes;
-ghost use Rattle.derivations.specs.Learning.{AllStand};
 ghost use Rattle.chronicle.specs.Answers.{MayStop};
 ghost use Rattle.wire.specs.Shapes as shapes;
 ghost use Rattle.registryd.specs.Answering.{LeadsTo};
@@ -16,10 +12,10 @@ use crate::ledger::Ledger;
 use crate::told::{Told, told_of, verdict_on};
 use book::Item;
 use by_name::NamedDerivation;
-use derivations::{Learnt, Store};
+use derivations::Learnt;
 use lines::LINE_LIMIT;
-use registry::{Command, Registry, Request};
-use solver::{Outcome, solve, solve_within};
+use registry::{Command, Request};
+use solver::solve_under;
 use std::alloc::Global;
 use versions::Refusal;
 use wire::{Asked, read_request};
@@ -140,27 +136,6 @@ fn found_here<L: Ledger>(
     ensures only { IfErr result (MayStop (L.ways.packages ledger.now) request.now budget) }
 {
     let registry = ledger.registry();
-    let outcome = outcome_of(alloc, registry, ledger.store(), request, budget)?;
+    let outcome = solve_under(alloc, registry, request, ledger.store(), budget)?;
     told_of(alloc, registry, request, explain, outcome)
-}
-
-/// What the solver answers to a request, under its budget where it has one, with the help of what is
-/// stored.
-fn outcome_of(
-    alloc: Global,
-    registry: &Registry,
-    store: &Store,
-    request: &Request,
-    budget: Option<u32>,
-) -> Result<Outcome, Refusal>
-    requires { All (AllStand registry.now.packages) store.now.members }
-    ensures lawful { IfOk result (outcomes.IsLawful registry.now.packages request.now) }
-    ensures preferred { (s : Choices) → IsPreferredSelection registry.now.packages request.now s → Meets registry.now.packages request.now s
-        → IfOk result (outcomes.Answers registry.now.packages s) }
-    ensures only { IfErr result (MayStop registry.now.packages request.now budget) }
-{
-    match budget {
-        Some(budget) => Ok(solve_within(alloc, registry, request, store, budget)?),
-        None => Ok(solve(alloc, registry, request, store)?),
-    }
 }

@@ -1,5 +1,6 @@
 //! How the program ends: its exit status, and its line on standard error.
-ghost use Rattle.std.specs.Prelude.{◌≡◌};
+ghost use Rattle.std.specs.Prelude.{◌≡◌, ◌≢◌, IfErr};
+ghost use Rattle.std.specs.IoError.{error_kind};
 ghost use Rattle.lines.specs.Texts.{Writes};
 ghost use Rattle.registryd.specs.Ending.{status_of, text_of, journal_text, end_of_run};
 
@@ -7,7 +8,7 @@ use crate::serve::RunFault;
 use itoa::Buffer;
 use lines::{write_text, write_texts};
 use std::io;
-use std::io::Write;
+use std::io::{ErrorKind, Write};
 
 /// How the program ends.
 #[derive(Clone, Copy, Debug, PartialEq, Eq)]
@@ -53,7 +54,8 @@ impl End {
 
 /// Writes the line that tells how the program ends. It takes no memory.
 pub fn ending<W: Write>(end: End, writer: &mut W) -> io::Result<()>
-    ensures { Writes (W.contents writer.old) (W.contents writer.new) result (text_of end) }
+    ensures written { Writes (W.contents writer.old) (W.contents writer.new) result (text_of end) }
+    ensures retried { IfErr result (λ e. error_kind e ≢ ErrorKind.Interrupted) }
 {
     match end {
         End::Done => Ok(()),
@@ -66,7 +68,8 @@ pub fn ending<W: Write>(end: End, writer: &mut W) -> io::Result<()>
 }
 
 fn write_journal_line<W: Write>(writer: &mut W, line: usize) -> io::Result<()>
-    ensures { Writes (W.contents writer.old) (W.contents writer.new) result (journal_text line) }
+    ensures written { Writes (W.contents writer.old) (W.contents writer.new) result (journal_text line) }
+    ensures retried { IfErr result (λ e. error_kind e ≢ ErrorKind.Interrupted) }
 {
     let mut digits = Buffer::new();
     let texts = [

@@ -1,15 +1,14 @@
 //! What is told in reply to a line, by a session and by the seats of a race alike.
 ghost use Rattle.std.specs.Prelude.{◌≡◌, IfErr, IfOk};
-ghost use Rattle.registry.specs.Preference.{IsPreferredSelection};
-ghost use Rattle.registry.specs.Selections.{Choices, Meets};
 ghost use Rattle.derivations.specs.Derivations.{IsDerivation};
+ghost use Rattle.walk.specs.Preferring.{IfPreferredServes};
 ghost use Rattle.solver.specs.Outcomes as outcomes;
 ghost use Rattle.registryd.specs.Outcomes.{MayTell, TellsFound, TellsNone, TellsVerdict};
 ghost use Rattle.registryd.specs.Told.{told_body};
 
 use crate::reasons::{explained, follows};
 use by_name::NamedDerivation;
-use derivations::{Derivation, Learnt};
+use derivations::{Derivation, Learnt, derivations_refute};
 use registry::{Registry, Request};
 use replies::{Explained, Spot};
 use solver::Outcome;
@@ -45,8 +44,7 @@ pub fn told_of(
     outcome: Outcome,
 ) -> Result<(Told, Vec<Learnt>), Refusal>
     requires lawful { outcomes.IsLawful registry.now.packages request.now outcome }
-    requires preferred { (s : Choices) → IsPreferredSelection registry.now.packages request.now s → Meets registry.now.packages request.now s
-        → outcomes.Answers registry.now.packages s outcome }
+    requires preferred { IfPreferredServes registry.now.packages request.now (λ s. outcomes.Answers registry.now.packages s outcome) }
     ensures told { IfOk result (λ r. TellsFound registry.now.packages request.now explain (told_body r.0)) }
     ensures only { IfErr result (λ e. e ≡ Refusal.NoMemory) }
 {
@@ -71,6 +69,7 @@ fn told_refused(
     ensures told { IfOk result (λ told. TellsNone registry.now.packages request.now explain (told_body told)) }
     ensures only { IfErr result (λ e. e ≡ Refusal.NoMemory) }
 {
+    derivations_refute();
     if !explain {
         return Ok(Told::NoSelection);
     }

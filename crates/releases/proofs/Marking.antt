@@ -8,8 +8,8 @@ use Rattle.releases.specs.declared.release.Release.{Release}
 use Rattle.releases.specs.Releases.{IsFound, is_yanked, marked, stamped, versions_of}
 use Rattle.releases.specs.Kept.{IsKept}
 use Rattle.releases.specs.Rising.{IsRising}
-use Rattle.releases.proofs.Standing.{distinct}
-use Rattle.versions.proofs.PrecedenceLemmas.{same_precedence-symm, same_precedence-trans}
+use Rattle.releases.proofs.Standing.{distinct, shared}
+use Rattle.versions.specs.Precedence.{EqualPrecedenceIsATie, EqualPrecedenceIsAnEquivalence}
 use Rattle.terms.specs.Growing.{Growing}
 
 -- what a write of the mark leaves
@@ -65,10 +65,10 @@ marked-stamped (release ∷ rest) version (suc k) yanked found only = elim (case
       ∙ sym (ap (λ b. (if b then record { version = release.version; yanked = yanked } else release) ∷ stamped version yanked rest) apart)
 ]
 
-pub marked-found : (releases : List Release) (rising : List ℕ) (version : Text) (k : ℕ) (yanked : Bool) → IsRising (versions_of releases) rising → IsFound (versions_of releases) version k
+pub marked-found : EqualPrecedenceIsAnEquivalence → EqualPrecedenceIsATie → (releases : List Release) (rising : List ℕ) (version : Text) (k : ℕ) (yanked : Bool) → IsRising (versions_of releases) rising → IsFound (versions_of releases) version k
     → marked releases k yanked ≡ stamped version yanked releases
-marked-found releases rising version k yanked r found = marked-stamped releases version k yanked found (λ j at.
-    distinct (versions_of releases) rising j k r at.0 found.0 (same_precedence-trans _ version _ (same_precedence-symm _ _ ∙ at.1) found.1))
+marked-found equal tie releases rising version k yanked r found = marked-stamped releases version k yanked found (λ j at.
+    distinct equal tie (versions_of releases) rising j k r at.0 found.0 (shared equal _ version _ at.1 found.1))
 
 -- ---- whether it is yanked
 
@@ -98,7 +98,7 @@ only-yanked (first ∷ rest) version (suc k) release at found only = elim (cases
       ∙ sym (ap (λ b. (b && first.yanked) || is_yanked rest version) apart)
 ]
 
-pub found-yanked : (releases : List Release) (rising : List ℕ) (version : Text) (k : ℕ) (release : Release) → IsRising (versions_of releases) rising
+pub found-yanked : EqualPrecedenceIsAnEquivalence → EqualPrecedenceIsATie → (releases : List Release) (rising : List ℕ) (version : Text) (k : ℕ) (release : Release) → IsRising (versions_of releases) rising
     → IsFound (versions_of releases) version k → slice_get releases k ≡ Some release → release.yanked ≡ is_yanked releases version
-found-yanked releases rising version k release r found at = only-yanked releases version k release at found (λ j others.
-    distinct (versions_of releases) rising j k r others.0 found.0 (same_precedence-trans _ version _ (same_precedence-symm _ _ ∙ others.1) found.1))
+found-yanked equal tie releases rising version k release r found at = only-yanked releases version k release at found (λ j others.
+    distinct equal tie (versions_of releases) rising j k r others.0 found.0 (shared equal _ version _ others.1 found.1))

@@ -1,11 +1,11 @@
 -- The search for a version among ordinals in rising precedence.
 use Rattle.std.proofs.Common.{◌≡◌, ◌∙◌, ◌<◌, ◌≤◌, ◌+◌, ◌-◌, ℕ, List, [], length, get_or, arith, ap, sym, refl, inl, inr, true, true≢false}
-use Rattle.std.specs.Ordering.{is_lt, ordering_reverse}
+use Rattle.std.specs.Ordering.{is_eq, is_lt, ordering_reverse}
 use Rattle.std.specs.declared.cmp.Ordering.{Ordering}
 use Rattle.std.specs.declared.cmp.Ordering.TheVariants.{Less, Equal, Greater}
 use Rattle.std.proofs.lemmas.List.{get_or-map, length-map}
 use Rattle.std.proofs.lemmas.Bool.{cases_lt}
-use Rattle.versions.proofs.PrecedenceLemmas.{precedence_total, Equal-same_precedence}
+use Rattle.versions.specs.Precedence.{EqualPrecedenceIsATie, PrecedenceIsATotalPreorder}
 use Rattle.versions.specs.Words.{Text, precedence, same_precedence}
 use Rattle.releases.specs.declared.release.Release.{Release}
 use Rattle.releases.specs.Releases.{version_at, versions_of}
@@ -30,36 +30,33 @@ searching-begin versions rising version = record {
 pub version_at-read : (releases : List Release) (k : ℕ) (d : Release) → k < length releases → version_at (versions_of releases) k ≡ (get_or releases k d).version
 version_at-read releases k d lt = get_or-map (λ (r : Release). r.version) releases k d [] lt
 
-lower-trans : (a b c : Text) → precedence a b ≡ Less → precedence b c ≡ Less → precedence a c ≡ Less
-lower-trans = precedence_total.trans
-
 -- what is above is what is below, the other way round
-turned : (a b : Text) → precedence a b ≡ Greater → precedence b a ≡ Less
-turned a b e = precedence_total.antisymm b a ∙ ap ordering_reverse e
+turned : PrecedenceIsATotalPreorder → (a b : Text) → precedence a b ≡ Greater → precedence b a ≡ Less
+turned ordered a b e = ordered.antisymm b a ∙ ap ordering_reverse e
 
-pub searching-up : (versions : List Text) (rising : List ℕ) (version : Text) (low high middle low' : ℕ) → IsRising versions rising
+pub searching-up : PrecedenceIsATotalPreorder → (versions : List Text) (rising : List ℕ) (version : Text) (low high middle low' : ℕ) → IsRising versions rising
     → IsSearching versions rising version low high → low ≤ middle → middle < high → low' ≡ middle + 1
     → precedence (risen versions rising middle) version ≡ Less → IsSearching versions rising version low' high
-searching-up versions rising version low high middle low' r m le lt is e = record {
+searching-up ordered versions rising version low high middle low' r m le lt is e = record {
   ordered = omega arith;
   within = m.within;
   above = λ i h. elim (cases_lt i middle) [
-    | inl under ↦ lower-trans _ _ _ (r.rises i middle under (omega (arith, m.within))) e
+    | inl under ↦ ordered.trans _ _ _ (r.rises i middle under (omega (arith, m.within))) e
     | inr from ↦ let same : i ≡ middle = omega arith in ap (λ n. precedence (risen versions rising n) version) same ∙ e
   ];
   below = m.below;
 }
 
-pub searching-down : (versions : List Text) (rising : List ℕ) (version : Text) (low high middle : ℕ) → IsRising versions rising
+pub searching-down : PrecedenceIsATotalPreorder → (versions : List Text) (rising : List ℕ) (version : Text) (low high middle : ℕ) → IsRising versions rising
     → IsSearching versions rising version low high → low ≤ middle → middle < high
     → precedence (risen versions rising middle) version ≡ Greater → IsSearching versions rising version low middle
-searching-down versions rising version low high middle r m le lt e = record {
+searching-down ordered versions rising version low high middle r m le lt e = record {
   ordered = le;
   within = omega (arith, m.within);
   above = m.above;
   below = λ i h g. elim (cases_lt middle i) [
-    | inl over ↦ lower-trans _ _ _ (turned _ _ e) (r.rises middle i over g)
-    | inr from ↦ let same : i ≡ middle = omega arith in ap (λ n. precedence version (risen versions rising n)) same ∙ turned _ _ e
+    | inl over ↦ ordered.trans _ _ _ (turned ordered _ _ e) (r.rises middle i over g)
+    | inr from ↦ let same : i ≡ middle = omega arith in ap (λ n. precedence version (risen versions rising n)) same ∙ turned ordered _ _ e
   ];
 }
 
@@ -72,8 +69,8 @@ searching-end versions rising version low high m le = record {
 }
 
 -- a tie with the version that stands at a place
-pub tied-place : (a b : Text) → precedence a b ≡ Equal → same_precedence b a ≡ true
-tied-place a b e = Equal-same_precedence b a (precedence_total.antisymm b a ∙ ap ordering_reverse e)
+pub tied-place : PrecedenceIsATotalPreorder → EqualPrecedenceIsATie → (a b : Text) → precedence a b ≡ Equal → same_precedence b a ≡ true
+tied-place ordered tie a b e = tie b a ∙ ap is_eq (ordered.antisymm b a ∙ ap ordering_reverse e)
 
 -- how the version that was read at a place compares
 pub read-compared : (releases : List Release) (rising : List ℕ) (version : Text) (place : ℕ) (r : Release) (o : Ordering) → IsRising (versions_of releases) rising → place < length rising
@@ -83,12 +80,12 @@ read-compared releases rising version place r o m lt e =
     ap (λ t. precedence t version) (version_at-read releases (get_or rising place 0) r small) ∙ sym e
 
 -- a version above the last stands after all
-pub gap-top : (versions : List Text) (rising : List ℕ) (version : Text) → IsRising versions rising → 0 < length rising
+pub gap-top : PrecedenceIsATotalPreorder → (versions : List Text) (rising : List ℕ) (version : Text) → IsRising versions rising → 0 < length rising
     → precedence (risen versions rising (length rising - 1)) version ≡ Less → IsGap versions rising version (length rising)
-gap-top versions rising version r pos e = record {
+gap-top ordered versions rising version r pos e = record {
   within = omega arith;
   above = λ i h. elim (cases_lt i (length rising - 1)) [
-    | inl under ↦ lower-trans _ _ _ (r.rises i (length rising - 1) under (omega arith)) e
+    | inl under ↦ ordered.trans _ _ _ (r.rises i (length rising - 1) under (omega arith)) e
     | inr from ↦ let same : i ≡ length rising - 1 = omega arith in ap (λ n. precedence (risen versions rising n) version) same ∙ e
   ];
   below = λ i h g. absurd (omega arith);

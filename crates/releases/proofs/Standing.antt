@@ -9,7 +9,8 @@ use Rattle.std.proofs.lemmas.Bool.{cases_lt, cases_Bool}
 use Rattle.std.proofs.lemmas.List.{length-map}
 use Rattle.std.proofs.lemmas.List.Folds.{find-append}
 use mathlib.Core.List.{reverse-cons}
-use Rattle.versions.proofs.PrecedenceLemmas.{precedence_total, precedence-itself, same_precedence-Equal, same_precedence-symm, same_precedence-trans}
+use Rattle.std.specs.Cmp.{Equal-is, tied_itself}
+use Rattle.versions.specs.Precedence.{EqualPrecedenceIsATie, EqualPrecedenceIsAnEquivalence, PrecedenceIsATotalPreorder}
 use Rattle.versions.specs.Words.{Text, precedence, same_precedence}
 use Rattle.releases.specs.declared.release.Release.{Release}
 use Rattle.releases.specs.Releases.{IsFound, has_version, version_at, versions_of}
@@ -35,55 +36,62 @@ Less≢Equal e = cc e
 Less≢Greater : Less ≡ Greater → ⊥
 Less≢Greater e = cc e
 
-turned : (a b : Text) → precedence a b ≡ Less → precedence b a ≡ Greater
-turned a b e = precedence_total.antisymm b a ∙ ap ordering_reverse e
+turned : PrecedenceIsATotalPreorder → (a b : Text) → precedence a b ≡ Less → precedence b a ≡ Greater
+turned ordered a b e = ordered.antisymm b a ∙ ap ordering_reverse e
+
+-- equal precedence is a tie
+tied : EqualPrecedenceIsATie → (a b : Text) → same_precedence a b ≡ true → precedence a b ≡ Equal
+tied tie a b e = (Equal-is (precedence a b)).0 (sym (tie a b) ∙ e)
+
+-- versions that share a precedence with one have it with one another
+pub shared : EqualPrecedenceIsAnEquivalence → (a b c : Text) → same_precedence b a ≡ true → same_precedence b c ≡ true → same_precedence a c ≡ true
+shared equal a b c p q = equal.congr a b c (equal.symm a b ∙ p) ∙ q
 
 -- of two places with versions of equal precedence neither is before the other
-not-before : (versions : List Text) (rising : List ℕ) (i j : ℕ) → IsRising versions rising → j < length rising → same_precedence (risen versions rising i) (risen versions rising j) ≡ true → i < j → ⊥
-not-before versions rising i j r lt tie before = Less≢Equal (sym (r.rises i j before lt) ∙ same_precedence-Equal _ _ tie)
+not-before : EqualPrecedenceIsATie → (versions : List Text) (rising : List ℕ) (i j : ℕ) → IsRising versions rising → j < length rising → same_precedence (risen versions rising i) (risen versions rising j) ≡ true → i < j → ⊥
+not-before tie versions rising i j r lt same before = Less≢Equal (sym (r.rises i j before lt) ∙ tied tie _ _ same)
 
 -- versions of equal precedence have one ordinal
-pub distinct : (versions : List Text) (rising : List ℕ) (j k : ℕ) → IsRising versions rising → j < length versions → k < length versions
+pub distinct : EqualPrecedenceIsAnEquivalence → EqualPrecedenceIsATie → (versions : List Text) (rising : List ℕ) (j k : ℕ) → IsRising versions rising → j < length versions → k < length versions
     → same_precedence (version_at versions j) (version_at versions k) ≡ true → j ≡ k
-distinct versions rising j k r lt lt' tie =
+distinct equal tie versions rising j k r lt lt' same_one =
     let p = place-of versions rising j r lt in
     let q = place-of versions rising k r lt' in
     let at : same_precedence (risen versions rising p.0) (risen versions rising q.0) ≡ true =
-    ap (λ n. same_precedence (version_at versions n) (risen versions rising q.0)) p.2 ∙ ap (λ n. same_precedence (version_at versions j) (version_at versions n)) q.2 ∙ tie in
+    ap (λ n. same_precedence (version_at versions n) (risen versions rising q.0)) p.2 ∙ ap (λ n. same_precedence (version_at versions j) (version_at versions n)) q.2 ∙ same_one in
     elim (cases_lt p.0 q.0) [
-      | inl before ↦ absurd (not-before versions rising p.0 q.0 r q.1 at before)
+      | inl before ↦ absurd (not-before tie versions rising p.0 q.0 r q.1 at before)
       | inr from ↦ elim (cases_lt q.0 p.0) [
-        | inl after ↦ absurd (not-before versions rising q.0 p.0 r p.1 (same_precedence-symm _ _ ∙ at) after)
+        | inl after ↦ absurd (not-before tie versions rising q.0 p.0 r p.1 (equal.symm _ _ ∙ at) after)
         | inr to ↦ let same : p.0 ≡ q.0 = omega arith in sym p.2 ∙ ap (λ n. get_or rising n 0) same ∙ q.2
       ]
     ]
 
 -- the one that was found is the only one
-pub found-only : (versions : List Text) (rising : List ℕ) (version : Text) (place : ℕ) → IsRising versions rising → place < length rising
+pub found-only : EqualPrecedenceIsAnEquivalence → EqualPrecedenceIsATie → (versions : List Text) (rising : List ℕ) (version : Text) (place : ℕ) → IsRising versions rising → place < length rising
     → same_precedence version (risen versions rising place) ≡ true → (j : ℕ) → IsFound versions version j → j ≡ get_or rising place 0
-found-only versions rising version place r lt tie j found =
-    distinct versions rising j (get_or rising place 0) r found.0 (r.within place lt)
-    (same_precedence-trans _ version _ (same_precedence-symm _ _ ∙ found.1) tie)
+found-only equal tie versions rising version place r lt here j found =
+    distinct equal tie versions rising j (get_or rising place 0) r found.0 (r.within place lt) (shared equal _ version _ found.1 here)
 
 -- nothing of equal precedence stands beside a gap
-pub gap-none : (versions : List Text) (rising : List ℕ) (version : Text) (place : ℕ) → IsRising versions rising → IsGap versions rising version place → has_version versions version ≡ false
-gap-none versions rising version place r gap = elim (cases_Bool (has_version versions version)) [
+pub gap-none : EqualPrecedenceIsAnEquivalence → EqualPrecedenceIsATie → (versions : List Text) (rising : List ℕ) (version : Text) (place : ℕ) → IsRising versions rising → IsGap versions rising version place → has_version versions version ≡ false
+gap-none equal tie versions rising version place r gap = elim (cases_Bool (has_version versions version)) [
   | inr fails ↦ fails
   | inl passes ↦
       let w = witness (same_precedence version) [] versions passes in
       let p = place-of versions rising w.0 r w.1 in
-      let tie : same_precedence version (risen versions rising p.0) ≡ true = ap (λ n. same_precedence version (version_at versions n)) p.2 ∙ w.2 in
+      let same : same_precedence version (risen versions rising p.0) ≡ true = ap (λ n. same_precedence version (version_at versions n)) p.2 ∙ w.2 in
       elim (cases_lt p.0 place) [
-        | inl before ↦ absurd (Less≢Equal (sym (gap.above p.0 before) ∙ same_precedence-Equal _ _ (same_precedence-symm _ _ ∙ tie)))
-        | inr from ↦ absurd (Less≢Equal (sym (gap.below p.0 from p.1) ∙ same_precedence-Equal _ _ tie))
+        | inl before ↦ absurd (Less≢Equal (sym (gap.above p.0 before) ∙ tied tie _ _ (equal.symm _ _ ∙ same)))
+        | inr from ↦ absurd (Less≢Equal (sym (gap.below p.0 from p.1) ∙ tied tie _ _ same))
       ]
 ]
 
 module _ (gives : ℕ → Bool → Type 0) (versions : List Text) (rising : List ℕ) (r : IsRising versions rising) where
   -- the last of the rising ordinals that passes has the highest precedence
-  pub last-highest : (k : ℕ) → ((i : ℕ) × (i < length rising) × (get_or rising i 0 ≡ k) × gives k true × ((j : ℕ) → i < j → j < length rising → gives (get_or rising j 0) false))
+  pub last-highest : PrecedenceIsATotalPreorder → (k : ℕ) → ((i : ℕ) × (i < length rising) × (get_or rising i 0 ≡ k) × gives k true × ((j : ℕ) → i < j → j < length rising → gives (get_or rising j 0) false))
       → IsHighest gives versions k
-  last-highest k last = record {
+  last-highest ordered k last = record {
     published = let w = r.within last.0 last.1 in omega (arith, w, last.2);
     passes = last.3;
     fails = λ j lt above.
@@ -95,11 +103,11 @@ module _ (gives : ℕ → Bool → Type 0) (versions : List Text) (rising : List
                 let under : precedence (version_at versions j) (version_at versions k) ≡ Less =
                 ap (λ n. precedence (version_at versions n) (version_at versions k)) (sym p.2) ∙ ap (λ n. precedence (risen versions rising p.0) (version_at versions n)) (sym last.2)
                 ∙ r.rises p.0 last.0 before last.1 in
-                absurd (Less≢Greater (sym above ∙ turned _ _ under))
+                absurd (Less≢Greater (sym above ∙ turned ordered _ _ under))
             | inr from ↦
                 let same : p.0 ≡ last.0 = omega arith in
                 let is : j ≡ k = sym p.2 ∙ ap (λ n. get_or rising n 0) same ∙ last.2 in
-                absurd (Less≢Equal (sym above ∙ ap (λ n. precedence (version_at versions k) (version_at versions n)) is ∙ precedence-itself (version_at versions k)))
+                absurd (Less≢Equal (sym above ∙ ap (λ n. precedence (version_at versions k) (version_at versions n)) is ∙ tied_itself ordered (version_at versions k)))
           ]
         ];
   }
@@ -107,10 +115,10 @@ module _ (gives : ℕ → Bool → Type 0) (versions : List Text) (rising : List
   pub none-passes : ((j : ℕ) → j < length rising → gives (get_or rising j 0) false) → (k : ℕ) → k < length versions → gives k false
   none-passes h k lt = let p = place-of versions rising k r lt in subst (λ n. gives n false) p.2 (h p.0 p.1)
 
-  pub highest-some : (result : Option ℕ) → IfSome result (λ k. (i : ℕ) × (i < length rising) × (get_or rising i 0 ≡ k) × gives k true × ((j : ℕ) → i < j → j < length rising → gives (get_or rising j 0) false))
+  pub highest-some : PrecedenceIsATotalPreorder → (result : Option ℕ) → IfSome result (λ k. (i : ℕ) × (i < length rising) × (get_or rising i 0 ≡ k) × gives k true × ((j : ℕ) → i < j → j < length rising → gives (get_or rising j 0) false))
       → IfSome result (IsHighest gives versions)
-  highest-some None h = tt
-  highest-some (Some k) h = last-highest k h
+  highest-some ordered None h = tt
+  highest-some ordered (Some k) h = last-highest ordered k h
 
   pub highest-none : (result : Option ℕ) → IfNone result ((j : ℕ) → j < length rising → gives (get_or rising j 0) false) → IfNone result ((k : ℕ) → k < length versions → gives k false)
   highest-none None h = none-passes h
@@ -147,9 +155,9 @@ walked test [] = λ j lt. absurd (omega arith)
 walked test (x ∷ rest) = rw (reverse-cons, find-append) (walked-more test x rest (find test (reverse rest)) (walked test rest))
 
 module _ (test : ℕ → Bool) (versions : List Text) (rising : List ℕ) (r : IsRising versions rising) where
-  pub walked-some : (result : Option ℕ) → Walked test rising result → IfSome result (IsHighest (λ k b. test k ≡ b) versions)
-  walked-some None w = tt
-  walked-some (Some k) w = last-highest (λ k b. test k ≡ b) versions rising r k w
+  pub walked-some : PrecedenceIsATotalPreorder → (result : Option ℕ) → Walked test rising result → IfSome result (IsHighest (λ k b. test k ≡ b) versions)
+  walked-some ordered None w = tt
+  walked-some ordered (Some k) w = last-highest (λ k b. test k ≡ b) versions rising r ordered k w
 
   pub walked-none : (result : Option ℕ) → Walked test rising result → IfNone result ((k : ℕ) → k < length versions → test k ≡ false)
   walked-none None w = none-passes (λ k b. test k ≡ b) versions rising r w

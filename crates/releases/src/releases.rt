@@ -15,7 +15,9 @@ use indexmap::IndexSet;
 use std::alloc::{AllocError, Global};
 use std::marker::Model;
 use terms::{GrowingSet, VSet};
-use versions::{Need, Published};
+use versions::{
+    Need, Published, equal_precedence_is_an_equivalence, precedence_is_a_total_preorder,
+};
 
 /// The releases of a package, in order of publication: the first has the ordinal 0. No two of them
 /// have equal precedence.
@@ -90,6 +92,7 @@ impl Releases {
         ensures only { IfSome result (λ k. (j : ℕ) → IsFound (versions_of self.now.releases) version.now j → j ≡ k) }
         ensures yanked { IfSome result (λ k. (release : Release) → slice_get self.now.releases k ≡ Some release → release.yanked ≡ is_yanked self.now.releases version.now) }
     {
+        equal_precedence_is_an_equivalence();
         match place_of(&self.releases, &self.rising, version) {
             Ok(place) => Some(self.rising[place]),
             Err(_) => None,
@@ -126,6 +129,7 @@ impl Releases {
         ensures some { IfSome result (IsHighest (λ k b. has set.now k ≡ b) (versions_of self.now.releases)) }
         ensures none { IfNone result ((k : ℕ) → k < length self.now.releases → has set.now k ≡ false) }
     {
+        precedence_is_a_total_preorder();
         set.highest(&self.rising)
     }
 
@@ -135,6 +139,7 @@ impl Releases {
         ensures some { IfSome result (IsHighest (F.post passes) (versions_of self.now.releases)) }
         ensures none { IfNone result ((k : ℕ) → k < length self.now.releases → F.post passes k false) }
     {
+        precedence_is_a_total_preorder();
         highest_of(&self.rising, passes)
     }
 
@@ -218,6 +223,7 @@ impl Releases {
         ensures needs { self.new.needs ≡ self.old.needs }
         ensures room { self.new.room ≡ self.old.room }
     {
+        equal_precedence_is_an_equivalence();
         let release = &mut self.releases[ordinal as usize];
         release.yanked = true;
     }
@@ -230,6 +236,7 @@ impl Releases {
         ensures needs { self.new.needs ≡ self.old.needs }
         ensures room { self.new.room ≡ self.old.room }
     {
+        equal_precedence_is_an_equivalence();
         let release = &mut self.releases[ordinal as usize];
         release.yanked = false;
     }

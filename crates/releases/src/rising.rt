@@ -6,7 +6,9 @@ ghost use Rattle.releases.specs.Rising.{IsHighest, IsPlace, IsRising};
 
 use crate::release::Release;
 use std::cmp::Ordering;
-use versions::{Published, order};
+use versions::{
+    Published, equal_precedence_is_an_equivalence, order, precedence_is_a_total_preorder,
+};
 
 /// The place of the version of equal precedence, or the place where the version would stand. It is
 /// found at once above all others, where versions are mostly published.
@@ -18,6 +20,8 @@ pub(crate) fn place_of(
     requires { IsRising (versions_of releases.now) rising.now }
     ensures { IsPlace (versions_of releases.now) rising.now version.now result }
 {
+    precedence_is_a_total_preorder();
+    equal_precedence_is_an_equivalence();
     if let [.., top] = rising {
         if order(&releases[*top as usize].version, version).is_lt() {
             return Err(rising.len());

@@ -7,11 +7,10 @@ use Rattle.std.specs.Cmp.Lexicographic.{slice_cmp}
 use Rattle.std.specs.Ordering.{is_lt, nat_cmp}
 use Rattle.std.proofs.lemmas.List.{append-nil, get_or-map, map-append, take_more}
 use Rattle.std.proofs.lemmas.List.Elements.{filter-append}
-use Rattle.std.proofs.lemmas.Option.{get_or_from_slice_get, slice_get-get_or, slice_get_within}
+use Rattle.std.proofs.lemmas.Option.{slice_get-get_or}
 use Rattle.std.proofs.lemmas.List.{length-map}
 use Rattle.std.proofs.lemmas.List.Sorted.{IsPermutation-map}
 use Rattle.versions.specs.Words.{Text}
-use Rattle.registry.specs.Lawful.{IsPackage, IsRegistry}
 use Rattle.registry.specs.Registry.{Package, Packages, Publication, is_published, package_at, publication_at, versions_or_none}
 use Rattle.replies.specs.Entries.{row_at}
 use Rattle.replies.specs.declared.listing.Entry.{Entry}
@@ -77,19 +76,6 @@ IsListing-sorted packages found sorted rows same ascending = record {
   whole = subst (λ (l : List Row). IsPermutation l (map (row_at packages) sorted)) rows (IsPermutation-map (row_at packages) found sorted same);
   ascending = IsSortedBy-map (row_at packages) (λ (x y : Row). is_lt (slice_cmp nat_cmp x.0 y.0)) sorted ascending;
 }
-
-few_of : (packages : Packages) (at : Option Package) → ((p : Package) → at ≡ Some p → length p.versions ≤ 1024) → length (versions_or_none at) ≤ 1024
-few_of packages None few = omega arith
-few_of packages (Some p) few = few p refl
-
--- a package has at most 1,024 versions
-pub few_versions : (packages : Packages) (n : ℕ) → IsRegistry packages → length (versions_or_none (package_at packages n)) ≤ 1024
-unfolding package_at
-few_versions packages zero lawful = omega arith
-few_versions packages (suc m) lawful = few_of packages (slice_get packages m)
-    (λ p at. let within = slice_get_within packages m p at in
-    let is : IsPackage packages (get_or packages m p) = lawful.packs m p within in
-    subst (λ (q : Package). length q.versions ≤ 1024) (get_or_from_slice_get packages m p p at) is.few)
 
 published_in : (at : Option Package) (k : ℕ) → k < length (versions_or_none at) → is_some (option_and_then (λ (pack : Package). slice_get pack.versions k) at) ≡ true
 published_in None k h = absurd (omega arith)

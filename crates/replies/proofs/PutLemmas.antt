@@ -6,11 +6,17 @@ use Rattle.std.proofs.lemmas.List.Concat.{flat_map-append}
 use Rattle.std.specs.Io.KnownBytes.{Appends}
 use Rattle.std.proofs.KnownBytes.{Appends-nil, Appends-trans}
 use Rattle.lines.specs.Texts.{IsBeginning, Puts, outbox_room}
-use Rattle.lines.proofs.TextLemmas.{append-beginning, beginning-append}
 use Rattle.serde_json.specs.Data.{Data}
 use Rattle.serde_json.specs.Written.{comma_if, compact_text}
 use Rattle.replies.specs.Joined.{Waits, joined}
 use Rattle.replies.proofs.ReplyLemmas.{Makes, joined-front, joined-next}
+
+-- a beginning of a text is one of a longer text
+beginning-append : (front text more : List ℕ) → IsBeginning front text → IsBeginning front (text ++ more)
+beginning-append front text more (rest, is) = (rest ++ more, sym (append_assoc front rest more) ∙ ap (λ l. l ++ more) is)
+
+append-beginning : (before front text : List ℕ) → IsBeginning front text → IsBeginning (before ++ front) (before ++ text)
+append-beginning before front text (rest, is) = (rest, append_assoc before front rest ∙ ap (λ l. before ++ l) is)
 
 -- all of a text was put: what was written, and what waits now, are what waited and the text
 pub record Put (old new : Option (List ℕ)) (before after text : List ℕ) : Type 0 where

@@ -19,3 +19,4 @@ pub use needs::put_needs;
 pub use parts::put_parts;
 pub use reply::{Body, Reply, Spot, reply_line};
 pub use told::Explained;
+pub use written::derivation_text;

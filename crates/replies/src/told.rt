@@ -4,7 +4,7 @@ ghost use Rattle.serde_json.specs.Written.{compact_text};
 ghost use Rattle.replies.specs.NamedJson.{derivation_json};
 ghost use Rattle.replies.specs.Replies.{texts_json};
 
-use crate::written::{derivation_json, texts_json};
+use crate::written::{derivation_text, texts_json};
 use by_name::NamedDerivation;
 use std::alloc::Global;
 use std::marker::Model;
@@ -46,7 +46,7 @@ impl Explained {
         ensures same { IfOk result (λ e. e ≡ record { lines = derivation; texts = map (λ t. string_bytes t) lines.items }) }
         ensures only { IfErr result (λ e. e ≡ Refusal.NoMemory) }
     {
-        let derivation_text = derivation_json(alloc, &derivation)?.to_string(alloc)?;
+        let derivation_text = derivation_text(alloc, &derivation)?;
         let lines_text = texts_json(alloc, &lines)?.to_string(alloc)?;
         Ok(Explained {
             derivation,

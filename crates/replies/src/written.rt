@@ -2,6 +2,7 @@
 ghost use Rattle.std.specs.Prelude.{◌≡◌, IfOk, map, string_bytes};
 ghost use Rattle.serde_json.specs.Data.{array, boolean, item, no_items, string};
 ghost use Rattle.serde_json.specs.View.{view};
+ghost use Rattle.serde_json.specs.Written.{compact_text};
 ghost use Rattle.replies.specs.NamedJson.{cause_json, derivation_json, line_json, name_json, ordinals_json, premise_json, term_json, terms_json};
 ghost use Rattle.replies.specs.Replies.{texts_json};
 
@@ -133,6 +134,14 @@ pub fn derivation_json(alloc: Global, derivation: &NamedDerivation) -> Result<Va
         values.push(line_json(alloc, line)?)?;
     }
     Ok(Value::from(values))
+}
+
+/// The JSON of a derivation, as text.
+pub fn derivation_text(alloc: Global, derivation: &NamedDerivation) -> Result<String, AllocError>
+    ensures { IfOk result (λ text. string_bytes text ≡ compact_text (derivation_json derivation.now)) }
+{
+    let text = derivation_json(alloc, derivation)?.to_string(alloc)?;
+    Ok(text)
 }
 
 /// Texts as JSON.

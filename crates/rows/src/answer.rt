@@ -35,8 +35,7 @@ impl fmt::Display for Answer {
             Answer::Bool(is) => write!(f, "{is}"),
             Answer::Number(number) => write!(f, "{number}"),
             Answer::Word(word) => write!(f, "\"{word}\""),
-            Answer::Choice(Some(ordinal)) => write!(f, "{ordinal}"),
-            Answer::Choice(None) => write!(f, "null"),
+            Answer::Choice(choice) => write!(f, "{}", ChoiceText(*choice)),
             Answer::Numbers(numbers) => write_numbers(f, numbers),
             Answer::Set(set) => write_set(f, set),
             Answer::Term(term) => write_term(f, term),
@@ -107,6 +106,29 @@ pub fn write_terms<W: fmt::Write>(f: &mut fmt::Formatter<W>, terms: &[(Pkg, Term
 /// A text that is an answer.
 pub fn shown<T: fmt::Display>(alloc: Global, text: &T) -> Result<Answer, Unread> {
     Ok(Answer::Text(format!(in alloc; "{text}")?))
+}
+
+/// An ordinal or none, written into other JSON.
+#[derive(Clone, Copy)]
+pub struct ChoiceText(pub Option<u32>);
+
+impl fmt::Display for ChoiceText {
+    fn fmt<W: fmt::Write>(&self, f: &mut fmt::Formatter<W>) -> fmt::Result {
+        match self.0 {
+            Some(ordinal) => write!(f, "{ordinal}"),
+            None => f.write_str("null"),
+        }
+    }
+}
+
+/// Numbers that are written into other JSON.
+#[derive(Clone, Copy)]
+pub struct NumbersText<'a>(pub &'a [u32]);
+
+impl fmt::Display for NumbersText<'_> {
+    fn fmt<W: fmt::Write>(&self, f: &mut fmt::Formatter<W>) -> fmt::Result {
+        write_numbers(f, self.0)
+    }
 }
 
 /// A set that is written into other JSON.

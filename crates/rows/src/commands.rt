@@ -14,7 +14,7 @@ pub fn command_call(
     name: &str,
     row: &Value,
 ) -> Result<Answer, Unread> {
-    enter(registry, command_of(alloc, name, row)?)
+    enter(registry, &command_of(alloc, name, row)?)
 }
 
 /// The command of a row that names it by its member `do`.
@@ -52,12 +52,19 @@ pub fn dependencies_at(alloc: Global, row: &Value) -> Result<Dependencies, Unrea
     Ok(Dependencies::new(alloc, needs_at(alloc, row)?)?)
 }
 
-fn enter(registry: &mut Registry, command: Command) -> Result<Answer, Unread> {
-    registry.check(&command)?;
+/// Makes room for a command, enters a copy of it, and answers the revision after it.
+pub fn enter(registry: &mut Registry, command: &Command) -> Result<Answer, Unread> {
+    registry.check(command)?;
+    registry.reserve(command)?;
+    apply(registry, command)
+}
+
+/// As `enter`, for a command for which no room is made.
+pub fn apply(registry: &mut Registry, command: &Command) -> Result<Answer, Unread> {
+    registry.check(command)?;
     if registry.revision() == u64::MAX {
         return Ok(Answer::Skipped);
     }
-    registry.reserve(&command)?;
-    registry.apply(command)?;
+    registry.apply(command.copy()?)?;
     Ok(Answer::Number(registry.revision() as usize))
 }

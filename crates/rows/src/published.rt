@@ -1,22 +1,22 @@
 //! Names, versions and requirements of a row.
 
-use crate::reading::{Unread, items, member, text, text_at};
+use crate::reading::{Unread, items, list, member, text, text_at};
 use registry::Request;
 use serde_json::Value;
 use std::alloc::Global;
 use versions::{Name, Need, Published};
 
 pub fn name_at(alloc: Global, row: &Value, name: &str) -> Result<Name, Unread> {
-    Ok(Name::read(alloc, text_at(row, name)?)?)
+    name_of(alloc, member(row, name)?)
 }
 
 /// The names of a row, as `["a","b"]`.
 pub fn names_at(alloc: Global, row: &Value, name: &str) -> Result<Vec<Name>, Unread> {
-    let mut names = Vec::new(alloc);
-    for item in items(member(row, name)?)? {
-        names.push(Name::read(alloc, text(item)?)?)?;
-    }
-    Ok(names)
+    list(alloc, member(row, name)?, name_of)
+}
+
+fn name_of(alloc: Global, value: &Value) -> Result<Name, Unread> {
+    Ok(Name::read(alloc, text(value)?)?)
 }
 
 pub fn version_at(alloc: Global, row: &Value, name: &str) -> Result<Published, Unread> {
@@ -46,19 +46,11 @@ fn locked(alloc: Global, value: &Value) -> Result<(Name, Published), Unread> {
 }
 
 pub fn needs_at(alloc: Global, row: &Value) -> Result<Vec<(Name, Need)>, Unread> {
-    let mut needs = Vec::new(alloc);
-    for item in items(member(row, "needs")?)? {
-        needs.push(need(alloc, item)?)?;
-    }
-    Ok(needs)
+    list(alloc, member(row, "needs")?, need)
 }
 
 pub fn lock_at(alloc: Global, row: &Value) -> Result<Vec<(Name, Published)>, Unread> {
-    let mut lines = Vec::new(alloc);
-    for item in items(member(row, "lock")?)? {
-        lines.push(locked(alloc, item)?)?;
-    }
-    Ok(lines)
+    list(alloc, member(row, "lock")?, locked)
 }
 
 pub fn request_at(alloc: Global, row: &Value) -> Result<Request, Unread> {

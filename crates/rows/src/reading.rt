@@ -64,12 +64,23 @@ pub fn size_at(row: &Value, name: &str) -> Result<usize, Unread> {
     Ok(whole_at(row, name)? as usize)
 }
 
-fn ordinals(alloc: Global, value: &Value) -> Result<Vec<u32>, Unread> {
-    let mut ordinals = Vec::new(alloc);
+/// The items of a list, as `read` gives each.
+pub fn list<T: Drop, F: Fn(Global, &Value) -> Result<T, Unread>>(
+    alloc: Global,
+    value: &Value,
+    read: F,
+) -> Result<Vec<T>, Unread>
+    requires { F.IsAlwaysCallable read }
+{
+    let mut all = Vec::new(alloc);
     for item in items(value)? {
-        ordinals.push(whole(item)?)?;
+        all.push(read(alloc, item)?)?;
     }
-    Ok(ordinals)
+    Ok(all)
+}
+
+fn ordinals(alloc: Global, value: &Value) -> Result<Vec<u32>, Unread> {
+    list(alloc, value, |_, item| whole(item))
 }
 
 pub fn ordinals_at(alloc: Global, row: &Value, name: &str) -> Result<Vec<u32>, Unread> {
@@ -106,11 +117,7 @@ fn entry(alloc: Global, value: &Value) -> Result<(Pkg, Term), Unread> {
 }
 
 pub fn terms_at(alloc: Global, row: &Value, name: &str) -> Result<Vec<(Pkg, Term)>, Unread> {
-    let mut terms = Vec::new(alloc);
-    for item in items(member(row, name)?)? {
-        terms.push(entry(alloc, item)?)?;
-    }
-    Ok(terms)
+    list(alloc, member(row, name)?, entry)
 }
 
 pub fn incompat_at(alloc: Global, row: &Value, name: &str) -> Result<Incompat, Unread> {

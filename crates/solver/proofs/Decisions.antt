@@ -15,6 +15,7 @@ use Rattle.partial.specs.Satisfying.{IsNeither}
 use Rattle.partial.specs.Rank.{rank}
 use Rattle.versions.specs.Words.{Text}
 use Rattle.registry.specs.Highest.{IsHighest}
+use Rattle.registry.specs.Laws.{PublishedBelow, UnpublishedFrom}
 use Rattle.registry.specs.Registry.{Package, Packages, Publication, needs_of, needs_or_none, package_at, publication_at, versions_or_none}
 use Rattle.registry.specs.Requests.{Wanted, allows_some, is_allowed}
 use Rattle.derivations.specs.Facts.{Terms}
@@ -27,7 +28,7 @@ use Rattle.solver.specs.Picking.{is_choosable, AreBarred, IsWithin}
 use Rattle.solver.specs.Pushing.{SaysAt}
 use Rattle.solver.specs.Searching.{ActsBy, IsSearch, IsUnused}
 use Rattle.solver.proofs.Kept.{IsSearch-push}
-use Rattle.solver.proofs.Publishing.{count, published-below, unpublished-from}
+use Rattle.solver.proofs.Publishing.{count}
 
 pub IfNone-then : {X P Q : Type 0} (o : Option X) → IfNone o P → (P → Q) → IfNone o Q
 IfNone-then None h f = f h
@@ -38,16 +39,16 @@ IfSome-then None h f = tt
 IfSome-then (Some x) h f = f x h
 
 -- the highest of the versions to choose from is one
-pub highest_is_within : (task : Task) (p : ℕ) (said : Term) (k : ℕ) → IsHighest (λ j b. is_choosable task p said j ≡ b) (versions_or_none (package_at task.registry.now.packages p)) k → IsWithin task p said k
-highest_is_within task p said k h = record {
-  published = published-below task.registry.now.packages p k h.published;
+pub highest_is_within : PublishedBelow → (task : Task) (p : ℕ) (said : Term) (k : ℕ) → IsHighest (λ j b. is_choosable task p said j ≡ b) (versions_or_none (package_at task.registry.now.packages p)) k → IsWithin task p said k
+highest_is_within published task p said k h = record {
+  published = published task.registry.now.packages p k h.published;
   within = (and_parts (true_of said (Some k)) (is_allowed task.registry.now.packages task.request.now p k) h.passes).0;
 }
 
 -- the highest of the versions in a set is one
-pub highest_is_in : (task : Task) (p : ℕ) (versions : List ℕ) (k : ℕ) → IsHighest (λ j b. has versions j ≡ b) (versions_or_none (package_at task.registry.now.packages p)) k → IsWithin task p (In versions) k
-highest_is_in task p versions k h = record {
-  published = published-below task.registry.now.packages p k h.published;
+pub highest_is_in : PublishedBelow → (task : Task) (p : ℕ) (versions : List ℕ) (k : ℕ) → IsHighest (λ j b. has versions j ≡ b) (versions_or_none (package_at task.registry.now.packages p)) k → IsWithin task p (In versions) k
+highest_is_in published task p versions k h = record {
+  published = published task.registry.now.packages p k h.published;
   within = h.passes;
 }
 
@@ -62,17 +63,17 @@ unpublished_barred task p k gone = by (package_at task.registry.now.packages p) 
     by (Some pack) (Some v) e = absurd (none-some v (sym e))
 
 -- where there is no version to choose from, none within the term is allowed
-pub none_barred : (task : Task) (p : ℕ) (said : Term) → ((k : ℕ) → k < length (versions_or_none (package_at task.registry.now.packages p)) → is_choosable task p said k ≡ false) → AreBarred task p said
-none_barred task p said h k within = elim (cases_lt k (count task.registry.now.packages p)) [
+pub none_barred : UnpublishedFrom → (task : Task) (p : ℕ) (said : Term) → ((k : ℕ) → k < length (versions_or_none (package_at task.registry.now.packages p)) → is_choosable task p said k ≡ false) → AreBarred task p said
+none_barred unpublished task p said h k within = elim (cases_lt k (count task.registry.now.packages p)) [
   | inl lt ↦ sym (ap (λ b. b && is_allowed task.registry.now.packages task.request.now p k) within) ∙ h k lt
-  | inr from ↦ unpublished_barred task p k (unpublished-from task.registry.now.packages p k from)
+  | inr from ↦ unpublished_barred task p k (unpublished task.registry.now.packages p k from)
 ]
 
 -- where no version is in a set, none in it is allowed
-pub none_in : (task : Task) (p : ℕ) (versions : List ℕ) → ((k : ℕ) → k < length (versions_or_none (package_at task.registry.now.packages p)) → has versions k ≡ false) → AreBarred task p (In versions)
-none_in task p versions h k within = elim (cases_lt k (count task.registry.now.packages p)) [
+pub none_in : UnpublishedFrom → (task : Task) (p : ℕ) (versions : List ℕ) → ((k : ℕ) → k < length (versions_or_none (package_at task.registry.now.packages p)) → has versions k ≡ false) → AreBarred task p (In versions)
+none_in unpublished task p versions h k within = elim (cases_lt k (count task.registry.now.packages p)) [
   | inl lt ↦ absurd (true≢false (sym within ∙ h k lt))
-  | inr from ↦ unpublished_barred task p k (unpublished-from task.registry.now.packages p k from)
+  | inr from ↦ unpublished_barred task p k (unpublished task.registry.now.packages p k from)
 ]
 
 -- what an attempt did after lines were added, seen from before

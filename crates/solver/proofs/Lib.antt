@@ -8,7 +8,6 @@ pub mod Turn
 pub mod GoingBack
 pub mod Publishing
 pub mod Numbering
-pub mod Matching
 pub mod Pushed
 pub mod Reused
 pub mod Using

@@ -1,6 +1,5 @@
 -- Selections as they are told.
-use Rattle.std.proofs.Common.{◌≡◌, ◌<◌, ◌≤◌, ◌+◌, ◌∙◌, ℕ, zero, suc, List, [], ◌∷◌, ◌++◌, length, take, map, refl, sym, ap, arith, true, true≢false, nat_eq, inl, inr, get_or}
-use Rattle.std.proofs.lemmas.Bool.{cases_lt}
+use Rattle.std.proofs.Common.{◌≡◌, ◌<◌, ◌+◌, ◌∙◌, ℕ, zero, suc, List, [], ◌∷◌, ◌++◌, length, take, map, refl, sym, ap, arith, true, nat_eq, get_or}
 use Rattle.std.proofs.lemmas.Cmp.{nat_eq_equiv}
 use Rattle.std.proofs.lemmas.List.{map-append}
 use Rattle.std.proofs.lemmas.Map.Entries.{lookup_from_place}
@@ -8,14 +7,12 @@ use Rattle.std.proofs.lemmas.Option.{none-some, same_Some}
 use Rattle.std.specs.List.{IsDistinct}
 use Rattle.std.specs.Map.{keys_of}
 use Rattle.std.specs.Option.{option_map}
-use Rattle.std.specs.Prelude.{Option, None, Some, is_some, slice_get}
+use Rattle.std.specs.Prelude.{Option, None, Some, slice_get}
 use Rattle.versions.specs.Words.{Text}
 use Rattle.registry.specs.Registry.{Package, Packages, Publication, is_published, package_at, publication_at}
 use Rattle.registry.specs.Selections.{IsSelection}
-use Rattle.registry.proofs.RegistryLaws.{publication_at-package}
 use Rattle.walk.specs.Choosing.{choice_of}
 use Rattle.walk.specs.Names.{name_of, name_or_none}
-use Rattle.walk.proofs.Preferring.{package_at-past, package_at-zero}
 use Rattle.solver.specs.Outcomes.{told, version_or_none}
 use Rattle.solver.proofs.Lists.{next}
 
@@ -37,29 +34,6 @@ get_there (x ∷ xs) zero d lt = refl
 get_there (x ∷ xs) (suc i) d lt = get_there xs i d (omega (arith, lt))
 
 -- ---- entries
-
-there : {X : Type 0} (o : Option X) → is_some o ≡ true → (x : X) × (o ≡ Some x)
-there None e = absurd (true≢false (sym e))
-there (Some x) e = (x, refl)
-
--- what is published has a package, which is numbered
-published_package : (packages : Packages) (p k : ℕ) → is_published packages p k ≡ true → (pack : Package) × (package_at packages p ≡ Some pack)
-published_package packages p k published =
-    let v = there (publication_at packages p k) published in
-    let found = publication_at-package packages p k v.0 v.1 in
-    (found.0, found.1)
-
-pub published_first : (packages : Packages) (p k : ℕ) → is_published packages p k ≡ true → 1 ≤ p
-published_first packages zero k published =
-    let found = published_package packages 0 k published in
-    absurd (none-some found.0 (sym (package_at-zero packages) ∙ found.1))
-published_first packages (suc p) k published = omega arith
-
-pub published_last : (packages : Packages) (p k : ℕ) → is_published packages p k ≡ true → p ≤ length packages
-published_last packages p k published = elim (cases_lt (length packages) p) [
-  | inl past ↦ let found = published_package packages p k published in absurd (none-some found.0 (sym (package_at-past packages p past) ∙ found.1))
-  | inr within ↦ omega (arith, within)
-]
 
 name_is : (o : Option Package) (name : Text) → option_map (λ (p : Package). p.name) o ≡ Some name → name ≡ name_or_none o
 name_is None name e = absurd (none-some name e)

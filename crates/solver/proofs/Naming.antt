@@ -9,7 +9,7 @@ use Rattle.versions.specs.Words.{Text}
 use Rattle.registry.specs.Lawful.{IsRegistry}
 use Rattle.registry.specs.Needs.{has_name}
 use Rattle.registry.specs.Registry.{Package, Packages, Publication, is_named, needs_of, needs_or_none, number_from, number_of, package_at, publication_at}
-use Rattle.registry.proofs.RegistryLaws.{number_of-need, publication-lawful}
+use Rattle.registry.specs.Laws.{NeedsAreNumbered, PublicationsAreLawful}
 use Rattle.registry.specs.Selections.{Choices, IsReached, along, needed}
 
 named-at : (n : ℕ) (packages : Packages) (name : Text) (q : ℕ) → number_from n packages name ≡ Some q → (i : ℕ) × (q ≡ n + i) × ((pack : Package) × (slice_get packages i ≡ Some pack) × (is_named name pack ≡ true))
@@ -54,16 +54,16 @@ published_with packages p k d among = by (publication_at packages p k) refl amon
     by (Some v) at within = (v, at, within)
 
 -- a dependency's name is numbered
-pub dependency_numbered : (packages : Packages) (p k : ℕ) (d : Text × Text) → IsRegistry packages → Contains (needs_of packages p k) d → (q : ℕ) × (number_of packages d.0 ≡ Some q)
-dependency_numbered packages p k d lawful among =
+pub dependency_numbered : NeedsAreNumbered → (packages : Packages) (p k : ℕ) (d : Text × Text) → IsRegistry packages → Contains (needs_of packages p k) d → (q : ℕ) × (number_of packages d.0 ≡ Some q)
+dependency_numbered numbers packages p k d lawful among =
     let found = published_with packages p k d among in
-    number_of-need packages p k found.0 d lawful found.1 found.2
+    numbers packages p k found.0 d lawful found.1 found.2
 
 -- and its number is not the package's own
-pub dependency_apart : (packages : Packages) (p k q : ℕ) (d : Text × Text) → IsRegistry packages → Contains (needs_of packages p k) d → number_of packages d.0 ≡ Some q → p ≢ q
-dependency_apart packages p k q d lawful among numbered same =
+pub dependency_apart : PublicationsAreLawful → (packages : Packages) (p k q : ℕ) (d : Text × Text) → IsRegistry packages → Contains (needs_of packages p k) d → number_of packages d.0 ≡ Some q → p ≢ q
+dependency_apart laws packages p k q d lawful among numbered same =
     let found = published_with packages p k d among in
-    let own = publication-lawful packages p k found.0 lawful found.1 in
+    let own = laws packages p k found.0 lawful found.1 in
     let named = number_of-package packages d.0 q numbered in
     let pack_is : named.0 ≡ own.0 = same_Some named.0 own.0 (sym named.1 ∙ ap (package_at packages) (sym same) ∙ own.1) in
     let called : bytes_eq own.0.name d.0 ≡ true = nat_list_eq_equiv.symm own.0.name d.0 ∙ ap (λ (x : Package). bytes_eq d.0 x.name) (sym pack_is) ∙ named.2 in

@@ -1,23 +1,10 @@
 -- Packages by their numbers and names.
-use Rattle.std.proofs.Common.{◌≡◌, ◌≢◌, ◌<◌, ◌≤◌, ℕ, zero, suc, List, [], ◌∷◌, length, refl, subst, arith, true, inl, inr}
+use Rattle.std.proofs.Common.{◌≡◌, ◌≢◌, ◌<◌, ◌≤◌, ℕ, zero, suc, List, [], ◌∷◌, length, refl, arith, true, inl, inr}
 use Rattle.std.proofs.lemmas.Bool.{cases_Bool, leb-true}
-use Rattle.std.proofs.lemmas.Option.{none-some, same_Some, slice_get_within, get_or_from_slice_get}
-use Rattle.std.specs.Prelude.{Option, None, Some, slice_get, IsSome, is_some, nat_le}
+use Rattle.std.proofs.lemmas.Option.{none-some, same_Some}
+use Rattle.std.specs.Prelude.{Some, slice_get, IsSome, is_some, nat_le}
 use Rattle.versions.specs.Words.{Text}
-use Rattle.registry.specs.Lawful.{IsPackage, IsRegistry}
-use Rattle.registry.specs.Registry.{Package, Packages, is_named, number_from, number_of, package_at, versions_or_none}
-
-few_in : (packages : Packages) (n : ℕ) → IsRegistry packages → (o : Option Package) → slice_get packages n ≡ o → length (versions_or_none o) ≤ 1024
-few_in packages n h None e = omega arith
-few_in packages n h (Some pack) e =
-    let lawful : IsPackage packages pack = subst (IsPackage packages) (get_or_from_slice_get packages n pack pack e) (h.packs n pack (slice_get_within packages n pack e)) in
-    lawful.few
-
--- a package has few versions
-pub few_versions : (packages : Packages) (p : ℕ) → IsRegistry packages → length (versions_or_none (package_at packages p)) ≤ 1024
-unfolding package_at
-few_versions packages zero h = omega arith
-few_versions packages (suc n) h = few_in packages n h (slice_get packages n) refl
+use Rattle.registry.specs.Registry.{Packages, is_named, number_from, number_of, package_at}
 
 number_from-above : (n : ℕ) (packages : Packages) (name : Text) (q : ℕ) → number_from n packages name ≡ Some q → n ≤ q
 number_from-above n [] name q e = absurd (none-some q e)

@@ -17,8 +17,9 @@ use Rattle.partial.specs.Satisfying.{IsNeither}
 use Rattle.derivations.specs.Facts.{Terms, dependency}
 use Rattle.std.specs.Prelude.{Contains}
 use Rattle.versions.specs.Words.{Text}
-use Rattle.registry.specs.Registry.{Packages, Publication, meets_at, needs_of, needs_or_none, number_of, publication_at}
-use Rattle.derivations.specs.Facts.{matching, need_terms, need_terms_at}
+use Rattle.registry.specs.Laws.{MatchingIsWhatMeets}
+use Rattle.registry.specs.Registry.{Packages, Publication, matching, meets_at, needs_of, needs_or_none, number_of, publication_at}
+use Rattle.derivations.specs.Facts.{need_terms, need_terms_at}
 use Rattle.walk.specs.Choosing.{IsUnmet}
 use Rattle.walk.specs.Walks.{IsUnmetAt}
 use Rattle.derivations.specs.declared.cutting.Known.{Known}
@@ -29,7 +30,6 @@ use Rattle.solver.specs.Pushing.{IsForNeed, SaysAt}
 use Rattle.solver.specs.Searching.{BeginsWithRoot}
 use Rattle.solver.specs.Answering.{IsBlame}
 use Rattle.solver.proofs.Says.{says-take}
-use Rattle.solver.proofs.Matching.{has-matching}
 use Rattle.solver.proofs.Numbering.{not_root}
 use Rattle.solver.proofs.Naming.{number_of-numbered}
 use Rattle.solver.proofs.Decisions.{entry_used, not_neither_alone}
@@ -142,12 +142,12 @@ pub root_chosen : (made : List Assignment) → BeginsWithRoot made → (c : Opti
 root_chosen made h c said = h.only c (says-take 2 made 0 c said)
 
 -- a need that what is decided does not meet
-pub need_blames : (packages : Packages) (made : List Assignment) (name need : Text) (q : ℕ) → BeginsWithRoot made → number_of packages name ≡ Some q → IsUnmet packages (decided made) name need
+need_blames : MatchingIsWhatMeets → (packages : Packages) (made : List Assignment) (name need : Text) (q : ℕ) → BeginsWithRoot made → number_of packages name ≡ Some q → IsUnmet packages (decided made) name need
     → IsBlame made (need_terms packages name need) q
-need_blames packages made name need q begins numbered unmet =
+need_blames matched packages made name need q begins numbered unmet =
     subst (λ (o : Option ℕ). IsBlame made (need_terms_at packages o need) q) (sym numbered)
     (blames made 0 0 q (0 ∷ []) (matching packages q need) (not_root packages name q numbered) (root_chosen made begins) refl
-    (λ k e. has-matching packages q need k ∙ unmet q k numbered e))
+    (λ k e. matched packages q need k ∙ unmet q k numbered e))
 
 -- a dependency of a decided version that what is decided does not meet
 pub dependency_blames : (packages : Packages) (made : List Assignment) (p v : ℕ) (name need : Text) (q : ℕ) (versions within : List ℕ) → IsPartial made → p ≢ q → decided made p ≡ Some v
@@ -222,7 +222,7 @@ module _ (task : Task) (made : List Assignment) (known : List Known) (at i : ℕ
   pub need_numbered : number_of task.registry.now.packages r.0 ≡ None → ⊥
   need_numbered none = unnumbered_used task.registry.now.packages made r.0 r.1 begins none need_neither
 
-  pub need_decides : (new : List Assignment) (q : ℕ) → IsPartial made → number_of task.registry.now.packages r.0 ≡ Some q → new ≡ made → IsToDecide task new q
-  need_decides new q h numbered same =
-      let blame = need_blames task.registry.now.packages made r.0 r.1 q begins numbered need_unmet in
+  pub need_decides : MatchingIsWhatMeets → (new : List Assignment) (q : ℕ) → IsPartial made → number_of task.registry.now.packages r.0 ≡ Some q → new ≡ made → IsToDecide task new q
+  need_decides matched new q h numbered same =
+      let blame = need_blames matched task.registry.now.packages made r.0 r.1 q begins numbered need_unmet in
       subst (λ (m : List Assignment). IsToDecide task m q) (sym same) (blamed_decides task made (need_terms task.registry.now.packages r.0 r.1) r.0 q h numbered blame need_neither)

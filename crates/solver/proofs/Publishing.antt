@@ -1,43 +1,15 @@
 -- The versions of a package that have a dependency, found one at a time.
-use Rattle.std.proofs.Common.{Bool, ◌≡◌, ◌↔◌, ◌<◌, ◌≤◌, ◌+◌, ◌∙◌, inl, inr, ℕ, zero, suc, List, [], ◌∷◌, length, refl, sym, ap, subst, arith, true, true≢false, nat_eq}
+use Rattle.std.proofs.Common.{Bool, ◌≡◌, ◌↔◌, ◌<◌, ◌≤◌, ◌+◌, ◌∙◌, inl, inr, ℕ, List, [], length, sym, ap, subst, arith, true≢false, nat_eq}
 use Rattle.std.proofs.lemmas.Bool.{cases_eq, cases_lt, eqb-true, eq-eqb, or_cases, or_left, or_right}
-use Rattle.std.specs.Prelude.{Option, None, Some, slice_get, is_some, Contains, IsTrue}
-use Rattle.std.specs.Option.{option_and_then}
+use Rattle.std.specs.Prelude.{Option, Contains, IsTrue}
 use Rattle.versions.specs.Words.{Text}
 use Rattle.terms.specs.Sets.{has, AddsOrdinal}
-use Rattle.registry.specs.Registry.{Package, Packages, Publication, is_published, needs_of, needs_or_none, package_at, publication_at, versions_or_none}
+use Rattle.registry.specs.Laws.{UnpublishedFrom}
+use Rattle.registry.specs.Registry.{Packages, Publication, needs_of, needs_or_none, package_at, versions_or_none}
 
 -- how many versions of a package are published
 abbrev pub count : Packages → ℕ → ℕ
 count packages p = length (versions_or_none (package_at packages p))
-
-there : {A : Type 0} (xs : List A) (k : ℕ) → k < length xs → is_some (slice_get xs k) ≡ true
-there [] k lt = absurd (omega arith)
-there (x ∷ xs) zero lt = refl
-there (x ∷ xs) (suc k) lt = there xs k (omega arith)
-
-gone : {A : Type 0} (xs : List A) (k : ℕ) → length xs ≤ k → slice_get xs k ≡ None
-gone [] k le = refl
-gone (x ∷ xs) zero le = absurd (omega arith)
-gone (x ∷ xs) (suc k) le = gone xs k (omega arith)
-
--- an ordinal below the count is published
-pub published-below : (packages : Packages) (p k : ℕ) → k < count packages p → is_published packages p k ≡ true
-unfolding publication_at
-published-below packages p k lt = by (package_at packages p) lt
-  where
-    by : (o : Option Package) → k < length (versions_or_none o) → is_some (option_and_then (λ (pack : Package). slice_get pack.versions k) o) ≡ true
-    by None h = absurd (omega arith)
-    by (Some pack) h = there pack.versions k h
-
--- an ordinal from the count on is not
-pub unpublished-from : (packages : Packages) (p k : ℕ) → count packages p ≤ k → publication_at packages p k ≡ None
-unfolding publication_at
-unpublished-from packages p k le = by (package_at packages p) le
-  where
-    by : (o : Option Package) → length (versions_or_none o) ≤ k → option_and_then (λ (pack : Package). slice_get pack.versions k) o ≡ None
-    by None h = refl
-    by (Some pack) h = gone pack.versions k h
 
 -- the set has, of the ordinals below n, those whose versions have the dependency
 abbrev pub HaveBelow : Packages → ℕ → Text × Text → List ℕ → ℕ → Type 0
@@ -82,12 +54,12 @@ one_last packages p entry b n h k e =
 nothing : (x : Text × Text) → Contains [] x → ⊥
 nothing x h = omega (arith, h.1)
 
-pub have_all : (packages : Packages) (p : ℕ) (entry : Text × Text) (set : List ℕ) (n : ℕ) → count packages p ≤ n → HaveBelow packages p entry set n
+pub have_all : UnpublishedFrom → (packages : Packages) (p : ℕ) (entry : Text × Text) (set : List ℕ) (n : ℕ) → count packages p ≤ n → HaveBelow packages p entry set n
     → (k : ℕ) → IsTrue (has set k) ↔ Contains (needs_of packages p k) entry
-have_all packages p entry set n le h k = (
+have_all unpublished packages p entry set n le h k = (
   λ yes_k. ((h k).0 yes_k).1,
   λ has_it. elim (cases_lt k n) [
     | inl lt ↦ (h k).1 (lt, has_it)
-    | inr from ↦ absurd (nothing entry (subst (λ (o : Option Publication). Contains (needs_or_none o) entry) (unpublished-from packages p k (omega arith)) has_it))
+    | inr from ↦ absurd (nothing entry (subst (λ (o : Option Publication). Contains (needs_or_none o) entry) (unpublished packages p k (omega arith)) has_it))
   ],
 )

@@ -5,7 +5,6 @@ use Rattle.std.specs.Map.{keys_of}
 use Rattle.versions.specs.Words.{Text}
 use Rattle.versions.specs.declared.refusal.Refusal.{Refusal}
 use Rattle.versions.specs.declared.refusal.Refusal.TheVariants.{BudgetSpent, NoMemory}
-use Rattle.registry.specs.Preference.{IsPreferredSelection}
 use Rattle.registry.specs.Registry.{Packages, Publication, publication_at}
 use Rattle.registry.specs.Requests.{Wanted}
 use Rattle.registry.specs.Selections.{Choices, Meets}
@@ -13,6 +12,7 @@ use Rattle.derivations.specs.Derivations.{IsDerivation, NoSelection}
 use Rattle.derivations.specs.Learning.{AllStand}
 use Rattle.walk.specs.Choosing.{choice_of}
 use Rattle.walk.specs.Names.{by_name, name_of}
+pub use Rattle.walk.specs.Preferring.{IfPreferredServes}
 use Rattle.solver.specs.declared.solving.Outcome.{Outcome}
 use Rattle.solver.specs.declared.solving.Outcome.TheVariants as outcome
 
@@ -57,7 +57,7 @@ OnlyWhereNone packages wanted (outcome.Refused derivation offered) = NoSelection
 
 -- there is no preferred selection, or it does not meet the request
 abbrev pub NonePreferred : Packages → Wanted → Type 0
-NonePreferred packages wanted = (s : Choices) → IsPreferredSelection packages wanted s → Meets packages wanted s → ⊥
+NonePreferred packages wanted = IfPreferredServes packages wanted (λ s. ⊥)
 
 -- why a request may be left without an answer: for want of memory, or, under a budget, since that is spent; but no budget is spent on a preferred selection that meets it
 abbrev pub MayStop : Packages → Wanted → Option ℕ → Refusal → Type 0

@@ -7,8 +7,8 @@ ghost use Rattle.solver.specs.Lines.{AtLine};
 ghost use Rattle.solver.specs.Searching.{IsSearch, ResolvesBy};
 
 use crate::lines::line_from;
-use crate::task::{ROOT, Task};
-use derivations::{Known, empty_is_no_fact};
+use crate::task::Task;
+use derivations::{Known, ROOT, empty_is_no_fact};
 use partial::{Partial, Why};
 use std::alloc::AllocError;
 

@@ -5,9 +5,9 @@ ghost use Rattle.terms.specs.Sets.{has};
 ghost use Rattle.registry.specs.Registry.{Repeats, is_published, needs_of};
 ghost use Rattle.solver.specs.Pushing.{AreDependents};
 
-use crate::facts::version_count;
 use crate::task::Task;
 use heuristics::{Place, Sharing};
+use registry::ordinals_are_below_the_count;
 use terms::{Pkg, VSet};
 use versions::{Name, Need, Refusal};
 
@@ -62,10 +62,11 @@ pub(crate) fn versions_with(
     ensures exactly { IfOk result (λ set. (k : ℕ) → IsTrue (has set k) ↔ Contains (needs_of task.now.registry.now.packages pkg k) (name.now, need.now)) }
     ensures only { IfErr result (λ e. e ≡ Refusal.NoMemory) }
 {
+    ordinals_are_below_the_count();
     let repeats = task.registry.repeats(pkg);
     let mut set = VSet::new(task.alloc);
     let mut is_one = false;
-    for ordinal in 0..version_count(task.registry, pkg) {
+    for ordinal in 0..task.registry.version_count(pkg) {
         let same = repeats[ordinal as usize];
         is_one = has_dependency(task, pkg, ordinal, name, need, same, is_one);
         if is_one {
@@ -79,14 +80,13 @@ pub(crate) fn versions_with(
 fn is_at(task: &Task<'_>, pkg: Pkg, place: Place, entry: &(Name, Need)) -> bool
     ensures { result ≡ true → Contains (needs_of task.now.registry.now.packages pkg place.ordinal) entry.now }
 {
-    if place.ordinal >= version_count(task.registry, pkg) {
+    let Some(facts) = task.registry.facts_at(pkg, place.ordinal) else {
+        return false;
+    };
+    if place.index >= facts.needs.len() {
         return false;
     }
-    let needs = task.registry.facts(pkg, place.ordinal).needs;
-    if place.index >= needs.len() {
-        return false;
-    }
-    is_entry(&needs[place.index], &entry.0, &entry.1)
+    is_entry(&facts.needs[place.index], &entry.0, &entry.1)
 }
 
 /// A version that has a dependency, and those that have it at one of these places. It costs a comparison

@@ -5,12 +5,13 @@ ghost use Rattle.registry.specs.Registry.{is_published, needs_of};
 ghost use Rattle.solver.specs.Pushing.{Extends};
 
 use crate::dependents::versions_sharing;
-use crate::facts::{push_dependency, version_count};
+use crate::facts::push_dependency;
 use crate::picking::is_open;
 use crate::task::Task;
 use crate::worklist::Worklist;
 use derivations::Known;
 use partial::Partial;
+use registry::ordinals_are_below_the_count;
 use terms::Pkg;
 use versions::Refusal;
 
@@ -55,10 +56,11 @@ pub(crate) fn enter_alike(
     ensures changed { OnOk result (worklist.new.changed.items ≡ worklist.old.changed.items) }
     ensures only { IfErr result (λ e. e ≡ Refusal.NoMemory) }
 {
+    ordinals_are_below_the_count();
     if !is_open(partial, pkg) {
         return Ok(());
     }
-    let count = version_count(task.registry, pkg);
+    let count = task.registry.version_count(pkg);
     if count == 0 || !worklist.agenda.enters_alike(&task.question(), pkg) {
         return Ok(());
     }

@@ -3,7 +3,7 @@
 ghost use Rattle.std.specs.Prelude.{◌≡◌, ◌≢◌, ◌<◌, ◌∷◌, [], ℕ, Some, length, IfErr, IfOk, IsSome, OnOk};
 ghost use Rattle.terms.specs.Sets.{has};
 ghost use Rattle.terms.specs.declared.term.Term.TheVariants.{In};
-ghost use Rattle.registry.specs.Registry.{meets_at, number_of, package_at, versions_or_none};
+ghost use Rattle.registry.specs.Registry.{meets_at, number_of, package_at};
 ghost use Rattle.derivations.specs.Derivations.{IsFact, NoneAllowed};
 ghost use Rattle.derivations.specs.Facts.{dependency, premise_terms, Stands};
 ghost use Rattle.solver.specs.Pushing.{AreDependents, Extends, IsForNeed, SaysAt};
@@ -11,7 +11,6 @@ ghost use Rattle.solver.specs.Reusing.{Keeps};
 
 use crate::task::Task;
 use derivations::{Cause, Known, Premise, Reason, need_incompat};
-use registry::Registry;
 use terms::{Incompat, Pkg, Term, VSet};
 use versions::{Name, Need, Refusal};
 
@@ -34,15 +33,6 @@ fn push_fact(
         reason: Reason::Fact(cause),
     })?;
     Ok(at)
-}
-
-/// How many versions of a package are published.
-pub(crate) fn version_count(registry: &Registry, pkg: Pkg) -> u32
-    ensures { result ≡ length (versions_or_none (package_at registry.now.packages pkg)) }
-{
-    // That a registry has few versions a package is told with the count of its packages.
-    let _packages = registry.packages();
-    registry.versions(pkg) as u32
 }
 
 // ---- dependencies

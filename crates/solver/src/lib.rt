@@ -46,4 +46,4 @@ mod task;
 mod turns;
 mod worklist;
 
-pub use solving::{Outcome, solve, solve_within};
+pub use solving::{Outcome, solve, solve_under, solve_within};

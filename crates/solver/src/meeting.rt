@@ -17,6 +17,7 @@ use crate::search::Search;
 use crate::task::Task;
 use crate::worklist::Worklist;
 use partial::Partial;
+use registry::{matching_is_what_meets, publications_are_lawful};
 use terms::{Pkg, VSet};
 use versions::Refusal;
 use walk::{Chooser, Reached, reach};
@@ -56,6 +57,7 @@ pub(crate) fn meet_need(
     ensures acts { IfOk result (ActsBy task.now search.old search.new ⊥) }
     ensures only { IfErr result (MayRefuse task.now.budget) }
 {
+    matching_is_what_meets();
     let _made = search.partial.assignments();
     let entry = &task.request.needs()[index];
     let at = push_need(task, &mut search.known, index)?;
@@ -85,6 +87,7 @@ pub(crate) fn meet_dependency(
     ensures acts { IfOk result (ActsBy task.now search.old search.new ⊥) }
     ensures only { IfErr result (MayRefuse task.now.budget) }
 {
+    publications_are_lawful();
     // That names are numbered and no package needs itself is told with the count of packages.
     let _packages = task.registry.packages();
     let _made = search.partial.assignments();

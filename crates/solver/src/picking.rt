@@ -12,6 +12,7 @@ use crate::task::Task;
 use crate::worklist::Worklist;
 use heuristics::locked_version;
 use partial::Partial;
+use registry::{allowed_is_published, ordinals_are_below_the_count};
 use terms::{Pkg, Term, VSet};
 use versions::Refusal;
 
@@ -90,6 +91,7 @@ pub(crate) enum Picked {
 fn locked_within(task: &Task<'_>, pkg: Pkg, said: &Term) -> Option<u32>
     ensures { IfSome result (IsWithin task.now pkg said.now) }
 {
+    allowed_is_published();
     let locked = locked_version(&task.question(), pkg)?;
     let ordinal = task.registry.find(pkg, locked)?;
     if is_choosable(task, pkg, said, ordinal) {
@@ -121,6 +123,7 @@ fn highest_in(task: &Task<'_>, pkg: Pkg, versions: &VSet) -> Option<u32>
     ensures some { IfSome result (IsWithin task.now pkg (In versions.now)) }
     ensures none { IfNone result (AreBarred task.now pkg (In versions.now)) }
 {
+    ordinals_are_below_the_count();
     task.registry.highest(pkg, versions)
 }
 
@@ -129,6 +132,7 @@ fn best_within(task: &Task<'_>, pkg: Pkg, said: &Term) -> Option<u32>
     ensures some { IfSome result (IsWithin task.now pkg said.now) }
     ensures none { IfNone result (AreBarred task.now pkg said.now) }
 {
+    ordinals_are_below_the_count();
     match said {
         // Where none is yanked, each is allowed.
         Term::In(versions) if !task.registry.has_yanks(pkg) => highest_in(task, pkg, versions),

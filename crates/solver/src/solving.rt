@@ -4,10 +4,10 @@ ghost use Rattle.std.specs.Prelude.{◌≡◌, map, nat_eq, true, All, IfErr, If
 ghost use Rattle.std.specs.List.{IsDistinct};
 ghost use Rattle.std.specs.Map.{keys_of};
 ghost use Rattle.derivations.specs.Learning.{AllStand};
-ghost use Rattle.registry.specs.Preference.{IsPreferredSelection};
 ghost use Rattle.registry.specs.Registry.{is_published};
-ghost use Rattle.registry.specs.Selections.{Choices, IsSelection, Meets};
+ghost use Rattle.registry.specs.Selections.{IsSelection};
 ghost use Rattle.walk.specs.Choosing.{choice_of};
+ghost use Rattle.walk.specs.Preferring.{IfPreferredServes};
 ghost use Rattle.solver.specs.Answering.{EndsBy};
 ghost use Rattle.solver.specs.Outcomes.{told, Answers, IsLawful, MayStop, Tells};
 ghost use Rattle.solver.specs.Reusing.{StoreStands};
@@ -21,7 +21,7 @@ use crate::turns::{Ended, run};
 use crate::worklist::Worklist;
 use derivations::{Derivation, Known, Learnt, Store, cut};
 use heuristics::{Obstacle, obstacle_at};
-use registry::{Registry, Request};
+use registry::{Registry, Request, ordinals_are_below_the_count};
 use std::alloc::Global;
 use terms::Pkg;
 use versions::{Name, Published, Refusal};
@@ -42,6 +42,7 @@ fn named(registry: &Registry, chosen: &(Pkg, u32)) -> Result<(Name, Published), 
     ensures same { IfOk result (λ pair. pair ≡ told registry.now.packages chosen.now) }
     ensures only { IfErr result (λ e. e ≡ Refusal.NoMemory) }
 {
+    ordinals_are_below_the_count();
     // That a registry has few packages is told with their count.
     let _packages = registry.packages();
     let facts = registry.facts(chosen.0, chosen.1);
@@ -148,8 +149,8 @@ fn search_for(task: &Task<'_>, obstacle: Option<Obstacle>) -> Result<Outcome, Re
 fn answer(task: &Task<'_>) -> Result<Outcome, Refusal>
     requires { StoreStands task.now }
     ensures lawful { IfOk result (IsLawful task.now.registry.now.packages task.now.request.now) }
-    ensures preferred { (s : Choices) → IsPreferredSelection task.now.registry.now.packages task.now.request.now s → Meets task.now.registry.now.packages task.now.request.now s → IfOk result (Answers task.now.registry.now.packages s) }
-    ensures unspent { (s : Choices) → IsPreferredSelection task.now.registry.now.packages task.now.request.now s → Meets task.now.registry.now.packages task.now.request.now s → IfErr result (λ e. e ≡ Refusal.NoMemory) }
+    ensures preferred { IfPreferredServes task.now.registry.now.packages task.now.request.now (λ s. IfOk result (Answers task.now.registry.now.packages s)) }
+    ensures unspent { IfPreferredServes task.now.registry.now.packages task.now.request.now (λ s. IfErr result (λ e. e ≡ Refusal.NoMemory)) }
     ensures only { IfErr result (MayRefuse task.now.budget) }
 {
     match reach_preferred(task.alloc, task.registry, task.request)? {
@@ -182,7 +183,7 @@ pub fn solve(
 ) -> Result<Outcome, Refusal>
     requires stored { All (AllStand registry.now.packages) store.now.members }
     ensures lawful { IfOk result (IsLawful registry.now.packages request.now) }
-    ensures preferred { (s : Choices) → IsPreferredSelection registry.now.packages request.now s → Meets registry.now.packages request.now s → IfOk result (Answers registry.now.packages s) }
+    ensures preferred { IfPreferredServes registry.now.packages request.now (λ s. IfOk result (Answers registry.now.packages s)) }
     ensures only { IfErr result (λ e. e ≡ Refusal.NoMemory) }
 {
     answer(&Task {
@@ -206,8 +207,8 @@ pub fn solve_within(
 ) -> Result<Outcome, Refusal>
     requires stored { All (AllStand registry.now.packages) store.now.members }
     ensures lawful { IfOk result (IsLawful registry.now.packages request.now) }
-    ensures preferred { (s : Choices) → IsPreferredSelection registry.now.packages request.now s → Meets registry.now.packages request.now s → IfOk result (Answers registry.now.packages s) }
-    ensures unspent { (s : Choices) → IsPreferredSelection registry.now.packages request.now s → Meets registry.now.packages request.now s → IfErr result (λ e. e ≡ Refusal.NoMemory) }
+    ensures preferred { IfPreferredServes registry.now.packages request.now (λ s. IfOk result (Answers registry.now.packages s)) }
+    ensures unspent { IfPreferredServes registry.now.packages request.now (λ s. IfErr result (λ e. e ≡ Refusal.NoMemory)) }
     ensures only { IfErr result (MayStop registry.now.packages request.now (Some budget)) }
 {
     Ok(answer(&Task {
@@ -217,4 +218,23 @@ pub fn solve_within(
         store,
         budget: Some(budget),
     })?)
+}
+
+/// As [`solve_within`] where there is a budget, else as [`solve`].
+pub fn solve_under(
+    alloc: Global,
+    registry: &Registry,
+    request: &Request,
+    store: &Store,
+    budget: Option<u32>,
+) -> Result<Outcome, Refusal>
+    requires { All (AllStand registry.now.packages) store.now.members }
+    ensures lawful { IfOk result (IsLawful registry.now.packages request.now) }
+    ensures preferred { IfPreferredServes registry.now.packages request.now (λ s. IfOk result (Answers registry.now.packages s)) }
+    ensures only { IfErr result (MayStop registry.now.packages request.now budget) }
+{
+    match budget {
+        Some(budget) => Ok(solve_within(alloc, registry, request, store, budget)?),
+        None => Ok(solve(alloc, registry, request, store)?),
+    }
 }

@@ -7,9 +7,9 @@ ghost use Rattle.solver.specs.Searching.{Searches};
 
 use crate::facts::push_need;
 use crate::search::Search;
-use crate::task::{ROOT, Task};
+use crate::task::Task;
 use crate::worklist::Worklist;
-use derivations::{Cause, Known, Reason};
+use derivations::{Cause, Known, ROOT, Reason};
 use heuristics::ROOM;
 use partial::Partial;
 use terms::{Incompat, Term, VSet};

@@ -4,10 +4,6 @@ use derivations::Store;
 use heuristics::Question;
 use registry::{Registry, Request};
 use std::alloc::Global;
-use terms::Pkg;
-
-/// The package of the request itself, which has the one version 0.
-pub(crate) const ROOT: Pkg = 0;
 
 /// A request to a registry, with what is stored of earlier ones, and how many conflicts may be met, where
 /// there is a budget of them.

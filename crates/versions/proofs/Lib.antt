@@ -1,6 +1,5 @@
 -- Lemmas of this crate.
 pub mod NeverMemory
-pub mod OnLiterals
 pub mod PreReleaseLemmas
 pub mod PrecedenceLemmas
 pub mod ReadingLemmas

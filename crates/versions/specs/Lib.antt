@@ -1,5 +1,6 @@
 -- The definitions that contracts cite.
 pub mod NameLaws
+pub mod OnLiterals
 pub mod PreReleases
 pub mod Precedence
 pub mod Readings

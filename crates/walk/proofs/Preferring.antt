@@ -1,30 +1,22 @@
 -- The preferred version, as it is found; and that there is one preferred selection, which is what follows the preferred versions and meets the request.
-use Rattle.std.proofs.Common.{◌≡◌, ◌<◌, ◌≤◌, ◌+◌, ◌∙◌, ℕ, zero, suc, refl, sym, ap, subst, arith, Bool, true, false, true≢false, not, ◌&&◌, ◌||◌, cond, List, [], ◌∷◌, length, filter, inl, inr}
+use Rattle.std.proofs.Common.{◌≡◌, ◌<◌, ◌+◌, ◌∙◌, ℕ, zero, suc, refl, sym, ap, subst, arith, Bool, true, false, true≢false, not, ◌&&◌, ◌||◌, cond, List, [], ◌∷◌, length, filter, inl, inr}
 use Rattle.std.proofs.lemmas.Bool.{cases_Bool}
 use Rattle.std.proofs.lemmas.Option.{none-some, same_Some, slice_get_within}
 use Rattle.std.specs.Prelude.{Option, IfNone, IfSome, None, Some, find, slice_get}
 use Rattle.std.specs.List.{enumerate_from, list_all}
-use Rattle.std.specs.Map.{lookup}
 use Rattle.std.specs.Option.{option_and_then, option_map, option_or}
-use Rattle.std.specs.Ordering.{is_lt, ordering_reverse}
-use Rattle.std.specs.Str.{bytes_eq}
+use Rattle.std.specs.Ordering.{is_lt}
 use Rattle.std.specs.declared.cmp.Ordering.{Ordering}
 use Rattle.std.specs.declared.cmp.Ordering.TheVariants.{Less, Equal, Greater}
-use Rattle.versions.proofs.PrecedenceLemmas.{Equal-same_precedence, precedence_total, same_precedence-symm, same_precedence-trans}
 use Rattle.versions.specs.Words.{Text, precedence, same_precedence}
+use Rattle.registry.specs.Laws.{HighestIsOne, OnePreferredSelection}
 use Rattle.registry.specs.Lawful.{IsRegistry}
-use Rattle.registry.specs.Preference.{IsPreferredSelection, candidates, highest_candidate, is_candidate, locked_candidate, meets_needs, preferred, preferred_in}
-use Rattle.registry.specs.Registry.{Package, Packages, Publication, equals_at, has_version, package_at, publication_at, publication_equals, versions_or_none}
-use Rattle.registry.specs.Requests.{Wanted, is_locked, request_refusal}
+use Rattle.registry.specs.Preference.{IsPreferredSelection, admits, candidates, highest_candidate, is_candidate, locked_candidate, meets_needs, preferred, preferred_in}
+use Rattle.registry.specs.Registry.{Package, Packages, Publication, equals_at, package_at, publication_at, publication_equals, versions_or_none}
+use Rattle.registry.specs.Requests.{Wanted, is_locked, locks}
 use Rattle.registry.specs.Selections.{Choices, Meets}
-use Rattle.registry.proofs.NeedLemmas.{both_false}
-use Rattle.registry.proofs.PackageLemmas.{publication_at-versions}
-use Rattle.registry.proofs.RegistryLaws.{distinct-precedence}
-use Rattle.registry.proofs.RequestLemmas.{is_locked-found, lawful-once, meets_needs-found}
-use Rattle.registry.proofs.SelectionLaws.{preferred-once}
-use Rattle.registry.proofs.RequestLemmas as lines
 use Rattle.walk.specs.Choosing.{Follows}
-use Rattle.walk.specs.Preferring.{Fails, Highest, admits, is_kept, is_kept_at, is_open, is_open_at, locks}
+use Rattle.walk.specs.Preferring.{Fails, Highest, is_kept, is_kept_at, is_open, is_open_at}
 use Rattle.walk.proofs.Steps.{reached_by_both, selected}
 
 -- ---- tests of elements that are counted
@@ -97,17 +89,6 @@ pub none_left : {X P : Type 0} (o : Option X) → P → IfNone o P
 none_left None p = p
 none_left (Some x) p = tt
 
--- ---- precedence
-
--- two versions of which neither is lower have equal precedence
-tie : (a b : Text) → not (is_lt (precedence a b)) ≡ true → not (is_lt (precedence b a)) ≡ true → same_precedence a b ≡ true
-tie a b one two = by (precedence a b) refl
-  where
-    by : (r : Ordering) → precedence a b ≡ r → same_precedence a b ≡ true
-    by Less e = absurd (true≢false (sym one ∙ ap (λ o. not (is_lt o)) e))
-    by Equal e = Equal-same_precedence a b e
-    by Greater e = absurd (true≢false (sym two ∙ ap (λ o. not (is_lt o)) (precedence_total.antisymm b a ∙ ap ordering_reverse e)))
-
 -- ---- the version that the lock names
 
 -- without a line of the lock none is kept
@@ -118,68 +99,50 @@ kept-unlocked packages p need k lt = by (publication_at packages p k)
     by None = refl
     by (Some v) = refl
 
+-- what the lock names is a version of equal precedence
+kept_equals : (need : Option Text) (locked : Text) (o : Option Publication) → is_kept_at need (Some locked) o ≡ true → publication_equals o locked ≡ true
+kept_equals need locked None e = absurd (true≢false (sym e))
+kept_equals need locked (Some v) e = (both_true (same_precedence locked v.version) (admits need v.version) e).0
+
 -- nor where no version has the precedence of the one that is named
-pub kept-absent : (packages : Packages) (p : ℕ) (need : Option Text) (locked : Text) → has_version (versions_or_none (package_at packages p)) locked ≡ false → Fails packages p (is_kept_at need (Some locked))
-kept-absent packages p need locked none k lt =
-    ap (is_kept_at need (Some locked)) (publication_at-versions packages p k) ∙ each (versions_or_none (package_at packages p)) k none
-  where
-    each : (xs : List Publication) (i : ℕ) → has_version xs locked ≡ false → is_kept_at need (Some locked) (slice_get xs i) ≡ false
-    each [] i e = refl
-    each (x ∷ xs) zero e = rw (both_false (same_precedence locked x.version) (has_version xs locked) e).0 refl
-    each (x ∷ xs) (suc i) e = each xs i (both_false (same_precedence locked x.version) (has_version xs locked) e).1
+pub kept-absent : (packages : Packages) (p : ℕ) (need : Option Text) (locked : Text) → ((k : ℕ) → equals_at packages p k locked ≡ false) → Fails packages p (is_kept_at need (Some locked))
+kept-absent packages p need locked none k lt = elim (cases_Bool (is_kept_at need (Some locked) (publication_at packages p k))) [
+  | inl e ↦ absurd (true≢false (sym (kept_equals need locked (publication_at packages p k) e) ∙ none k))
+  | inr e ↦ e
+]
+
+-- the one that has it is the only one that can be kept
+pub kept-once : (packages : Packages) (p : ℕ) (need : Option Text) (locked : Text) (k : ℕ) → ((j : ℕ) → equals_at packages p j locked ≡ true → j ≡ k)
+    → (j : ℕ) → is_kept_at need (Some locked) (publication_at packages p j) ≡ true → j ≡ k
+kept-once packages p need locked k only j e = only j (kept_equals need locked (publication_at packages p j) e)
 
 -- nor where the one that is named is not
-pub kept-only : (packages : Packages) (p : ℕ) (need : Option Text) (locked : Text) (k : ℕ) → IsRegistry packages → equals_at packages p k locked ≡ true
+pub kept-only : (packages : Packages) (p : ℕ) (need : Option Text) (locked : Text) (k : ℕ) → ((j : ℕ) → equals_at packages p j locked ≡ true → j ≡ k)
     → is_kept_at need (Some locked) (publication_at packages p k) ≡ false → Fails packages p (is_kept_at need (Some locked))
-kept-only packages p need locked k lawful equal fails j lt = elim (cases_Bool (is_kept_at need (Some locked) (publication_at packages p j))) [
+kept-only packages p need locked k only fails j lt = elim (cases_Bool (is_kept_at need (Some locked) (publication_at packages p j))) [
   | inl e ↦
-      let own = named (publication_at packages p k) equal in
-      let other = kept_named (publication_at packages p j) e in
-      let place : j ≡ k = distinct-precedence packages p j k other.0 own.0 lawful other.1 own.1
-      (same_precedence-trans other.0.version locked own.0.version (same_precedence-symm other.0.version locked ∙ other.2) own.2) in
+      let place : j ≡ k = kept-once packages p need locked k only j e in
       absurd (true≢false (sym e ∙ ap (λ i. is_kept_at need (Some locked) (publication_at packages p i)) place ∙ fails))
   | inr e ↦ e
 ]
-  where
-    named : (o : Option Publication) → publication_equals o locked ≡ true → (v : Publication) × (o ≡ Some v) × (same_precedence locked v.version ≡ true)
-    named None e = absurd (true≢false (sym e))
-    named (Some v) e = (v, refl, e)
-
-    kept_named : (o : Option Publication) → is_kept_at need (Some locked) o ≡ true → (v : Publication) × (o ≡ Some v) × (same_precedence locked v.version ≡ true)
-    kept_named None e = absurd (true≢false (sym e))
-    kept_named (Some v) e = (v, refl, (both_true (same_precedence locked v.version) (admits need v.version) e).0)
 
 -- ---- the preferred version of a package
 
-module _ (packages : Packages) (wanted : Wanted) (p : ℕ) (pack : Package) (lawful : IsRegistry packages) (request : request_refusal wanted ≡ None) (at : package_at packages p ≡ Some pack)
-    (need locked : Option Text) (is_need : need ≡ lookup (bytes_eq pack.name) wanted.needs) (is_line : locked ≡ lookup (bytes_eq pack.name) wanted.lock) where
-  published : (j : ℕ) (v : Publication) → slice_get pack.versions j ≡ Some v → publication_at packages p j ≡ Some v
+module _ (packages : Packages) (wanted : Wanted) (p : ℕ) (pack : Package) (at : package_at packages p ≡ Some pack) (need locked : Option Text)
+    (met : (version : Text) → meets_needs wanted.needs pack.name version ≡ admits need version) (named : (version : Text) → is_locked wanted.lock pack.name version ≡ locks locked version) where
+  seen : (j : ℕ) → publication_at packages p j ≡ slice_get pack.versions j
   unfolding publication_at
-  published j v e = ap (λ (o : Option Package). option_and_then (λ (q : Package). slice_get q.versions j) o) at ∙ e
+  seen j = ap (λ (o : Option Package). option_and_then (λ (q : Package). slice_get q.versions j) o) at
 
-  one_place : (i j : ℕ) (u v : Publication) → slice_get pack.versions i ≡ Some u → slice_get pack.versions j ≡ Some v → same_precedence u.version v.version ≡ true → i ≡ j
-  one_place i j u v at_i at_j same = distinct-precedence packages p i j u v lawful (published i u at_i) (published j v at_j) same
-
-  line : (v : Publication) → is_locked wanted.lock pack.name v.version ≡ locks locked v.version
-  line v = is_locked-found pack.name v.version wanted.lock locked (lawful-once wanted.needs wanted.lock request).1 is_line ∙ by locked
-    where
-      by : (o : Option Text) → lines.locks v.version o ≡ locks o v.version
-      by None = refl
-      by (Some l) = refl
-
-  wish : (v : Publication) → meets_needs wanted.needs pack.name v.version ≡ admits need v.version
-  wish v = meets_needs-found pack.name v.version wanted.needs need (lawful-once wanted.needs wanted.lock request).0 is_need ∙ by need
-    where
-      by : (o : Option Text) → lines.admits v.version o ≡ admits o v.version
-      by None = refl
-      by (Some n) = refl
+  published : (j : ℕ) (v : Publication) → slice_get pack.versions j ≡ Some v → publication_at packages p j ≡ Some v
+  published j v e = seen j ∙ e
 
   candidate : (v : Publication) → is_candidate wanted pack.name v ≡ is_open need locked v
-  candidate v = ap (λ b. (not v.yanked || b) && meets_needs wanted.needs pack.name v.version) (line v) ∙ ap (λ b. (not v.yanked || locks locked v.version) && b) (wish v)
+  candidate v = ap (λ b. (not v.yanked || b) && meets_needs wanted.needs pack.name v.version) (named v.version) ∙ ap (λ b. (not v.yanked || locks locked v.version) && b) (met v.version)
 
   -- a candidate that the lock names
   kept : (v : Publication) → (is_candidate wanted pack.name v && is_locked wanted.lock pack.name v.version) ≡ is_kept need locked v
-  kept v = ap (λ b. b && is_locked wanted.lock pack.name v.version) (candidate v) ∙ ap (λ b. is_open need locked v && b) (line v) ∙ by v.yanked (locks locked v.version) (admits need v.version)
+  kept v = ap (λ b. b && is_locked wanted.lock pack.name v.version) (candidate v) ∙ ap (λ b. is_open need locked v && b) (named v.version) ∙ by v.yanked (locks locked v.version) (admits need v.version)
     where
       by : (y l a : Bool) → ((not y || l) && a && l) ≡ (l && a)
       by true true true = refl
@@ -194,23 +157,17 @@ module _ (packages : Packages) (wanted : Wanted) (p : ℕ) (pack : Package) (law
   abbrev kept_test : Publication → Bool
   kept_test v = is_candidate wanted pack.name v && is_locked wanted.lock pack.name v.version
 
-  same_lock : (u v : Text) → locks locked u ≡ true → locks locked v ≡ true → same_precedence u v ≡ true
-  same_lock u v = by locked
-    where
-      by : (o : Option Text) → locks o u ≡ true → locks o v ≡ true → same_precedence u v ≡ true
-      by None e f = absurd (true≢false (sym e))
-      by (Some l) e f = same_precedence-trans u l v (same_precedence-symm u l ∙ e) f
-
   locked_candidate-is : locked_candidate wanted pack ≡ find (λ (c : ℕ × Publication). kept_test c.1) (enumerate_from 0 pack.versions)
   locked_candidate-is =
       find-filter (λ (c : ℕ × Publication). is_candidate wanted pack.name c.1) (λ (c : ℕ × Publication). is_locked wanted.lock pack.name c.1.version) (enumerate_from 0 pack.versions)
 
-  locked-some : (k : ℕ) (v : Publication) → slice_get pack.versions k ≡ Some v → is_kept need locked v ≡ true → locked_candidate wanted pack ≡ Some (k, v)
-  locked-some k v here passes =
+  locked-some : (k : ℕ) (v : Publication) → slice_get pack.versions k ≡ Some v → is_kept need locked v ≡ true
+      → ((j : ℕ) → is_kept_at need locked (publication_at packages p j) ≡ true → j ≡ k) → locked_candidate wanted pack ≡ Some (k, v)
+  locked-some k v here passes only =
       let place : 0 + k ≡ k = omega arith in
       locked_candidate-is
       ∙ find-only kept_test 0 pack.versions k v here (kept v ∙ passes)
-      (λ j u there t. one_place j k u v there here (same_lock u.version v.version (both_true (locks locked u.version) (admits need u.version) (sym (kept u) ∙ t)).0 (both_true (locks locked v.version) (admits need v.version) passes).0))
+      (λ j u there t. only j (ap (is_kept_at need locked) (published j u there) ∙ sym (kept u) ∙ t))
       ∙ ap (λ n. Some (n, v)) place
 
   locked-none : ((k : ℕ) (v : Publication) → slice_get pack.versions k ≡ Some v → is_kept need locked v ≡ false) → locked_candidate wanted pack ≡ None
@@ -234,11 +191,38 @@ module _ (packages : Packages) (wanted : Wanted) (p : ℕ) (pack : Package) (law
       by Equal e = refl
       by Greater e = refl
 
-  highest-some : (k : ℕ) (v : Publication) → slice_get pack.versions k ≡ Some v → is_open need locked v ≡ true
+  -- a candidate than which none is higher is the highest that is open
+  top_highest : (j : ℕ) (u : Publication) → slice_get pack.versions j ≡ Some u → top_test u ≡ true → Highest packages p (is_open_at need locked) j
+  top_highest j u there t =
+      let parts = both_true (is_candidate wanted pack.name u) (is_top u) t in
+      record {
+        published = subst (λ (o : Option Package). j < length (versions_or_none o)) (sym at) (slice_get_within pack.versions j u there);
+        passes = ap (is_open_at need locked) (published j u there) ∙ sym (candidate u) ∙ parts.0;
+        fails = λ l version other at_j at_l less.
+            let same : u ≡ version = same_Some u version (sym there ∙ in_pack j version at_j) in
+            lower l u other (in_pack l other at_l) parts.1 (ap (λ (w : Publication). precedence w.version other.version) same ∙ less);
+      }
+    where
+      in_pack : (l : ℕ) (w : Publication) → slice_get (versions_or_none (package_at packages p)) l ≡ Some w → slice_get pack.versions l ≡ Some w
+      in_pack l w e = sym (ap (λ (o : Option Package). slice_get (versions_or_none o) l) at) ∙ e
+
+      lower : (l : ℕ) (u other : Publication) → slice_get pack.versions l ≡ Some other → is_top u ≡ true → precedence u.version other.version ≡ Less
+          → is_open_at need locked (publication_at packages p l) ≡ false
+      lower l u other here top less = elim (cases_Bool (is_open need locked other)) [
+        | inl e ↦
+            let above = passing-all (is_candidate wanted pack.name) (λ w. not (is_lt (precedence u.version w.version))) 0 pack.versions l other top here (candidate other ∙ e) in
+            absurd (true≢false (sym above ∙ ap (λ o. not (is_lt o)) less))
+        | inr e ↦ ap (is_open_at need locked) (published l other here) ∙ e
+      ]
+
+  highest-some : HighestIsOne → IsRegistry packages → (k : ℕ) (v : Publication) → slice_get pack.versions k ≡ Some v → is_open need locked v ≡ true → Highest packages p (is_open_at need locked) k
       → ((j : ℕ) (u : Publication) → slice_get pack.versions j ≡ Some u → precedence v.version u.version ≡ Less → is_open need locked u ≡ false) → highest_candidate wanted pack ≡ Some (k, v)
-  highest-some k v here passes fails =
+  highest-some one lawful k v here passes highest fails =
       let place : 0 + k ≡ k = omega arith in
-      highest_candidate-is ∙ find-only top_test 0 pack.versions k v here here_passes only ∙ ap (λ n. Some (n, v)) place
+      highest_candidate-is
+      ∙ find-only top_test 0 pack.versions k v here here_passes
+      (λ j u there t. one packages p (λ i. is_open_at need locked (publication_at packages p i)) j k lawful (top_highest j u there t) highest)
+      ∙ ap (λ n. Some (n, v)) place
     where
       own : is_candidate wanted pack.name v ≡ true
       own = candidate v ∙ passes
@@ -249,13 +233,6 @@ module _ (packages : Packages) (wanted : Wanted) (p : ℕ) (pack : Package) (law
 
       here_passes : top_test v ≡ true
       here_passes = ap (λ b. b && is_top v) own ∙ top
-
-      only : (j : ℕ) (u : Publication) → slice_get pack.versions j ≡ Some u → top_test u ≡ true → j ≡ k
-      only j u there t =
-          let parts = both_true (is_candidate wanted pack.name u) (is_top u) t in
-          let above = passing-all (is_candidate wanted pack.name) (λ w. not (is_lt (precedence u.version w.version))) 0 pack.versions k v parts.1 here own in
-          let below = passing-all (is_candidate wanted pack.name) (λ w. not (is_lt (precedence v.version w.version))) 0 pack.versions j u top there parts.0 in
-          one_place j k u v there here (tie u.version v.version above below)
 
   highest-none : ((k : ℕ) (v : Publication) → slice_get pack.versions k ≡ Some v → is_open need locked v ≡ false) → highest_candidate wanted pack ≡ None
   highest-none fails = highest_candidate-is ∙ find-none top_test 0 pack.versions (λ k v here. ap (λ b. b && is_top v) (candidate v ∙ fails k v here))
@@ -288,28 +265,29 @@ module _ (packages : Packages) (wanted : Wanted) (p : ℕ) (pack : Package) (law
 
   -- the publication that passes a test which none passes where nothing is published
   passing : (test : Option Publication → Bool) (k : ℕ) → test None ≡ false → test (publication_at packages p k) ≡ true → (v : Publication) × (slice_get pack.versions k ≡ Some v) × (test (Some v) ≡ true)
-  passing test k none t = by (slice_get pack.versions k) refl (ap test (sym (publication_at-versions packages p k ∙ ap (λ (o : Option Package). slice_get (versions_or_none o) k) at)) ∙ t)
+  passing test k none t = by (slice_get pack.versions k) refl (ap test (sym (seen k)) ∙ t)
     where
       by : (o : Option Publication) → slice_get pack.versions k ≡ o → test o ≡ true → (v : Publication) × (slice_get pack.versions k ≡ Some v) × (test (Some v) ≡ true)
       by None is h = absurd (true≢false (sym h ∙ none))
       by (Some v) is h = (v, is, h)
 
   -- the version that the lock names is preferred
-  preferred-kept : (k : ℕ) → is_kept_at need locked (publication_at packages p k) ≡ true → preferred packages wanted p ≡ Some k
-  preferred-kept k t =
+  preferred-kept : (k : ℕ) → is_kept_at need locked (publication_at packages p k) ≡ true → ((j : ℕ) → is_kept_at need locked (publication_at packages p j) ≡ true → j ≡ k)
+      → preferred packages wanted p ≡ Some k
+  preferred-kept k t only =
       let v = passing (is_kept_at need locked) k refl t in
-      preferred-is ∙ ap (λ o. first_of o (highest_candidate wanted pack)) (locked-some k v.0 v.1 v.2)
+      preferred-is ∙ ap (λ o. first_of o (highest_candidate wanted pack)) (locked-some k v.0 v.1 v.2 only)
 
   -- else the highest that is open
-  preferred-open : (k : ℕ) → Fails packages p (is_kept_at need locked) → Highest packages p (is_open_at need locked) k → preferred packages wanted p ≡ Some k
-  preferred-open k fails h =
+  preferred-open : HighestIsOne → IsRegistry packages → (k : ℕ) → Fails packages p (is_kept_at need locked) → Highest packages p (is_open_at need locked) k → preferred packages wanted p ≡ Some k
+  preferred-open one lawful k fails h =
       let v = top_of (is_open_at need locked) k h in
       let lower = λ (j : ℕ) (u : Publication) (there : slice_get pack.versions j ≡ Some u) (less : precedence v.0.version u.version ≡ Less).
       ap (is_open_at need locked) (sym (published j u there))
       ∙ h.fails j v.0 u (ap (λ (o : Option Package). slice_get (versions_or_none o) k) at ∙ v.1) (ap (λ (o : Option Package). slice_get (versions_or_none o) j) at ∙ there) less in
       preferred-is
       ∙ ap (λ o. first_of o (highest_candidate wanted pack)) (locked-none (each-fails (is_kept_at need locked) fails))
-      ∙ ap (λ o. first_of None o) (highest-some k v.0 v.1 v.2 lower)
+      ∙ ap (λ o. first_of None o) (highest-some one lawful k v.0 v.1 v.2 h lower)
 
   -- and where none is open there is none
   preferred-none : Fails packages p (is_kept_at need locked) → Fails packages p (is_open_at need locked) → preferred packages wanted p ≡ None
@@ -319,28 +297,14 @@ module _ (packages : Packages) (wanted : Wanted) (p : ℕ) (pack : Package) (law
       ∙ ap (λ o. first_of None o) (highest-none (each-fails (is_open_at need locked) open_fails))
 
   -- what is found where the lock names none
-  preferred-else : Fails packages p (is_kept_at need locked) → (o : Option ℕ) → IfSome o (Highest packages p (is_open_at need locked)) → IfNone o (Fails packages p (is_open_at need locked)) → o ≡ preferred packages wanted p
-  preferred-else kept_fails None some none = sym (preferred-none kept_fails none)
-  preferred-else kept_fails (Some k) some none = sym (preferred-open k kept_fails some)
+  preferred-else : HighestIsOne → IsRegistry packages → Fails packages p (is_kept_at need locked) → (o : Option ℕ) → IfSome o (Highest packages p (is_open_at need locked)) → IfNone o (Fails packages p (is_open_at need locked)) → o ≡ preferred packages wanted p
+  preferred-else one lawful kept_fails None some none = sym (preferred-none kept_fails none)
+  preferred-else one lawful kept_fails (Some k) some none = sym (preferred-open one lawful k kept_fails some)
 
 -- a package that is not numbered has none
 pub preferred-unnumbered : (packages : Packages) (wanted : Wanted) (p : ℕ) → package_at packages p ≡ None → preferred packages wanted p ≡ None
 unfolding preferred
 preferred-unnumbered packages wanted p e = ap (λ (o : Option Package). option_and_then (preferred_in wanted) o) e
-
-pub package_at-zero : (packages : Packages) → package_at packages 0 ≡ None
-unfolding package_at
-package_at-zero packages = refl
-
-pub package_at-past : (packages : Packages) (p : ℕ) → length packages < p → package_at packages p ≡ None
-unfolding package_at
-package_at-past packages zero lt = refl
-package_at-past packages (suc n) lt = past packages n (omega (arith, lt))
-  where
-    past : (xs : Packages) (i : ℕ) → length xs ≤ i → slice_get xs i ≡ None
-    past [] i le = refl
-    past (x ∷ xs) zero le = absurd (omega (arith, le))
-    past (x ∷ xs) (suc i) le = past xs i (omega (arith, le))
 
 -- a package that has a name is there
 pub package-named : (packages : Packages) (p : ℕ) (name : Text) → option_map (λ (x : Package). x.name) (package_at packages p) ≡ Some name
@@ -360,26 +324,26 @@ package-unnamed packages p e = by (package_at packages p) e
     by (Some pack) none = absurd (none-some pack.name none)
 
 -- what a package of this name prefers, by the lines of its name
-module _ (packages : Packages) (wanted : Wanted) (p : ℕ) (name : Text) (lawful : IsRegistry packages) (request : request_refusal wanted ≡ None)
-    (named : Some name ≡ option_map (λ (x : Package). x.name) (package_at packages p))
-    (need locked : Option Text) (is_need : need ≡ lookup (bytes_eq name) wanted.needs) (is_line : locked ≡ lookup (bytes_eq name) wanted.lock) where
+module _ (packages : Packages) (wanted : Wanted) (p : ℕ) (name : Text) (named : Some name ≡ option_map (λ (x : Package). x.name) (package_at packages p)) (need locked : Option Text)
+    (is_need : (version : Text) → meets_needs wanted.needs name version ≡ admits need version) (is_line : (version : Text) → is_locked wanted.lock name version ≡ locks locked version) where
   found : (pack : Package) × (package_at packages p ≡ Some pack) × (pack.name ≡ name)
   found = package-named packages p name (sym named)
 
-  own_need : need ≡ lookup (bytes_eq found.0.name) wanted.needs
-  own_need = is_need ∙ ap (λ t. lookup (bytes_eq t) wanted.needs) (sym found.2)
+  own_need : (version : Text) → meets_needs wanted.needs found.0.name version ≡ admits need version
+  own_need version = ap (λ t. meets_needs wanted.needs t version) found.2 ∙ is_need version
 
-  own_line : locked ≡ lookup (bytes_eq found.0.name) wanted.lock
-  own_line = is_line ∙ ap (λ t. lookup (bytes_eq t) wanted.lock) (sym found.2)
+  own_line : (version : Text) → is_locked wanted.lock found.0.name version ≡ locks locked version
+  own_line version = ap (λ t. is_locked wanted.lock t version) found.2 ∙ is_line version
 
   -- the version that the lock names, where there is one
-  pub preferred-locked : (k : ℕ) → is_kept_at need locked (publication_at packages p k) ≡ true → Some k ≡ preferred packages wanted p
-  preferred-locked k h = sym (preferred-kept packages wanted p found.0 lawful request found.1 need locked own_need own_line k h)
+  pub preferred-locked : (k : ℕ) → is_kept_at need locked (publication_at packages p k) ≡ true → ((j : ℕ) → is_kept_at need locked (publication_at packages p j) ≡ true → j ≡ k)
+      → Some k ≡ preferred packages wanted p
+  preferred-locked k h only = sym (preferred-kept packages wanted p found.0 found.1 need locked own_need own_line k h only)
 
   -- else the highest, where there is one
-  pub preferred-unlocked : Fails packages p (is_kept_at need locked) → (o : Option ℕ) → IfSome o (Highest packages p (is_open_at need locked)) → IfNone o (Fails packages p (is_open_at need locked))
-      → o ≡ preferred packages wanted p
-  preferred-unlocked fails o some none = preferred-else packages wanted p found.0 lawful request found.1 need locked own_need own_line fails o some none
+  pub preferred-unlocked : HighestIsOne → IsRegistry packages → Fails packages p (is_kept_at need locked) → (o : Option ℕ) → IfSome o (Highest packages p (is_open_at need locked))
+      → IfNone o (Fails packages p (is_open_at need locked)) → o ≡ preferred packages wanted p
+  preferred-unlocked one lawful fails o some none = preferred-else packages wanted p found.0 found.1 need locked own_need own_line one lawful fails o some none
 
 -- ---- the preferred selection
 
@@ -398,5 +362,5 @@ module _ (packages : Packages) (wanted : Wanted) where
   }
 
   -- there is one preferred selection
-  pub one_preferred : (s t : Choices) → IsPreferredSelection packages wanted s → IsPreferredSelection packages wanted t → s ≡ t
-  one_preferred s t one two = λ i p. preferred-once packages wanted s t one two p i
+  pub one_preferred : OnePreferredSelection → (s t : Choices) → IsPreferredSelection packages wanted s → IsPreferredSelection packages wanted t → s ≡ t
+  one_preferred once s t one two = λ i p. once packages wanted s t one two p i

@@ -1,26 +1,18 @@
 -- The walk: what it keeps, that it ends in a selection that meets the request, and that an obstacle stands in the way of each.
-use Rattle.std.proofs.Common.{◌≡◌, ◌<◌, ◌≤◌, ◌+◌, ◌∙◌, ℕ, refl, sym, ap, subst, arith, true, false, true≢false, List, [], ◌∷◌, ◌++◌, length, inl, inr, nat_eq}
+use Rattle.std.proofs.Common.{◌≡◌, ◌<◌, ◌≤◌, ◌+◌, ◌∙◌, ℕ, sym, ap, subst, arith, true, false, true≢false, List, [], ◌∷◌, ◌++◌, length, inl, inr, nat_eq}
 use Rattle.std.proofs.lemmas.Bool.{cases_eq}
 use Rattle.std.proofs.lemmas.Option.{none-some, same_Some, slice_get_within}
-use Rattle.std.specs.Prelude.{Option, None, Some, is_some, slice_get}
+use Rattle.std.specs.Prelude.{None, Some, slice_get}
 use Rattle.std.specs.List.{IsDistinct}
 use Rattle.std.specs.Map.{keys_of}
 use Rattle.versions.specs.Words.{Text}
-use Rattle.registry.specs.Registry.{Packages, Publication, is_published, meets_at, needs_of, number_of, publication_at}
+use Rattle.registry.specs.Registry.{Packages, meets_at, needs_of, number_of}
 use Rattle.registry.specs.Requests.{Wanted, is_allowed}
 use Rattle.registry.specs.Selections.{Choices, IsMet, IsReached, Meets, along, needed}
-use Rattle.registry.proofs.RequestLemmas.{is_allowed-unpublished}
+use Rattle.registry.specs.Laws.{AllowedIsPublished}
 use Rattle.walk.specs.Choosing.{Follows, IsUnmet, choice_of}
 use Rattle.walk.specs.Walks.{AreMet, ComeFrom, Grows, IsChecked, IsChosen, IsMetAt, IsSelected, IsUnmetAt, IsWalk, NoneFollows}
 use Rattle.walk.proofs.Lists.{choice-entry, choice-left, choice-push_cases, contains_at, get-before, get-contains, get-left}
-
--- a version that is allowed is published
-pub allowed-published : (packages : Packages) (wanted : Wanted) (p k : ℕ) → is_allowed packages wanted p k ≡ true → is_published packages p k ≡ true
-allowed-published packages wanted p k t = by (publication_at packages p k) refl
-  where
-    by : (o : Option Publication) → publication_at packages p k ≡ o → is_some o ≡ true
-    by None e = absurd (true≢false (sym t ∙ is_allowed-unpublished packages wanted p k e))
-    by (Some v) e = refl
 
 -- ---- what stays as the list grows
 
@@ -168,10 +160,10 @@ module _ (packages : Packages) (wanted : Wanted) (chooses : Choices) (found : Li
       let there : m.target ≡ to = same_Some m.target to (sym m.numbered ∙ numbered) in
       ((m.ordinal, subst (λ q. choice_of found q ≡ Some m.ordinal) there m.selected), along from k to name need before.1 here among numbered)
 
-  pub walk_meets : IsDistinct nat_eq (keys_of found) → IsSelected packages wanted chooses found
-  walk_meets once = record {
+  pub walk_meets : AllowedIsPublished → IsDistinct nat_eq (keys_of found) → IsSelected packages wanted chooses found
+  walk_meets published once = record {
     meets = record {
-      selection = λ p k chosen. allowed-published packages wanted p k (check p k chosen).allowed;
+      selection = λ p k chosen. published packages wanted p k (check p k chosen).allowed;
       closed = λ p k name need chosen among. (check p k chosen).met name need among;
       allowed = λ p k chosen. (check p k chosen).allowed;
       needs = w.needs;

@@ -1,26 +1,16 @@
 -- The preferred version as it is found, and what a walk by the preferred versions answers.
-use Rattle.std.specs.Prelude.{◌≡◌, ◌<◌, ℕ, ◌&&◌, ◌||◌, Bool, true, false, not, length, Option, None, Some}
-use Rattle.versions.specs.Words.{Text, meets, same_precedence}
+use Rattle.std.specs.Prelude.{◌≡◌, ◌<◌, ℕ, ◌&&◌, ◌||◌, Bool, false, not, length, Option, None, Some}
+use Rattle.versions.specs.Words.{Text}
 use Rattle.registry.specs.Highest.{IsHighest}
-use Rattle.registry.specs.Preference.{IsPreferredSelection}
+use Rattle.registry.specs.Preference.{IsPreferredSelection, admits}
 use Rattle.registry.specs.Registry.{Packages, Publication, package_at, publication_at, versions_or_none}
-use Rattle.registry.specs.Requests.{Wanted}
-use Rattle.registry.specs.Selections.{Choices}
+use Rattle.registry.specs.Requests.{Wanted, locks}
+use Rattle.registry.specs.Selections.{Choices, Meets}
 use Rattle.walk.specs.Choosing.{choice_of}
 use Rattle.walk.specs.declared.reached.Reached.{Reached}
 use Rattle.walk.specs.declared.reached.Reached.TheVariants as reached
 
 -- ---- what the lines of a request say of a version of their package
-
--- the lock's line, if there is one, names the version
-abbrev pub locks : Option Text → Text → Bool
-locks None version = false
-locks (Some locked) version = same_precedence locked version
-
--- the version meets the need, if there is one
-abbrev pub admits : Option Text → Text → Bool
-admits None version = true
-admits (Some need) version = meets need version
 
 -- a publication is allowed by the lock's line and meets the need
 abbrev pub is_open : Option Text → Option Text → Publication → Bool
@@ -49,6 +39,10 @@ abbrev pub Highest : Packages → ℕ → (Option Publication → Bool) → ℕ 
 Highest packages p test k = IsHighest (λ j b. test (publication_at packages p j) ≡ b) (versions_or_none (package_at packages p)) k
 
 -- ---- answers
+
+-- where the preferred selection serves, which is where there is one and it meets the request, this holds of it
+abbrev pub IfPreferredServes : Packages → Wanted → (Choices → Type 0) → Type 0
+IfPreferredServes packages wanted holds = (s : Choices) → IsPreferredSelection packages wanted s → Meets packages wanted s → holds s
 
 -- the answer is this selection
 abbrev pub Selects : Choices → Reached → Type 0

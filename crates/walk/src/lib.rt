@@ -7,7 +7,6 @@
 #![tactic(auto)]
 
 mod chooser;
-mod facts;
 mod names;
 mod preferred;
 mod reached;

@@ -6,7 +6,6 @@ ghost use Rattle.std.specs.Map.{keys_of};
 ghost use Rattle.walk.specs.Choosing.{choice_of};
 ghost use Rattle.walk.specs.Names.{by_name, name_of};
 
-use crate::facts::name_of;
 use registry::{Pkg, Registry};
 use std::cmp::Ordering;
 
@@ -14,7 +13,7 @@ use std::cmp::Ordering;
 fn text_of(registry: &Registry, pkg: Pkg) -> &str
     ensures { result.now ≡ name_of registry.now.packages pkg }
 {
-    match name_of(registry, pkg) {
+    match registry.name_at(pkg) {
         None => "",
         Some(name) => name.text(),
     }

@@ -1,21 +1,20 @@
 // The preferred version of each package, and the walk by the preferred versions.
 
-ghost use Rattle.std.specs.Prelude.{◌≡◌, true, IfNone, IfOk, IfSome};
+ghost use Rattle.std.specs.Prelude.{◌≡◌, ℕ, true, IfNone, IfOk, IfSome};
 ghost use Rattle.std.specs.Option.{option_copied};
-ghost use Rattle.registry.specs.Lawful.{IsRegistry};
-ghost use Rattle.registry.specs.Preference.{preferred, IsPreferredSelection};
+ghost use Rattle.registry.specs.Preference.{preferred};
 ghost use Rattle.registry.specs.Registry.{publication_at};
-ghost use Rattle.registry.specs.Selections.{Choices, Meets};
-ghost use Rattle.walk.specs.Preferring.{admits, is_kept_at, is_open_at, locks, Fails, Highest, IsPreferredIfAny, Selects};
+ghost use Rattle.walk.specs.Preferring.{is_kept_at, is_open_at, Fails, Highest, IfPreferredServes, IsPreferredIfAny, Selects};
 ghost use Rattle.walk.specs.Walks.{ReachesBy};
 
 use crate::chooser::Chooser;
-use crate::facts::{facts_of, name_of};
 use crate::reached::Reached;
 use crate::walking::reach;
-use registry::{Pkg, Registry, Request};
+use registry::{
+    Pkg, Registry, Request, admits, locks, one_preferred_selection, the_highest_is_one,
+};
 use std::alloc::{AllocError, Global};
-use versions::{Need, Published, order};
+use versions::{Need, Published};
 
 /// Chooses the preferred version of each package.
 #[derive(Clone, Copy)]
@@ -32,26 +31,6 @@ impl Chooser for Preferred<'_> {
     }
 }
 
-/// Whether a lock's line of the package, if there is one, names a version.
-fn is_locked(locked: Option<&Published>, version: &Published) -> bool
-    ensures { result ≡ locks (option_copied locked.entry) version.now }
-{
-    match locked {
-        None => false,
-        Some(locked) => order(locked, version).is_eq(),
-    }
-}
-
-/// Whether a version meets a need on the package, if there is one.
-fn is_admitted(need: Option<&Need>, version: &Published) -> bool
-    ensures { result ≡ admits (option_copied need.entry) version.now }
-{
-    match need {
-        None => true,
-        Some(need) => need.admits(version),
-    }
-}
-
 /// Whether a version is published, and is allowed by the lock's line of its package and meets the
 /// need on it.
 fn is_open(
@@ -63,10 +42,10 @@ fn is_open(
 ) -> bool
     ensures { result ≡ is_open_at (option_copied need.entry) (option_copied locked.entry) (publication_at registry.now.packages pkg ordinal) }
 {
-    match facts_of(registry, pkg, ordinal) {
+    match registry.facts_at(pkg, ordinal) {
         None => false,
         Some(facts) => {
-            (!facts.yanked || is_locked(locked, facts.version)) && is_admitted(need, facts.version)
+            (!facts.yanked || locks(locked, facts.version)) && admits(need, facts.version)
         }
     }
 }
@@ -82,9 +61,9 @@ fn is_kept(
 ) -> bool
     ensures { result ≡ is_kept_at (option_copied need.entry) (option_copied locked.entry) (publication_at registry.now.packages pkg ordinal) }
 {
-    match facts_of(registry, pkg, ordinal) {
+    match registry.facts_at(pkg, ordinal) {
         None => false,
-        Some(facts) => is_locked(locked, facts.version) && is_admitted(need, facts.version),
+        Some(facts) => locks(locked, facts.version) && admits(need, facts.version),
     }
 }
 
@@ -96,8 +75,8 @@ fn kept_version(
     need: Option<&Need>,
     locked: Option<&Published>,
 ) -> Option<u32>
-    requires { IsRegistry registry.now.packages }
     ensures some { IfSome result (λ k. is_kept_at (option_copied need.entry) (option_copied locked.entry) (publication_at registry.now.packages pkg k) ≡ true) }
+    ensures only { IfSome result (λ k. (j : ℕ) → is_kept_at (option_copied need.entry) (option_copied locked.entry) (publication_at registry.now.packages pkg j) ≡ true → j ≡ k) }
     ensures none { IfNone result (Fails registry.now.packages pkg (is_kept_at (option_copied need.entry) (option_copied locked.entry))) }
 {
     let ordinal = registry.find(pkg, locked?)?;
@@ -129,9 +108,8 @@ fn highest_open(
 pub fn preferred_version(registry: &Registry, request: &Request, pkg: Pkg) -> Option<u32>
     ensures { result ≡ preferred registry.now.packages request.now pkg }
 {
-    // That a request names no package twice is told with its lines.
-    let _needs = request.needs();
-    let name = name_of(registry, pkg)?;
+    the_highest_is_one();
+    let name = registry.name_at(pkg)?;
     let need = request.need_on(name);
     let locked = request.locked(name);
     match kept_version(registry, pkg, need, locked) {
@@ -149,8 +127,9 @@ pub fn reach_preferred(
 ) -> Result<Reached, AllocError>
     ensures reaches { IfOk result (ReachesBy registry.now.packages request.now (preferred registry.now.packages request.now)) }
     ensures preferred { IfOk result (IsPreferredIfAny registry.now.packages request.now) }
-    ensures exactly { (s : Choices) → IsPreferredSelection registry.now.packages request.now s → Meets registry.now.packages request.now s → IfOk result (Selects s) }
+    ensures exactly { IfPreferredServes registry.now.packages request.now (λ s. IfOk result (Selects s)) }
 {
+    one_preferred_selection();
     let chooser = Preferred { registry, request };
     Ok(reach(alloc, registry, request, &chooser)?)
 }

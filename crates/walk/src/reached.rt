@@ -3,7 +3,6 @@
 ghost use Rattle.std.specs.Prelude.{◌≡◌};
 ghost use Rattle.walk.specs.Walks.{asked_by};
 
-use crate::facts::facts_of;
 use registry::{Pkg, Registry, Request};
 use versions::{Name, Need};
 
@@ -21,7 +20,7 @@ impl Asker {
     {
         match self {
             Asker::Request => request.needs(),
-            Asker::Version(pkg, ordinal) => match facts_of(registry, pkg, ordinal) {
+            Asker::Version(pkg, ordinal) => match registry.facts_at(pkg, ordinal) {
                 None => &[],
                 Some(facts) => facts.needs,
             },

@@ -9,10 +9,9 @@ ghost use Rattle.walk.specs.Choosing.{choice_of, Follows};
 ghost use Rattle.walk.specs.Walks.{asked_by, AreMet, ComeFrom, ComesAs, Grows, IsMetAt, IsUnmetAt, ReachesBy};
 
 use crate::chooser::Chooser;
-use crate::facts::facts_of;
 use crate::reached::{Asker, Reached};
 use indexmap::IndexMap;
-use registry::{Pkg, Registry, Request};
+use registry::{Pkg, Registry, Request, allowed_is_published};
 use std::alloc::{AllocError, Global};
 use versions::Need;
 
@@ -24,7 +23,7 @@ const ROOM: usize = 128;
 fn meets(registry: &Registry, pkg: Pkg, ordinal: u32, need: &Need) -> bool
     ensures { result ≡ meets_at registry.now.packages pkg ordinal need.now }
 {
-    match facts_of(registry, pkg, ordinal) {
+    match registry.facts_at(pkg, ordinal) {
         None => false,
         Some(facts) => need.admits(facts.version),
     }
@@ -187,6 +186,7 @@ pub fn reach<C: Chooser>(
         }
         next += 1;
     }
+    allowed_is_published();
     Ok(Reached::Selection(entries_of(alloc, &found)?))
 }
 

@@ -15,6 +15,7 @@ use Rattle.wire.specs.NamedShapes.{derivation_at}
 use Rattle.by_name.specs.declared.derivation.NamedLine.{NamedLine}
 use Rattle.wire.specs.Shapes.{budget_in, check, checking_in, explain_in, lock_in, pairs_at, resolution_in, resolve}
 use Rattle.wire.specs.Requests.{request_in, request_of}
+use Rattle.wire.specs.Learn.{judged_learn, learn_in, learn_of}
 
 bad_by : (line : List ℕ) (b : Bool) → is_utf8 line ≡ b → (IsUtf8 line → read line ≡ None) → request_of line ≡ Err BadLine
 unfolding request_of
@@ -33,6 +34,22 @@ other_length n vs found other = rw items_len-items_view (let no : (length vs == 
 pub request_of-read : (line : List ℕ) (d : Data) → IsUtf8 line → read line ≡ Some d → request_of line ≡ request_in d
 unfolding request_of
 request_of-read line d text is = rw (is_utf8-from_IsUtf8 line text, is) refl
+
+-- ---- learn lines
+
+no_learn : (line : List ℕ) (b : Bool) → is_utf8 line ≡ b → (IsUtf8 line → read line ≡ None) → learn_of line ≡ Err BadLine
+unfolding learn_of
+no_learn line false is none = rw is refl
+no_learn line true is none = rw (is, none (IsUtf8-from_is_utf8 line is)) refl
+
+pub learn_of-bad : (line : List ℕ) → (IsUtf8 line → read line ≡ None) → learn_of line ≡ Err BadLine
+learn_of-bad line none = no_learn line _ refl none
+
+pub learn_of-read : (line : List ℕ) (d : Data) → IsUtf8 line → read line ≡ Some d → learn_of line ≡ judged_learn (learn_in d)
+unfolding learn_of
+learn_of-read line d text is = rw (is_utf8-from_IsUtf8 line text, is) refl
+
+-- ---- resolve and check lines
 
 -- where the members are counted, and a lock, needs, whether to explain and a budget are found, they are asked
 pub resolution_of : (d : Data) (lock needs : List (Text × Text)) (explain : Bool) (budget : Option ℕ)

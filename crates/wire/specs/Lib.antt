@@ -3,5 +3,6 @@ pub mod Members
 pub mod NamedShapes
 pub mod Shapes
 pub mod Requests
+pub mod Learn
 pub mod DerivedShapes
 pub mod Asked

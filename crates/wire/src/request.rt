@@ -14,6 +14,7 @@ ghost use Rattle.wire.specs.Asked.{asked_of};
 mod cause_shapes;
 mod derived;
 mod judging;
+mod learn;
 mod line_shapes;
 mod members;
 mod ordinals;
@@ -23,6 +24,7 @@ mod term_shapes;
 
 use by_name::NamedDerivation;
 use judging::judge;
+pub use learn::read_learn;
 use registry::{Command, Request};
 use serde_json::Value;
 use shape::shape_of;

@@ -94,8 +94,8 @@ fn put_versions<W: Write>(
     ensures err { OnErr result (outbox.new ≡ []) }
     ensures retried { IfErr result (λ e. error_kind e ≢ ErrorKind.Interrupted) }
 {
-    let count = registry.versions(number);
-    for ordinal in 0..count as u32 {
+    let count = registry.version_count(number);
+    for ordinal in 0..count {
         let facts = registry.facts(number, ordinal);
         put_version(outbox, writer, facts.version, facts.yanked, ordinal > 0)?;
     }

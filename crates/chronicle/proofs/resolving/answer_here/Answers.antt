@@ -8,11 +8,11 @@ use Rattle.chronicle.proofs.AnswerLemmas.{none_here}
 use Rattle.chronicle.proofs.resolving.answer_here.Goals as goal
 
 -- what is stored stands in the seat's registry
-pub answer_of-requires : goal.answer_of-requires
-answer_of-requires c =
+pub solve_under-requires : goal.solve_under-requires
+solve_under-requires c =
     subst (λ (p : Packages). All (AllStand p) c.store.result.now.members) (sym c.registry.ensures.packages)
     (subst (λ (ms : List (List Line)). All (AllStand (packages_of c.args.seat.now.journal)) ms) (sym c.store.ensures.members) c.store.ensures.stand)
 
 pub returns-clause-none : goal.returns-clause-none
 returns-clause-none c =
-    none_here c.args.seat.now.journal c.args.request.now c.registry.result.now.packages c.registry.ensures.packages c.in_ok-outcome.outcome c.in_ok-outcome.ensures.lawful
+    none_here c.args.seat.now.journal c.args.request.now c.registry.result.now.packages c.registry.ensures.packages c.derivations_refute.ensures c.in_ok-outcome.outcome c.in_ok-outcome.ensures.lawful

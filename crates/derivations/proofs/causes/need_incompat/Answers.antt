@@ -1,7 +1,6 @@
 use Rattle.std.proofs.Common.{◌∙◌, ◌∷◌, [], ap, sym, arith, List, ℕ}
 use Rattle.std.specs.Prelude.{Option}
 use Rattle.derivations.specs.Facts.{dependency, need_terms_at}
-use Rattle.derivations.proofs.Matching.{is_matching}
 use Rattle.derivations.proofs.Soundness.{number_of-positive}
 use Rattle.derivations.proofs.causes.need_incompat.Goals as goal
 
@@ -13,5 +12,5 @@ returns-in_ok-pair-in-Some-clause-same c =
     c.in_ok-pair-in-Some.ensures
     ∙ ap (λ (root : List ℕ). dependency 0 root c.in-Some.pkg c.in_ok-matching-in-Some.field-0) c.in_ok-single.ensures
     ∙ ap (λ (matching : List ℕ). dependency 0 (0 ∷ []) c.in-Some.pkg matching)
-    (is_matching c.args.registry.now.packages c.in-Some.pkg c.args.need.now c.in_ok-matching-in-Some.field-0 c.in_ok-matching-in-Some.ensures.ascending c.in_ok-matching-in-Some.ensures.members)
+    c.in_ok-matching-in-Some.ensures.set
     ∙ ap (λ (o : Option ℕ). need_terms_at c.args.registry.now.packages o c.args.need.now) c.in-Some.ensures

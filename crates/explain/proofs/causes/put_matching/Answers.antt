@@ -1,13 +1,10 @@
 -- The set that the registry finds is the one of the definition.
 use Rattle.std.proofs.Common.{◌∙◌, ◌++◌, ap, List, ℕ}
 use Rattle.std.specs.Prelude.{string_bytes}
-use Rattle.derivations.proofs.Matching.{is_matching}
 use Rattle.explain.specs.Choices.{set_text}
 use Rattle.explain.proofs.causes.put_matching.Goals as goal
 
 pub returns-in_ok-put_set-in-Some-clause-text : goal.returns-in_ok-put_set-in-Some-clause-text
 returns-in_ok-put_set-in-Some-clause-text c =
     let packages = c.args.registry.now.packages in
-    let found = c.in_ok-matching-in-Some.ensures in
-    let same = is_matching packages c.in-Some.pkg c.args.need.now c.in_ok-matching-in-Some.matching found.ascending found.members in
-    rw (← c.in-Some.ensures) (c.in_ok-put_set-in-Some.ensures.text ∙ ap (λ (set : List ℕ). string_bytes c.args.text.now ++ set_text packages c.in-Some.pkg set) same)
+    rw (← c.in-Some.ensures) (c.in_ok-put_set-in-Some.ensures.text ∙ ap (λ (set : List ℕ). string_bytes c.args.text.now ++ set_text packages c.in-Some.pkg set) c.in_ok-matching-in-Some.ensures.set)

@@ -1,6 +1,6 @@
 use Rattle.std.proofs.Common.{arith}
-use Rattle.registry.proofs.PackageLemmas.{published-below}
 use Rattle.probe_low.proofs.package_calls.facts.Goals as goal
 
 pub facts-facts-requires : goal.facts-facts-requires
-facts-facts-requires c = published-below c.args.registry.now.packages c.args.pkg c.args.ordinal (omega (arith, c.versions.ensures))
+facts-facts-requires c =
+    c.ordinals_are_below_the_count.ensures.published c.args.registry.now.packages c.args.pkg c.args.ordinal (omega (arith, c.versions.ensures))

@@ -7,24 +7,24 @@ halve-preserved-in-Less c =
     let middle = c.halve.low + (c.halve.high - c.halve.low) / 2 in
     let under : middle < c.halve.high = omega arith in
     let e = read-compared _ _ c.args.version.now middle _ _ c.requires (omega (arith, c.halve.invariant.within)) c.in-Less.ensures in
-    searching-up _ _ _ c.halve.low c.halve.high middle _ c.requires c.halve.invariant (omega arith) under refl e
+    searching-up c.precedence_is_a_total_preorder.ensures _ _ _ c.halve.low c.halve.high middle _ c.requires c.halve.invariant (omega arith) under refl e
 
 pub returns-in-Equal : goal.returns-in-Equal
 returns-in-Equal c =
     let middle = c.halve.low + (c.halve.high - c.halve.low) / 2 in
     let under : middle < length c.args.rising.now = omega (arith, c.halve.invariant.within) in
-    (under, tied-place _ _ (read-compared _ _ c.args.version.now middle _ _ c.requires under c.in-Equal.ensures))
+    (under, tied-place c.precedence_is_a_total_preorder.ensures c.equal_precedence_is_an_equivalence.ensures.tie _ _ (read-compared _ _ c.args.version.now middle _ _ c.requires under c.in-Equal.ensures))
 
 pub halve-preserved : goal.halve-preserved
 halve-preserved c =
     let middle = c.halve.low + (c.halve.high - c.halve.low) / 2 in
     let under : middle < c.halve.high = omega arith in
     let e = read-compared _ _ c.args.version.now middle _ _ c.requires (omega (arith, c.halve.invariant.within)) c.in-Greater.ensures in
-    searching-down _ _ _ c.halve.low c.halve.high middle c.requires c.halve.invariant (omega arith) under e
+    searching-down c.precedence_is_a_total_preorder.ensures _ _ _ c.halve.low c.halve.high middle c.requires c.halve.invariant (omega arith) under e
 
 pub returns-then-is_lt : goal.returns-then-is_lt
 returns-then-is_lt c =
     let top = length c.args.rising.now - 1 in
     let pos : 0 < length c.args.rising.now = omega arith in
     let e = is_lt-Less _ (sym c.is_lt.ensures ∙ c.if-is_lt.true) ∙ c.order.ensures in
-    gap-top _ _ c.args.version.now c.requires pos (read-compared _ _ c.args.version.now top _ _ c.requires (omega arith) e)
+    gap-top c.precedence_is_a_total_preorder.ensures _ _ c.args.version.now c.requires pos (read-compared _ _ c.args.version.now top _ _ c.requires (omega arith) e)

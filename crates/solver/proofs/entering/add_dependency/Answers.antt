@@ -1,11 +1,18 @@
-use Rattle.std.proofs.Common.{◌≡◌, ◌∙◌, ℕ, List, ap, subst, sym}
-use Rattle.std.specs.Prelude.{Contains, Some}
+use Rattle.std.proofs.Common.{◌≡◌, ◌<◌, ◌∙◌, ℕ, List, ap, arith, length, refl, subst, sym, true}
+use Rattle.std.specs.Prelude.{Contains, None, Option, Some, is_some}
 use Rattle.terms.specs.Sets.{has}
 use Rattle.versions.specs.Words.{Text}
-use Rattle.registry.specs.Registry.{meets_at, needs_of, number_of}
-use Rattle.registry.proofs.RegistryLaws.{published-needing}
+use Rattle.registry.specs.Registry.{Packages, Publication, is_published, meets_at, needs_of, needs_or_none, number_of, publication_at}
 use Rattle.solver.proofs.Decisions.{entry_there, entry_used, index_read}
 use Rattle.solver.proofs.entering.add_dependency.Goals as goal
+
+-- a version that needs something is published
+published-needing : (packages : Packages) (p k i : ℕ) → i < length (needs_of packages p k) → is_published packages p k ≡ true
+published-needing packages p k i lt = by (publication_at packages p k) lt
+  where
+    by : (o : Option Publication) → i < length (needs_or_none o) → is_some o ≡ true
+    by None h = absurd (omega arith)
+    by (Some v) h = refl
 
 pub facts-requires : goal.facts-requires
 facts-requires c = published-needing c.args.task.now.registry.now.packages c.args.pkg c.args.ordinal c.args.index c.requires

@@ -1,8 +1,8 @@
 use Rattle.std.proofs.Common.{◌<◌, arith}
-use Rattle.solver.proofs.Publishing.{count, published-below}
+use Rattle.solver.proofs.Publishing.{count}
 use Rattle.solver.proofs.entering.enter_alike.Goals as goal
 
 pub add_dependencies-requires : goal.add_dependencies-requires
 add_dependencies-requires c =
     let lt : 0 < count c.args.task.now.registry.now.packages c.args.pkg = omega arith in
-    published-below c.args.task.now.registry.now.packages c.args.pkg 0 lt
+    c.ordinals_are_below_the_count.ensures.published c.args.task.now.registry.now.packages c.args.pkg 0 lt

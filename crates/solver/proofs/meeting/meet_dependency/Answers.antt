@@ -7,13 +7,13 @@ use Rattle.solver.proofs.meeting.meet_dependency.Goals as goal
 
 pub unreachable-requires : goal.unreachable-requires
 unreachable-requires c =
-    let found = dependency_numbered c.args.task.now.registry.now.packages c.args.pkg c.args.ordinal _ c.packages-packages.ensures.reachable
+    let found = dependency_numbered c.publications_are_lawful.ensures.numbered c.args.task.now.registry.now.packages c.args.pkg c.args.ordinal _ c.packages-packages.ensures.reachable
     (entry_contained c.args.task.now.registry.now.packages c.args.search.now.partial c.args.pkg c.args.ordinal c.args.index _ c.index-facts-index.result c.facts-facts.ensures c.requires.unmet c.index-facts-index.is) in
     none-some found.0 (sym c.in_default.is ∙ c.number.ensures ∙ found.1)
 
 pub push_dependency-requires-clause-apart : goal.push_dependency-requires-clause-apart
 push_dependency-requires-clause-apart c =
-    dependency_apart c.args.task.now.registry.now.packages c.args.pkg c.args.ordinal c.in-Some.target _ c.packages-packages.ensures.reachable
+    dependency_apart c.publications_are_lawful.ensures.lawful c.args.task.now.registry.now.packages c.args.pkg c.args.ordinal c.in-Some.target _ c.packages-packages.ensures.reachable
     (entry_contained c.args.task.now.registry.now.packages c.args.search.now.partial c.args.pkg c.args.ordinal c.args.index _ c.index-facts-index.result c.facts-facts.ensures c.requires.unmet c.index-facts-index.is)
     (sym c.number.ensures ∙ c.in-Some.is)
 
@@ -35,4 +35,4 @@ decide_on-requires-clause-decide c =
     let numbered = sym c.number.ensures ∙ c.in-Some.is in
     let here = (c.in_ok-versions.ensures.exactly c.args.ordinal).1 used in
     dependency_decides c.args.task.now made c.act.new.search.partial c.push_dependency.new.known.items c.in_ok-at.at c.args.pkg c.args.ordinal c.in-Some.target _ c.in_ok-versions.versions c.in_ok-within.within c.assignments-made.ensures.lawful
-    (dependency_apart packages c.args.pkg c.args.ordinal c.in-Some.target _ c.packages-packages.ensures.reachable used numbered) c.requires.chosen here numbered unmet c.in_ok-within.ensures.members c.in_ok-at.ensures.place unused.0.0 unused.1
+    (dependency_apart c.publications_are_lawful.ensures.lawful packages c.args.pkg c.args.ordinal c.in-Some.target _ c.packages-packages.ensures.reachable used numbered) c.requires.chosen here numbered unmet c.in_ok-within.ensures.members c.in_ok-at.ensures.place unused.0.0 unused.1

@@ -3,7 +3,6 @@ use Rattle.std.specs.Prelude.{Some}
 use Rattle.std.proofs.lemmas.Bool.{and_parts}
 use Rattle.terms.specs.Terms.{true_of}
 use Rattle.registry.specs.Requests.{is_allowed}
-use Rattle.walk.proofs.Steps.{allowed-published}
 use Rattle.solver.proofs.picking.locked_within.Goals as goal
 
 pub returns-then-is_choosable : goal.returns-then-is_choosable
@@ -12,6 +11,6 @@ returns-then-is_choosable c =
     let wanted = c.args.task.now.request.now in
     let both = and_parts (true_of c.args.said.now (Some c.in_ok-ordinal.ordinal)) (is_allowed packages wanted c.args.pkg c.in_ok-ordinal.ordinal) (sym c.is_choosable.ensures ∙ c.if-is_choosable.true) in
     record {
-      published = allowed-published packages wanted c.args.pkg c.in_ok-ordinal.ordinal both.1;
+      published = c.allowed_is_published.ensures packages wanted c.args.pkg c.in_ok-ordinal.ordinal both.1;
       within = both.0;
     }

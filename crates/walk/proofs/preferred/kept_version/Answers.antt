@@ -3,14 +3,19 @@ use Rattle.std.specs.Prelude.{Some}
 use Rattle.std.specs.Option.{option_copied}
 use Rattle.registry.specs.Registry.{publication_at}
 use Rattle.walk.specs.Preferring.{Fails, is_kept_at}
-use Rattle.walk.proofs.Preferring.{kept-absent, kept-only, none_left}
+use Rattle.walk.proofs.Preferring.{kept-absent, kept-once, kept-only, none_left}
 use Rattle.walk.proofs.preferred.kept_version.Goals as goal
 
 pub returns-in_err-ordinal-clause-none : goal.returns-in_err-ordinal-clause-none
 returns-in_err-ordinal-clause-none c =
     let line : option_copied c.args.locked ≡ Some c.in_ok-locked.field-0.now = ap option_copied c.in_ok-locked.was in
     none_left c.from_residual-in_err-ordinal.result (subst (λ o. Fails c.args.registry.now.packages c.args.pkg (is_kept_at (option_copied c.args.need) o)) (sym line)
-    (kept-absent c.args.registry.now.packages c.args.pkg (option_copied c.args.need) c.in_ok-locked.field-0.now (sym c.in_err-ordinal.ensures.there)))
+    (kept-absent c.args.registry.now.packages c.args.pkg (option_copied c.args.need) c.in_ok-locked.field-0.now c.in_err-ordinal.ensures.none))
+
+pub returns-then-is_kept-clause-only : goal.returns-then-is_kept-clause-only
+returns-then-is_kept-clause-only c =
+    let line : option_copied c.args.locked ≡ Some c.in_ok-locked.field-0.now = ap option_copied c.in_ok-locked.was in
+    rw line (kept-once c.args.registry.now.packages c.args.pkg (option_copied c.args.need) c.in_ok-locked.field-0.now c.in_ok-ordinal.ordinal c.in_ok-ordinal.ensures.only)
 
 pub returns-else-is_kept-clause-none : goal.returns-else-is_kept-clause-none
 returns-else-is_kept-clause-none c =
@@ -18,5 +23,5 @@ returns-else-is_kept-clause-none c =
     let test = is_kept_at (option_copied c.args.need) in
     let fails : test (option_copied c.args.locked) (publication_at c.args.registry.now.packages c.args.pkg c.in_ok-ordinal.ordinal) ≡ false = search rules in
     subst (λ o. Fails c.args.registry.now.packages c.args.pkg (test o)) (sym line)
-    (kept-only c.args.registry.now.packages c.args.pkg (option_copied c.args.need) c.in_ok-locked.field-0.now c.in_ok-ordinal.ordinal c.requires c.in_ok-ordinal.ensures.found
+    (kept-only c.args.registry.now.packages c.args.pkg (option_copied c.args.need) c.in_ok-locked.field-0.now c.in_ok-ordinal.ordinal c.in_ok-ordinal.ensures.only
     (ap (λ o. test o (publication_at c.args.registry.now.packages c.args.pkg c.in_ok-ordinal.ordinal)) (sym line) ∙ fails))

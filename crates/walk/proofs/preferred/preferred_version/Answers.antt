@@ -12,10 +12,11 @@ returns-in_err-name c =
 
 pub returns-in-Some : goal.returns-in-Some
 returns-in-Some c =
-    preferred-locked c.args.registry.now.packages c.args.request.now c.args.pkg c.in_ok-name.name.now c.in_ok-name.ensures.reachable c.needs-needs.ensures.lawful c.in_ok-name.ensures.name
-    _ _ c.need_on-need.ensures c.locked-locked.ensures c.in-Some.ordinal c.in-Some.ensures.some
+    preferred-locked c.args.registry.now.packages c.args.request.now c.args.pkg c.in_ok-name.name.now c.in_ok-name.ensures.name
+    _ _ c.need_on-need.ensures.met c.locked-locked.ensures.named c.in-Some.ordinal c.in-Some.ensures.some c.in-Some.ensures.only
 
 pub returns-in-None : goal.returns-in-None
 returns-in-None c =
-    preferred-unlocked c.args.registry.now.packages c.args.request.now c.args.pkg c.in_ok-name.name.now c.in_ok-name.ensures.reachable c.needs-needs.ensures.lawful c.in_ok-name.ensures.name
-    _ _ c.need_on-need.ensures c.locked-locked.ensures c.in-None.ensures.none c.highest_open.result c.highest_open.ensures.some c.highest_open.ensures.none
+    preferred-unlocked c.args.registry.now.packages c.args.request.now c.args.pkg c.in_ok-name.name.now c.in_ok-name.ensures.name
+    _ _ c.need_on-need.ensures.met c.locked-locked.ensures.named c.the_highest_is_one.ensures c.in_ok-name.ensures.reachable
+    c.in-None.ensures.none c.highest_open.result c.highest_open.ensures.some c.highest_open.ensures.none

@@ -47,4 +47,4 @@ returns g c =
     let done = c.in_ok-entries_of.ensures in
     let l = c.len.ensures.len in
     let all : length c.walk.found.entries ≤ c.walk.next = omega (arith, l, c.walk-test.false) in
-    rw done.list (walk_meets c.args.registry.now.packages c.args.request.now (g.C.Chooser.chooses c.args.chooser.now) c.walk.found.entries c.walk.next c.walk.invariant all done.once)
+    rw done.list (walk_meets c.args.registry.now.packages c.args.request.now (g.C.Chooser.chooses c.args.chooser.now) c.walk.found.entries c.walk.next c.walk.invariant all c.allowed_is_published.ensures done.once)

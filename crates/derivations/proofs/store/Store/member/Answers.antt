@@ -1,4 +1,4 @@
-use Rattle.std.proofs.Common.{List, subst}
+use Rattle.std.proofs.Common.{subst}
 use Rattle.std.specs.Prelude.{Contains, IfSome}
 use Rattle.derivations.specs.Slots.{IsMemberAt, Slots}
 use Rattle.derivations.specs.Stored.{Stored}

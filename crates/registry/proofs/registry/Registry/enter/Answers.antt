@@ -1,4 +1,4 @@
-use Rattle.std.proofs.Common.{◌∙◌, ◌≡◌, ◌<◌, ◌+◌, ◌++◌, ◌∷◌, [], ap, sym, subst, arith, rules, set, false, length, List}
+use Rattle.std.proofs.Common.{◌∙◌, ◌≡◌, ◌+◌, ◌++◌, ◌∷◌, [], ap, sym, subst, arith, rules, set, false, length, List}
 use Rattle.std.specs.Prelude.{None, Some}
 use Rattle.std.specs.List.{list_any}
 use Rattle.std.specs.Str.{bytes_eq}
@@ -70,7 +70,7 @@ published c =
 pub invariant_of-self : goal.invariant_of-self
 invariant_of-self c = (
   search rules,
-  subst IsRegistry (sym (published c)) (lawful-publish _ c.args.name c.args.version c.args.needs c.self.invariant.1
+  subst IsRegistry (sym (published c)) (lawful-publish c.equal_precedence_is_an_equivalence.ensures.equivalence _ c.args.name c.args.version c.args.needs c.self.invariant.1
       (subst (λ (s : State). publish_refusal s.packages c.args.name c.args.version c.args.needs ≡ None) (sym c.self.view_is) c.requires.accepted)),
   rw c.take.ensures.after tt,
 )

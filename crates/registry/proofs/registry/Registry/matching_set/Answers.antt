@@ -7,10 +7,10 @@ use Rattle.registry.proofs.registry.Registry.matching_set.Goals as goal
 
 pub returns-in-None-clause-members : goal.returns-in-None-clause-members
 returns-in-None-clause-members c = λ k.
-    ap (λ l. has l k) c.new.ensures ∙ ap (λ l. publication_meets (slice_get l k) c.args.need.now) c.in-None.ensures
+    ap (λ l. has l k) c.new.ensures ∙ ap (λ l. publication_meets (slice_get l k) c.args.need.now) c.in-None.ensures.publications
     ∙ sym (ap (λ o. publication_meets o c.args.need.now) (publication_at-versions c.args.self.now.packages c.args.pkg k))
 
 pub returns-in_ok-matching-in-Some-clause-members : goal.returns-in_ok-matching-in-Some-clause-members
 returns-in_ok-matching-in-Some-clause-members c = λ k.
-    c.in_ok-matching-in-Some.ensures k ∙ ap (λ l. publication_meets (slice_get l k) c.args.need.now) c.in-Some.ensures
+    c.in_ok-matching-in-Some.ensures k ∙ ap (λ l. publication_meets (slice_get l k) c.args.need.now) c.in-Some.ensures.publications
     ∙ sym (ap (λ o. publication_meets o c.args.need.now) (publication_at-versions c.args.self.now.packages c.args.pkg k))

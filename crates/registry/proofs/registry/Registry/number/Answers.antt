@@ -5,8 +5,9 @@ use Rattle.registry.proofs.PackageLemmas.{length-packages_in}
 use Rattle.registry.proofs.GrowthLemmas.{number-found, number-placed}
 use Rattle.registry.proofs.registry.Registry.number.Goals as goal
 use Rattle.registry.proofs.registry.Registry.number.Goals.{In_ok-index}
+use Rattle.registry.specs.declared.registry.TheConstants.{PACKAGE_LIMIT}
 
-small : (c : In_ok-index) → c.in_ok-index.index + 1 ≤ 65535
+small : (c : In_ok-index) → c.in_ok-index.index + 1 ≤ PACKAGE_LIMIT
 small c =
     let len = length-packages_in c.self.inside.names.keys c.self.inside.lists.items c.self.invariant.0 in
     omega (arith, len, c.self.invariant.1.few, c.in_ok-index.ensures.within)

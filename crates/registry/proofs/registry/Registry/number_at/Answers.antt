@@ -1,5 +1,5 @@
 use Rattle.std.proofs.Common.{◌∙◌, ◌≡◌, ◌+◌, ◌≤◌, sym, ap, arith, rules}
-use Rattle.std.specs.Prelude.{Some, slice_get}
+use Rattle.std.specs.Prelude.{Some}
 use Rattle.std.proofs.lemmas.Option.{slice_get_within}
 use Rattle.versions.specs.NameLaws.{same_name}
 use Rattle.versions.specs.Words.{Text}
@@ -9,8 +9,9 @@ use Rattle.registry.proofs.PackageLemmas.{length-packages_in}
 use Rattle.registry.proofs.RegistryLaws.{number-stands}
 use Rattle.registry.proofs.registry.Registry.number_at.Goals as goal
 use Rattle.registry.proofs.registry.Registry.number_at.Goals.{Then-eq}
+use Rattle.registry.specs.declared.registry.TheConstants.{PACKAGE_LIMIT}
 
-small : (c : Then-eq) → c.args.place + 1 ≤ 65535
+small : (c : Then-eq) → c.args.place + 1 ≤ PACKAGE_LIMIT
 small c =
     let len = length-packages_in c.self.inside.names.keys c.self.inside.lists.items c.self.invariant.0 in
     let within = slice_get_within c.self.inside.names.keys c.args.place c.in-Some.kept.now (sym c.in-Some.ensures.key) in

@@ -1,4 +1,4 @@
-use Rattle.std.proofs.Common.{◌∙◌, ◌≡◌, ◌<◌, ◌≤◌, ◌-◌, [], ℕ, List, sym, ap, arith, get_or, length, nat_lt, rules, true, false}
+use Rattle.std.proofs.Common.{◌∙◌, ◌≡◌, ◌<◌, ◌≤◌, ℕ, List, sym, ap, arith, get_or, length, nat_lt, rules, true, false}
 use Rattle.std.specs.Prelude.{IfSome, None, Option, Some, is_some, slice_get}
 use Rattle.std.specs.Option.{option_copied}
 use Rattle.std.specs.Borrow.{Bor}
@@ -25,13 +25,13 @@ found names lists i None paired e at =
     sym (ap versions_or_none (slice_get_past (packages_in names lists) i (omega (arith, above, len, paired))))
 found names lists i (Some x) paired e at = sym (versions-placed names lists i x.now paired (within i (length lists) e) at)
 
-pub returns-in_err-index : goal.returns-in_err-index
-returns-in_err-index c =
+pub returns-in_err-index-clause-publications : goal.returns-in_err-index-clause-publications
+returns-in_err-index-clause-publications c =
     ap (λ o. publications_in (option_copied o)) c.from_residual.ensures
     ∙ sym (ap versions_or_none (package_at-zero c.args.self.now.packages c.args.pkg c.in_err-index.ensures))
 
-pub returns : goal.returns
-returns c =
+pub returns-clause-publications : goal.returns-clause-publications
+returns-clause-publications c =
     found c.self.inside.names.keys c.self.inside.lists.items c.in_ok-index.index c.get.result c.self.invariant.0
     (rw c.deref.ensures.value at c.get.ensures.lookup.0) (rw c.deref.ensures.value at c.get.ensures.lookup.1)
     ∙ ap (λ i. versions_or_none (slice_get (packages_in c.self.inside.names.keys c.self.inside.lists.items) i)) c.in_ok-index.ensures.1

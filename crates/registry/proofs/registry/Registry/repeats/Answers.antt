@@ -10,25 +10,25 @@ within packages p k same =
     publication-within (versions_or_none (package_at packages p)) k (ap is_some (sym (publication_at-versions packages p k)) ∙ same.0)
 
 pub returns-in-None-clause-length : goal.returns-in-None-clause-length
-returns-in-None-clause-length c = ap length c.in-None.ensures
+returns-in-None-clause-length c = ap length c.in-None.ensures.publications
 
 pub returns-in-None-clause-marks : goal.returns-in-None-clause-marks
 returns-in-None-clause-marks c k = (
   λ yes. absurd (true≢false (sym (ap is_some yes))),
   λ same.
       let lt = within c.args.self.now.packages c.args.pkg k same in
-      let none = ap length c.in-None.ensures in
+      let none = ap length c.in-None.ensures.publications in
       absurd (omega (arith, lt, none)),
 )
 
 pub returns-in-Some-clause-length : goal.returns-in-Some-clause-length
-returns-in-Some-clause-length c = c.repeats.ensures.length ∙ ap length c.in-Some.ensures
+returns-in-Some-clause-length c = c.repeats.ensures.length ∙ ap length c.in-Some.ensures.publications
 
 pub returns-in-Some-clause-marks : goal.returns-in-Some-clause-marks
 returns-in-Some-clause-marks c k =
     let packages = c.args.self.now.packages in
     let at = publication_at-versions packages c.args.pkg in
-    let here = c.in-Some.ensures in (
+    let here = c.in-Some.ensures.publications in (
       λ yes.
           let alike = (c.repeats.ensures.marks k).0 yes in (
             published-below packages c.args.pkg k (subst (λ l. k < length l) here alike.0),

@@ -7,7 +7,7 @@ use Rattle.releases.proofs.releases.Releases.highest.Goals as goal
 pub returns-clause-some : goal.returns-clause-some
 returns-clause-some c =
     rw (← c.self.view_is, c.highest.ensures, c.deref.ensures.value) (walked-some (λ k. has c.args.set.now k) (versions_of c.self.inside.releases.items) c.self.inside.rising.items
-    c.self.invariant.in_order _ (walked (λ k. has c.args.set.now k) c.self.inside.rising.items))
+    c.self.invariant.in_order c.precedence_is_a_total_preorder.ensures _ (walked (λ k. has c.args.set.now k) c.self.inside.rising.items))
 
 pub returns-clause-none : goal.returns-clause-none
 returns-clause-none c =

@@ -19,4 +19,4 @@ returns-clause-stamped c =
     let e = ap (λ (r : Release). set c.self.inside.releases.items c.args.ordinal (record { version = r.version; yanked = true })) c.index_mut-release.ensures.value
     ∙ marked-set c.self.inside.releases.items c.args.ordinal c.index_mut-release.result.now true in
     rw (← c.self.view_is) (λ version found.
-    e ∙ marked-found c.self.inside.releases.items c.self.inside.rising.items version c.args.ordinal true c.self.invariant.in_order found)
+    e ∙ marked-found c.equal_precedence_is_an_equivalence.ensures.equivalence c.equal_precedence_is_an_equivalence.ensures.tie c.self.inside.releases.items c.self.inside.rising.items version c.args.ordinal true c.self.invariant.in_order found)

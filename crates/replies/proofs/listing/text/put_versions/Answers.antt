@@ -1,15 +1,12 @@
 use Rattle.std.proofs.Common.{arith}
 use Rattle.std.proofs.lemmas.Result.{err_from_is_err_and}
 use Rattle.replies.specs.Entries.{publication_json}
-use Rattle.replies.proofs.ListingLemmas.{few_versions, is_published-below, publication_at-slice_get}
+use Rattle.replies.proofs.ListingLemmas.{is_published-below, publication_at-slice_get}
 use Rattle.replies.proofs.PutLemmas.{fails_in, in_fails, put_in, value_fails, value_put, value_room, value_waits}
 use Rattle.replies.proofs.listing.text.put_versions.Goals as goal
 
-pub overflow_cast-ordinal-end : goal.overflow_cast-ordinal-end
-overflow_cast-ordinal-end g c = omega (arith, c.versions-count.ensures, few_versions c.args.registry.now.packages c.args.number c.requires)
-
 pub facts-facts-requires : goal.facts-facts-requires
-facts-facts-requires g c = is_published-below c.args.registry.now.packages c.args.number c.loop-ordinal.ordinal (omega (arith, c.versions-count.ensures))
+facts-facts-requires g c = is_published-below c.args.registry.now.packages c.args.number c.loop-ordinal.ordinal (omega (arith, c.version_count-count.ensures))
 
 pub returns-in_err-put_version-clause-text : goal.returns-in_err-put_version-clause-text
 returns-in_err-put_version-clause-text g c =

@@ -1,0 +1,295 @@
+//! Calls of lines: a reader or a writer, and steps over it in one call.
+
+use crate::fakes::{Narrow, Pieces};
+use crate::texts::{both_told, bytes, end_of, failure, told};
+use lines::{LineBuffer, Next, Outbox, count_lines, first_line, write_text, write_texts};
+use rows::{Answer, Answers, Unread, items, list, member, text, text_at};
+use serde_json::Value;
+use std::alloc::Global;
+use std::io;
+
+pub fn lines_call(alloc: Global, name: &str, row: &Value) -> Result<Answer, Unread> {
+    match name {
+        "first_line" => first(alloc, row),
+        "count_lines" => counted(row),
+        "read" => read(alloc, row),
+        "write" => write(alloc, row),
+        _ => Err(Unread::Row),
+    }
+}
+
+// ---- bytes that are all there
+
+fn counted(row: &Value) -> Result<Answer, Unread> {
+    Ok(Answer::Number(count_lines(text_at(row, "text")?.as_bytes())))
+}
+
+fn first(alloc: Global, row: &Value) -> Result<Answer, Unread> {
+    match first_line(text_at(row, "text")?.as_bytes()) {
+        Some((line, behind)) => both_told(alloc, line, behind),
+        None => Ok(Answer::None),
+    }
+}
+
+// ---- lines that are taken off a reader
+
+/// A reader gives the text of a row, and `then` once it is renewed. The steps are taken in turn; each one's answer is
+/// told: a line as its text, `null` where none has ended, and of a read whether anything came.
+fn read(alloc: Global, row: &Value) -> Result<Answer, Unread> {
+    let text = bytes(alloc, member(row, "text")?)?;
+    read_first(alloc, row, &text)
+}
+
+fn read_first(alloc: Global, row: &Value, text: &[u8]) -> Result<Answer, Unread> {
+    let then = bytes(alloc, member(row, "then")?)?;
+    taken(alloc, row, &mut Pieces::new(row, text, &then)?)
+}
+
+fn taken(alloc: Global, row: &Value, reader: &mut Pieces<'_>) -> Result<Answer, Unread> {
+    let steps = items(member(row, "steps")?)?;
+    let mut lines = LineBuffer::new(alloc)?;
+    let mut answers = Answers::new(alloc);
+    take_all(alloc, steps, reader, &mut lines, &mut answers)?;
+    answers.told(alloc)
+}
+
+fn take_all(
+    alloc: Global,
+    steps: &[Value],
+    reader: &mut Pieces<'_>,
+    lines: &mut LineBuffer,
+    answers: &mut Answers,
+) -> Result<(), Unread> {
+    for step in steps {
+        answers.put(alloc, &take(alloc, text(step)?, reader, lines)?)?;
+    }
+    Ok(())
+}
+
+fn take(
+    alloc: Global,
+    step: &str,
+    reader: &mut Pieces<'_>,
+    lines: &mut LineBuffer,
+) -> Result<Answer, Unread> {
+    match step {
+        "next" => {
+            let found = lines.next();
+            found_told(alloc, lines, found)
+        }
+        "last" => {
+            let found = lines.last();
+            found_told(alloc, lines, found)
+        }
+        "read" => read_on(alloc, reader, lines),
+        "rest" => rest(alloc, reader, lines),
+        "left" => Ok(Answer::Number(reader.left())),
+        "renew" => {
+            reader.renew();
+            Ok(Answer::None)
+        }
+        _ => Err(Unread::Row),
+    }
+}
+
+fn found_told(alloc: Global, lines: &LineBuffer, found: Next) -> Result<Answer, Unread> {
+    match found {
+        Next::Line => told(alloc, lines.line()),
+        Next::TooLong => Ok(Answer::Text(format!(in alloc; "{{\"too_long\":true}}")?)),
+        Next::More => Ok(Answer::None),
+    }
+}
+
+/// Reads once, if no line has ended; else the next line is the answer.
+fn read_on(
+    alloc: Global,
+    reader: &mut Pieces<'_>,
+    lines: &mut LineBuffer,
+) -> Result<Answer, Unread> {
+    let found = lines.next();
+    if found != Next::More {
+        return found_told(alloc, lines, found);
+    }
+    match lines.read_more(reader) {
+        Ok(came) => Ok(Answer::Bool(came)),
+        Err(error) => failed(alloc, failure(error.kind())?),
+    }
+}
+
+fn failed(alloc: Global, word: &str) -> Result<Answer, Unread> {
+    Ok(Answer::Text(format!(in alloc; "{{\"failed\":\"{word}\"}}")?))
+}
+
+/// All lines up to the reader's end.
+fn rest(alloc: Global, reader: &mut Pieces<'_>, lines: &mut LineBuffer) -> Result<Answer, Unread> {
+    let mut found = Answers::new(alloc);
+    put_rest(alloc, reader, lines, &mut found)?;
+    found.told(alloc)
+}
+
+fn put_rest(
+    alloc: Global,
+    reader: &mut Pieces<'_>,
+    lines: &mut LineBuffer,
+    all: &mut Answers,
+) -> Result<(), Unread> {
+    for _ in 0..u64::MAX {
+        let found = lines.next();
+        if found != Next::More {
+            put_found(alloc, lines, found, all)?;
+        } else if !came(lines, reader)? {
+            return put_last(alloc, lines, all);
+        }
+    }
+    Ok(())
+}
+
+fn put_found(
+    alloc: Global,
+    lines: &LineBuffer,
+    found: Next,
+    all: &mut Answers,
+) -> Result<(), Unread> {
+    all.put(alloc, &found_told(alloc, lines, found)?)
+}
+
+/// Whether a read gave anything. A failed one is no answer here.
+fn came(lines: &mut LineBuffer, reader: &mut Pieces<'_>) -> Result<bool, Unread> {
+    let found = lines.next();
+    if found != Next::More {
+        return Err(Unread::Row);
+    }
+    match lines.read_more(reader) {
+        Ok(came) => Ok(came),
+        Err(_) => Err(Unread::Row),
+    }
+}
+
+fn put_last(alloc: Global, lines: &mut LineBuffer, all: &mut Answers) -> Result<(), Unread> {
+    let found = lines.last();
+    if found == Next::More {
+        return Ok(());
+    }
+    put_found(alloc, lines, found, all)
+}
+
+// ---- texts that are written
+
+/// The steps are taken in turn over one writer and one outbox; each one's answer is told.
+fn write(alloc: Global, row: &Value) -> Result<Answer, Unread> {
+    let steps = items(member(row, "steps")?)?;
+    put_steps(alloc, steps, &mut Narrow::new(alloc, row)?)
+}
+
+fn put_steps(alloc: Global, steps: &[Value], writer: &mut Narrow) -> Result<Answer, Unread> {
+    let mut outbox = Outbox::new(alloc)?;
+    let mut answers = Answers::new(alloc);
+    put_all_steps(alloc, steps, writer, &mut outbox, &mut answers)?;
+    answers.told(alloc)
+}
+
+fn put_all_steps(
+    alloc: Global,
+    steps: &[Value],
+    writer: &mut Narrow,
+    outbox: &mut Outbox,
+    answers: &mut Answers,
+) -> Result<(), Unread> {
+    for step in steps {
+        answers.put(alloc, &put_step(alloc, items(step)?, writer, outbox)?)?;
+    }
+    Ok(())
+}
+
+fn put_step(
+    alloc: Global,
+    step: &[Value],
+    writer: &mut Narrow,
+    outbox: &mut Outbox,
+) -> Result<Answer, Unread> {
+    match step {
+        [name] => plain_step(alloc, text(name)?, writer, outbox),
+        [name, given] => text_step(alloc, text(name)?, given, writer, outbox),
+        _ => Err(Unread::Row),
+    }
+}
+
+fn plain_step(
+    alloc: Global,
+    name: &str,
+    writer: &mut Narrow,
+    outbox: &mut Outbox,
+) -> Result<Answer, Unread> {
+    match name {
+        "send" => ended(&outbox.send(writer)),
+        "written" => told(alloc, writer.text()),
+        "flushed" => Ok(Answer::Number(writer.flushed())),
+        "mend" => {
+            writer.mend();
+            Ok(Answer::None)
+        }
+        _ => Err(Unread::Row),
+    }
+}
+
+fn ended(outcome: &io::Result<()>) -> Result<Answer, Unread> {
+    Ok(Answer::Word(end_of(outcome)?))
+}
+
+fn text_step(
+    alloc: Global,
+    name: &str,
+    given: &Value,
+    writer: &mut Narrow,
+    outbox: &mut Outbox,
+) -> Result<Answer, Unread> {
+    match name {
+        "put" | "write_text" => put_text(name, &bytes(alloc, given)?, writer, outbox),
+        _ => put_texts(alloc, name, &list(alloc, given, bytes)?, writer, outbox),
+    }
+}
+
+/// Puts a text into the outbox, or writes it at once.
+fn put_text(
+    name: &str,
+    text: &[u8],
+    writer: &mut Narrow,
+    outbox: &mut Outbox,
+) -> Result<Answer, Unread> {
+    match name {
+        "put" => ended(&outbox.put(writer, text)),
+        _ => ended(&write_text(writer, text)),
+    }
+}
+
+/// Puts texts into the outbox, or writes them at once.
+fn put_texts(
+    alloc: Global,
+    name: &str,
+    texts: &[Vec<u8>],
+    writer: &mut Narrow,
+    outbox: &mut Outbox,
+) -> Result<Answer, Unread> {
+    put_lent(name, &lent(alloc, texts)?, writer, outbox)
+}
+
+fn put_lent(
+    name: &str,
+    texts: &[&[u8]],
+    writer: &mut Narrow,
+    outbox: &mut Outbox,
+) -> Result<Answer, Unread> {
+    match name {
+        "put_all" => ended(&outbox.put_all(writer, texts)),
+        "write_texts" => ended(&write_texts(writer, texts)),
+        _ => Err(Unread::Row),
+    }
+}
+
+fn lent<'t>(alloc: Global, texts: &'t [Vec<u8>]) -> Result<Vec<&'t [u8]>, Unread> {
+    let mut all = Vec::new(alloc);
+    for text in texts {
+        all.push(text.as_slice())?;
+    }
+    Ok(all)
+}

@@ -1,0 +1,91 @@
+//! Calls of wire: lines that are read.
+
+use by_name::NamedDerivation;
+use registry::Request;
+use replies::derivation_text;
+use rows::{Answer, ChoiceText, CommandText, Unread, shown, text_at};
+use serde_json::Value;
+use std::alloc::Global;
+use wire::{Asked, read_learn, read_request};
+
+pub fn wire_call(alloc: Global, name: &str, row: &Value) -> Result<Answer, Unread> {
+    match name {
+        "read_request" => read(alloc, row),
+        "read_learn" => read_learnt(alloc, row),
+        _ => Err(Unread::Row),
+    }
+}
+
+// ---- what a line asks, in short
+
+fn read(alloc: Global, row: &Value) -> Result<Answer, Unread> {
+    let asked = read_request(alloc, text_at(row, "line")?.as_bytes())?;
+    asked_told(alloc, &asked)
+}
+
+fn asked_told(alloc: Global, asked: &Asked) -> Result<Answer, Unread> {
+    match asked {
+        Asked::Command(command) => shown(alloc, &CommandText(command)),
+        Asked::Resolve {
+            request,
+            explain,
+            budget,
+        } => resolve_told(alloc, request, *explain, *budget),
+        Asked::Check {
+            request,
+            derivation,
+        } => check_told(alloc, request, derivation),
+        Asked::Listing => Ok(Answer::Word("list")),
+    }
+}
+
+fn resolve_told(
+    alloc: Global,
+    request: &Request,
+    explain: bool,
+    budget: Option<u32>,
+) -> Result<Answer, Unread> {
+    let needs = request.needs().len();
+    let lock = request.lock().len();
+    let budget = ChoiceText(budget);
+    let text = format!(in alloc;
+        "{{\"resolve\":[{needs},{lock}],\"explain\":{explain},\"budget\":{budget}}}"
+    )?;
+    Ok(Answer::Text(text))
+}
+
+fn check_told(
+    alloc: Global,
+    request: &Request,
+    derivation: &NamedDerivation,
+) -> Result<Answer, Unread> {
+    let needs = request.needs().len();
+    let lock = request.lock().len();
+    let lines = derivation.lines().len();
+    Ok(Answer::Text(format!(in alloc; "{{\"check\":[{needs},{lock}],\"lines\":{lines}}}")?))
+}
+
+/// The derivation of a learn line, by names.
+fn read_learnt(alloc: Global, row: &Value) -> Result<Answer, Unread> {
+    let named = read_learn(alloc, text_at(row, "line")?.as_bytes())?;
+    Ok(Answer::Text(derivation_text(alloc, &named)?))
+}
+
+// ---- derivations by name, which a check line gives
+
+/// What a check line asks.
+pub fn check_at(alloc: Global, row: &Value) -> Result<(Request, NamedDerivation), Unread> {
+    match read_request(alloc, text_at(row, "line")?.as_bytes())? {
+        Asked::Check {
+            request,
+            derivation,
+        } => Ok((request, derivation)),
+        _ => Err(Unread::Row),
+    }
+}
+
+/// The derivation of a check line.
+pub fn derivation_at(alloc: Global, row: &Value) -> Result<NamedDerivation, Unread> {
+    let (_, derivation) = check_at(alloc, row)?;
+    Ok(derivation)
+}

@@ -1,0 +1,103 @@
+//! Calls of the lines of a search, which a row gives.
+
+ghost use Rattle.std.specs.Prelude.{◌≡◌, ◌↔◌, [], IsTrue};
+ghost use Rattle.std.specs.Bool.{OnTrue};
+ghost use Rattle.derivations.specs.Known.{AreOrdered, EndsAt, IsBefore, IsResolved, IsResolvedAt};
+
+use crate::known_rows::known_at;
+use derivations::{Known, Learnt, Line, Reason, cut, lines_of};
+use rows::{Answer, Unread, lines_told, size_at};
+use serde_json::Value;
+use std::alloc::Global;
+
+pub fn search_call(alloc: Global, name: &str, row: &Value) -> Result<Answer, Unread> {
+    let place = size_at(row, "place")?;
+    match name {
+        "cut" => cut_at(alloc, row, place),
+        "lines_of" => lines_at_place(alloc, row, place, false),
+        "learn" => lines_at_place(alloc, row, place, true),
+        _ => Err(Unread::Row),
+    }
+}
+
+fn is_before(line: &Known, place: usize) -> bool
+    ensures { IsTrue result ↔ IsBefore place line.now.reason }
+{
+    match line.reason {
+        Reason::Fact(_) => true,
+        Reason::Resolved(i, j, _) => i < place && j < place,
+    }
+}
+
+/// Whether each line cites only lines before it.
+fn are_ordered(known: &[Known]) -> bool
+    ensures { OnTrue result (AreOrdered known.now) }
+{
+    for place in 0..known.len() {
+        if !is_before(&known[place], place) {
+            return false;
+        }
+    }
+    true
+}
+
+fn is_resolved(line: &Known) -> bool
+    ensures { IsTrue result ↔ IsResolved line.now.reason }
+{
+    match line.reason {
+        Reason::Fact(_) => false,
+        Reason::Resolved(_, _, _) => true,
+    }
+}
+
+/// Whether the line at the place, if there is one, follows from others.
+fn is_resolved_at(known: &[Known], place: usize) -> bool
+    ensures { OnTrue result (IsResolvedAt known.now place) }
+{
+    place < known.len() && is_resolved(&known[place])
+}
+
+fn is_empty_end(line: &Known) -> bool
+    ensures { IsTrue result ↔ (IsResolved line.now.reason × (line.now.conclusion ≡ [])) }
+{
+    match line.reason {
+        Reason::Fact(_) => false,
+        Reason::Resolved(_, _, _) => line.conclusion.terms().is_empty(),
+    }
+}
+
+/// Whether the line at the place, if there is one, follows from others and has no terms.
+fn ends_at(known: &[Known], place: usize) -> bool
+    ensures { OnTrue result (EndsAt known.now place) }
+{
+    place < known.len() && is_empty_end(&known[place])
+}
+
+fn cut_at(alloc: Global, row: &Value, place: usize) -> Result<Answer, Unread> {
+    let known = known_at(alloc, row)?;
+    if !are_ordered(&known) || !ends_at(&known, place) {
+        return Ok(Answer::Skipped);
+    }
+    lines_told(alloc, cut(alloc, known, place)?.lines())
+}
+
+/// The lines that show the line at a place, or how many of them are learnt.
+fn lines_at_place(
+    alloc: Global,
+    row: &Value,
+    place: usize,
+    learns: bool,
+) -> Result<Answer, Unread> {
+    let known = known_at(alloc, row)?;
+    if !are_ordered(&known) || !is_resolved_at(&known, place) {
+        return Ok(Answer::Skipped);
+    }
+    told(alloc, lines_of(alloc, &known, place)?, learns)
+}
+
+fn told(alloc: Global, lines: Vec<Line>, learns: bool) -> Result<Answer, Unread> {
+    if learns {
+        return Ok(Answer::Number(Learnt::new(alloc, lines)?.lines().len()));
+    }
+    lines_told(alloc, &lines)
+}

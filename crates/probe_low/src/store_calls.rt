@@ -1,0 +1,146 @@
+//! Calls of the store of what was learnt.
+
+use derivations::{Learnt, Store};
+use registry::{Command, Registry};
+use rows::{
+    Answer, StoreText, Unread, all_stand, command_of, count, enter, learnt_at, shown, whole_at,
+    write_conclusion,
+};
+use serde_json::Value;
+use std::alloc::Global;
+use std::fmt;
+use terms::Pkg;
+
+/// A call that changes the registry too: a command, and what the store does after it.
+pub fn follow_call(
+    alloc: Global,
+    registry: &mut Registry,
+    store: &mut Store,
+    name: &str,
+    row: &Value,
+) -> Result<Answer, Unread> {
+    match name {
+        "publish" | "yank" | "unyank" => followed(registry, store, &command_of(alloc, name, row)?),
+        _ => store_call(alloc, registry, store, name, row),
+    }
+}
+
+/// Enters a command, has the store follow it, and answers how many members there are.
+fn followed(
+    registry: &mut Registry,
+    store: &mut Store,
+    command: &Command,
+) -> Result<Answer, Unread> {
+    enter(registry, command)?;
+    store.follow(registry, command);
+    Ok(counted(registry, store))
+}
+
+fn store_call(
+    alloc: Global,
+    registry: &Registry,
+    store: &mut Store,
+    name: &str,
+    row: &Value,
+) -> Result<Answer, Unread> {
+    match name {
+        "reserve" => reserve(registry, store),
+        "learn" => learn(alloc, registry, store, row),
+        "published" => published(registry, store, row),
+        _ => about(alloc, registry, store, name, row),
+    }
+}
+
+fn reserve(registry: &Registry, store: &mut Store) -> Result<Answer, Unread> {
+    store.reserve()?;
+    Ok(counted(registry, store))
+}
+
+fn learn(
+    alloc: Global,
+    registry: &Registry,
+    store: &mut Store,
+    row: &Value,
+) -> Result<Answer, Unread> {
+    store.learn(registry, learnt_at(alloc, row)?)?;
+    Ok(counted(registry, store))
+}
+
+fn published(registry: &Registry, store: &mut Store, row: &Value) -> Result<Answer, Unread> {
+    store.published(registry, whole_at(row, "package")?);
+    Ok(counted(registry, store))
+}
+
+/// How many members there are. After every call that may change them each has to stand; where one
+/// doesn't, that is the answer.
+fn counted(registry: &Registry, store: &Store) -> Answer {
+    if !all_stand(registry, store) {
+        return Answer::Word("a member does not stand");
+    }
+    Answer::Number(count(store))
+}
+
+// ---- what is stored
+
+fn about(
+    alloc: Global,
+    registry: &Registry,
+    store: &Store,
+    name: &str,
+    row: &Value,
+) -> Result<Answer, Unread> {
+    match name {
+        "members" => shown(alloc, &StoreText(store)),
+        "named" => shown(alloc, &NamedText(store, whole_at(row, "package")?)),
+        "stand" => Ok(Answer::Bool(all_stand(registry, store))),
+        _ => of_learnt(registry, store, name, &learnt_at(alloc, row)?),
+    }
+}
+
+/// Whether what is learnt would be taken, or whether a member concludes the same.
+fn of_learnt(
+    registry: &Registry,
+    store: &Store,
+    name: &str,
+    learnt: &Learnt,
+) -> Result<Answer, Unread> {
+    match name {
+        "check" => {
+            store.check(registry, learnt)?;
+            Ok(Answer::None)
+        }
+        "has" => Ok(Answer::Bool(store.has(learnt.conclusion()))),
+        _ => Err(Unread::Row),
+    }
+}
+
+/// What those members conclude that are found by a package, newest first.
+#[derive(Clone, Copy)]
+struct NamedText<'a>(&'a Store, Pkg);
+
+impl fmt::Display for NamedText<'_> {
+    fn fmt<W: fmt::Write>(&self, f: &mut fmt::Formatter<W>) -> fmt::Result {
+        f.write_str("[")?;
+        write_named(f, self.0, u64::from(self.1))?;
+        f.write_str("]")
+    }
+}
+
+fn write_named<W: fmt::Write>(
+    f: &mut fmt::Formatter<W>,
+    store: &Store,
+    number: u64,
+) -> fmt::Result {
+    let mut is_first = true;
+    let mut at = store.naming().first(number);
+    'walk: while let Some(link) = store.naming().link(at) {
+        if link.number == number {
+            if let Some(member) = store.member(link.place) {
+                write_conclusion(f, member, is_first)?;
+                is_first = false;
+            }
+        }
+        at = link.before;
+    }
+    Ok(())
+}

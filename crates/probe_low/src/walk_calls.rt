@@ -1,0 +1,236 @@
+//! Calls of walks.
+
+ghost use Rattle.std.specs.Ordering.{nat_cmp};
+ghost use Rattle.std.specs.BTreeMap.{get};
+
+use registry::{Pkg, Registry, Request};
+use rows::{Answer, Unread, items, member, request_at, whole, whole_at};
+use serde_json::Value;
+use std::alloc::Global;
+use std::collections::BTreeMap;
+use std::fmt;
+use versions::{Name, Need, Published};
+use walk::{
+    Asker, Chooser, Preferred, Reached, preferred_version, reach, reach_preferred, sort_by_name,
+};
+
+pub fn walk_call(
+    alloc: Global,
+    registry: &Registry,
+    name: &str,
+    row: &Value,
+) -> Result<Answer, Unread> {
+    about(alloc, registry, name, row, &request_at(alloc, row)?)
+}
+
+fn about(
+    alloc: Global,
+    registry: &Registry,
+    name: &str,
+    row: &Value,
+    request: &Request,
+) -> Result<Answer, Unread> {
+    match name {
+        "reach" => reach_chosen(alloc, registry, row, request),
+        "reach_by_preferred" => walked(alloc, registry, request, &Preferred { registry, request }),
+        "reach_preferred" => reach_by_itself(alloc, registry, request),
+        "preferred_version" => {
+            let pkg = whole_at(row, "pkg")?;
+            Ok(Answer::Choice(preferred_version(registry, request, pkg)))
+        }
+        _ => Err(Unread::Row),
+    }
+}
+
+/// Chooses the ordinals that a row gives by package, and none of other packages.
+#[derive(Clone, Copy)]
+struct Chosen<'a> {
+    choices: &'a BTreeMap<Pkg, u32>,
+}
+
+impl Chooser for Chosen<'_> {
+    ghost chooses = { λ c p. get nat_cmp c.choices.now p };
+
+    fn choose(&self, pkg: Pkg) -> Option<u32> {
+        self.choices.get(&pkg).copied()
+    }
+}
+
+fn choose(choices: &mut BTreeMap<Pkg, u32>, value: &Value) -> Result<(), Unread> {
+    match items(value)? {
+        [pkg, ordinal] => {
+            let pkg = whole(pkg)?;
+            choices.insert(pkg, whole(ordinal)?)?;
+            Ok(())
+        }
+        _ => Err(Unread::Row),
+    }
+}
+
+/// What a row chooses, as `[[1,0],[2,1]]`.
+fn choices_at(alloc: Global, row: &Value) -> Result<BTreeMap<Pkg, u32>, Unread> {
+    let mut choices = BTreeMap::new(alloc);
+    for item in items(member(row, "choose")?)? {
+        choose(&mut choices, item)?;
+    }
+    Ok(choices)
+}
+
+fn reach_chosen(
+    alloc: Global,
+    registry: &Registry,
+    row: &Value,
+    request: &Request,
+) -> Result<Answer, Unread> {
+    let choices = choices_at(alloc, row)?;
+    walked(alloc, registry, request, &Chosen { choices: &choices })
+}
+
+/// What a walk answers, a selection in the order of names.
+fn walked<C: Chooser>(
+    alloc: Global,
+    registry: &Registry,
+    request: &Request,
+    chooser: &C,
+) -> Result<Answer, Unread> {
+    match reach(alloc, registry, request, chooser)? {
+        Reached::Selection(mut list) => {
+            sort_by_name(registry, &mut list);
+            selected(alloc, registry, &list)
+        }
+        Reached::Unmet(asker, index) => unmet(alloc, registry, request, asker, index),
+        Reached::NotAllowed(pkg, ordinal) => not_allowed(alloc, registry, pkg, ordinal),
+    }
+}
+
+fn reach_by_itself(
+    alloc: Global,
+    registry: &Registry,
+    request: &Request,
+) -> Result<Answer, Unread> {
+    match reach_preferred(alloc, registry, request)? {
+        Reached::Selection(mut list) => {
+            sort_by_name(registry, &mut list);
+            selected(alloc, registry, &list)
+        }
+        Reached::Unmet(asker, index) => unmet(alloc, registry, request, asker, index),
+        Reached::NotAllowed(pkg, ordinal) => not_allowed(alloc, registry, pkg, ordinal),
+    }
+}
+
+// ---- answers
+
+/// `{"selected":[["a","1.0.0"]]}`.
+fn selected(alloc: Global, registry: &Registry, list: &[(Pkg, u32)]) -> Result<Answer, Unread> {
+    let listed = SelectedText { registry, list };
+    Ok(Answer::Text(format!(in alloc; "{{\"selected\":{listed}}}")?))
+}
+
+/// `{"not_allowed":["a","1.0.0"]}`.
+fn not_allowed(
+    alloc: Global,
+    registry: &Registry,
+    pkg: Pkg,
+    ordinal: u32,
+) -> Result<Answer, Unread> {
+    let version = VersionText {
+        registry,
+        pkg,
+        ordinal,
+    };
+    Ok(Answer::Text(format!(in alloc; "{{\"not_allowed\":{version}}}")?))
+}
+
+/// `{"asks":"request","for":["a","^1"]}`, or by a version, `{"asks":["b","1.0.0"],"for":["a","^1"]}`.
+fn unmet(
+    alloc: Global,
+    registry: &Registry,
+    request: &Request,
+    asker: Asker,
+    index: usize,
+) -> Result<Answer, Unread> {
+    match asker.needs(registry, request).get(index) {
+        Some((name, need)) => asks(alloc, registry, asker, name, need),
+        None => Ok(Answer::Word("nothing")),
+    }
+}
+
+fn asks(
+    alloc: Global,
+    registry: &Registry,
+    asker: Asker,
+    name: &Name,
+    need: &Need,
+) -> Result<Answer, Unread> {
+    let who = AskerText { registry, asker };
+    let (name, need) = (name.text(), need.text());
+    let text = format!(in alloc; "{{\"asks\":{who},\"for\":[{name:?},{need:?}]}}")?;
+    Ok(Answer::Text(text))
+}
+
+#[derive(Clone, Copy)]
+struct AskerText<'a> {
+    registry: &'a Registry,
+    asker: Asker,
+}
+
+impl fmt::Display for AskerText<'_> {
+    fn fmt<W: fmt::Write>(&self, f: &mut fmt::Formatter<W>) -> fmt::Result {
+        match self.asker {
+            Asker::Request => f.write_str("\"request\""),
+            Asker::Version(pkg, ordinal) => write_version(f, self.registry, pkg, ordinal),
+        }
+    }
+}
+
+#[derive(Clone, Copy)]
+struct SelectedText<'a> {
+    registry: &'a Registry,
+    list: &'a [(Pkg, u32)],
+}
+
+impl fmt::Display for SelectedText<'_> {
+    fn fmt<W: fmt::Write>(&self, f: &mut fmt::Formatter<W>) -> fmt::Result {
+        let mut before = "";
+        f.write_str("[")?;
+        for (pkg, ordinal) in self.list {
+            f.write_str(before)?;
+            write_version(f, self.registry, *pkg, *ordinal)?;
+            before = ",";
+        }
+        f.write_str("]")
+    }
+}
+
+#[derive(Clone, Copy)]
+struct VersionText<'a> {
+    registry: &'a Registry,
+    pkg: Pkg,
+    ordinal: u32,
+}
+
+impl fmt::Display for VersionText<'_> {
+    fn fmt<W: fmt::Write>(&self, f: &mut fmt::Formatter<W>) -> fmt::Result {
+        write_version(f, self.registry, self.pkg, self.ordinal)
+    }
+}
+
+/// A version by its package's name and its own text.
+fn write_version<W: fmt::Write>(
+    f: &mut fmt::Formatter<W>,
+    registry: &Registry,
+    pkg: Pkg,
+    ordinal: u32,
+) -> fmt::Result {
+    match version_of(registry, pkg, ordinal) {
+        Some((name, version)) => write!(f, "[{:?},{:?}]", name.text(), version.text()),
+        None => f.write_str("null"),
+    }
+}
+
+fn version_of(registry: &Registry, pkg: Pkg, ordinal: u32) -> Option<(&Name, &Published)> {
+    Some((
+        registry.name_at(pkg)?,
+        registry.facts_at(pkg, ordinal)?.version,
+    ))
+}
