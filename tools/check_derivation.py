@@ -245,8 +245,8 @@ def read_lines(path):
 def read_journal(path):
     """The commands of a journal file."""
     lines = Path(path).read_bytes().split(b"\n")
-    demand(lines[0] == b"registry-journal 1" and lines[-2:] == [b"end %d" % (len(lines) - 3), b""], "a cut journal", ValueError)
-    return read_lines(path)[1:-1]
+    demand(lines[0] in (b"registry-journal 1", b"registry-journal 2") and lines[-2:] == [b"end %d" % (len(lines) - 3), b""], "a cut journal", ValueError)
+    return [it for it in read_lines(path)[1:-1] if it.get("op") != "learn"]
 
 
 def session(requests, replies, journal):

@@ -174,3 +174,15 @@ def a_long_journal():
     yield "a journal that is longer than its room is whole", [
         _row("journals", "save_journal", {"end": "done", "written": f"registry-journal 1\n{2000 * line}end 2000\n"},
             commands=[{"op": "yank", "name": "a", "version": "1.0.0-rc.1"}], times=2000)]
+
+
+@rows_of("texts")
+def a_journal_is_loaded_cut_at_each_byte():
+    """docs/FORMATS.md, The journal's file: of a text that ends too soon the line that is missing, or lacks its line feed, is told."""
+    text = (
+        'registry-journal 2\n'
+        '{"name":"a","needs":[["b","^1.0.0"]],"op":"publish","version":"1.0.0"}\n'
+        '{"name":"a","op":"yank","version":"1.0.0"}\n'
+        'end 2\n')
+    yield "a journal's file that ends too soon is loaded nowhere", [
+        _row("journals", "load_journal", {"line": text[:end].count("\n") + 1}, text=text[:end]) for end in range(len(text))]

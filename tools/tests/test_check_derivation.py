@@ -409,7 +409,7 @@ class Files(unittest.TestCase):
 
     def journal(self, commands, name="journal", end=None):
         rows = [json.dumps(it, separators=(",", ":"), sort_keys=True) for it in commands]
-        return self.file(name, ["registry-journal 1", *rows, f"end {len(rows) if end is None else end}"])
+        return self.file(name, ["registry-journal 2", *rows, f"end {len(rows) if end is None else end}"])
 
     def test_two_files(self):
         requests, replies = self.chain()
@@ -442,7 +442,7 @@ class Files(unittest.TestCase):
         requests, replies = self.chain()
         asked_file, told_file = self.file("asked", requests[-1:]), self.file("told", replies[-1:])
         commands = requests[:-1]
-        texts = [["registry-journal 1"], ["registry-journal 2", *commands, "end 4"], ["registry-journal 1", *commands, "end 5"],
+        texts = [["registry-journal 1"], ["registry-journal 3", *commands, "end 4"], ["registry-journal 1", *commands, "end 5"],
                  ["registry-journal 1", *commands],
                  ["registry-journal 1", *commands, "end 4", ""], ["registry-journal 1", commands[0], *commands[:3], "end 4"],
                  ["registry-journal 1", *commands[:3], "end 3"],

@@ -184,6 +184,42 @@ class Memory(unittest.TestCase):
         self.assertGreater(refused, 20)
         print(f"({number - LAST_RUNS} requests refused in turn: {early} before the first line, {refused} answered 18) ", end="")
 
+    def test_each_request_of_a_session_with_journals(self):
+        """A session that begins with a journal and leaves one."""
+        loaded, saved = os.path.join(self.folder, "loaded"), os.path.join(self.folder, "saved")
+        lines = [journal_line(line) for line in (publish("a", "1.0.0", ["b ^1.0.0"]), publish("b", "1.0.0"))]
+        premise = {"fact": "premise", "name": "a", "need": "^1.0.0", "target": "b", "versions": [0], "within": [0]}
+        learnt = [{"causes": [premise, premise], "conclusion": [["a", True, [0]], ["b", False, [0]]], "pivot": "b"}]
+        lines.append(json.dumps({"derivation": learnt, "op": "learn"}, sort_keys=True, separators=(",", ":")))
+        asked, more = [LIST, publish("c", "1.0.0")], journal_line(publish("c", "1.0.0"))
+        with open(loaded, "w", encoding="ascii") as out:
+            out.write("".join(line + "\n" for line in ["registry-journal 2", *lines, "end 3"]))
+        replies = ['{"packages":[["a",[["1.0.0",false]]],["b",[["1.0.0",false]]]],"revision":2}', '{"ok":true,"revision":3}']
+        short = '{"error":18,"name":"NoMemory","revision":2}'
+        early = refused = late = 0
+        words = [*SERVE, "--load", loaded, "--save", saved]
+        for number, done, came in self.refuse_each(words, "".join(line + "\n" for line in asked)):
+            told = done.stdout.decode().split("\n")[:-1]
+            if done.stderr == b"registryd: no memory\n":
+                self.assertEqual((done.returncode, told, os.path.exists(saved)), (1, [], False), number)
+                early += 1
+                continue
+            self.assertEqual([reply in (whole, short) for reply, whole in zip(told, replies, strict=True)], [True, True], number)
+            self.assertLessEqual(told.count(short) + (done.returncode != 0), came, number)
+            refused += told.count(short)
+            if done.returncode:
+                self.assertEqual((done.returncode, done.stderr, os.path.exists(saved)), (1, b"registryd: output failed\n", False), number)
+                late += 1
+                continue
+            self.assertEqual(done.stderr, b"", number)
+            left = [*lines, more] if told[1] != short else lines
+            with open(saved, encoding="ascii") as file:
+                self.assertEqual(file.read(), "".join(line + "\n" for line in ["registry-journal 2", *left, f"end {len(left)}"]), number)
+            os.remove(saved)
+        self.assertTrue(early > 20 and refused > 2 and late > 2, (early, refused, late))
+        print(f"({number - LAST_RUNS} requests refused in turn: {early} before the first line, {refused} answered 18, "
+              f"{late} of the journal) ", end="")
+
     def models_of(self, files, replies, number):
         """The commands of the journal that replies tell, and what is accepted after each beginning of them. What was learnt
         takes places too, and no reply tells of it."""
@@ -221,7 +257,11 @@ class Memory(unittest.TestCase):
                 else:
                     self.assertTrue(model.takes(line, unstamped(reply, place, seat)), (number, line, reply))
         told = [reply for told in replies for reply in told]
-        whole = [*told, "registry-journal 1", *map(journal_line, journal), f"end {len(journal)}", ""]
+        commands = map(journal_line, journal)
+        # what was learnt stands between the commands
+        entries = [line if line.startswith('{"derivation":') else next(commands, "") for line in lines[1:-2]]
+        entries += commands
+        whole = [*told, "registry-journal 2", *entries, f"end {len(entries)}", ""]
         return "\n".join(whole), short
 
     def refuse_each_of_a_race(self, *files):

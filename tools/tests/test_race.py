@@ -8,7 +8,7 @@ from program import LIST, journal_line, publish, resolve, run, serve, unyank, ya
 
 ACCEPTED = '{"ok":true,"place":1,"revision":1,"seat":%d}'
 REPEATED = '{"error":7,"name":"AlreadyPublished","place":1,"revision":1,"seat":%d}'
-JOURNAL = ["registry-journal 1", '{"name":"a","needs":[],"op":"publish","version":"1.0.0"}', "end 1"]
+JOURNAL = ["registry-journal 2", '{"name":"a","needs":[],"op":"publish","version":"1.0.0"}', "end 1"]
 
 
 class Race(unittest.TestCase):
@@ -49,7 +49,7 @@ class Race(unittest.TestCase):
         files = [[publish(f"p{file}-{line % 7}", f"1.{line}.0", [f"q{line % 5} ^1"]) for line in range(100)]
                  for file in range(8)]
         replies, journal = self.printed(*files)
-        self.assertEqual((journal[0], journal[-1]), ("registry-journal 1", "end 800"))
+        self.assertEqual((journal[0], journal[-1]), ("registry-journal 2", "end 800"))
         entries = journal[1:-1]
         self.assertEqual(sorted(entries), sorted(journal_line(line) for lines in files for line in lines))
         for number, lines in enumerate(files):
@@ -132,7 +132,7 @@ class Race(unittest.TestCase):
         self.assertEqual((done.returncode, done.stderr), (0, b""))
         bad = '{"error":19,"name":"BadLine","place":0,"revision":0,"seat":1}\n'
         self.assertEqual(done.stdout.decode(), bad + bad + '{"packages":[],"place":0,"revision":0,"seat":1}\n'
-                         "registry-journal 1\nend 0\n")
+                         "registry-journal 2\nend 0\n")
 
     def test_a_full_row(self):
         # 17 packages of 4,096 versions are more than 65,536 cells

@@ -226,7 +226,7 @@ def raced(files):
     for lines in files:
         replies.append(printed[:len(lines)])
         printed = printed[len(lines):]
-    return replies, list(map(json.loads, printed[1:-1]))
+    return replies, [it for it in map(json.loads, printed[1:-1]) if it["op"] != "learn"]
 
 
 class Sessions(unittest.TestCase):

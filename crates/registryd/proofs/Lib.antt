@@ -7,6 +7,7 @@ pub mod RaceLemmas
 pub mod RacingLemmas
 pub mod ServeLemmas
 pub mod ServedLemmas
+pub mod LoadedLemmas
 pub mod SessionLemmas
 pub mod SessionRows
 pub mod WordLemmas

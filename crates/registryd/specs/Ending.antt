@@ -2,6 +2,8 @@
 use Rattle.std.specs.Prelude.{ℕ, List, [], ◌++◌, codes, decimal}
 use Rattle.registryd.specs.declared.ending.End.{End}
 use Rattle.registryd.specs.declared.ending.End.TheVariants.{Done, Input, Output, Journal, Memory, Words}
+use Rattle.journals.specs.declared.load.LoadFault.{LoadFault}
+use Rattle.journals.specs.declared.load.LoadFault.TheVariants as unloaded
 use Rattle.registryd.specs.declared.serve.RunFault.{RunFault}
 use Rattle.registryd.specs.declared.serve.RunFault.TheVariants as broken
 
@@ -32,3 +34,18 @@ abbrev pub end_of_run : RunFault → End
 end_of_run broken.Input = Input
 end_of_run broken.Output = Output
 end_of_run broken.Memory = Memory
+
+-- the end of a program that has read no file
+abbrev pub IsUnread : End → Type 0
+IsUnread Done = ⊥
+IsUnread Input = Unit {0}
+IsUnread Output = ⊥
+IsUnread (Journal line) = Unit {0}
+IsUnread Memory = Unit {0}
+IsUnread Words = ⊥
+
+-- the end that a fault of loading comes to
+abbrev pub end_of_load : LoadFault → End
+end_of_load (unloaded.Line line) = Journal line
+end_of_load unloaded.Memory = Memory
+end_of_load unloaded.Input = Input

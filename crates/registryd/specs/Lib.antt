@@ -6,7 +6,9 @@ pub mod Told
 pub mod Lawful
 pub mod Answering
 pub mod Session
+pub mod Loaded
 pub mod Racing
 pub mod Kept
 pub mod Race
 pub mod Words
+pub mod Obeyed

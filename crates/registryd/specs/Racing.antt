@@ -3,32 +3,24 @@ use Rattle.std.specs.Prelude.{◌≡◌, ◌<◌, ◌⊎◌, ℕ, ◌+◌, List,
 use Rattle.std.specs.Io.KnownBytes.{Appends}
 use Rattle.versions.specs.Words.{Text}
 use Rattle.versions.specs.declared.refusal.Refusal.TheVariants.{Stray}
-use Rattle.registry.specs.Commands.{change_of}
-use Rattle.registry.specs.Step.{Change}
 use Rattle.book.specs.declared.item.Item.{Item}
-use Rattle.book.specs.declared.item.Item.TheVariants as item
 use Rattle.chronicle.specs.Cells.{Cells}
-use Rattle.chronicle.specs.Journals.{Begins, packages_of, refusal_at, revision_of}
+use Rattle.chronicle.specs.Journals.{Begins, items_of, packages_of, refusal_at, revision_of}
 use Rattle.chronicle.specs.Seats.{Accepted, MayHaveSeen, Place}
 use Rattle.chronicle.specs.declared.entry.Entry.{Entry}
 use Rattle.chronicle.specs.declared.entry.Stamp.{Stamp}
 use Rattle.chronicle.specs.declared.row.TheConstants.{CAPACITY_LIMIT}
 use Rattle.lines.specs.Lines.{lines_of}
 use Rattle.lines.specs.Texts.{IsBeginning}
-use Rattle.journals.specs.Journal.{journal_text}
+use Rattle.journals.specs.Saved.{saved_text}
 use Rattle.replies.specs.Replies.{Reply, replies_text}
 use Rattle.registryd.specs.Lawful.{AreLawful, Ways}
 
 -- ---- journals
 
--- the command that an item is, if it is one
-abbrev pub commands_in : Item → List Change
-commands_in (item.Command c) = change_of c ∷ []
-commands_in (item.Learnt lines) = []
-
--- the commands of a journal, in order; what was learnt is left out
-abbrev pub changes_in : List Entry → List Change
-changes_in journal = flat_map (λ (e : Entry). commands_in e.item) journal
+-- the file of a journal, by the names of its packages
+abbrev pub file_of : List Entry → Text
+file_of journal = saved_text (packages_of journal) (items_of journal)
 
 -- ---- a seat's ledger
 
@@ -77,7 +69,7 @@ pub record IsRace (files : List Text) (journal : List Entry) (replies : List (Li
 
 -- the replies, seat by seat, and then the file of the journal
 abbrev pub race_text : List (List Reply) → List Entry → Text
-race_text replies journal = flat_map replies_text replies ++ journal_text (changes_in journal)
+race_text replies journal = flat_map replies_text replies ++ file_of journal
 
 -- There is one journal, of which each seat has seen a beginning and one has seen all, each file's lines have their lawful replies, and what was written is these replies and the journal.
 pub record Races (written_before written_after : Option (List ℕ)) (files : List Text) : Type 0 where

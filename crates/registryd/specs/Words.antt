@@ -44,14 +44,14 @@ IsManyFiles rows = (files : List Text) × (all_of (codes "files") rows ≡ Some 
 abbrev pub HasManyFiles : Option (Text × List Row) → Type 0
 HasManyFiles given = (rows : List Row) × (given ≡ Some (codes "race", rows)) × IsManyFiles rows
 
--- `serve` is given, and no file is named
-abbrev pub IsServeAlone : Option (Text × List Row) → Type 0
-IsServeAlone given = (rows : List Row) × (given ≡ Some (codes "serve", rows))
-    × (first_of (codes "load") rows ≡ None) × (first_of (codes "save") rows ≡ None)
+-- `serve` is given, with these files to begin from and to leave, where they are named
+abbrev pub IsServe : Option Text → Option Text → Option (Text × List Row) → Type 0
+IsServe load save given = (rows : List Row) × (given ≡ Some (codes "serve", rows))
+    × (first_of (codes "load") rows ≡ load) × (first_of (codes "save") rows ≡ save)
 
--- clap finds no fault in the words, and they ask to serve with no file
-abbrev pub AskToServe : List Text → Type 0
-AskToServe words = (fault_of program_app words ≡ []) × IsServeAlone (subcommand_of program_app words)
+-- clap finds no fault in the words, and they ask to serve with these files
+abbrev pub AskToServe : List Text → Option Text → Option Text → Type 0
+AskToServe words load save = (fault_of program_app words ≡ []) × IsServe load save (subcommand_of program_app words)
 
 -- a race of so many files is given, at most 63
 abbrev pub IsRaceOf : ℕ → Option (Text × List Row) → Type 0

@@ -2,10 +2,11 @@
 ghost use Rattle.std.specs.Prelude.{◌≡◌, ◌≢◌, IfErr};
 ghost use Rattle.std.specs.IoError.{error_kind};
 ghost use Rattle.lines.specs.Texts.{Writes};
-ghost use Rattle.registryd.specs.Ending.{status_of, text_of, journal_text, end_of_run};
+ghost use Rattle.registryd.specs.Ending.{status_of, text_of, journal_text, end_of_load, end_of_run, IsUnread};
 
 use crate::serve::RunFault;
 use itoa::Buffer;
+use journals::LoadFault;
 use lines::{write_text, write_texts};
 use std::io;
 use std::io::{ErrorKind, Write};
@@ -36,6 +37,30 @@ impl From<RunFault> for End {
             RunFault::Output => End::Output,
             RunFault::Memory => End::Memory,
         }
+    }
+}
+
+impl From<LoadFault> for End {
+    ghost from_gives = { λ fault end. end ≡ end_of_load fault };
+
+    fn from(fault: LoadFault) -> End {
+        match fault {
+            LoadFault::Line(line) => End::Journal(line),
+            LoadFault::Memory => End::Memory,
+            LoadFault::Input => End::Input,
+        }
+    }
+}
+
+/// How the program ends where a file can't be read: want of memory is told apart.
+pub fn end_of_read(e: &io::Error) -> End
+    ensures memory { error_kind e.now ≡ ErrorKind.OutOfMemory → result ≡ End.Memory }
+    ensures input { error_kind e.now ≢ ErrorKind.OutOfMemory → result ≡ End.Input }
+    ensures unread { IsUnread result }
+{
+    match e.kind() {
+        ErrorKind::OutOfMemory => End::Memory,
+        _ => End::Input,
     }
 }
 

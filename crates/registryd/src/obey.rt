@@ -1,23 +1,26 @@
 //! What the words of the command line ask for, done.
-ghost use Rattle.std.specs.Prelude.{◌≡◌, ◌≢◌, ◌⊎◌, ◌<◌, ◌≤◌, ℕ, List, [], length, vec_len, IfOk};
+ghost use Rattle.std.specs.Prelude.{◌≡◌, ◌≢◌, ◌⊎◌, ◌<◌, ◌≤◌, ℕ, List, [], length, option_map, string_bytes, vec_len, IfOk, IsSome, Option};
 ghost use Rattle.std.specs.Io.KnownBytes.{Keeps, IsAtEnd};
-ghost use Rattle.std.specs.IoError.{error_kind};
 ghost use Rattle.clap.specs.Words.{fault_of, subcommand_of};
 ghost use Rattle.versions.specs.Words.{Text};
 ghost use Rattle.book.specs.declared.item.Item.{Item};
 ghost use Rattle.lines.specs.Lines.{lines_of, whole_lines_of};
 ghost use Rattle.registryd.specs.CommandLine.{program_app};
+ghost use Rattle.registryd.specs.Obeyed.{HasBroken, HasNoJournal, HasServed, MayBegin};
 ghost use Rattle.registryd.specs.Racing.{Races, RacesInPart};
+ghost use Rattle.registryd.specs.Served.{MayBeServed};
 ghost use Rattle.registryd.specs.Session.{Serves, Breaks};
 ghost use Rattle.registryd.specs.Words.{AskToRace, AskToServe, HasManyFiles, texts};
 
-use crate::ending::End;
+use crate::ending::{End, end_of_read};
+use crate::files::{loaded_from, saved_to};
 use crate::race::race;
-use crate::serve::run;
+use crate::serve::serve_session;
 use crate::words::{WordFault, Words, advice_on, read_words};
+use book::Item;
 use lines::write_text;
 use std::alloc::Global;
-use std::io::{ErrorKind, Read, Write};
+use std::io::{Read, Write};
 use std::rt::Files;
 use std::sync::Wait;
 use std::thread::Threads;
@@ -34,46 +37,44 @@ pub fn obey<H: Wait + Threads + Sync + Files + AllocGlobal, R: Read, W: Write>(
 ) -> End
     // Each line has its lawful reply, in order; those of a race by one journal, which is printed.
     ensures done { result ≡ End.Done
-        → (AskToServe (texts words.now) × IsAtEnd (R.remaining reader.new) × ((items : List Item)
-        × Serves (R.remaining reader.old) (R.remaining reader.new) (W.contents writer.old) (W.contents writer.new) lines_of [] items))
+        → (HasServed (texts words.now) (R.remaining reader.old) (R.remaining reader.new) (W.contents writer.old) (W.contents writer.new) lines_of × IsAtEnd (R.remaining reader.new))
         ⊎ ((files : List Text) × AskToRace (texts words.now) (length files) × Races (W.contents writer.old) (W.contents writer.new) files) }
-    // Each whole line that was read has its lawful reply. Of a race nothing is written.
+    // Each whole line that was read has its lawful reply. Without a journal to begin from none is read, and of a race nothing is written.
     ensures input { result ≡ End.Input
-        → (AskToServe (texts words.now) × ((items : List Item)
-        × Serves (R.remaining reader.old) (R.remaining reader.new) (W.contents writer.old) (W.contents writer.new) whole_lines_of [] items))
+        → HasServed (texts words.now) (R.remaining reader.old) (R.remaining reader.new) (W.contents writer.old) (W.contents writer.new) whole_lines_of
+        ⊎ HasNoJournal (texts words.now) (R.remaining reader.old) (R.remaining reader.new) (W.contents writer.old) (W.contents writer.new)
         ⊎ ((count : ℕ) × AskToRace (texts words.now) count × Keeps (W.contents writer.old) (W.contents writer.new)) }
-    // A beginning of the lawful replies is written.
+    // A beginning of the lawful replies is written; or all of them, and the journal is not saved.
     ensures output { result ≡ End.Output
-        → (AskToServe (texts words.now) × Breaks (R.remaining reader.old) (R.remaining reader.new) (W.contents writer.old) (W.contents writer.new) [])
+        → HasBroken (texts words.now) (R.remaining reader.old) (R.remaining reader.new) (W.contents writer.old) (W.contents writer.new)
+        ⊎ (HasServed (texts words.now) (R.remaining reader.old) (R.remaining reader.new) (W.contents writer.old) (W.contents writer.new) lines_of × IsAtEnd (R.remaining reader.new))
         ⊎ ((files : List Text) × AskToRace (texts words.now) (length files)
         × (Keeps (W.contents writer.old) (W.contents writer.new) ⊎ RacesInPart (W.contents writer.old) (W.contents writer.new) files)) }
+    // A line of the journal to begin from is at fault.
+    ensures journal { (line : ℕ) → result ≡ End.Journal line
+        → HasNoJournal (texts words.now) (R.remaining reader.old) (R.remaining reader.new) (W.contents writer.old) (W.contents writer.new) }
     // Nothing was read or written.
     ensures memory { result ≡ End.Memory
         → Keeps (R.remaining reader.old) (R.remaining reader.new) × Keeps (W.contents writer.old) (W.contents writer.new) }
-    // Nothing was read, and the words ask neither to serve without a file nor for a race.
+    // Nothing was read, and the words ask neither to serve nor for a race.
     ensures words { result ≡ End.Words → Keeps (R.remaining reader.old) (R.remaining reader.new)
-        × (AskToServe (texts words.now) → ⊥) × ((count : ℕ) → AskToRace (texts words.now) count → ⊥) }
+        × ((load save : Option Text) → AskToServe (texts words.now) load save → ⊥) × ((count : ℕ) → AskToRace (texts words.now) count → ⊥) }
     // Words that clap takes are told nothing, but for too many files.
     ensures quiet { result ≡ End.Words → fault_of program_app (texts words.now) ≡ [] → (HasManyFiles (subcommand_of program_app (texts words.now)) → ⊥)
         → Keeps (W.contents writer.old) (W.contents writer.new) }
-    ensures no_journal { (line : ℕ) → result ≢ End.Journal line }
 {
     match read_words(alloc, words) {
         Ok(
             Words::Serve {
                 workers,
-                load: None,
-                save: None,
+                load,
+                save,
             },
-        ) => serve(rt, alloc, reader, writer, workers),
-        // A journal is not read or written yet.
-        Ok(
-            Words::Serve {
-                workers: _,
-                load: _,
-                save: _,
-            },
-        ) => End::Words,
+        ) => {
+            let from = lent_name(&load);
+            let to = lent_name(&save);
+            serve(rt, alloc, reader, writer, workers, from, to)
+        }
         Ok(Words::Race(files)) => race_files(rt, alloc, files.as_slice(), writer),
         Err(WordFault::Bad) => {
             advise(alloc, words, writer);
@@ -83,31 +84,80 @@ pub fn obey<H: Wait + Threads + Sync + Files + AllocGlobal, R: Read, W: Write>(
     }
 }
 
-/// Serves the lines of a reader, from no items on.
-fn serve<H: Wait, R: Read, W: Write>(
+/// The name of a file, if one is named.
+fn lent_name(name: &Option<String>) -> Option<&str>
+    ensures { option_map (λ t. t.now) result ≡ option_map string_bytes name.now }
+{
+    match name {
+        None => None,
+        Some(name) => Some(name.as_str()),
+    }
+}
+
+/// Serves the lines of a reader: from the items of a journal on where its file is named, and with a journal at the end
+/// where a file is named for it.
+fn serve<H: Wait + Files, R: Read, W: Write>(
     rt: &H,
     alloc: Global,
     reader: &mut R,
     writer: &mut W,
     workers: usize,
+    load: Option<&str>,
+    save: Option<&str>,
 ) -> End
     requires { (1 ≤ workers) × (workers ≤ 64) }
-    ensures done { result ≡ End.Done → IsAtEnd (R.remaining reader.new) × ((items : List Item)
-        × Serves (R.remaining reader.old) (R.remaining reader.new) (W.contents writer.old) (W.contents writer.new) lines_of [] items) }
-    ensures input { result ≡ End.Input → (items : List Item)
-        × Serves (R.remaining reader.old) (R.remaining reader.new) (W.contents writer.old) (W.contents writer.new) whole_lines_of [] items }
+    ensures done { result ≡ End.Done → IsAtEnd (R.remaining reader.new) × ((loaded items : List Item) × MayBegin (option_map (λ t. t.now) load.entry) loaded
+        × Serves (R.remaining reader.old) (R.remaining reader.new) (W.contents writer.old) (W.contents writer.new) lines_of loaded items) }
+    ensures input { result ≡ End.Input → ((loaded items : List Item) × MayBegin (option_map (λ t. t.now) load.entry) loaded
+        × Serves (R.remaining reader.old) (R.remaining reader.new) (W.contents writer.old) (W.contents writer.new) whole_lines_of loaded items)
+        ⊎ (IsSome (option_map (λ t. t.now) load.entry) × Keeps (R.remaining reader.old) (R.remaining reader.new) × Keeps (W.contents writer.old) (W.contents writer.new)) }
+    ensures output { result ≡ End.Output → ((loaded : List Item) × MayBegin (option_map (λ t. t.now) load.entry) loaded
+        × Breaks (R.remaining reader.old) (R.remaining reader.new) (W.contents writer.old) (W.contents writer.new) loaded)
+        ⊎ (IsAtEnd (R.remaining reader.new) × ((loaded items : List Item) × MayBegin (option_map (λ t. t.now) load.entry) loaded
+        × Serves (R.remaining reader.old) (R.remaining reader.new) (W.contents writer.old) (W.contents writer.new) lines_of loaded items)) }
+    ensures journal { (line : ℕ) → result ≡ End.Journal line
+        → IsSome (option_map (λ t. t.now) load.entry) × Keeps (R.remaining reader.old) (R.remaining reader.new) × Keeps (W.contents writer.old) (W.contents writer.new) }
+    ensures memory { result ≡ End.Memory
+        → Keeps (R.remaining reader.old) (R.remaining reader.new) × Keeps (W.contents writer.old) (W.contents writer.new) }
+    ensures words { result ≢ End.Words }
+{
+    match loaded_from(rt, alloc, load) {
+        Ok(items) => serve_items(rt, alloc, reader, writer, workers, items, save),
+        Err(end) => end,
+    }
+}
+
+/// Serves the lines of a reader from these items on.
+fn serve_items<H: Wait + Files, R: Read, W: Write>(
+    rt: &H,
+    alloc: Global,
+    reader: &mut R,
+    writer: &mut W,
+    workers: usize,
+    items: Vec<Item>,
+    save: Option<&str>,
+) -> End
+    requires items { MayBeServed items.items }
+    requires workers { (1 ≤ workers) × (workers ≤ 64) }
+    ensures done { result ≡ End.Done → IsAtEnd (R.remaining reader.new) × ((accepted : List Item)
+        × Serves (R.remaining reader.old) (R.remaining reader.new) (W.contents writer.old) (W.contents writer.new) lines_of items.items accepted) }
+    ensures input { result ≡ End.Input → (accepted : List Item)
+        × Serves (R.remaining reader.old) (R.remaining reader.new) (W.contents writer.old) (W.contents writer.new) whole_lines_of items.items accepted }
     ensures output { result ≡ End.Output
-        → Breaks (R.remaining reader.old) (R.remaining reader.new) (W.contents writer.old) (W.contents writer.new) [] }
+        → Breaks (R.remaining reader.old) (R.remaining reader.new) (W.contents writer.old) (W.contents writer.new) items.items
+        ⊎ (IsAtEnd (R.remaining reader.new) × ((accepted : List Item)
+        × Serves (R.remaining reader.old) (R.remaining reader.new) (W.contents writer.old) (W.contents writer.new) lines_of items.items accepted)) }
     ensures memory { result ≡ End.Memory
         → Keeps (R.remaining reader.old) (R.remaining reader.new) × Keeps (W.contents writer.old) (W.contents writer.new) }
     ensures words { result ≢ End.Words }
     ensures no_journal { (line : ℕ) → result ≢ End.Journal line }
 {
-    match run(rt, alloc, reader, writer, Vec::new(alloc), workers) {
-        Ok(items) => {
+    match serve_session(rt, alloc, reader, writer, items, workers) {
+        Ok(served) => {
+            let end = saved_to(rt, alloc, save, &served);
             // The program ends here, so what they hold needs no walk to be given back.
-            mem::forget(items);
-            End::Done
+            mem::forget(served);
+            end
         }
         Err(fault) => End::from(fault),
     }
@@ -136,17 +186,6 @@ fn race_files<H: Threads + Sync + Files + AllocGlobal, W: Write>(
             Err(fault) => End::from(fault),
         },
         Err(e) => end_of_read(&e),
-    }
-}
-
-/// How the program ends where a file can't be read: want of memory is told apart.
-fn end_of_read(e: &io::Error) -> End
-    ensures memory { error_kind e.now ≡ ErrorKind.OutOfMemory → result ≡ End.Memory }
-    ensures input { error_kind e.now ≢ ErrorKind.OutOfMemory → result ≡ End.Input }
-{
-    match e.kind() {
-        ErrorKind::OutOfMemory => End::Memory,
-        _ => End::Input,
     }
 }
 

@@ -1,7 +1,36 @@
-use Rattle.std.proofs.Common.{subst, sym}
-use Rattle.registryd.specs.Served.{MayBeServed}
-use Rattle.registryd.proofs.ServedLemmas.{served_none}
+use Rattle.std.proofs.Common.{inl, inr, subst}
+use Rattle.std.proofs.KnownBytes.{Keeps-refl}
+use Rattle.registryd.specs.Ending.{IsUnread}
 use Rattle.registryd.proofs.obey.serve.Goals as goal
 
-pub run-requires-clause-loaded : goal.run-requires-clause-loaded
-run-requires-clause-loaded g c = subst MayBeServed (sym c.new.ensures.items) served_none
+pub returns-in-Ok-clause-done : goal.returns-in-Ok-clause-done
+returns-in-Ok-clause-done g c = λ is.
+    let done = c.serve_items.ensures.done is in
+    (done.0, (c.in-Ok.items.items, done.1.0, c.in-Ok.ensures.begins, done.1.1))
+
+pub returns-in-Ok-clause-input : goal.returns-in-Ok-clause-input
+returns-in-Ok-clause-input g c = λ is.
+    let read = c.serve_items.ensures.input is in
+    inl (c.in-Ok.items.items, read.0, c.in-Ok.ensures.begins, read.1)
+
+pub returns-in-Ok-clause-output : goal.returns-in-Ok-clause-output
+returns-in-Ok-clause-output g c = λ is.
+    elim (c.serve_items.ensures.output is) [
+      | inl broken ↦ inl (c.in-Ok.items.items, c.in-Ok.ensures.begins, broken)
+      | inr served ↦ inr (served.0, (c.in-Ok.items.items, served.1.0, c.in-Ok.ensures.begins, served.1.1))
+    ]
+
+pub returns-in-Err-clause-done : goal.returns-in-Err-clause-done
+returns-in-Err-clause-done g c = λ is. absurd (subst IsUnread is c.in-Err.ensures.unread)
+
+pub returns-in-Err-clause-input : goal.returns-in-Err-clause-input
+returns-in-Err-clause-input g c = λ is. inr (c.in-Err.ensures.named, Keeps-refl _, Keeps-refl _)
+
+pub returns-in-Err-clause-output : goal.returns-in-Err-clause-output
+returns-in-Err-clause-output g c = λ is. absurd (subst IsUnread is c.in-Err.ensures.unread)
+
+pub returns-in-Err-clause-journal : goal.returns-in-Err-clause-journal
+returns-in-Err-clause-journal g c = λ line is. (c.in-Err.ensures.named, Keeps-refl _, Keeps-refl _)
+
+pub returns-in-Err-clause-words : goal.returns-in-Err-clause-words
+returns-in-Err-clause-words g c = λ is. subst IsUnread is c.in-Err.ensures.unread

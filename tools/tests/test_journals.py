@@ -1,0 +1,362 @@
+"""Journals that a session begins with and leaves: `--load` and `--save`."""
+import json
+import os
+import random
+import resource
+import signal
+import tempfile
+import unittest
+
+from program import LIST, SERVE, journal_line, publish, resolve, run, serve, unyank, yank
+from reference import Registry
+from test_reuse import lines_of, session_of
+
+SEEDS = 20
+# a needs b, and b needs c, of which there is one version
+CHAIN = [publish("a", "1.0.0", ["b ^1.0.0"]), publish("b", "1.0.0", ["c ^1.0.0"]), publish("c", "1.0.0")]
+# Both versions of foo are in the way of each other, until the full search finds that the first has to do.
+CONFLICT = [publish("foo", "2.0.0", ["bar ^1.0.0"]), publish("bar", "1.0.0", ["foo ^1.0.0"]), publish("foo", "1.0.0")]
+REQUIREMENTS = ["^1.0.0", "*", ">=1.0.0, <2.0.0"]
+
+
+def premise(name, target, within):
+    return {"fact": "premise", "name": name, "need": "^1.0.0", "target": target, "versions": [0], "within": list(within)}
+
+
+def learn(*within):
+    """The line of what follows from the chain: a version of a wants one of c that is among these."""
+    line = {"causes": [premise("a", "b", [0]), premise("b", "c", within)],
+            "conclusion": [["a", True, [0]], ["c", False, list(within)]], "pivot": "b"}
+    return json.dumps({"derivation": [line], "op": "learn"}, sort_keys=True, separators=(",", ":"))
+
+
+def journal(lines, form=2, end=None):
+    """The text of a journal's file with these lines."""
+    lines = [line if line.startswith('{"derivation"') else journal_line(line) for line in lines]
+    return "".join(f"{line}\n" for line in [f"registry-journal {form}", *lines, f"end {len(lines) if end is None else end}"]).encode()
+
+
+CHAIN_LEARNT = journal([*CHAIN, learn(0)])
+
+
+def up_to(most):
+    """Lets a program write files of at most so many bytes: writes beyond that fail."""
+    def limit():
+        signal.signal(signal.SIGXFSZ, signal.SIG_IGN)
+        resource.setrlimit(resource.RLIMIT_FSIZE, (most, most))
+    return limit
+
+
+class Unknown(Exception):
+    """A requirement of which the plain reader cannot say whether it is one."""
+
+
+def first_fault(text):
+    """The number of a text's first line that is at fault, by a plain reader of journals in which nothing was learnt; None
+    where the text is a journal's."""
+    lines, registry = text.split(b"\n"), Registry()
+    if lines[0] not in (b"registry-journal 1", b"registry-journal 2") or len(lines) == 1:
+        return 1
+    for number, line in enumerate(lines[1:-1], 2):
+        if line == b"end %d" % (number - 2):
+            return None if lines[number:] == [b""] else number + 1
+        if not accepts(registry, line):
+            return number
+    return len(lines)
+
+
+def accepts(registry, line):
+    """Whether this is the line of a command that is accepted, which is then carried out."""
+    try:
+        asked = json.loads(line)
+    except ValueError:
+        return False
+    members = {"publish": {"name", "needs", "op", "version"}, "yank": {"name", "op", "version"}, "unyank": {"name", "op", "version"}}
+    if not isinstance(asked, dict) or set(asked) != members.get(asked.get("op")):
+        return False
+    if json.dumps(asked, sort_keys=True, separators=(",", ":")).encode() != line:
+        return False
+    number = registry.refusal(asked, REQUIREMENTS)
+    if number == 3:
+        raise Unknown
+    if number is None:
+        registry.apply(asked)
+    return number is None
+
+
+class Sessions(unittest.TestCase):
+    def setUp(self):
+        folder = tempfile.TemporaryDirectory()
+        self.addCleanup(folder.cleanup)
+        self.folder = folder.name
+        self.loaded, self.saved = os.path.join(self.folder, "loaded"), os.path.join(self.folder, "saved")
+
+    def write(self, path, text):
+        with open(path, "wb") as out:
+            out.write(text)
+
+    def read(self, path):
+        with open(path, "rb") as file:
+            return file.read()
+
+    def words(self, load, save):
+        return [*SERVE, *(["--load", load] if load else []), *(["--save", save] if save else [])]
+
+    def session(self, lines, load=None, save=None):
+        """The replies of a session that ends well."""
+        done = run(self.words(load, save), "".join(line + "\n" for line in lines).encode())
+        self.assertEqual((done.returncode, done.stderr), (0, b""))
+        return done.stdout.decode().split("\n")[:-1]
+
+    def load(self, text, lines=(), save=None):
+        """The replies of a session that begins with a journal of this text."""
+        self.write(self.loaded, text)
+        return self.session(lines, self.loaded, save)
+
+    def fault(self, text, line, **more):
+        """A session with a journal of this text ends at once, at a line of it; nothing is written, and nothing saved."""
+        self.write(self.loaded, text)
+        self.write(self.saved, b"as it was")
+        done = run(self.words(self.loaded, self.saved), **more)
+        self.assertEqual((done.returncode, done.stderr), (1, b"registryd: journal line %d\n" % line), text[-300:])
+        self.assertIn(done.stdout, (b"", None))
+        self.assertEqual(self.read(self.saved), b"as it was")
+
+    def beside(self):
+        """The files of the folder but the one that is loaded."""
+        return sorted(set(os.listdir(self.folder)) - {"loaded"})
+
+
+class Saving(Sessions):
+    def test_what_a_session_leaves(self):
+        for lines, left in (([], []), ([LIST, "no line"], []), ([publish("a", "1.0.0")], [publish("a", "1.0.0")])):
+            self.session(lines, save=self.saved)
+            self.assertEqual(self.read(self.saved), journal(left))
+            self.assertEqual(self.beside(), ["saved"])
+        self.assertEqual(self.read(self.saved), b'registry-journal 2\n{"name":"a","needs":[],"op":"publish","version":"1.0.0"}\nend 1\n')
+
+    def test_what_is_refused_is_not_saved(self):
+        lines = [publish("a", "1.0.0", ["b ^1.0.0"]), publish("a", "1.0.0+x"), yank("a", "1.0.0"), yank("a", "1.0.0"),
+                 unyank("a", "1.0.0+y"), unyank("b", "1.0.0"), resolve("c *"), LIST]
+        self.session(lines, save=self.saved)
+        self.assertEqual(self.read(self.saved), journal([lines[0], lines[2], lines[4]]))
+
+    def test_what_was_learnt_stands_at_its_place(self):
+        request = resolve("foo >=1.0.0")
+        self.session([*CONFLICT, request, publish("z", "1.0.0")], save=self.saved)
+        lines = self.read(self.saved).decode().split("\n")
+        learnt = [line for line in lines if line.startswith('{"derivation":')]
+        self.assertGreater(len(learnt), 0)
+        self.assertEqual(lines, ["registry-journal 2", *map(journal_line, CONFLICT), *learnt, journal_line(publish("z", "1.0.0")),
+                                 f"end {4 + len(learnt)}", ""])
+
+    def test_nothing_is_saved_where_a_session_ends_otherwise(self):
+        self.write(self.saved, b"as it was")
+        folder = os.open(self.folder, os.O_RDONLY)
+        try:
+            failed = run(self.words(None, self.saved), stdin=folder)
+        finally:
+            os.close(folder)
+        self.assertEqual((failed.returncode, failed.stderr), (1, b"registryd: input failed\n"))
+        with open("/dev/full", "wb") as full:
+            failed = run(self.words(None, self.saved), LIST.encode(), stdout=full)
+        self.assertEqual((failed.returncode, failed.stderr), (1, b"registryd: output failed\n"))
+        self.assertEqual(self.read(self.saved), b"as it was")
+        self.assertEqual(self.beside(), ["saved"])
+
+    def test_a_failed_save_leaves_the_file_as_it_was(self):
+        lines, whole = (CHAIN[0] + "\n" + LIST + "\n").encode(), journal(CHAIN[:1])
+        for most in range(len(whole) + 1):
+            self.write(self.saved, b"as it was")
+            done = run(self.words(None, self.saved), lines, preexec_fn=up_to(most))
+            fails = most < len(whole)
+            self.assertEqual((done.returncode, done.stderr), (1, b"registryd: output failed\n") if fails else (0, b""), most)
+            # all replies are written before
+            self.assertEqual(done.stdout, b'{"ok":true,"revision":1}\n{"packages":[["a",[["1.0.0",false]]]],"revision":1}\n')
+            self.assertEqual(self.read(self.saved), b"as it was" if fails else whole)
+            self.assertEqual(self.beside(), ["saved"])
+
+    def test_where_no_file_can_be_made(self):
+        os.mkdir(self.saved)
+        for path in (self.saved, os.path.join(self.folder, "none", "file"), "/dev/full"):
+            done = run(self.words(None, path), LIST.encode())
+            self.assertEqual((done.returncode, done.stderr), (1, b"registryd: output failed\n"), path)
+            self.assertEqual(done.stdout, b'{"packages":[],"revision":0}\n')
+
+    def test_a_device_is_written_itself(self):
+        self.session(CHAIN, save="/dev/null")
+        self.assertFalse(os.path.isfile("/dev/null"))
+
+
+class Loading(Sessions):
+    def test_a_journal_is_gone_on_with(self):
+        for form in (1, 2):
+            self.assertEqual(self.load(journal(CHAIN, form), [publish("c", "1.1.0"), resolve("a *")]), [
+                '{"ok":true,"revision":4}', '{"revision":4,"selected":[["a","1.0.0"],["b","1.0.0"],["c","1.1.0"]]}'])
+
+    def test_load_and_save_may_name_one_file(self):
+        for count in range(len(CHAIN)):
+            self.session([CHAIN[count]], self.loaded if count else None, self.loaded)
+            self.assertEqual(self.read(self.loaded), journal(CHAIN[:count + 1]))
+        self.assertEqual(self.beside(), [])
+
+    def test_what_is_loaded_is_saved_again(self):
+        for text in (journal([]), journal(CHAIN), CHAIN_LEARNT, journal([*CHAIN[:2], learn(0), CHAIN[2]])):
+            self.assertEqual(self.load(text, save=self.saved), [])
+            self.assertEqual(self.read(self.saved), text)
+        # a file of the first format becomes one of the second
+        self.load(journal(CHAIN, 1), save=self.saved)
+        self.assertEqual(self.read(self.saved), journal(CHAIN))
+
+    def test_a_session_in_two_parts(self):
+        """What is answered behind a journal that is loaded is what is answered in one session."""
+        learnt = 0
+        for seed in range(SEEDS):
+            lines = lines_of(session_of(seed).asked(0))
+            cut = random.Random(seed).randrange(len(lines))
+            whole = serve(lines)
+            self.assertEqual(self.session(lines[:cut], save=self.loaded), whole[:cut], seed)
+            self.assertEqual(self.session(lines[cut:], self.loaded, self.saved), whole[cut:], seed)
+            text = self.read(self.saved)
+            self.session(lines, save=self.loaded)
+            self.assertEqual(text, self.read(self.loaded), seed)
+            learnt += text.count(b'\n{"derivation":')
+        self.assertGreater(learnt, SEEDS)
+
+    def test_what_was_learnt_serves_what_is_asked_later(self):
+        self.session([*CONFLICT, resolve("foo >=1.0.0")], save=self.saved)
+        request = resolve("foo >=1.0.0", budget=0)
+        self.assertEqual(self.session([request], self.saved), ['{"revision":3,"selected":[["foo","1.0.0"]]}'])
+        self.assertEqual(self.load(journal(CONFLICT), [request]), ['{"error":22,"name":"BudgetSpent","revision":3}'])
+
+    def test_a_journal_at_fault(self):
+        a = publish("a", "1.0.0")
+        for form in (1, 2):
+            text = journal([a], form)
+            head, line, end = text.splitlines(True)
+            for bad, at in ((head + line, 3), (head + line + b"end 2\n", 3), (text[:-1], 3), (text + b"x", 4), (text + b"\n", 4),
+                            (head + line + line + end, 3), (head + line + b"end 01\n", 3), (b"", 1), (head[:-1] + b"\r\n" + line + end, 1),
+                            (head + b'{"op":"publish","name":"a","needs":[],"version":"1.0.0"}\n' + end, 2), (head + b"\n" + line + end, 2),
+                            (head + line[:-1] + b" \n" + end, 2), (line + end, 1), (head + head + line + end, 2)):
+                self.fault(bad, at, given=LIST.encode())
+
+    def test_a_journal_that_is_cut(self):
+        for text in (journal([publish("a", "1.0.0")]), CHAIN_LEARNT):
+            for most in range(len(text)):
+                self.fault(text[:most], 1 + text[:most].count(b"\n"))
+            self.load(text)
+
+    def test_what_was_learnt_is_judged_at_its_place(self):
+        newer = publish("c", "1.1.0")
+        wrong = learn(0).replace('["c",false,[0]]', '["c",false,[1]]')
+        for lines, end, at in (([*CHAIN, wrong], 4, 5), ([CHAIN[0], learn(0), *CHAIN[1:]], 4, 3), ([*CHAIN, learn(0), learn(0)], 5, 6),
+                               ([*CHAIN, newer, learn(0)], 5, 6), ([*CHAIN, learn(0)], 3, 6)):
+            self.fault(journal(lines, end=end), at)
+        self.fault(journal([*CHAIN, learn(0)], form=1), 5)
+        self.load(CHAIN_LEARNT)
+        self.load(journal([*CHAIN[:2], learn(0), CHAIN[2]]))
+
+    def test_a_fault_is_told_before_the_lines_are_read(self):
+        folder = os.open(self.folder, os.O_RDONLY)
+        try:
+            with open("/dev/full", "wb") as full:
+                self.fault(b"registry-journal 2\nend 1\n", 2, stdin=folder, stdout=full)
+        finally:
+            os.close(folder)
+
+    def test_a_file_that_cannot_be_read(self):
+        for path in (os.path.join(self.folder, "none"), self.folder):
+            done = run(self.words(path, self.saved), LIST.encode())
+            self.assertEqual((done.returncode, done.stdout, done.stderr), (1, b"", b"registryd: input failed\n"))
+        self.assertEqual(self.beside(), [])
+
+    def test_damages(self):
+        """Journals that are changed in one place, against a plain reader."""
+        rng, faults, whole = random.Random(35), 0, 0
+        for _ in range(400):
+            text = damaged(rng, random_journal(rng))
+            try:
+                at = first_fault(text)
+            except Unknown:
+                continue
+            if at is None:
+                self.load(text, save=self.saved)
+                self.assertEqual(self.read(self.saved), b"registry-journal 2" + text[18:])
+                whole += 1
+            else:
+                self.fault(text, at)
+                faults += 1
+        self.assertGreater(faults, 200)
+        print(f"({faults} at fault, {whole} are journals) ", end="")
+
+
+class Limits(Sessions):
+    def test_the_commands_of_a_session(self):
+        lines = [publish(f"p{p}", f"1.{v}.0") for p in range(13) for v in range(4096)]
+        most, full = 49152, '{"error":10,"name":"JournalFull","revision":49152}'
+        self.assertEqual(self.load(journal(lines[:most]), [lines[most], yank("p0", "1.0.0")]), [full, full])
+        self.fault(journal(lines[:most + 1]), 49154)
+        self.fault(journal([*lines[:most], yank("p0", "1.0.0"), unyank("p0", "1.0.0")], 1), 49154)
+
+    def test_what_is_learnt_in_a_session(self):
+        """Each version of c ends all that was learnt before it, which is as much as a store may have."""
+        lines, versions = list(CHAIN), 1
+        for _ in range(4):
+            lines += [learn(*range(versions), 100 + number) for number in range(4096)]
+            lines.append(publish("c", f"1.{versions}.0"))
+            versions += 1
+        self.load(journal(lines), save=self.saved)
+        self.assertEqual(self.read(self.saved), journal(lines))
+        # nothing more is learnt, though it would be
+        request = resolve("foo >=1.0.0")
+        self.session([*CONFLICT, request], self.saved, self.saved)
+        self.assertEqual(self.read(self.saved), journal([*lines, *CONFLICT]))
+        self.fault(journal([*lines, learn(*range(versions))]), len(lines) + 2)
+        # one more than a store may have is at fault itself
+        self.fault(journal([*CHAIN, *(learn(0, 100 + number) for number in range(4097))]), 4101)
+
+    def test_the_versions_of_a_package(self):
+        lines = [publish("a", f"1.{v}.0") for v in range(4097)]
+        for form in (1, 2):
+            self.assertEqual(self.load(journal(lines[:4096], form), [lines[4096]]), ['{"error":8,"name":"TooManyVersions","revision":4096}'])
+            self.fault(journal(lines, form), 4098)
+
+
+def random_journal(rng):
+    """The lines of a journal's file of some commands."""
+    registry, lines = Registry(), []
+    while len(lines) < rng.randrange(1, 8):
+        name, version = rng.choice("abc"), f"1.{rng.randrange(3)}.0{rng.choice(['', '', '-rc.1', '+x'])}"
+        others = rng.sample([other for other in "abcd" if other != name], rng.randrange(3))
+        line = rng.choice([publish(name, version, [f"{other} {rng.choice(REQUIREMENTS)}" for other in others]),
+                           yank(name, version), unyank(name, version)])
+        if not registry.refusal(json.loads(line), REQUIREMENTS):
+            registry.apply(json.loads(line))
+            lines.append(line)
+    return journal(lines, rng.choice([1, 2])).splitlines(True)
+
+
+def damaged(rng, lines):
+    """A text that differs from these lines in one place."""
+    lines, at = list(lines), rng.randrange(len(lines))
+    kind = rng.randrange(6)
+    if kind == 0:
+        del lines[at]
+    elif kind == 1:
+        lines.insert(rng.randrange(len(lines) + 1), lines[at])
+    elif kind == 2:
+        other = rng.randrange(len(lines))
+        lines[at], lines[other] = lines[other], lines[at]
+    elif kind == 3:
+        line = lines[at]
+        byte = rng.randrange(len(line))
+        lines[at] = line[:byte] + rng.choice([b"", b" ", b"\n", b"0", b"1", b"a", b'"', b"\\u0061"]) + line[byte + rng.randrange(2):]
+    elif kind == 4:
+        lines[-1] = b"end %d\n" % rng.randrange(9)
+    else:
+        lines[at] = lines[at].replace(b"1.", b"2.", 1)
+    return b"".join(lines)
+
+
+if __name__ == "__main__":
+    unittest.main()
