@@ -201,6 +201,16 @@ def two_bumped(versions=VERSIONS):
     return bumped(2, versions)
 
 
-HOSTILE = {"all bumped": all_bumped, "two bumped": two_bumped}
+def cited_again(versions=VERSIONS):
+    """A package of so many versions, and a check line of a megabyte whose lines all cite the request's one need, a requirement of as
+    many comparators as there may be that no version meets."""
+    lines = [publish("a", (1, version, 0), []) for version in range(versions)]
+    need = ",".join([">=1.0.0"] * 31 + [">=9.0.0"])
+    one = {"causes": [{"fact": "need", "index": 0}, {"fact": "root"}], "conclusion": [], "pivot": ""}
+    count = 1_040_000 // (len(json.dumps(one, separators=(",", ":"))) + 1)
+    return lines, [json.dumps({"op": "check", "needs": [["a", need]], "derivation": [one] * count}, separators=(",", ":"))]
+
+
+HOSTILE = {"all bumped": all_bumped, "two bumped": two_bumped, "cited again": cited_again}
 SHARED = {"tower": (towers, 16), "chain": (chain, 30), "worn": (worn, 300)}
 WORKLOADS = {"lockfile": (lockfile, (100, 300, 900)), "tower": (tower, (7, 20, 60))}

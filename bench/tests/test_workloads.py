@@ -2,15 +2,18 @@
 import json
 import os
 import sys
+import tempfile
 import unittest
 
 BENCH = os.path.dirname(os.path.dirname(os.path.abspath(__file__)))
 sys.path.insert(0, BENCH)
 sys.path.insert(0, os.path.join(os.path.dirname(BENCH), "tools", "tests"))
 
+from journals import seconds  # noqa: E402
+from lines import publish_lines  # noqa: E402
 from plot import svg  # noqa: E402
 from race import dealt  # noqa: E402
-from program import serve  # noqa: E402
+from program import PROGRAM, serve  # noqa: E402
 from workloads import HOSTILE, SHARED, about_one, chain, crossed, dead_ends, lockfile, tower, towers, worn  # noqa: E402
 
 
@@ -50,13 +53,31 @@ class Workloads(unittest.TestCase):
         self.assertIn('"refused":true', self.replies((about_one(1)[0], [crossed()]))[0])
 
     def test_what_each_version_says_anew(self):
-        for make in HOSTILE.values():
-            lines, requests = make(70)
+        for name in ("all bumped", "two bumped"):
+            lines, requests = HOSTILE[name](70)
             needs = [json.loads(line)["needs"] for line in lines[-70:]]
             self.assertTrue(all(len(row) == 64 for row in needs))
             self.assertEqual(len({json.dumps(row) for row in needs}), 70)
             for reply in self.replies((lines, requests)):
                 self.assertIn('"refused":true', reply)
+
+    def test_a_need_is_cited_in_every_line(self):
+        lines, requests = HOSTILE["cited again"](5)
+        self.assertTrue(all(1_000_000 < len(request) < 1_048_576 for request in requests))
+        self.assertEqual(self.replies((lines, requests)), ['{"follows":true,"revision":5}'])
+
+    def test_a_journal_has_the_lines(self):
+        with tempfile.TemporaryDirectory() as folder:
+            given, none, journal = (os.path.join(folder, name) for name in ("lines", "none", "journal"))
+            for path, text in ((given, "".join(line + "\n" for line in publish_lines(300))), (none, "")):
+                with open(path, "w", encoding="ascii") as out:
+                    out.write(text)
+            self.assertGreater(seconds(PROGRAM, given, "--save", journal), 0)
+            with open(journal, "rb") as saved:
+                lines = saved.read().splitlines()
+            self.assertEqual((len(lines), lines[-1]), (302, b"end 300"))
+            # it loads, so the program ends well
+            self.assertGreater(seconds(PROGRAM, none, "--load", journal), 0)
 
     def test_lines_are_dealt_out_once(self):
         lines = [str(number) for number in range(20)]

@@ -223,6 +223,20 @@ class Loading(Sessions):
             learnt += text.count(b'\n{"derivation":')
         self.assertGreater(learnt, SEEDS)
 
+    def test_what_a_race_prints_is_loaded(self):
+        learnt = 0
+        for seed in range(SEEDS):
+            files = [lines_of(session_of(seed).asked(order)) for order in range(3)]
+            paths = [os.path.join(self.folder, str(number)) for number in range(3)]
+            for path, lines in zip(paths, files):
+                self.write(path, "".join(line + "\n" for line in lines).encode())
+            printed = run(["race", *paths]).stdout.splitlines(True)
+            text = b"".join(printed[sum(map(len, files)):])
+            self.load(text, save=self.saved)
+            self.assertEqual(self.read(self.saved), text, seed)
+            learnt += text.count(b'\n{"derivation":')
+        self.assertGreater(learnt, SEEDS)
+
     def test_what_was_learnt_serves_what_is_asked_later(self):
         self.session([*CONFLICT, resolve("foo >=1.0.0")], save=self.saved)
         request = resolve("foo >=1.0.0", budget=0)
