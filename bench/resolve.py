@@ -22,8 +22,8 @@ from workloads import WORKLOADS
 class Session:
     """A running program that is sent lines, and answers each with one."""
 
-    def __init__(self, program):
-        self.process = subprocess.Popen([program, "serve", "--workers", "1"], stdin=subprocess.PIPE,
+    def __init__(self, program, workers=1):
+        self.process = subprocess.Popen([program, "serve", "--workers", str(workers)], stdin=subprocess.PIPE,
                                         stdout=subprocess.PIPE)
         # the first reply comes when the program has started, which is no part of loading
         self.resolve('{"op":"list"}')
@@ -42,6 +42,14 @@ class Session:
 
     def load(self, lines):
         """Seconds until all these lines are answered; each has to be accepted."""
+        spent, replies = self.ask(lines)
+        for line, reply in zip(lines, replies):
+            if b'"ok":true' not in reply:
+                sys.exit(f"not accepted: {line} answered {reply.decode()}")
+        return spent
+
+    def ask(self, lines):
+        """Seconds until all these lines, which are sent without a pause, are answered, and the replies."""
         text = "".join(line + "\n" for line in lines).encode()
         start = time.perf_counter()
         # the replies are read while the lines are sent, since a pipe holds only some of them
@@ -50,10 +58,7 @@ class Session:
         replies = [self.process.stdout.readline() for _ in lines]
         spent = time.perf_counter() - start
         sender.join()
-        for line, reply in zip(lines, replies):
-            if b'"ok":true' not in reply:
-                sys.exit(f"not accepted: {line} answered {reply.decode()}")
-        return spent
+        return spent, replies
 
     def resolve(self, line):
         """Seconds until the line is answered, and the reply."""

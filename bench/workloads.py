@@ -46,13 +46,13 @@ def requests_for(packages, rng, count):
     return [resolve(sorted(needs)) for needs in asked]
 
 
-def lockfile(size, seed=1):
-    """A registry that is lived in. The newest versions of all packages don't fit together, and the answer is found without
+def lockfile(size, seed=1, count=6):
+    """A registry that is lived in, and so many requests. The newest versions of all packages don't fit together, and the answer is found without
     going back: what an upper bound leaves, each other need admits.
     """
     rng = random.Random(seed)
     packages, lines = lived_in(size, rng)
-    return lines, requests_for(packages, rng, 6)
+    return lines, requests_for(packages, rng, count)
 
 
 def requirement(rng, name, versions):

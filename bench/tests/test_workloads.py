@@ -12,6 +12,7 @@ sys.path.insert(0, os.path.join(os.path.dirname(BENCH), "tools", "tests"))
 from journals import seconds  # noqa: E402
 from lines import publish_lines  # noqa: E402
 from plot import svg  # noqa: E402
+from workers import WORKERS, alone, by_workers  # noqa: E402
 from race import dealt  # noqa: E402
 from program import PROGRAM, serve  # noqa: E402
 from workloads import HOSTILE, SHARED, about_one, chain, crossed, dead_ends, lockfile, tower, towers, worn  # noqa: E402
@@ -28,6 +29,15 @@ class Workloads(unittest.TestCase):
     def test_a_lockfile_is_found(self):
         for reply in self.replies(lockfile(60)):
             self.assertIn('"selected":[[', reply)
+
+    def test_requests_of_a_batch(self):
+        lines, requests = lockfile(60, count=256)
+        self.assertEqual((len(set(requests)), lockfile(60)), (256, (lines, requests[:6])))
+        for reply in self.replies((lines, requests)):
+            self.assertIn('"selected":[[', reply)
+        rates = by_workers(PROGRAM, lines, requests[:20], 1)
+        self.assertEqual(list(rates), WORKERS)
+        self.assertGreater(min(*rates.values(), alone(PROGRAM, WORKERS[-1], lines, requests[:5], 1)), 0)
 
     def test_a_tower_is_refused(self):
         for reply in self.replies(tower(5)):

@@ -8,6 +8,7 @@
 #include <stdatomic.h>
 #include <stdio.h>
 #include <stdlib.h>
+#include <sys/syscall.h>
 #include <unistd.h>
 
 /* Threads count together, so that one request alone has the number. */
@@ -29,10 +30,19 @@ static int is_refused(void) {
 }
 
 __attribute__((destructor)) static void tell_count(void) {
-    long whole = atomic_load(&count);
+    static atomic_flag is_told = ATOMIC_FLAG_INIT;
     const char *to = getenv("REFUSE_COUNT");
-    if (to && dprintf(atoi(to), "%ld\n", whole) < 0)
+    if (!to || atomic_flag_test_and_set(&is_told))
+        return;
+    if (dprintf(atoi(to), "%ld\n", atomic_load(&count)) < 0)
         _exit(99);
+}
+
+/* A program that may start threads ends by this, and then no destructor runs. */
+void _exit(int status) {
+    tell_count();
+    for (;;)
+        syscall(SYS_exit_group, status);
 }
 
 void *malloc(size_t size) {

@@ -35,11 +35,11 @@ def _published(commands):
             for number, (name, version, needs) in enumerate(commands, 1)]
 
 
-def _cut_at_each_byte(text, of, call, **given):
-    """A writer takes a byte a write, and fails after so many: it has a beginning of the text."""
-    rows = [_row(of, call, {"end": "broken", "written": text[:left]}, piece=1, writes=left, **given)
-            for left in range(len(text))]
-    return [*rows, _row(of, call, {"end": "done", "written": text}, piece=1, writes=len(text), **given)]
+def _cut_at_each_byte(whole, of, call, **given):
+    """A writer takes a byte a write, and fails after so many: it has a beginning of the whole."""
+    rows = [_row(of, call, {"end": "broken", "written": whole[:left]}, piece=1, writes=left, **given)
+            for left in range(len(whole))]
+    return [*rows, _row(of, call, {"end": "done", "written": whole}, piece=1, writes=len(whole), **given)]
 
 
 # ---- explanations
@@ -104,7 +104,7 @@ def a_row_of_257_entries():
         # a seat enters one or two in a row, so that the other one has to look first
         seat = 1 + place * 2 // 3 % 2
         serials[seat] += 1
-        steps.append([seat, "publish", {"name": f"p{place}", "version": "1.0.0", "needs": []}])
+        steps.append([seat, *_publishes(place)])
         answers.append([place, place])
         journal.append([seat, serials[seat], ["publish", f"p{place}", "1.0.0", []]])
     more = {"name": "q", "version": "1.0.0", "needs": []}
@@ -113,11 +113,40 @@ def a_row_of_257_entries():
             capacity=257, seats=[1, 2], steps=[
                 *steps, [1, "publish", more], [2, "publish", more], [1, "journal"], [2, "journal"], [2, "mark"],
                 [1, "meet"], [1, "revision"], ["agree"]])]
-    yield "a mark of 256 entries is met by a seat that has seen nothing", [
-        _row("chronicle", "steps", [*([n, n] for n in range(1, 257)), 256, [257, 257], 0, None, 256, None, 257, None],
-            capacity=257, seats=[3, 1], steps=[
-                *([1, *step[1:]] for step in steps[:256]), [1, "mark"], [1, *steps[256][1:]], [2, "place"], [2, "meet"],
-                [2, "place"], [2, "catch_up"], [2, "revision"], ["agree"]])]
+
+
+def _publishes(place):
+    return ["publish", {"name": f"p{place}", "version": "1.0.0", "needs": []}]
+
+
+@rows_of("high")
+def marks_where_a_segment_ends():
+    """A seat that meets a mark has seen just what the mark stands for; cells are made 256 at a time."""
+    for many in (255, 256, 257, 511, 512, 513):
+        yield f"a mark of {many} entries is met by a seat that has seen nothing", [
+            _row("chronicle", "steps",
+                [*([n, n] for n in range(1, many + 1)), many, [many + 1, many + 1], 0, None, many, None, many + 1, None],
+                capacity=many + 1, seats=[3, 1], steps=[
+                    *([1, *_publishes(place)] for place in range(1, many + 1)), [1, "mark"], [1, *_publishes(many + 1)],
+                    [2, "place"], [2, "meet"], [2, "place"], [2, "catch_up"], [2, "revision"], ["agree"]])]
+
+
+@rows_of("high")
+def a_row_of_all_its_places():
+    """The rules of a row: a seat's command stands after all that either seat entered, up to the last of 65,536 places.
+    Of one version each yank and each undoing of it is accepted in turn, so an entry that was missed would be told."""
+    version = {"name": "a", "version": "1.0.0"}
+    steps = [[1, "publish", {**version, "needs": []}]]
+    for place in range(2, 65_537):
+        # 100 places in a row are one seat's, so that now the one and now the other comes first to a segment
+        steps.append([1 + place // 100 % 2, "unyank" if place % 2 else "yank", version])
+    yield "two seats fill a row of 65,536 places", [
+        _row("chronicle", "steps",
+            [*([place, place] for place in range(1, 65_536)), 65_535, [65_536, 65_536], {"refused": 10}, {"refused": 7},
+             65_536, None, 65_536, 65_536, None],
+            capacity=65_536, seats=[1, 2], steps=[
+                *steps[:65_535], [2, "place"], steps[65_535], [1, "unyank", version], [2, *steps[0][1:]],
+                [2, "mark"], [1, "meet"], [1, "place"], [1, "revision"], ["agree"]])]
 
 
 # ---- replies and journals
@@ -150,12 +179,6 @@ def a_long_listing():
 @rows_of("texts")
 def a_journal_is_cut_at_each_byte():
     """docs/FORMATS.md, The journal's file: the file of the commands in journals.rows."""
-    commands = [
-        {"op": "publish", "name": "a", "version": "1.0.0-rc.1+x",
-         "needs": [["z", "^1.0.0-rc.1+y"], ["b", " >=1.2.0, <1.5.0"]]},
-        {"op": "publish", "name": "b", "version": "0.2.3", "needs": []},
-        {"op": "yank", "name": "a", "version": "1.0.0-rc.1"},
-        {"op": "unyank", "name": "a", "version": "1.0.0-rc.1+z"}]
     text = (
         'registry-journal 1\n'
         '{"name":"a","needs":[["z","^1.0.0-rc.1+y"],["b"," >=1.2.0, <1.5.0"]],"op":"publish","version":"1.0.0-rc.1+x"}\n'
@@ -164,16 +187,16 @@ def a_journal_is_cut_at_each_byte():
         '{"name":"a","op":"unyank","version":"1.0.0-rc.1+z"}\n'
         'end 4\n')
     yield "after a failed write a beginning of the journal's file stands", _cut_at_each_byte(
-        text, "journals", "save_journal", commands=commands, times=1)
+        text.replace("registry-journal 1", "registry-journal 2"), "journals", "save_journal", text=text)
 
 
 @rows_of("texts")
 def a_long_journal():
     """docs/FORMATS.md, The journal's file: 2,000 commands, more than an outbox holds."""
-    line = '{"name":"a","op":"yank","version":"1.0.0-rc.1"}\n'
-    yield "a journal that is longer than its room is whole", [
-        _row("journals", "save_journal", {"end": "done", "written": f"registry-journal 1\n{2000 * line}end 2000\n"},
-            commands=[{"op": "yank", "name": "a", "version": "1.0.0-rc.1"}], times=2000)]
+    lines = ['{"name":"a","needs":[],"op":"publish","version":"1.0.0-rc.1"}\n']
+    lines += ['{"name":"a","op":"%s","version":"1.0.0-rc.1"}\n' % ("unyank" if number % 2 else "yank") for number in range(1999)]
+    text = f"registry-journal 2\n{''.join(lines)}end 2000\n"
+    yield "a journal that is longer than its room is whole", [_row("journals", "save_journal", {"end": "done", "written": text}, text=text)]
 
 
 @rows_of("texts")

@@ -1,6 +1,7 @@
 """Which selections meet a request, found by trying everything: the rules of selections and of
 requirements in plain Python that shares nothing with the program."""
 import re
+from functools import lru_cache
 from itertools import product
 
 from reference import precedence
@@ -15,6 +16,7 @@ def pre_key(pre):
     return (0, [(0, int(part), "") if part.isdigit() else (1, 0, part) for part in pre.split(".")])
 
 
+@lru_cache(maxsize=100_000)
 def key(version):
     """Versions compare as their keys do, by precedence."""
     major, minor, patch, pre = precedence(version)
@@ -57,6 +59,8 @@ def matches(requirement, text):
 class Published:
     """What was published: by package the versions in order, each [text, needs, whether yanked]."""
 
+    matches = staticmethod(matches)
+
     def __init__(self):
         self.versions = {}
 
@@ -79,12 +83,12 @@ class Published:
         """The preferred version of a package, with its needs, or none."""
         asked = [requirement for package, requirement in needs if package == name]
         locked = [key(version) for package, version in lock if package == name]
-        rows = [row for row in self.allowed(name, lock) if all(matches(it, row[0]) for it in asked)]
+        rows = [row for row in self.allowed(name, lock) if all(self.matches(it, row[0]) for it in asked)]
         kept = [row for row in rows if key(row[0]) in locked]
         return kept[0] if kept else max(rows, key=lambda row: key(row[0]), default=None)
 
     def is_met(self, chosen, needs):
-        return all(name in chosen and matches(requirement, chosen[name][0]) for name, requirement in needs)
+        return all(name in chosen and self.matches(requirement, chosen[name][0]) for name, requirement in needs)
 
     def reached(self, chosen, needs):
         """The packages that are reached from the needs along the needs of chosen versions."""

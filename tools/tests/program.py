@@ -2,6 +2,7 @@
 import json
 import os
 import subprocess
+import tempfile
 
 TOP = os.path.dirname(os.path.dirname(os.path.dirname(os.path.abspath(__file__))))
 PROGRAM = os.path.join(TOP, "crates", "registryd", "out", "registryd")
@@ -48,11 +49,15 @@ def journal_line(line):
 
 
 def run(words, given=b"", **more):
-    """Runs the program on these bytes and answers what it left."""
+    """Runs the program on these bytes and answers what it left. They come from a file: so each read gives as much as is asked
+    for, and which lines are answered together doesn't hang on how a pipe is filled."""
     more.setdefault("stdout", subprocess.PIPE)
-    if "stdin" not in more:
-        more["input"] = given
-    return subprocess.run([PROGRAM, *words], stderr=subprocess.PIPE, timeout=100, **more)
+    with tempfile.TemporaryFile() as file:
+        if "stdin" not in more:
+            file.write(given)
+            file.seek(0)
+            more["stdin"] = file
+        return subprocess.run([PROGRAM, *words], stderr=subprocess.PIPE, timeout=100, **more)
 
 
 def serve(lines, **more):

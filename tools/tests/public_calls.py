@@ -8,7 +8,7 @@ from program import TOP
 # These answer a refusal and take no memory.
 TAKES_NONE = {"registry::Registry::check", "derivations::Store::check", "book::Replica::check", "book::Replica::judge"}
 # What the probes stand on, and what is tried through the calls of the solver.
-NO_PART = {"rows", "rims", "heuristics"}
+NO_PART = {"rows", "heuristics"}
 TAKES_MEMORY = re.compile(r"-> (?:io::)?Result<")
 
 
@@ -28,13 +28,13 @@ def exported(crate):
 
 
 def declared(text):
-    """Each public function of a source: the type that it is a method of, or none, its name, and its head."""
+    """Each public function of a source, and each `clone`: the type that it is a method of, or none, its name, and its head."""
     of = None
     lines = text.split("\n")
     for at, line in enumerate(lines):
         opens = re.match(r"impl(?:<[^>]*>)? (?:\w+(?:<[^>]*>)? for )?(\w+)", line)
         of = opens[1] if opens else None if line.startswith("}") else of
-        named = re.match(r"( *)pub (?:const )?fn (\w+)", line)
+        named = re.match(r"( *)(?:pub (?:const )?fn (?=\w)|fn (?=clone\b))(\w+)", line)
         if named:
             head = []
             for more in lines[at:]:

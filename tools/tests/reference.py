@@ -1,16 +1,18 @@
 """The rules of the registry once more, in plain Python that shares nothing with
 the program: what each line is answered, and what it changes."""
 import re
+from functools import lru_cache
 
 NUMBER = r"(0|[1-9]\d*)"
 IDENTIFIER = r"(?:0|[1-9]\d*|\d*[A-Za-z-][0-9A-Za-z-]*)"
-VERSION = re.compile(rf"{NUMBER}\.{NUMBER}\.{NUMBER}(?:-({IDENTIFIER}(?:\.{IDENTIFIER})*))?(?:\+[0-9A-Za-z-]+(?:\.[0-9A-Za-z-]+)*)?")
+VERSION = re.compile(rf"{NUMBER}\.{NUMBER}\.{NUMBER}(?:-({IDENTIFIER}(?:\.{IDENTIFIER})*))?(?:\+[0-9A-Za-z-]+(?:\.[0-9A-Za-z-]+)*)?", re.ASCII)
 NAME = re.compile(r"[a-z][a-z0-9_-]{0,63}")
 REFUSALS = {1: "BadName", 2: "BadVersion", 3: "BadRequirement", 4: "RepeatedDependency", 5: "SelfDependency",
             6: "TooManyDependencies", 7: "AlreadyPublished", 8: "TooManyVersions", 9: "TooManyPackages",
             10: "JournalFull", 11: "NoSuchVersion", 12: "AlreadyYanked", 13: "NotYanked", 18: "NoMemory", 19: "BadLine"}
 
 
+@lru_cache(maxsize=100_000)
 def precedence(text):
     """The version without its build metadata: equal for versions of equal precedence. None for no version."""
     found = VERSION.fullmatch(text)

@@ -7,6 +7,7 @@ import signal
 import tempfile
 import unittest
 
+from plain_journal import Unknown, first_fault
 from program import LIST, SERVE, journal_line, publish, resolve, run, serve, unyank, yank
 from reference import Registry
 from test_reuse import lines_of, session_of
@@ -47,41 +48,11 @@ def up_to(most):
     return limit
 
 
-class Unknown(Exception):
-    """A requirement of which the plain reader cannot say whether it is one."""
-
-
-def first_fault(text):
-    """The number of a text's first line that is at fault, by a plain reader of journals in which nothing was learnt; None
-    where the text is a journal's."""
-    lines, registry = text.split(b"\n"), Registry()
-    if lines[0] not in (b"registry-journal 1", b"registry-journal 2") or len(lines) == 1:
-        return 1
-    for number, line in enumerate(lines[1:-1], 2):
-        if line == b"end %d" % (number - 2):
-            return None if lines[number:] == [b""] else number + 1
-        if not accepts(registry, line):
-            return number
-    return len(lines)
-
-
-def accepts(registry, line):
-    """Whether this is the line of a command that is accepted, which is then carried out."""
-    try:
-        asked = json.loads(line)
-    except ValueError:
-        return False
-    members = {"publish": {"name", "needs", "op", "version"}, "yank": {"name", "op", "version"}, "unyank": {"name", "op", "version"}}
-    if not isinstance(asked, dict) or set(asked) != members.get(asked.get("op")):
-        return False
-    if json.dumps(asked, sort_keys=True, separators=(",", ":")).encode() != line:
-        return False
-    number = registry.refusal(asked, REQUIREMENTS)
-    if number == 3:
-        raise Unknown
-    if number is None:
-        registry.apply(asked)
-    return number is None
+def between_batches(lines, cut):
+    """The first place from this one on that is not between two lines that ask to resolve, which are answered together."""
+    while 0 < cut < len(lines) and all(json.loads(line)["op"] == "resolve" for line in lines[cut - 1:cut + 1]):
+        cut += 1
+    return cut
 
 
 class Sessions(unittest.TestCase):
@@ -213,7 +184,7 @@ class Loading(Sessions):
         learnt = 0
         for seed in range(SEEDS):
             lines = lines_of(session_of(seed).asked(0))
-            cut = random.Random(seed).randrange(len(lines))
+            cut = between_batches(lines, random.Random(seed).randrange(len(lines)))
             whole = serve(lines)
             self.assertEqual(self.session(lines[:cut], save=self.loaded), whole[:cut], seed)
             self.assertEqual(self.session(lines[cut:], self.loaded, self.saved), whole[cut:], seed)
@@ -290,7 +261,7 @@ class Loading(Sessions):
         for _ in range(400):
             text = damaged(rng, random_journal(rng))
             try:
-                at = first_fault(text)
+                at = first_fault(text, REQUIREMENTS)
             except Unknown:
                 continue
             if at is None:

@@ -12,7 +12,7 @@ LINK = re.compile(r"\[`([^`]+)`\]\(([^)#]+)\)")
 TABLE = re.compile(r"(?<!\[)`([\w/]+\.rows)`")
 # where the columns behind the rule lead
 COLUMNS = (("function", r"crates/\w+/src/.+\.rt"), ("definition", r"crates/\w+/specs/.+\.antt"),
-           ("proof", r"crates/\w+/proofs/.+"), ("test", r"(tools/tests|bench/tests)/.+\.py|crates/rims/src/main\.rt"))
+           ("proof", r"crates/\w+/proofs/.+"), ("test", r"(tools/tests|bench/tests)/.+\.py|crates/probe_high/src/thread_calls\.rt"))
 
 
 def read(path):
@@ -36,8 +36,8 @@ def declares(text, path, name):
         return bool(re.search(rf"\b(?:fn|struct|enum|trait|const) {last}\b", text))
     if path.endswith(".py"):
         return bool(re.search(rf"^ *(?:def|class) {last}\b", text, re.M))
-    # a definition or a lemma begins a line, behind words like `abbrev pub`
-    return bool(re.search(rf"^(?:[a-z]+ )*{last}(?=[ :])", text, re.M))
+    # a definition or a lemma begins a line, or stands in a block, behind words like `abbrev pub`
+    return bool(re.search(rf"^ *(?:[a-z]+ )*{last}(?=[ :])", text, re.M))
 
 
 def fault_of(link, pattern):

@@ -53,6 +53,11 @@ LINES = [
     publish("A", "1"),
     LIST,
 ]
+# Each version of x wants another y than the request, and says it in words of its own.
+SINCE = [f">=2.0.0, <3.{number}.0" for number in range(12)]
+TOGETHER = [publish("y", "1.0.0"), publish("y", "2.0.0"),
+            *(publish("x", f"1.{number}.0", [f"y {need}"]) for number, need in enumerate(SINCE)),
+            *(resolve(f"x >=1.{number}.0", "y ^1.0.0") for number in range(4))]
 # Two files that ask for the same, in other orders.
 RIVALS = [
     [publish("a", "1.0.0"), yank("a", "1.0.0"), publish("b", "1.0.0", ["a ^1.0.0"]), resolve("b *"), LIST,
@@ -64,7 +69,7 @@ RIVALS = [
 LAST_RUNS = 10
 # Where a race misses memory: before the first line, at a line, or behind the last.
 BEFORE, AT_A_LINE, BEHIND = range(3)
-REQUIREMENTS = ["^1.0.0", ">=1.0.0, <2.0.0-rc.1", "*", ">=1.0.0-alpha"]
+REQUIREMENTS = ["^1.0.0", ">=1.0.0, <2.0.0-rc.1", "*", ">=1.0.0-alpha", *SINCE]
 
 
 @functools.cache
@@ -127,6 +132,14 @@ def selections(accepted, line):
     return [f'{{"revision":{revision},"selected":{selection}}}' for selection in found]
 
 
+def batch_at(lines, place):
+    """The places of the neighbouring resolve lines that this one is among."""
+    asks = [json.loads(line)["op"] == "resolve" for line in lines]
+    first = max((at + 1 for at in range(place) if not asks[at]), default=0)
+    behind = next((at for at in range(place, len(lines)) if not asks[at]), len(lines))
+    return list(range(first, behind))
+
+
 class Memory(unittest.TestCase):
     @classmethod
     def setUpClass(cls):
@@ -157,32 +170,47 @@ class Memory(unittest.TestCase):
         os.close(told)
         return done, came
 
-    def follow(self, replies, number):
-        """Checks a session's replies by the rules, and answers how many are 18."""
-        model, short = Model(), 0
-        self.assertEqual(len(replies), len(LINES), number)
-        for line, reply in zip(LINES, replies):
+    def follow(self, lines, replies, number):
+        """Checks a session's replies by the rules, and answers at which places they are 18: at one, or at all requests that
+        are answered together, for which there was no room."""
+        model, short = Model(), []
+        self.assertEqual(len(replies), len(lines), number)
+        for place, (line, reply) in enumerate(zip(lines, replies)):
             if reply == model.short():
-                short += 1
+                short.append(place)
             else:
                 self.assertTrue(model.takes(line, reply), (number, line, reply))
+        if len(short) > 1:
+            self.assertEqual(short, batch_at(lines, short[0]), number)
         return short
 
-    def test_each_request_of_a_session(self):
-        early = refused = 0
-        for number, done, came in self.refuse_each(SERVE, "".join(line + "\n" for line in LINES)):
+    def refuse_each_of_a_session(self, words, lines):
+        """Refuses each request of a session in turn. Answers how many runs missed it before the first line, how many at one
+        line, and how many at all of several lines."""
+        early = one = several = 0
+        for number, done, came in self.refuse_each(words, "".join(line + "\n" for line in lines)):
             if done.returncode:
                 # before the first line there is nothing to answer
                 self.assertEqual((done.returncode, done.stdout, done.stderr), (1, b"", b"registryd: no memory\n"), number)
                 early += 1
-            else:
-                self.assertEqual(done.stderr, b"", number)
-                short = self.follow(done.stdout.decode().split("\n")[:-1], number)
-                self.assertLessEqual(short, came, number)
-                refused += short
+                continue
+            self.assertEqual(done.stderr, b"", number)
+            short = self.follow(lines, done.stdout.decode().split("\n")[:-1], number)
+            self.assertLessEqual(bool(short), came, number)
+            one += len(short) == 1
+            several += len(short) > 1
+        print(f"({number - LAST_RUNS} requests refused in turn: {early} before the first line, {one} answered 18, {several} at several lines) ", end="")
+        return early, one, several
+
+    def test_each_request_of_a_session(self):
+        early, one, _ = self.refuse_each_of_a_session(SERVE, LINES)
         self.assertGreater(early, 2)
-        self.assertGreater(refused, 20)
-        print(f"({number - LAST_RUNS} requests refused in turn: {early} before the first line, {refused} answered 18) ", end="")
+        self.assertGreater(one, 20)
+
+    def test_each_request_of_lines_answered_together(self):
+        """Requests that four threads answer, each with more conflicts than one thread meets alone."""
+        early, one, several = self.refuse_each_of_a_session(["serve", "--workers", "4"], TOGETHER)
+        self.assertGreater(min(early, one, several), 0)
 
     def test_each_request_of_a_session_with_journals(self):
         """A session that begins with a journal and leaves one."""

@@ -51,6 +51,12 @@ def without_offers(answer):
     return {**answer, "offered": []} if isinstance(answer, dict) and "offered" in answer else answer
 
 
+def is_in_part(answer, ample):
+    """Whether these are the answers to several requests, some of which found no memory."""
+    return (isinstance(ample, list) and isinstance(answer, list) and len(answer) == len(ample)
+            and all(one in (SHORT, full) for one, full in zip(answer, ample)))
+
+
 def tables_of(file):
     with open(os.path.join(ROWS, file), encoding="utf-8") as text:
         return tables_in(text.read(), os.path.join("rows", "refused", file))
@@ -91,8 +97,9 @@ class RefusedCalls(unittest.TestCase):
         if told.answers[at] == SHORT:
             self.assertEqual(told.answers[at + 1:], before[at:], f"{table.title}: refused request {number}, it left something")
             return 1
-        self.assertIn(told.answers[at], (ample[at], without_offers(ample[at])),
-                      f"{table.title}: request {number} was refused, its answer changed")
+        if not is_in_part(told.answers[at], ample[at]):
+            self.assertIn(told.answers[at], (ample[at], without_offers(ample[at])),
+                          f"{table.title}: request {number} was refused, its answer changed")
         self.assertEqual(told.answers[at + 1:], ample[at + 1:], f"{table.title}: request {number} was refused, it did otherwise")
         return 0
 

@@ -1,5 +1,5 @@
 //! Derivations by number, turned into those by name that lines carry.
-ghost use Rattle.std.specs.Prelude.{◌≡◌, Some, IfErr, IfOk, IsSome};
+ghost use Rattle.std.specs.Prelude.{◌≡◌, Some, IfOk, IsSome};
 ghost use Rattle.registry.specs.Registry.{number_of, package_at};
 ghost use Rattle.terms.specs.Incompats.{IsIncompat};
 ghost use Rattle.by_name.specs.Named.{number_in, numbered_cause, numbered_line, numbered_premise, numbered_terms, AllHaveNames, CauseHasNames, HasName, HaveNames, IsNumbered, LineHasNames};
@@ -7,28 +7,26 @@ ghost use Rattle.by_name.specs.Named.{number_in, numbered_cause, numbered_line, 
 use crate::derivation::{NamedCause, NamedDerivation, NamedLine, NamedPremise, NamedTerms};
 use derivations::{Cause, Derivation, Line, Premise, ROOT};
 use registry::{Registry, names_have_their_numbers};
-use std::alloc::Global;
+use std::alloc::{AllocError, Global};
 use terms::{Pkg, Term};
-use versions::{Name, Refusal};
+use versions::Name;
 
 /// The name of a package.
-fn package_name(registry: &Registry, pkg: Pkg) -> Result<Name, Refusal>
+fn package_name(registry: &Registry, pkg: Pkg) -> Result<Name, AllocError>
     requires { IsSome (package_at registry.now.packages pkg) }
-    ensures same { IfOk result (λ name. number_of registry.now.packages name ≡ Some pkg) }
-    ensures only { IfErr result (λ e. e ≡ Refusal.NoMemory) }
+    ensures { IfOk result (λ name. number_of registry.now.packages name ≡ Some pkg) }
 {
     names_have_their_numbers();
     let Some(name) = registry.name_at(pkg) else {
         unreachable!()
     };
-    Ok(name.copy()?)
+    Ok(name.clone()?)
 }
 
 /// The name of what has a number; the request has none.
-fn name_of(registry: &Registry, pkg: Pkg) -> Result<Option<Name>, Refusal>
+fn name_of(registry: &Registry, pkg: Pkg) -> Result<Option<Name>, AllocError>
     requires { HasName registry.now.packages pkg }
-    ensures same { IfOk result (λ name. number_in registry.now.packages name ≡ Some pkg) }
-    ensures only { IfErr result (λ e. e ≡ Refusal.NoMemory) }
+    ensures { IfOk result (λ name. number_in registry.now.packages name ≡ Some pkg) }
 {
     if pkg == ROOT {
         return Ok(None);
@@ -40,10 +38,9 @@ fn named_terms(
     alloc: Global,
     registry: &Registry,
     terms: &[(Pkg, Term)],
-) -> Result<NamedTerms, Refusal>
+) -> Result<NamedTerms, AllocError>
     requires { HaveNames registry.now.packages terms.now }
-    ensures same { IfOk result (λ named. numbered_terms registry.now.packages named ≡ Some terms.now) }
-    ensures only { IfErr result (λ e. e ≡ Refusal.NoMemory) }
+    ensures { IfOk result (λ named. numbered_terms registry.now.packages named ≡ Some terms.now) }
 {
     let mut named = Vec::with_capacity(alloc, terms.len())?;
     for entry in terms {
@@ -56,25 +53,23 @@ fn named_premise(
     alloc: Global,
     registry: &Registry,
     premise: &Premise,
-) -> Result<NamedPremise, Refusal>
+) -> Result<NamedPremise, AllocError>
     requires package { IsSome (package_at registry.now.packages premise.now.package) }
     requires target { HasName registry.now.packages premise.now.target }
-    ensures same { IfOk result (λ named. numbered_premise registry.now.packages named ≡ Some premise.now) }
-    ensures only { IfErr result (λ e. e ≡ Refusal.NoMemory) }
+    ensures { IfOk result (λ named. numbered_premise registry.now.packages named ≡ Some premise.now) }
 {
     Ok(NamedPremise {
         package: package_name(registry, premise.package)?,
         versions: premise.versions.copy(alloc)?,
         target: name_of(registry, premise.target)?,
-        need: premise.need.copy()?,
+        need: premise.need.clone()?,
         within: premise.within.copy(alloc)?,
     })
 }
 
-fn named_cause(alloc: Global, registry: &Registry, cause: &Cause) -> Result<NamedCause, Refusal>
+fn named_cause(alloc: Global, registry: &Registry, cause: &Cause) -> Result<NamedCause, AllocError>
     requires { CauseHasNames registry.now.packages cause.now }
-    ensures same { IfOk result (λ named. numbered_cause registry.now.packages named ≡ Some cause.now) }
-    ensures only { IfErr result (λ e. e ≡ Refusal.NoMemory) }
+    ensures { IfOk result (λ named. numbered_cause registry.now.packages named ≡ Some cause.now) }
 {
     match cause {
         Cause::Line(number) => Ok(NamedCause::Line(*number)),
@@ -94,22 +89,20 @@ fn named_causes(
     alloc: Global,
     registry: &Registry,
     causes: &(Cause, Cause),
-) -> Result<(NamedCause, NamedCause), Refusal>
+) -> Result<(NamedCause, NamedCause), AllocError>
     requires one { CauseHasNames registry.now.packages causes.now.0 }
     requires two { CauseHasNames registry.now.packages causes.now.1 }
     ensures one { IfOk result (λ named. numbered_cause registry.now.packages named.0 ≡ Some causes.now.0) }
     ensures two { IfOk result (λ named. numbered_cause registry.now.packages named.1 ≡ Some causes.now.1) }
-    ensures only { IfErr result (λ e. e ≡ Refusal.NoMemory) }
 {
     let one = named_cause(alloc, registry, &causes.0)?;
     Ok((one, named_cause(alloc, registry, &causes.1)?))
 }
 
-fn named_line(alloc: Global, registry: &Registry, line: &Line) -> Result<NamedLine, Refusal>
+fn named_line(alloc: Global, registry: &Registry, line: &Line) -> Result<NamedLine, AllocError>
     requires { LineHasNames registry.now.packages line.now }
     ensures same { IfOk result (λ named. numbered_line registry.now.packages named ≡ Some line.now) }
     ensures lawful { IsIncompat line.now.conclusion }
-    ensures only { IfErr result (λ e. e ≡ Refusal.NoMemory) }
 {
     Ok(NamedLine {
         conclusion: named_terms(alloc, registry, line.conclusion.terms())?,
@@ -124,10 +117,9 @@ pub fn named(
     alloc: Global,
     registry: &Registry,
     derivation: &Derivation,
-) -> Result<NamedDerivation, Refusal>
+) -> Result<NamedDerivation, AllocError>
     requires names { AllHaveNames registry.now.packages derivation.now }
-    ensures back { IfOk result (λ named. IsNumbered registry.now.packages named derivation.now) }
-    ensures only { IfErr result (λ e. e ≡ Refusal.NoMemory) }
+    ensures { IfOk result (λ named. IsNumbered registry.now.packages named derivation.now) }
 {
     named_lines(alloc, registry, derivation.lines())
 }
@@ -137,10 +129,9 @@ pub fn named_lines(
     alloc: Global,
     registry: &Registry,
     lines: &[Line],
-) -> Result<NamedDerivation, Refusal>
+) -> Result<NamedDerivation, AllocError>
     requires names { AllHaveNames registry.now.packages lines.now }
-    ensures back { IfOk result (λ named. IsNumbered registry.now.packages named lines.now) }
-    ensures only { IfErr result (λ e. e ≡ Refusal.NoMemory) }
+    ensures { IfOk result (λ named. IsNumbered registry.now.packages named lines.now) }
 {
     let mut named = Vec::with_capacity(alloc, lines.len())?;
     for line in lines {

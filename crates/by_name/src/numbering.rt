@@ -1,14 +1,14 @@
 //! Derivations by name, turned into those by number that a registry can check.
-ghost use Rattle.std.specs.Prelude.{◌≡◌, Some, option_and_then, option_map, IfErr, IfOk};
+ghost use Rattle.std.specs.Prelude.{◌≡◌, Some, option_and_then, option_map, IfOk};
 ghost use Rattle.terms.specs.Incompats.{IsIncompat};
 ghost use Rattle.by_name.specs.Named.{number_in, numbered_cause, numbered_line, numbered_premise, numbered_terms, FindsOne, IsNumbered};
 
 use crate::derivation::{NamedCause, NamedDerivation, NamedLine, NamedPremise};
 use derivations::{Cause, Derivation, Line, Premise, ROOT};
 use registry::Registry;
-use std::alloc::Global;
+use std::alloc::{AllocError, Global};
 use terms::{Incompat, Pkg, Term};
-use versions::{Name, Refusal};
+use versions::Name;
 
 /// The number of what is named.
 fn number_in(registry: &Registry, name: &Option<Name>) -> Option<Pkg>
@@ -25,9 +25,8 @@ fn numbered_terms(
     alloc: Global,
     registry: &Registry,
     terms: &[(Option<Name>, Term)],
-) -> Result<Option<Vec<(Pkg, Term)>>, Refusal>
-    ensures same { IfOk result (λ found. option_map (λ v. v.items) found ≡ numbered_terms registry.now.packages terms.now) }
-    ensures only { IfErr result (λ e. e ≡ Refusal.NoMemory) }
+) -> Result<Option<Vec<(Pkg, Term)>>, AllocError>
+    ensures { IfOk result (λ found. option_map (λ v. v.items) found ≡ numbered_terms registry.now.packages terms.now) }
 {
     let mut numbered = Vec::with_capacity(alloc, terms.len())?;
     for entry in terms {
@@ -44,9 +43,8 @@ fn numbered_conclusion(
     alloc: Global,
     registry: &Registry,
     terms: &[(Option<Name>, Term)],
-) -> Result<Option<Incompat>, Refusal>
-    ensures found { IfOk result (FindsOne (λ numbered. (numbered_terms registry.now.packages terms.now ≡ Some numbered) × IsIncompat numbered)) }
-    ensures only { IfErr result (λ e. e ≡ Refusal.NoMemory) }
+) -> Result<Option<Incompat>, AllocError>
+    ensures { IfOk result (FindsOne (λ numbered. (numbered_terms registry.now.packages terms.now ≡ Some numbered) × IsIncompat numbered)) }
 {
     match numbered_terms(alloc, registry, terms)? {
         None => Ok(None),
@@ -58,9 +56,8 @@ fn numbered_premise(
     alloc: Global,
     registry: &Registry,
     premise: &NamedPremise,
-) -> Result<Option<Premise>, Refusal>
-    ensures same { IfOk result (λ found. found ≡ numbered_premise registry.now.packages premise.now) }
-    ensures only { IfErr result (λ e. e ≡ Refusal.NoMemory) }
+) -> Result<Option<Premise>, AllocError>
+    ensures { IfOk result (λ found. found ≡ numbered_premise registry.now.packages premise.now) }
 {
     let Some(package) = registry.number(&premise.package) else {
         return Ok(None);
@@ -72,7 +69,7 @@ fn numbered_premise(
         package,
         versions: premise.versions.copy(alloc)?,
         target,
-        need: premise.need.copy()?,
+        need: premise.need.clone()?,
         within: premise.within.copy(alloc)?,
     }))
 }
@@ -82,9 +79,8 @@ fn numbered_cause(
     alloc: Global,
     registry: &Registry,
     cause: &NamedCause,
-) -> Result<Option<Cause>, Refusal>
-    ensures same { IfOk result (λ found. found ≡ numbered_cause registry.now.packages cause.now) }
-    ensures only { IfErr result (λ e. e ≡ Refusal.NoMemory) }
+) -> Result<Option<Cause>, AllocError>
+    ensures { IfOk result (λ found. found ≡ numbered_cause registry.now.packages cause.now) }
 {
     match cause {
         NamedCause::Line(number) => Ok(Some(Cause::Line(*number))),
@@ -106,9 +102,8 @@ fn numbered_causes(
     alloc: Global,
     registry: &Registry,
     causes: &(NamedCause, NamedCause),
-) -> Result<Option<(Cause, Cause)>, Refusal>
-    ensures same { IfOk result (λ found. found ≡ option_and_then (λ one. option_map (λ two. (one, two)) (numbered_cause registry.now.packages causes.now.1)) (numbered_cause registry.now.packages causes.now.0)) }
-    ensures only { IfErr result (λ e. e ≡ Refusal.NoMemory) }
+) -> Result<Option<(Cause, Cause)>, AllocError>
+    ensures { IfOk result (λ found. found ≡ option_and_then (λ one. option_map (λ two. (one, two)) (numbered_cause registry.now.packages causes.now.1)) (numbered_cause registry.now.packages causes.now.0)) }
 {
     let Some(one) = numbered_cause(alloc, registry, &causes.0)? else {
         return Ok(None);
@@ -123,9 +118,8 @@ fn numbered_line(
     alloc: Global,
     registry: &Registry,
     line: &NamedLine,
-) -> Result<Option<Line>, Refusal>
-    ensures found { IfOk result (FindsOne (λ numbered. (numbered_line registry.now.packages line.now ≡ Some numbered) × IsIncompat numbered.conclusion)) }
-    ensures only { IfErr result (λ e. e ≡ Refusal.NoMemory) }
+) -> Result<Option<Line>, AllocError>
+    ensures { IfOk result (FindsOne (λ numbered. (numbered_line registry.now.packages line.now ≡ Some numbered) × IsIncompat numbered.conclusion)) }
 {
     let Some(conclusion) = numbered_conclusion(alloc, registry, line.conclusion.terms())? else {
         return Ok(None);
@@ -148,9 +142,8 @@ pub fn numbered_lines(
     alloc: Global,
     registry: &Registry,
     lines: &[NamedLine],
-) -> Result<Option<Vec<Line>>, Refusal>
-    ensures found { IfOk result (λ found. FindsOne (IsNumbered registry.now.packages lines.now) (option_map (λ v. v.items) found)) }
-    ensures only { IfErr result (λ e. e ≡ Refusal.NoMemory) }
+) -> Result<Option<Vec<Line>>, AllocError>
+    ensures { IfOk result (λ found. FindsOne (IsNumbered registry.now.packages lines.now) (option_map (λ v. v.items) found)) }
 {
     let mut numbered = Vec::with_capacity(alloc, lines.len())?;
     for line in lines {
@@ -168,9 +161,8 @@ pub fn numbered(
     alloc: Global,
     registry: &Registry,
     derivation: &NamedDerivation,
-) -> Result<Option<Derivation>, Refusal>
-    ensures found { IfOk result (FindsOne (IsNumbered registry.now.packages derivation.now)) }
-    ensures only { IfErr result (λ e. e ≡ Refusal.NoMemory) }
+) -> Result<Option<Derivation>, AllocError>
+    ensures { IfOk result (FindsOne (IsNumbered registry.now.packages derivation.now)) }
 {
     match numbered_lines(alloc, registry, derivation.lines())? {
         None => Ok(None),

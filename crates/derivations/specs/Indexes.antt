@@ -1,6 +1,7 @@
 -- Lists of places by number.
 use Rattle.std.specs.Prelude.{◌≡◌, ◌<◌, ◌≤◌, ◌+◌, ◌%◌, ◌⊎◌, ℕ, Bool, true, List, All, Some, length, slice_get}
 use Rattle.derivations.specs.declared.index.Link.{Link}
+use Rattle.derivations.specs.declared.index.TheConstants.{CHAINS}
 
 -- whether it has all places that were added, and its links in the order of adding
 pub record Indexed : Type 0 where
@@ -9,7 +10,7 @@ pub record Indexed : Type 0 where
 
 -- the chain that a number's places stand in
 unfoldable pub chain_of : ℕ → ℕ
-chain_of number = number % 16384
+chain_of number = number % CHAINS
 
 -- among the first links the newest of the chain is the one with the number `at`, counted from 1; at 0 there is none
 pub record IsNewest (links : List Link) (first chain at : ℕ) : Type 0 where
@@ -24,12 +25,12 @@ pub record AreChained (heads : List ℕ) (links : List Link) : Type 0 where
 
 -- the heads of chains that have no link
 pub record AreZero (heads : List ℕ) : Type 0 where
-  pub count : length heads ≡ 16384
+  pub count : length heads ≡ CHAINS
   pub zero_all : All (λ head. head ≡ 0) heads
 
 -- there is a head for each chain
 pub record IsChained (heads : List ℕ) (links : List Link) : Type 0 where
-  pub count : length heads ≡ 16384
+  pub count : length heads ≡ CHAINS
   pub chained : AreChained heads links
 
 -- where it is whole

@@ -1,10 +1,10 @@
 // What the causes of a line give.
 
-ghost use Rattle.std.specs.Prelude.{◌≡◌, ◌↔◌, ◌∷◌, [], Some, IfErr, IfOk, IsSome, IsTrue};
+ghost use Rattle.std.specs.Prelude.{◌≡◌, ◌↔◌, ◌∷◌, [], Some, IfOk, IsSome, IsTrue};
 ghost use Rattle.std.specs.Option.{option_map};
 ghost use Rattle.terms.specs.declared.term.Term.TheVariants.{NotIn};
 ghost use Rattle.registry.specs.Registry.{package_at};
-ghost use Rattle.derivations.specs.Causes.{given_terms};
+ghost use Rattle.derivations.specs.Causes.{AreNeedFacts, given_terms};
 ghost use Rattle.derivations.specs.Derivations.{conclusions, Finds, IsConclusion, IsFact, IsStanding, NoneAllowed, Yields};
 ghost use Rattle.derivations.specs.Facts.{need_terms};
 ghost use Rattle.derivations.specs.Learning.{Offers};
@@ -13,18 +13,19 @@ use crate::facts::{Cause, Premise};
 use crate::line::Line;
 use crate::standing::stands_by_matching;
 use registry::{Registry, Request};
-use std::alloc::Global;
+use std::alloc::{AllocError, Global};
 use terms::{Incompat, Pkg, Term, VSet};
-use versions::{Name, Need, Refusal};
+use versions::{Name, Need};
 
 /// The package of the request itself, which has the one version 0 and no name.
 pub const ROOT: Pkg = 0;
 
-/// The conclusion of an earlier line, or what a fact says.
+/// What a cause gives: what is kept (the conclusion of an earlier line, or what a need says that was
+/// cited before), or what a fact says that was made for this one.
 #[derive(Drop)]
 pub enum Given<'a> {
-    Conclusion(&'a Incompat),
-    Fact(Incompat),
+    Kept(&'a Incompat),
+    Made(Incompat),
 }
 
 impl Given<'_> {
@@ -33,8 +34,8 @@ impl Given<'_> {
         ensures { result.now ≡ given_terms self.now }
     {
         match self {
-            Given::Conclusion(incompat) => incompat,
-            Given::Fact(incompat) => incompat,
+            Given::Kept(incompat) => incompat,
+            Given::Made(incompat) => incompat,
         }
     }
 }
@@ -49,7 +50,7 @@ fn concluded(earlier: &[Line], number: usize) -> Option<Given<'_>>
     if number > earlier.len() {
         return None;
     }
-    Some(Given::Conclusion(&earlier[number - 1].conclusion))
+    Some(Given::Kept(&earlier[number - 1].conclusion))
 }
 
 /// What a premise says, if it stands.
@@ -57,10 +58,9 @@ fn premise_fact(
     alloc: Global,
     registry: &Registry,
     premise: &Premise,
-) -> Result<Option<Incompat>, Refusal>
-    ensures found { IfOk result
+) -> Result<Option<Incompat>, AllocError>
+    ensures { IfOk result
         (Finds (IsStanding registry.now.packages premise.now)) }
-    ensures only { IfErr result (λ e. e ≡ Refusal.NoMemory) }
 {
     if stands_by_matching(registry, premise)? {
         premise.incompat(alloc)
@@ -76,35 +76,51 @@ pub fn need_incompat(
     registry: &Registry,
     name: &Name,
     need: &Need,
-) -> Result<Incompat, Refusal>
-    ensures same { IfOk result (λ incompat.
+) -> Result<Incompat, AllocError>
+    ensures { IfOk result (λ incompat.
         incompat ≡ need_terms registry.now.packages name.now need.now) }
-    ensures only { IfErr result (λ e. e ≡ Refusal.NoMemory) }
 {
     let root = Term::In(VSet::single(alloc, 0)?);
     match registry.number(name) {
         None => Ok(Incompat::single(alloc, ROOT, root)?),
         Some(pkg) => {
-            let matching = Term::NotIn(registry.matching(pkg, need)?);
+            let matching = Term::NotIn(registry.matching_copy(pkg, need)?);
             Ok(Incompat::pair(alloc, ROOT, root, pkg, matching)?)
         }
     }
 }
 
 /// What the request's need at this place says, if there is one.
-fn need_fact(
+pub fn need_fact(
     alloc: Global,
     registry: &Registry,
     request: &Request,
     index: usize,
-) -> Result<Option<Incompat>, Refusal>
-    ensures found { IfOk result
+) -> Result<Option<Incompat>, AllocError>
+    ensures { IfOk result
         (Finds (IsFact registry.now.packages request.now (Cause.Need index))) }
-    ensures only { IfErr result (λ e. e ≡ Refusal.NoMemory) }
 {
     match request.needs().get(index) {
         None => Ok(None),
         Some(entry) => Ok(Some(need_incompat(alloc, registry, &entry.0, &entry.1)?)),
+    }
+}
+
+/// What the request's need at this place says, if there is one: lent where it is kept.
+fn need_given<'a>(
+    alloc: Global,
+    registry: &Registry,
+    request: &Request,
+    kept: &'a [Option<Incompat>],
+    index: usize,
+) -> Result<Option<Given<'a>>, AllocError>
+    requires { AreNeedFacts registry.now.packages request.now kept.now }
+    ensures { IfOk result (λ found.
+        Finds (IsFact registry.now.packages request.now (Cause.Need index)) (option_map given_terms found)) }
+{
+    match kept.get(index) {
+        Some(Some(incompat)) => Ok(Some(Given::Kept(incompat))),
+        _ => Ok(as_given(need_fact(alloc, registry, request, index)?)),
     }
 }
 
@@ -134,10 +150,9 @@ fn barred_fact(
     request: &Request,
     pkg: Pkg,
     versions: &VSet,
-) -> Result<Option<Incompat>, Refusal>
-    ensures found { IfOk result
+) -> Result<Option<Incompat>, AllocError>
+    ensures { IfOk result
         (Finds (IsFact registry.now.packages request.now (Cause.NotAllowed pkg versions.now))) }
-    ensures only { IfErr result (λ e. e ≡ Refusal.NoMemory) }
 {
     if is_package(registry, pkg) && is_none_allowed(registry, request, pkg, versions) {
         let term = Term::In(versions.copy(alloc)?);
@@ -148,9 +163,8 @@ fn barred_fact(
 }
 
 /// That the root is chosen.
-fn root_fact(alloc: Global) -> Result<Incompat, Refusal>
-    ensures same { IfOk result (λ incompat. incompat ≡ (0, NotIn (0 ∷ [])) ∷ []) }
-    ensures only { IfErr result (λ e. e ≡ Refusal.NoMemory) }
+fn root_fact(alloc: Global) -> Result<Incompat, AllocError>
+    ensures { IfOk result (λ incompat. incompat ≡ (0, NotIn (0 ∷ [])) ∷ []) }
 {
     let term = Term::NotIn(VSet::single(alloc, 0)?);
     Ok(Incompat::single(alloc, ROOT, term)?)
@@ -162,31 +176,33 @@ fn as_given<'a>(fact: Option<Incompat>) -> Option<Given<'a>>
 {
     match fact {
         None => None,
-        Some(incompat) => Some(Given::Fact(incompat)),
+        Some(incompat) => Some(Given::Made(incompat)),
     }
 }
 
-/// What a cause yields after these lines, if it is one of them or a true fact.
+/// What a cause yields after these lines, if it is one of them or a true fact. What is kept of the
+/// request's needs is lent.
 pub fn find_given<'a>(
     alloc: Global,
     registry: &Registry,
     request: &Request,
+    kept: &'a [Option<Incompat>],
     earlier: &'a [Line],
     cause: &Cause,
-) -> Result<Option<Given<'a>>, Refusal>
-    ensures found { IfOk result (λ found.
+) -> Result<Option<Given<'a>>, AllocError>
+    requires { AreNeedFacts registry.now.packages request.now kept.now }
+    ensures { IfOk result (λ found.
         Finds (Yields registry.now.packages request.now (conclusions earlier.now) cause.now)
         (option_map given_terms found)) }
-    ensures only { IfErr result (λ e. e ≡ Refusal.NoMemory) }
 {
     match cause {
         Cause::Line(number) => Ok(concluded(earlier, *number)),
         Cause::Premise(premise) => Ok(as_given(premise_fact(alloc, registry, premise)?)),
-        Cause::Need(index) => Ok(as_given(need_fact(alloc, registry, request, *index)?)),
+        Cause::Need(index) => need_given(alloc, registry, request, kept, *index),
         Cause::NotAllowed(pkg, versions) => Ok(as_given(barred_fact(
             alloc, registry, request, *pkg, versions,
         )?)),
-        Cause::Root => Ok(Some(Given::Fact(root_fact(alloc)?))),
+        Cause::Root => Ok(Some(Given::Made(root_fact(alloc)?))),
     }
 }
 
@@ -195,10 +211,9 @@ pub fn find_offered<'a>(
     alloc: Global,
     earlier: &'a [Line],
     cause: &Cause,
-) -> Result<Option<Given<'a>>, Refusal>
-    ensures found { IfOk result (λ found.
+) -> Result<Option<Given<'a>>, AllocError>
+    ensures { IfOk result (λ found.
         Finds (Offers (conclusions earlier.now) cause.now) (option_map given_terms found)) }
-    ensures only { IfErr result (λ e. e ≡ Refusal.NoMemory) }
 {
     match cause {
         Cause::Line(number) => Ok(concluded(earlier, *number)),

@@ -1,6 +1,6 @@
 // The lines of a search, cut down to a derivation.
 
-ghost use Rattle.std.specs.Prelude.{◌≡◌, ◌≢◌, ◌<◌, ◌↔◌, ◌∷◌, [], ℕ, None, Some, false, true, length, slice_index, IfErr, IfOk, IfSome, IfNone, IsTrue};
+ghost use Rattle.std.specs.Prelude.{◌≡◌, ◌≢◌, ◌<◌, ◌↔◌, ◌∷◌, [], ℕ, None, Some, false, true, length, slice_index, IfOk, IfSome, IfNone, IsTrue};
 ghost use Rattle.registry.specs.Registry.{Packages};
 ghost use Rattle.registry.specs.Requests.{Wanted};
 ghost use Rattle.derivations.specs.Derivations.{IsDerivation, last_conclusion};
@@ -14,7 +14,6 @@ use crate::line::{Line, is_root_alone};
 use crate::taking::{Step, lines_copied, lines_taken};
 use std::alloc::{AllocError, Global};
 use terms::{Incompat, Pkg};
-use versions::Refusal;
 
 /// Why a line of a search stands.
 #[derive(Drop)]
@@ -43,12 +42,11 @@ fn is_open(line: &Known, number: usize) -> bool
 }
 
 /// How a line is cited: a fact by itself, another by its number.
-fn cited(alloc: Global, line: &Known, number: usize) -> Result<Cause, Refusal>
-    ensures same { IfOk result (λ cause. cause ≡ cited line.now.reason number) }
-    ensures only { IfErr result (λ e. e ≡ Refusal.NoMemory) }
+fn cited(alloc: Global, line: &Known, number: usize) -> Result<Cause, AllocError>
+    ensures { IfOk result (λ cause. cause ≡ cited line.now.reason number) }
 {
     match &line.reason {
-        Reason::Fact(cause) => Ok(cause.copy(alloc)?),
+        Reason::Fact(cause) => cause.copy(alloc),
         Reason::Resolved(_, _, _) => Ok(Cause::Line(number)),
     }
 }
@@ -74,9 +72,7 @@ fn weight(weights: &[usize], place: usize) -> usize {
 
 /// How many lines each line takes with those that it rests on, of which one that is cited twice
 /// counts twice. Facts take none.
-fn weights_of(alloc: Global, known: &[Known]) -> Result<Vec<usize>, Refusal>
-    ensures only { IfErr result (λ e. e ≡ Refusal.NoMemory) }
-{
+fn weights_of(alloc: Global, known: &[Known]) -> Result<Vec<usize>, AllocError> {
     let mut weights: Vec<usize> = Vec::with_capacity(alloc, known.len())?;
     'count: for line in known {
         let taken = match line.reason {
@@ -115,12 +111,16 @@ fn open_cause(known: &[Known], weights: &[usize], numbers: &[usize], at: usize) 
 }
 
 /// The step to the line at a place, whose causes are written.
-fn step_for(alloc: Global, known: &[Known], numbers: &[usize], at: usize) -> Result<Step, Refusal>
+fn step_for(
+    alloc: Global,
+    known: &[Known],
+    numbers: &[usize],
+    at: usize,
+) -> Result<Step, AllocError>
     requires lengths { length numbers.now ≡ length known.now }
     requires ready { IsReady known.now numbers.now at }
     ensures here { IfOk result (λ step. step.place ≡ at) }
     ensures same { IfOk result (λ step. IsLineFor known.now numbers.now at (line_at known.now step)) }
-    ensures only { IfErr result (λ e. e ≡ Refusal.NoMemory) }
 {
     let own = &known[at];
     let (i, j, pivot) = cites(own);
@@ -207,7 +207,7 @@ fn numbered_steps(
     zeros: Vec<usize>,
     place: usize,
     limit: Option<usize>,
-) -> Result<Walked, Refusal>
+) -> Result<Walked, AllocError>
     requires ordered { AreOrdered known.now }
     requires resolved { IsResolvedAt known.now place }
     requires clear { AreClear known.now zeros.items }
@@ -216,7 +216,6 @@ fn numbered_steps(
     ensures placed { IfOk result (λ made. ArePlaced (length known.now) made.steps.items) }
     ensures length { IfOk result (λ made. length made.numbers.items ≡ length known.now) }
     ensures numbered { IfOk result (λ made. AreNumberedAt made.numbers.items (places_of made.steps.items)) }
-    ensures only { IfErr result (λ e. e ≡ Refusal.NoMemory) }
 {
     let mut numbers = zeros;
     let room = known.len().min(ROOM);
@@ -264,13 +263,12 @@ pub fn few_lines_of(
     zeros: Vec<usize>,
     place: usize,
     limit: usize,
-) -> Result<(Option<Vec<Line>>, Vec<usize>), Refusal>
+) -> Result<(Option<Vec<Line>>, Vec<usize>), AllocError>
     requires ordered { AreOrdered known.now }
     requires resolved { IsResolvedAt known.now place }
     requires clear { AreClear known.now zeros.items }
     ensures shows { IfOk result (λ made. IfSome made.0 (λ lines. ShowsLine known.now place lines.items)) }
     ensures clear { IfOk result (λ made. AreClear known.now made.1.items) }
-    ensures only { IfErr result (λ e. e ≡ Refusal.NoMemory) }
 {
     let walked = numbered_steps(alloc, known, &[], zeros, place, Some(limit))?;
     let zeros = cleared(walked.numbers, &walked.steps);
@@ -281,12 +279,11 @@ pub fn few_lines_of(
 }
 
 /// The steps to the lines of [`lines_of`].
-fn steps_of(alloc: Global, known: &[Known], place: usize) -> Result<Vec<Step>, Refusal>
+fn steps_of(alloc: Global, known: &[Known], place: usize) -> Result<Vec<Step>, AllocError>
     requires ordered { AreOrdered known.now }
     requires resolved { IsResolvedAt known.now place }
     ensures shows { IfOk result (λ steps. ShowsLine known.now place (lines_at known.now steps.items)) }
     ensures placed { IfOk result (λ steps. ArePlaced (length known.now) steps.items) }
-    ensures only { IfErr result (λ e. e ≡ Refusal.NoMemory) }
 {
     let numbers = zeros(alloc, known.len())?;
     let weights = weights_of(alloc, known)?;
@@ -298,14 +295,13 @@ fn steps_of(alloc: Global, known: &[Known], place: usize) -> Result<Vec<Step>, R
 /// once and before the lines that cite it. Of two lines that are first cited together the one that
 /// takes more lines comes first, so that each stands as near as it can to the first line that cites
 /// it. Linear in the lines of the search, without recursion.
-pub fn lines_of(alloc: Global, known: &[Known], place: usize) -> Result<Vec<Line>, Refusal>
+pub fn lines_of(alloc: Global, known: &[Known], place: usize) -> Result<Vec<Line>, AllocError>
     requires ordered { AreOrdered known.now }
     requires resolved { IsResolvedAt known.now place }
-    ensures shows { IfOk result (λ lines. ShowsLine known.now place lines.items) }
-    ensures only { IfErr result (λ e. e ≡ Refusal.NoMemory) }
+    ensures { IfOk result (λ lines. ShowsLine known.now place lines.items) }
 {
     let steps = steps_of(alloc, known, place)?;
-    Ok(lines_copied(alloc, known, steps)?)
+    lines_copied(alloc, known, steps)
 }
 
 /// Whether the line follows from others.
@@ -343,14 +339,13 @@ fn last_step(known: &[Known], end: usize) -> usize
 /// on, each written once, from facts. Where the end only resolves with the root's fact a line that may
 /// end a derivation, the derivation ends with that line. What they say is moved and not copied. Linear
 /// in the lines of the search.
-pub fn cut(alloc: Global, known: Vec<Known>, end: usize) -> Result<Derivation, Refusal>
+pub fn cut(alloc: Global, known: Vec<Known>, end: usize) -> Result<Derivation, AllocError>
     requires ordered { AreOrdered known.items }
     requires end { EndsAt known.items end }
     ensures derived { IfOk result (λ derivation. (packages : Packages) (wanted : Wanted) →
         AreLawful packages wanted known.items → IsDerivation packages wanted derivation) }
     ensures early { IfOk result (λ derivation. EndsBefore known.items end → last_conclusion derivation ≡ Some ((0, In (0 ∷ [])) ∷ [])) }
     ensures cited { IfOk result AreCited }
-    ensures only { IfErr result (λ e. e ≡ Refusal.NoMemory) }
 {
     let place = last_step(&known, end);
     let steps = steps_of(alloc, &known, place)?;

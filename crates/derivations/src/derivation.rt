@@ -1,6 +1,6 @@
 // Derivations, and their checker.
 
-ghost use Rattle.std.specs.Prelude.{◌≡◌, ◌↔◌, IfErr, IfOk, IsTrue};
+ghost use Rattle.std.specs.Prelude.{◌≡◌, ◌↔◌, IfOk, IsTrue};
 ghost use Rattle.std.specs.Bool.{OnTrue};
 ghost use Rattle.derivations.specs.Derivations.{AreIncompats, IsDerivation, NoSelection};
 
@@ -8,9 +8,8 @@ use crate::following::are_derived;
 use crate::laws::derivations_refute;
 use crate::line::{Line, conclusions_are_lawful, copied, is_end, last_conclusion};
 use registry::{Registry, Request};
-use std::alloc::Global;
+use std::alloc::{AllocError, Global};
 use std::marker::Model;
-use versions::Refusal;
 
 /// Lines that may show that no selection meets a request. Any lines make one; [`check`] judges it.
 #[derive(Drop)]
@@ -51,9 +50,8 @@ impl Derivation {
     }
 
     /// An equal derivation.
-    pub fn copy(&self, alloc: Global) -> Result<Derivation, Refusal>
-        ensures same { IfOk result (λ derivation. derivation ≡ self.now) }
-        ensures only { IfErr result (λ e. e ≡ Refusal.NoMemory) }
+    pub fn copy(&self, alloc: Global) -> Result<Derivation, AllocError>
+        ensures { IfOk result (λ derivation. derivation ≡ self.now) }
     {
         Ok(Derivation {
             lines: copied(alloc, &self.lines)?,
@@ -70,12 +68,11 @@ pub fn check(
     registry: &Registry,
     request: &Request,
     derivation: &Derivation,
-) -> Result<bool, Refusal>
+) -> Result<bool, AllocError>
     ensures exact { IfOk result (λ yes. IsTrue yes
         ↔ IsDerivation registry.now.packages request.now derivation.now) }
     ensures sound { IfOk result (λ yes.
         OnTrue yes (NoSelection registry.now.packages request.now)) }
-    ensures only { IfErr result (λ e. e ≡ Refusal.NoMemory) }
 {
     derivations_refute();
     let lines = derivation.lines();

@@ -7,7 +7,7 @@ ghost use Rattle.derivations.specs.Facts.{premise_terms, Holds, Says, Stands};
 
 use crate::standing::{covers, is_dependent};
 use registry::Registry;
-use std::alloc::Global;
+use std::alloc::{AllocError, Global};
 use terms::{Incompat, Pkg, Term, VSet};
 use versions::{Need, Refusal};
 
@@ -49,9 +49,8 @@ impl Premise {
 
     /// What the premise says: package In(versions), target NotIn(within); without the term on the
     /// target where nothing is within. A premise on its own package says nothing.
-    pub fn incompat(&self, alloc: Global) -> Result<Option<Incompat>, Refusal>
-        ensures found { IfOk result (Finds (Says self.now)) }
-        ensures only { IfErr result (λ e. e ≡ Refusal.NoMemory) }
+    pub fn incompat(&self, alloc: Global) -> Result<Option<Incompat>, AllocError>
+        ensures { IfOk result (Finds (Says self.now)) }
     {
         if self.package == self.target {
             return Ok(None);
@@ -62,16 +61,24 @@ impl Premise {
         Ok(Some(said))
     }
 
-    /// An equal premise, which shares the requirement with this one.
+    /// An equal premise, which shares the requirement with this one. Want of memory is refused by its
+    /// number.
     pub fn copy(&self, alloc: Global) -> Result<Premise, Refusal>
         ensures same { IfOk result (λ premise. premise ≡ self.now) }
         ensures only { IfErr result (λ e. e ≡ Refusal.NoMemory) }
+    {
+        Ok(self.cloned(alloc)?)
+    }
+
+    /// As [`Premise::copy`].
+    pub fn cloned(&self, alloc: Global) -> Result<Premise, AllocError>
+        ensures { IfOk result (λ premise. premise ≡ self.now) }
     {
         Ok(Premise {
             package: self.package,
             versions: self.versions.copy(alloc)?,
             target: self.target,
-            need: self.need.copy()?,
+            need: self.need.clone()?,
             within: self.within.copy(alloc)?,
         })
     }
@@ -79,13 +86,12 @@ impl Premise {
 
 impl Cause {
     /// An equal cause.
-    pub fn copy(&self, alloc: Global) -> Result<Cause, Refusal>
-        ensures same { IfOk result (λ cause. cause ≡ self.now) }
-        ensures only { IfErr result (λ e. e ≡ Refusal.NoMemory) }
+    pub fn copy(&self, alloc: Global) -> Result<Cause, AllocError>
+        ensures { IfOk result (λ cause. cause ≡ self.now) }
     {
         Ok(match self {
             Cause::Line(number) => Cause::Line(*number),
-            Cause::Premise(premise) => Cause::Premise(premise.copy(alloc)?),
+            Cause::Premise(premise) => Cause::Premise(premise.cloned(alloc)?),
             Cause::Need(index) => Cause::Need(*index),
             Cause::NotAllowed(pkg, versions) => Cause::NotAllowed(*pkg, versions.copy(alloc)?),
             Cause::Root => Cause::Root,

@@ -1,16 +1,17 @@
 // Whether lines follow from what their causes give.
 
-ghost use Rattle.std.specs.Prelude.{◌≡◌, ◌↔◌, ◌||◌, [], IfErr, IfOk, IsTrue};
+ghost use Rattle.std.specs.Prelude.{◌≡◌, ◌↔◌, ◌||◌, [], IfOk, IsTrue};
 ghost use Rattle.terms.specs.Incompats.{has_term};
+ghost use Rattle.derivations.specs.Causes.{AreNeedFacts};
 ghost use Rattle.derivations.specs.Derivations.{conclusions, AreDerived, AreDerivedBy, FollowsOn, IsDerivedBy, Yields};
 ghost use Rattle.derivations.specs.Learning.{Offers};
 
 use crate::causes::{find_given, find_offered};
+use crate::cited::cited_needs;
 use crate::line::Line;
 use registry::{Registry, Request};
-use std::alloc::Global;
+use std::alloc::{AllocError, Global};
 use terms::{Incompat, Pkg, resolve};
-use versions::Refusal;
 
 /// Whether one of the two has a term on the pivot.
 fn is_on(one: &Incompat, two: &Incompat, pivot: Pkg) -> bool
@@ -20,9 +21,8 @@ fn is_on(one: &Incompat, two: &Incompat, pivot: Pkg) -> bool
 }
 
 /// Whether the line's conclusion follows from the two on its pivot, on which one of them has a term.
-fn follows(alloc: Global, one: &Incompat, two: &Incompat, line: &Line) -> Result<bool, Refusal>
-    ensures exact { IfOk result (λ yes. IsTrue yes ↔ FollowsOn one.now two.now line.now) }
-    ensures only { IfErr result (λ e. e ≡ Refusal.NoMemory) }
+fn follows(alloc: Global, one: &Incompat, two: &Incompat, line: &Line) -> Result<bool, AllocError>
+    ensures { IfOk result (λ yes. IsTrue yes ↔ FollowsOn one.now two.now line.now) }
 {
     if !is_on(one, two, line.pivot) {
         return Ok(false);
@@ -39,20 +39,41 @@ fn is_derived(
     alloc: Global,
     registry: &Registry,
     request: &Request,
+    kept: &[Option<Incompat>],
     earlier: &[Line],
     line: &Line,
-) -> Result<bool, Refusal>
-    ensures exact { IfOk result (λ yes. IsTrue yes
+) -> Result<bool, AllocError>
+    requires { AreNeedFacts registry.now.packages request.now kept.now }
+    ensures { IfOk result (λ yes. IsTrue yes
         ↔ IsDerivedBy (Yields registry.now.packages request.now (conclusions earlier.now)) line.now) }
-    ensures only { IfErr result (λ e. e ≡ Refusal.NoMemory) }
 {
-    let Some(one) = find_given(alloc, registry, request, earlier, &line.causes.0)? else {
+    let Some(one) = find_given(alloc, registry, request, kept, earlier, &line.causes.0)? else {
         return Ok(false);
     };
-    let Some(two) = find_given(alloc, registry, request, earlier, &line.causes.1)? else {
+    let Some(two) = find_given(alloc, registry, request, kept, earlier, &line.causes.1)? else {
         return Ok(false);
     };
     follows(alloc, one.incompat(), two.incompat(), line)
+}
+
+/// Whether each line follows from facts and the lines before it, by what is kept of the needs.
+fn is_each_derived(
+    alloc: Global,
+    registry: &Registry,
+    request: &Request,
+    kept: &[Option<Incompat>],
+    lines: &[Line],
+) -> Result<bool, AllocError>
+    requires { AreNeedFacts registry.now.packages request.now kept.now }
+    ensures { IfOk result (λ yes. IsTrue yes
+        ↔ AreDerived registry.now.packages request.now [] lines.now) }
+{
+    for i in 0..lines.len() {
+        if !is_derived(alloc, registry, request, kept, &lines[..i], &lines[i])? {
+            return Ok(false);
+        }
+    }
+    Ok(true)
 }
 
 /// Whether each line follows from facts and the lines before it.
@@ -61,24 +82,18 @@ pub fn are_derived(
     registry: &Registry,
     request: &Request,
     lines: &[Line],
-) -> Result<bool, Refusal>
-    ensures exact { IfOk result (λ yes. IsTrue yes
+) -> Result<bool, AllocError>
+    ensures { IfOk result (λ yes. IsTrue yes
         ↔ AreDerived registry.now.packages request.now [] lines.now) }
-    ensures only { IfErr result (λ e. e ≡ Refusal.NoMemory) }
 {
-    for i in 0..lines.len() {
-        if !is_derived(alloc, registry, request, &lines[..i], &lines[i])? {
-            return Ok(false);
-        }
-    }
-    Ok(true)
+    let kept = cited_needs(alloc, registry, request, lines)?;
+    is_each_derived(alloc, registry, request, &kept, lines)
 }
 
 /// Whether a line follows from premises and the lines before it.
-fn is_offered(alloc: Global, earlier: &[Line], line: &Line) -> Result<bool, Refusal>
-    ensures exact { IfOk result (λ yes. IsTrue yes
+fn is_offered(alloc: Global, earlier: &[Line], line: &Line) -> Result<bool, AllocError>
+    ensures { IfOk result (λ yes. IsTrue yes
         ↔ IsDerivedBy (Offers (conclusions earlier.now)) line.now) }
-    ensures only { IfErr result (λ e. e ≡ Refusal.NoMemory) }
 {
     let Some(one) = find_offered(alloc, earlier, &line.causes.0)? else {
         return Ok(false);
@@ -90,9 +105,8 @@ fn is_offered(alloc: Global, earlier: &[Line], line: &Line) -> Result<bool, Refu
 }
 
 /// Whether each line follows from premises and the lines before it.
-pub fn are_offered(alloc: Global, lines: &[Line]) -> Result<bool, Refusal>
-    ensures exact { IfOk result (λ yes. IsTrue yes ↔ AreDerivedBy Offers [] lines.now) }
-    ensures only { IfErr result (λ e. e ≡ Refusal.NoMemory) }
+pub fn are_offered(alloc: Global, lines: &[Line]) -> Result<bool, AllocError>
+    ensures { IfOk result (λ yes. IsTrue yes ↔ AreDerivedBy Offers [] lines.now) }
 {
     for i in 0..lines.len() {
         if !is_offered(alloc, &lines[..i], &lines[i])? {

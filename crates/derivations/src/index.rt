@@ -1,11 +1,10 @@
 // Lists of places by number.
 
-ghost use Rattle.std.specs.Prelude.{◌≡◌, ◌<◌, ◌-◌, ◌∷◌, ◌++◌, [], true, false, All, Some, length, IfErr, IfOk, IfNone, IfSome, OnErr, OnOk, slice_get};
+ghost use Rattle.std.specs.Prelude.{◌≡◌, ◌<◌, ◌-◌, ◌∷◌, ◌++◌, [], true, false, All, Some, length, IfOk, IfNone, IfSome, OnErr, OnOk, slice_get};
 ghost use Rattle.derivations.specs.Indexes.{chain_of, AreChained, AreZero, Extends, HasNone, IsNewest, IsUnder};
 
 use std::alloc::{AllocError, Global};
 use std::marker::Model;
-use versions::Refusal;
 
 /// How many chains an index has.
 const CHAINS: usize = 16_384;
@@ -67,10 +66,9 @@ impl Index {
     }
 
     /// Begins it, or begins it anew, without a place.
-    pub(crate) fn begin(&mut self) -> Result<(), Refusal>
+    pub(crate) fn begin(&mut self) -> Result<(), AllocError>
         ensures empty { self.new.whole ≡ true → self.new.links ≡ [] }
         ensures lost { OnErr result (self.new.whole ≡ false) }
-        ensures only { IfErr result (λ e. e ≡ Refusal.NoMemory) }
     {
         self.whole = false;
         self.heads = heads_at_zero(self.alloc)?;
@@ -88,12 +86,10 @@ impl Index {
     }
 
     /// Makes room for so many more places.
-    pub(crate) fn reserve(&mut self, more: usize) -> Result<(), Refusal>
-        ensures same { self.new ≡ self.old }
-        ensures only { IfErr result (λ e. e ≡ Refusal.NoMemory) }
+    pub(crate) fn reserve(&mut self, more: usize) -> Result<(), AllocError>
+        ensures { self.new ≡ self.old }
     {
-        self.links.reserve(more)?;
-        Ok(())
+        self.links.reserve(more)
     }
 
     /// Adds a place under a number, if the index is whole. Where there is room, it takes no memory.

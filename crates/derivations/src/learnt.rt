@@ -69,10 +69,9 @@ impl Learnt {
     }
 
     /// What these lines show, which a caller knows to follow from premises and earlier lines.
-    pub(crate) fn of_derived(alloc: Global, lines: Vec<Line>) -> Result<Learnt, Refusal>
+    pub(crate) fn of_derived(alloc: Global, lines: Vec<Line>) -> Result<Learnt, AllocError>
         requires { IsLearnt lines.items }
-        ensures same { IfOk result (λ learnt. learnt ≡ lines.items) }
-        ensures only { IfErr result (λ e. e ≡ Refusal.NoMemory) }
+        ensures { IfOk result (λ learnt. learnt ≡ lines.items) }
     {
         let targets = targets_in(alloc, &lines)?;
         Ok(Learnt { lines, targets })
@@ -132,10 +131,17 @@ impl Learnt {
         key_of(self.conclusion())
     }
 
-    /// An equal value.
+    /// An equal value. Want of memory is refused by its number.
     pub fn copy(&self, alloc: Global) -> Result<Learnt, Refusal>
         ensures same { IfOk result (λ learnt. learnt ≡ self.now) }
         ensures only { IfErr result (λ e. e ≡ Refusal.NoMemory) }
+    {
+        Ok(self.cloned(alloc)?)
+    }
+
+    /// As [`Learnt::copy`].
+    pub fn cloned(&self, alloc: Global) -> Result<Learnt, AllocError>
+        ensures { IfOk result (λ learnt. learnt ≡ self.now) }
     {
         Ok(Learnt {
             lines: copied(alloc, &self.lines)?,
@@ -198,9 +204,8 @@ fn push_target(targets: &mut Vec<u32>, cause: &Cause) -> Result<(), AllocError>
 }
 
 /// The targets of the lines' premises.
-fn targets_in(alloc: Global, lines: &[Line]) -> Result<VSet, Refusal>
-    ensures same { IfOk result (λ targets. HasExactly targets (targets_of lines.now)) }
-    ensures only { IfErr result (λ e. e ≡ Refusal.NoMemory) }
+fn targets_in(alloc: Global, lines: &[Line]) -> Result<VSet, AllocError>
+    ensures { IfOk result (λ targets. HasExactly targets (targets_of lines.now)) }
 {
     let mut targets = Vec::new(alloc);
     let mut left = lines;

@@ -5,6 +5,7 @@
 #![tactic(auto)]
 
 mod causes;
+mod cited;
 mod cutting;
 mod derivation;
 mod facts;

@@ -6,7 +6,7 @@ ghost use Rattle.terms.specs.declared.term.Term.TheVariants.{In};
 ghost use Rattle.derivations.specs.Derivations.{last_conclusion, AreIncompats, IsEnd};
 
 use crate::facts::Cause;
-use std::alloc::Global;
+use std::alloc::{AllocError, Global};
 use terms::{Incompat, Pkg, Term};
 use versions::Refusal;
 
@@ -20,10 +20,17 @@ pub struct Line {
 }
 
 impl Line {
-    /// An equal line.
+    /// An equal line. Want of memory is refused by its number.
     pub fn copy(&self, alloc: Global) -> Result<Line, Refusal>
         ensures same { IfOk result (λ line. line ≡ self.now) }
         ensures only { IfErr result (λ e. e ≡ Refusal.NoMemory) }
+    {
+        Ok(self.cloned(alloc)?)
+    }
+
+    /// As [`Line::copy`].
+    fn cloned(&self, alloc: Global) -> Result<Line, AllocError>
+        ensures { IfOk result (λ line. line ≡ self.now) }
     {
         Ok(Line {
             conclusion: self.conclusion.copy(alloc)?,
@@ -34,13 +41,12 @@ impl Line {
 }
 
 /// Equal lines.
-pub fn copied(alloc: Global, lines: &[Line]) -> Result<Vec<Line>, Refusal>
-    ensures same { IfOk result (λ copy. copy.items ≡ lines.now) }
-    ensures only { IfErr result (λ e. e ≡ Refusal.NoMemory) }
+pub fn copied(alloc: Global, lines: &[Line]) -> Result<Vec<Line>, AllocError>
+    ensures { IfOk result (λ copy. copy.items ≡ lines.now) }
 {
     let mut copy = Vec::with_capacity(alloc, lines.len())?;
     for line in lines {
-        copy.push(line.copy(alloc)?)?;
+        copy.push(line.cloned(alloc)?)?;
     }
     Ok(copy)
 }

@@ -1,6 +1,6 @@
 // What a search offers to be learnt.
 
-ghost use Rattle.std.specs.Prelude.{◌≡◌, ◌≤◌, ◌↔◌, length, All, IfErr, IfOk, IfSome, IsTrue};
+ghost use Rattle.std.specs.Prelude.{◌≡◌, ◌≤◌, ◌↔◌, length, All, IfOk, IfSome, IsTrue};
 ghost use Rattle.std.specs.Bool.{OnTrue};
 ghost use Rattle.derivations.specs.Known.{AreClear, AreOrdered, IsResolvedAt, ShowsLine};
 ghost use Rattle.derivations.specs.Learning.{IsLearnt};
@@ -11,7 +11,6 @@ use crate::facts::Cause;
 use crate::learnt::{LINE_LIMIT, Learnt};
 use crate::line::Line;
 use std::alloc::{AllocError, Global};
-use versions::Refusal;
 
 /// Whether the line at a place rests on premises alone, if there is one.
 fn is_marked(marks: &[bool], place: usize) -> bool {
@@ -70,10 +69,9 @@ fn rest_on_premises(lines: &[Line]) -> bool
 }
 
 /// What may be learnt of these lines, if anything. They are not judged again.
-fn learnable(alloc: Global, lines: Vec<Line>) -> Result<Option<Learnt>, Refusal>
+fn learnable(alloc: Global, lines: Vec<Line>) -> Result<Option<Learnt>, AllocError>
     requires { RestOnPremises lines.items → length lines.items ≤ LINE_LIMIT → IsLearnt lines.items }
-    ensures same { IfOk result (λ found. IfSome found (λ learnt. learnt ≡ lines.items)) }
-    ensures only { IfErr result (λ e. e ≡ Refusal.NoMemory) }
+    ensures { IfOk result (λ found. IfSome found (λ learnt. learnt ≡ lines.items)) }
 {
     if lines.len() > LINE_LIMIT || !rest_on_premises(&lines) {
         return Ok(None);
@@ -90,13 +88,12 @@ fn offer(
     marks: &[bool],
     zeros: Vec<usize>,
     place: usize,
-) -> Result<(Option<Learnt>, Vec<usize>), Refusal>
+) -> Result<(Option<Learnt>, Vec<usize>), AllocError>
     requires ordered { AreOrdered known.now }
     requires lawful { AreLawfulSomewhere known.now }
     requires clear { AreClear known.now zeros.items }
     ensures shows { IfOk result (λ made. IfSome made.0 (ShowsLine known.now place)) }
     ensures clear { IfOk result (λ made. AreClear known.now made.1.items) }
-    ensures only { IfErr result (λ e. e ≡ Refusal.NoMemory) }
 {
     if !is_marked(marks, place) || !is_resolved_at(known, place) {
         return Ok((None, zeros));
@@ -114,12 +111,11 @@ fn offer(
 ///
 /// What a search's lines say is taken on its word, which a caller proves: they are cut and looked
 /// over, and not judged again. Linear in the lines of the search and in the limit for each place.
-pub fn offers(alloc: Global, known: &[Known], places: &[usize]) -> Result<Vec<Learnt>, Refusal>
+pub fn offers(alloc: Global, known: &[Known], places: &[usize]) -> Result<Vec<Learnt>, AllocError>
     requires ordered { AreOrdered known.now }
     requires lawful { AreLawfulSomewhere known.now }
     ensures stand { IfOk result (λ offered. StandWhereLawful known.now offered.items) }
     ensures from { IfOk result (λ offered. All (ShowsOne known.now places.now) offered.items) }
-    ensures only { IfErr result (λ e. e ≡ Refusal.NoMemory) }
 {
     if places.is_empty() {
         return Ok(Vec::new(alloc));

@@ -1,13 +1,14 @@
 // Whether premises stand: loops over what packages publish.
 
-ghost use Rattle.std.specs.Prelude.{◌≡◌, ◌↔◌, IfErr, IfOk, IsTrue, Some};
+ghost use Rattle.std.specs.Prelude.{◌≡◌, ◌↔◌, IfOk, IsTrue, Some};
 ghost use Rattle.registry.specs.Registry.{number_of};
 ghost use Rattle.derivations.specs.Facts.{AllDepend, Covers, DependsOn, HasNeed, IsDependent, Stands};
 
 use crate::facts::Premise;
 use registry::{Registry, ordinals_are_below_the_count};
+use std::alloc::AllocError;
 use terms::Pkg;
-use versions::{Name, Need, Refusal};
+use versions::{Name, Need};
 
 /// Whether a need is on the target, with this requirement.
 fn is_on_target(registry: &Registry, entry: &(Name, Need), target: Pkg, need: &Need) -> bool
@@ -82,13 +83,12 @@ pub fn covers(registry: &Registry, premise: &Premise) -> bool
 
 /// Whether the premise stands. It asks the registry for the matching versions, which are at hand
 /// where the requirement is known to it.
-pub fn stands_by_matching(registry: &Registry, premise: &Premise) -> Result<bool, Refusal>
-    ensures exact { IfOk result (λ yes. IsTrue yes ↔ Stands registry.now.packages premise.now) }
-    ensures only { IfErr result (λ e. e ≡ Refusal.NoMemory) }
+pub fn stands_by_matching(registry: &Registry, premise: &Premise) -> Result<bool, AllocError>
+    ensures { IfOk result (λ yes. IsTrue yes ↔ Stands registry.now.packages premise.now) }
 {
     if !is_dependent(registry, premise) {
         return Ok(false);
     }
-    let matching = registry.matching(premise.target, &premise.need)?;
+    let matching = registry.matching_copy(premise.target, &premise.need)?;
     Ok(matching.is_subset(&premise.within))
 }

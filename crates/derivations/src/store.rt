@@ -19,7 +19,7 @@ use crate::slots::{
     has_concluded, member_at,
 };
 use registry::{Command, Registry, matching_is_what_meets};
-use std::alloc::Global;
+use std::alloc::{AllocError, Global};
 use std::marker::Model;
 use terms::{Incompat, Pkg};
 use versions::{Published, Refusal};
@@ -145,9 +145,8 @@ impl Store {
     }
 
     /// Begins the indexes that are not whole.
-    fn begin_indexes(&mut self) -> Result<(), Refusal>
-        ensures same { self.new ≡ self.old }
-        ensures only { IfErr result (λ e. e ≡ Refusal.NoMemory) }
+    fn begin_indexes(&mut self) -> Result<(), AllocError>
+        ensures { self.new ≡ self.old }
     {
         if !self.keys.is_whole() {
             self.keys.begin()?;
@@ -188,15 +187,14 @@ impl Store {
         if self.slots.len() == self.slots.capacity() {
             self.reserve()?;
         }
-        self.push(learnt)
+        Ok(self.push(learnt)?)
     }
 
     /// Puts a member into the next place.
-    fn push(&mut self, learnt: Learnt) -> Result<(), Refusal>
+    fn push(&mut self, learnt: Learnt) -> Result<(), AllocError>
         ensures learnt { OnOk result (self.new.members ≡ self.old.members ++ learnt ∷ []) }
         ensures unchanged { OnErr result (self.new.members ≡ self.old.members) }
         ensures succeeds { 0 < self.old.room → IsOk result }
-        ensures only { IfErr result (λ e. e ≡ Refusal.NoMemory) }
     {
         let place = self.slots.len();
         add_key(&mut self.keys, place, &learnt);

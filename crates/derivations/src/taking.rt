@@ -1,15 +1,14 @@
 // What the lines of a derivation say, copied or taken from the lines of a search.
 
-ghost use Rattle.std.specs.Prelude.{◌≡◌, ◌≢◌, ◌<◌, [], ℕ, length, slice_get, IfErr, IfOk};
+ghost use Rattle.std.specs.Prelude.{◌≡◌, ◌≢◌, ◌<◌, [], ℕ, length, slice_get, IfOk};
 ghost use Rattle.derivations.specs.Taking.{lines_at, said_at, ArePlaced};
 
 use crate::cutting::Known;
 use crate::facts::Cause;
 use crate::line::Line;
-use std::alloc::Global;
+use std::alloc::{AllocError, Global};
 use std::mem;
 use terms::{Incompat, Pkg};
-use versions::Refusal;
 
 /// A line of a derivation before it is said what follows: what the search's line at this place says.
 #[derive(Drop)]
@@ -20,10 +19,13 @@ pub struct Step {
 }
 
 /// The lines of these steps, with copies of what the search's lines say.
-pub fn lines_copied(alloc: Global, known: &[Known], steps: Vec<Step>) -> Result<Vec<Line>, Refusal>
+pub fn lines_copied(
+    alloc: Global,
+    known: &[Known],
+    steps: Vec<Step>,
+) -> Result<Vec<Line>, AllocError>
     requires { ArePlaced (length known.now) steps.items }
-    ensures same { IfOk result (λ lines. lines.items ≡ lines_at known.now steps.items) }
-    ensures only { IfErr result (λ e. e ≡ Refusal.NoMemory) }
+    ensures { IfOk result (λ lines. lines.items ≡ lines_at known.now steps.items) }
 {
     let mut lines = Vec::with_capacity(alloc, steps.len())?;
     for step in steps {
@@ -58,10 +60,13 @@ fn take_at(alloc: Global, known: &mut Vec<Known>, place: usize) -> Incompat
 }
 
 /// The lines of these steps, with what the search's lines say, which are used up.
-pub fn lines_taken(alloc: Global, known: Vec<Known>, steps: Vec<Step>) -> Result<Vec<Line>, Refusal>
+pub fn lines_taken(
+    alloc: Global,
+    known: Vec<Known>,
+    steps: Vec<Step>,
+) -> Result<Vec<Line>, AllocError>
     requires { ArePlaced (length known.items) steps.items }
-    ensures same { IfOk result (λ lines. lines.items ≡ lines_at known.items steps.items) }
-    ensures only { IfErr result (λ e. e ≡ Refusal.NoMemory) }
+    ensures { IfOk result (λ lines. lines.items ≡ lines_at known.items steps.items) }
 {
     let mut left = known;
     let mut lines = Vec::with_capacity(alloc, steps.len())?;

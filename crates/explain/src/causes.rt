@@ -1,19 +1,18 @@
 //! Why a line stands: two causes, each an earlier line or a fact.
-ghost use Rattle.std.specs.Prelude.{◌≡◌, ◌++◌, string_bytes, Some, IfErr, OnOk};
+ghost use Rattle.std.specs.Prelude.{◌≡◌, ◌++◌, string_bytes, Some, OnOk};
 ghost use Rattle.registry.specs.Registry.{number_of};
 ghost use Rattle.explain.specs.Explanations.{cause_text, matching_text, need_text, needs_text, premise_text};
 
 use crate::choices::{name_of, put_choice, put_number, put_set};
 use derivations::{Cause, Premise};
 use registry::{Registry, Request};
-use std::alloc::Global;
-use versions::{Name, Need, Refusal};
+use std::alloc::{AllocError, Global};
+use versions::{Name, Need};
 
 /// Puts that what is named is needed with this requirement, up to the set that it leaves.
-fn put_needs(text: &mut String, name: &str, need: &Need) -> Result<(), Refusal>
-    ensures text { OnOk result (string_bytes text.new
+fn put_needs(text: &mut String, name: &str, need: &Need) -> Result<(), AllocError>
+    ensures { OnOk result (string_bytes text.new
         ≡ string_bytes text.old ++ needs_text name.now need.now) }
-    ensures only { IfErr result (λ e. e ≡ Refusal.NoMemory) }
 {
     text.push_str(" needs ")?;
     text.push_str(name)?;
@@ -27,10 +26,9 @@ fn put_premise(
     text: &mut String,
     registry: &Registry,
     premise: &Premise,
-) -> Result<(), Refusal>
-    ensures text { OnOk result (string_bytes text.new
+) -> Result<(), AllocError>
+    ensures { OnOk result (string_bytes text.new
         ≡ string_bytes text.old ++ premise_text registry.now.packages premise.now) }
-    ensures only { IfErr result (λ e. e ≡ Refusal.NoMemory) }
 {
     put_choice(alloc, text, registry, premise.package, &premise.versions)?;
     put_needs(text, name_of(registry, premise.target), &premise.need)?;
@@ -44,15 +42,14 @@ fn put_matching(
     registry: &Registry,
     name: &Name,
     need: &Need,
-) -> Result<(), Refusal>
-    ensures text { OnOk result (string_bytes text.new
+) -> Result<(), AllocError>
+    ensures { OnOk result (string_bytes text.new
         ≡ string_bytes text.old ++ matching_text registry.now.packages (number_of registry.now.packages name.now) need.now) }
-    ensures only { IfErr result (λ e. e ≡ Refusal.NoMemory) }
 {
     match registry.number(name) {
         None => Ok(text.push_str("{}")?),
         Some(pkg) => {
-            let matching = registry.matching(pkg, need)?;
+            let matching = registry.matching_copy(pkg, need)?;
             Ok(put_set(alloc, text, registry, pkg, &matching)?)
         }
     }
@@ -64,10 +61,9 @@ fn put_need(
     text: &mut String,
     registry: &Registry,
     need: &(Name, Need),
-) -> Result<(), Refusal>
-    ensures text { OnOk result (string_bytes text.new
+) -> Result<(), AllocError>
+    ensures { OnOk result (string_bytes text.new
         ≡ string_bytes text.old ++ need_text registry.now.packages (Some need.now)) }
-    ensures only { IfErr result (λ e. e ≡ Refusal.NoMemory) }
 {
     text.push_str("the request")?;
     put_needs(text, need.0.text(), &need.1)?;
@@ -81,10 +77,9 @@ pub fn put_cause(
     registry: &Registry,
     request: &Request,
     cause: &Cause,
-) -> Result<(), Refusal>
-    ensures text { OnOk result (string_bytes text.new
+) -> Result<(), AllocError>
+    ensures { OnOk result (string_bytes text.new
         ≡ string_bytes text.old ++ cause_text registry.now.packages request.now cause.now) }
-    ensures only { IfErr result (λ e. e ≡ Refusal.NoMemory) }
 {
     match cause {
         Cause::Line(number) => {

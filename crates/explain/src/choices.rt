@@ -1,18 +1,16 @@
 //! Packages, versions and sets of versions, as a person reads them.
-ghost use Rattle.std.specs.Prelude.{◌≡◌, ◌++◌, codes, decimal, map, string_bytes, IfErr, OnOk};
+ghost use Rattle.std.specs.Prelude.{◌≡◌, ◌++◌, codes, decimal, map, string_bytes, OnOk};
 ghost use Rattle.explain.specs.Choices.{choice_text, is_request, listed, package_text, separator, set_text, version_text};
 
 use derivations::ROOT;
 use itoa::Buffer;
 use registry::Registry;
-use std::alloc::Global;
+use std::alloc::{AllocError, Global};
 use terms::{Pkg, VSet};
-use versions::Refusal;
 
 /// Puts a number in decimal.
-pub fn put_number(text: &mut String, number: usize) -> Result<(), Refusal>
-    ensures text { OnOk result (string_bytes text.new ≡ string_bytes text.old ++ decimal number) }
-    ensures only { IfErr result (λ e. e ≡ Refusal.NoMemory) }
+pub fn put_number(text: &mut String, number: usize) -> Result<(), AllocError>
+    ensures { OnOk result (string_bytes text.new ≡ string_bytes text.old ++ decimal number) }
 {
     let mut digits = Buffer::new();
     Ok(text.push_str(digits.format(number))?)
@@ -44,10 +42,9 @@ fn put_version(
     registry: &Registry,
     pkg: Pkg,
     ordinal: u32,
-) -> Result<(), Refusal>
-    ensures text { OnOk result (string_bytes text.new
+) -> Result<(), AllocError>
+    ensures { OnOk result (string_bytes text.new
         ≡ string_bytes text.old ++ version_text registry.now.packages pkg ordinal) }
-    ensures only { IfErr result (λ e. e ≡ Refusal.NoMemory) }
 {
     if let Some(facts) = registry.facts_at(pkg, ordinal) {
         return Ok(text.push_str(facts.version.text())?);
@@ -63,10 +60,9 @@ fn put_next(
     pkg: Pkg,
     ordinal: u32,
     later: bool,
-) -> Result<(), Refusal>
-    ensures text { OnOk result (string_bytes text.new
+) -> Result<(), AllocError>
+    ensures { OnOk result (string_bytes text.new
         ≡ string_bytes text.old ++ (separator later ++ version_text registry.now.packages pkg ordinal)) }
-    ensures only { IfErr result (λ e. e ≡ Refusal.NoMemory) }
 {
     text.push_str(separator(later))?;
     Ok(put_version(text, registry, pkg, ordinal)?)
@@ -78,10 +74,9 @@ fn put_versions(
     registry: &Registry,
     pkg: Pkg,
     ordinals: &[u32],
-) -> Result<(), Refusal>
-    ensures text { OnOk result (string_bytes text.new
+) -> Result<(), AllocError>
+    ensures { OnOk result (string_bytes text.new
         ≡ string_bytes text.old ++ listed (map (version_text registry.now.packages pkg) ordinals.now)) }
-    ensures only { IfErr result (λ e. e ≡ Refusal.NoMemory) }
 {
     for (place, ordinal) in ordinals.iter().enumerate() {
         put_next(text, registry, pkg, *ordinal, place > 0)?;
@@ -96,10 +91,9 @@ pub fn put_set(
     registry: &Registry,
     pkg: Pkg,
     set: &VSet,
-) -> Result<(), Refusal>
-    ensures text { OnOk result (string_bytes text.new
+) -> Result<(), AllocError>
+    ensures { OnOk result (string_bytes text.new
         ≡ string_bytes text.old ++ set_text registry.now.packages pkg set.now) }
-    ensures only { IfErr result (λ e. e ≡ Refusal.NoMemory) }
 {
     let ordinals = set.ordinals(alloc)?;
     text.push_str("{")?;
@@ -121,10 +115,9 @@ pub fn put_choice(
     registry: &Registry,
     pkg: Pkg,
     set: &VSet,
-) -> Result<(), Refusal>
-    ensures text { OnOk result (string_bytes text.new
+) -> Result<(), AllocError>
+    ensures { OnOk result (string_bytes text.new
         ≡ string_bytes text.old ++ choice_text registry.now.packages pkg set.now) }
-    ensures only { IfErr result (λ e. e ≡ Refusal.NoMemory) }
 {
     text.push_str(name_of(registry, pkg))?;
     if is_request(pkg, set) {

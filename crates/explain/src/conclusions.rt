@@ -1,13 +1,12 @@
 //! What a line says: choices that may not all be made.
-ghost use Rattle.std.specs.Prelude.{◌≡◌, ◌++◌, string_bytes, IfErr, OnOk};
+ghost use Rattle.std.specs.Prelude.{◌≡◌, ◌++◌, string_bytes, OnOk};
 ghost use Rattle.explain.specs.Choices.{separator};
 ghost use Rattle.explain.specs.Explanations.{term_text, terms_text};
 
 use crate::choices::{put_choice, separator};
 use registry::Registry;
-use std::alloc::Global;
+use std::alloc::{AllocError, Global};
 use terms::{Pkg, Term};
-use versions::Refusal;
 
 fn put_term(
     alloc: Global,
@@ -15,10 +14,9 @@ fn put_term(
     registry: &Registry,
     pkg: Pkg,
     term: &Term,
-) -> Result<(), Refusal>
-    ensures text { OnOk result (string_bytes text.new
+) -> Result<(), AllocError>
+    ensures { OnOk result (string_bytes text.new
         ≡ string_bytes text.old ++ term_text registry.now.packages pkg term.now) }
-    ensures only { IfErr result (λ e. e ≡ Refusal.NoMemory) }
 {
     match term {
         Term::In(set) => Ok(put_choice(alloc, text, registry, pkg, set)?),
@@ -36,10 +34,9 @@ fn put_next(
     registry: &Registry,
     entry: &(Pkg, Term),
     later: bool,
-) -> Result<(), Refusal>
-    ensures text { OnOk result (string_bytes text.new
+) -> Result<(), AllocError>
+    ensures { OnOk result (string_bytes text.new
         ≡ string_bytes text.old ++ (separator later ++ term_text registry.now.packages entry.now.0 entry.now.1)) }
-    ensures only { IfErr result (λ e. e ≡ Refusal.NoMemory) }
 {
     text.push_str(separator(later))?;
     Ok(put_term(alloc, text, registry, entry.0, &entry.1)?)
@@ -51,10 +48,9 @@ pub fn put_terms(
     text: &mut String,
     registry: &Registry,
     terms: &[(Pkg, Term)],
-) -> Result<(), Refusal>
-    ensures text { OnOk result (string_bytes text.new
+) -> Result<(), AllocError>
+    ensures { OnOk result (string_bytes text.new
         ≡ string_bytes text.old ++ terms_text registry.now.packages terms.now) }
-    ensures only { IfErr result (λ e. e ≡ Refusal.NoMemory) }
 {
     for (place, entry) in terms.iter().enumerate() {
         put_next(alloc, text, registry, entry, place > 0)?;

@@ -10,10 +10,9 @@ use crate::conclusions::put_terms;
 use derivations::{Derivation, Line};
 use lines::write_texts;
 use registry::{Registry, Request};
-use std::alloc::Global;
+use std::alloc::{AllocError, Global};
 use std::io;
 use std::io::{ErrorKind, Write};
-use versions::Refusal;
 
 /// What ends each explanation.
 const CLOSING: &str = "So no selection meets the request.";
@@ -25,10 +24,9 @@ fn line_text(
     request: &Request,
     number: usize,
     line: &Line,
-) -> Result<String, Refusal>
-    ensures text { IfOk result (λ text. string_bytes text
+) -> Result<String, AllocError>
+    ensures { IfOk result (λ text. string_bytes text
         ≡ line_text registry.now.packages request.now number line.now) }
-    ensures only { IfErr result (λ e. e ≡ Refusal.NoMemory) }
 {
     let mut text = String::new(alloc);
     put_number(&mut text, number)?;
@@ -47,10 +45,9 @@ fn numbered_lines(
     registry: &Registry,
     request: &Request,
     lines: &[Line],
-) -> Result<Vec<String>, Refusal>
-    ensures texts { IfOk result (λ texts. map (λ t. string_bytes t) texts.items
+) -> Result<Vec<String>, AllocError>
+    ensures { IfOk result (λ texts. map (λ t. string_bytes t) texts.items
         ≡ numbered_from registry.now.packages request.now 1 lines.now) }
-    ensures only { IfErr result (λ e. e ≡ Refusal.NoMemory) }
 {
     let mut texts = Vec::with_capacity(alloc, lines.len() + 1)?;
     for (place, line) in lines.iter().enumerate() {
@@ -68,10 +65,9 @@ pub fn explanation(
     registry: &Registry,
     request: &Request,
     derivation: &Derivation,
-) -> Result<Vec<String>, Refusal>
-    ensures lines { IfOk result (λ lines. map (λ t. string_bytes t) lines.items
+) -> Result<Vec<String>, AllocError>
+    ensures { IfOk result (λ lines. map (λ t. string_bytes t) lines.items
         ≡ explanation registry.now.packages request.now derivation.now) }
-    ensures only { IfErr result (λ e. e ≡ Refusal.NoMemory) }
 {
     let mut lines = numbered_lines(alloc, registry, request, derivation.lines())?;
     lines.push(String::from_str(alloc, CLOSING)?)?;

@@ -1,16 +1,12 @@
 // Which lines are looked at, and which package is decided.
 
-ghost use Rattle.std.specs.Prelude.{◌≡◌, IfErr};
-ghost use Rattle.versions.specs.declared.refusal.Refusal.TheVariants.{NoMemory};
-
 use crate::occurrences::Occurrences;
 use crate::question::{Question, ROOM};
 use crate::queue::Queue;
 use crate::spent::Spent;
 use partial::Partial;
-use std::alloc::Global;
+use std::alloc::{AllocError, Global};
 use terms::{Incompat, Pkg};
-use versions::Refusal;
 
 /// What is to be looked at and to be decided. Lines are known by their places in the search.
 #[derive(Drop)]
@@ -27,9 +23,7 @@ pub struct Agenda {
 }
 
 impl Agenda {
-    pub fn new(alloc: Global) -> Result<Agenda, Refusal>
-        ensures { IfErr result (λ e. e ≡ NoMemory) }
-    {
+    pub fn new(alloc: Global) -> Result<Agenda, AllocError> {
         Ok(Agenda {
             occurrences: Occurrences::new(alloc)?,
             ripe: Vec::with_capacity(alloc, ROOM)?,
@@ -40,9 +34,12 @@ impl Agenda {
     }
 
     /// Notes the line at a place, which concludes this, with each package that it names.
-    pub fn note(&mut self, alloc: Global, conclusion: &Incompat, at: usize) -> Result<(), Refusal>
-        ensures { IfErr result (λ e. e ≡ NoMemory) }
-    {
+    pub fn note(
+        &mut self,
+        alloc: Global,
+        conclusion: &Incompat,
+        at: usize,
+    ) -> Result<(), AllocError> {
         self.occurrences.note(alloc, conclusion, at)
     }
 
@@ -61,9 +58,7 @@ impl Agenda {
         at: usize,
         pkg: Pkg,
         target: Pkg,
-    ) -> Result<(), Refusal>
-        ensures { IfErr result (λ e. e ≡ NoMemory) }
-    {
+    ) -> Result<(), AllocError> {
         self.occurrences.note(alloc, conclusion, at)?;
         match conclusion.term_on(pkg) {
             None => Ok(()),
@@ -73,9 +68,7 @@ impl Agenda {
 
     /// Whether the dependencies of a version are not all among the lines; they are taken to be from now
     /// on.
-    pub fn enters(&mut self, pkg: Pkg, ordinal: u32) -> Result<bool, Refusal>
-        ensures { IfErr result (λ e. e ≡ NoMemory) }
-    {
+    pub fn enters(&mut self, pkg: Pkg, ordinal: u32) -> Result<bool, AllocError> {
         self.occurrences.enters(pkg, ordinal)
     }
 
@@ -92,9 +85,7 @@ impl Agenda {
         question: &Question<'_>,
         partial: &Partial,
         pkg: Pkg,
-    ) -> Result<(), Refusal>
-        ensures { IfErr result (λ e. e ≡ NoMemory) }
-    {
+    ) -> Result<(), AllocError> {
         self.ripe.clear();
         self.spend(partial.level())?;
         self.queue
@@ -108,9 +99,7 @@ impl Agenda {
     }
 
     /// Puts the lines by that were used at this level.
-    fn spend(&mut self, level: usize) -> Result<(), Refusal>
-        ensures { IfErr result (λ e. e ≡ NoMemory) }
-    {
+    fn spend(&mut self, level: usize) -> Result<(), AllocError> {
         for at in self.used.as_slice() {
             self.spent.add(*at, level)?;
         }
@@ -123,9 +112,7 @@ impl Agenda {
         &mut self,
         question: &Question<'_>,
         partial: &Partial,
-    ) -> Result<Option<Pkg>, Refusal>
-        ensures { IfErr result (λ e. e ≡ NoMemory) }
-    {
+    ) -> Result<Option<Pkg>, AllocError> {
         self.queue.next(question, &mut self.occurrences, partial)
     }
 
@@ -136,9 +123,7 @@ impl Agenda {
         question: &Question<'_>,
         partial: &Partial,
         at: usize,
-    ) -> Result<(), Refusal>
-        ensures { IfErr result (λ e. e ≡ NoMemory) }
-    {
+    ) -> Result<(), AllocError> {
         self.queue
             .backjump(question, &mut self.occurrences, partial)?;
         self.used.clear();

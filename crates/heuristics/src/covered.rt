@@ -1,13 +1,9 @@
 // Which dependencies of the versions of packages stand among the lines.
 
-ghost use Rattle.std.specs.Prelude.{◌≡◌, IfErr};
-ghost use Rattle.versions.specs.declared.refusal.Refusal.TheVariants.{NoMemory};
-
 use crate::question::ROOM;
 use indexmap::IndexMap;
-use std::alloc::Global;
+use std::alloc::{AllocError, Global};
 use terms::{Pkg, Term};
-use versions::Refusal;
 
 /// How many targets of a package stand in the list. Hardly any package has more; those beyond stand in
 /// a map, so that a look stays short whatever a package depends on.
@@ -49,9 +45,7 @@ impl Targets {
 }
 
 impl Covered {
-    pub fn new(alloc: Global) -> Result<Covered, Refusal>
-        ensures { IfErr result (λ e. e ≡ NoMemory) }
-    {
+    pub fn new(alloc: Global) -> Result<Covered, AllocError> {
         Ok(Covered {
             listed: Vec::with_capacity(alloc, ROOM)?,
             beyond: IndexMap::new(alloc),
@@ -97,9 +91,7 @@ impl Covered {
         targets: Targets,
         at: (Pkg, Pkg),
         versions: &Term,
-    ) -> Result<Targets, Refusal>
-        ensures { IfErr result (λ e. e ≡ NoMemory) }
-    {
+    ) -> Result<Targets, AllocError> {
         if let Some(index) = self.place(targets, at.1) {
             if let Some(listed) = self.listed.as_mut_slice().get_mut(index) {
                 listed.versions = listed.versions.or(alloc, versions)?;
@@ -114,9 +106,12 @@ impl Covered {
     }
 
     /// Puts a target into the list, before the package's others.
-    fn list(&mut self, targets: Targets, target: Pkg, versions: Term) -> Result<Targets, Refusal>
-        ensures { IfErr result (λ e. e ≡ NoMemory) }
-    {
+    fn list(
+        &mut self,
+        targets: Targets,
+        target: Pkg,
+        versions: Term,
+    ) -> Result<Targets, AllocError> {
         self.listed.push(Listed {
             target,
             versions,
@@ -129,9 +124,12 @@ impl Covered {
     }
 
     /// As `add`, of a target for which the list has no room.
-    fn add_beyond(&mut self, alloc: Global, at: (Pkg, Pkg), versions: &Term) -> Result<(), Refusal>
-        ensures { IfErr result (λ e. e ≡ NoMemory) }
-    {
+    fn add_beyond(
+        &mut self,
+        alloc: Global,
+        at: (Pkg, Pkg),
+        versions: &Term,
+    ) -> Result<(), AllocError> {
         match self.beyond.get_mut(&at) {
             Some(before) => *before = before.or(alloc, versions)?,
             None => {

@@ -5,16 +5,14 @@
 // needed. Else a version whose dependencies don't fit beside what is decided is passed over for the
 // next one of its package; where none is left, it gives up. What it decides is validated by the walk.
 
-ghost use Rattle.std.specs.Prelude.{◌≡◌, IfErr};
-
 use crate::alike::depend_alike;
 use crate::obstacle::Obstacle;
 use crate::order::Order;
 use crate::question::{Question, ROOM, locked_version};
 use indexmap::IndexMap;
 use registry::Matching;
+use std::alloc::AllocError;
 use terms::{Pkg, Term, VSet};
-use versions::Refusal;
 use walk::Asker;
 
 /// How many versions may be looked at, for each package of the registry, before it gives up.
@@ -50,9 +48,7 @@ struct Greedy {
 }
 
 /// The versions of a set that are allowed.
-fn allowed_of(question: &Question<'_>, pkg: Pkg, versions: VSet) -> Result<VSet, Refusal>
-    ensures { IfErr result (λ e. e ≡ Refusal.NoMemory) }
-{
+fn allowed_of(question: &Question<'_>, pkg: Pkg, versions: VSet) -> Result<VSet, AllocError> {
     if !question.registry.has_yanks(pkg) {
         return Ok(versions);
     }
@@ -93,9 +89,7 @@ fn locked_ordinal(question: &Question<'_>, pkg: Pkg) -> Option<u32> {
 }
 
 impl Greedy {
-    fn new(question: &Question<'_>, obstacle: Option<Obstacle>) -> Result<Greedy, Refusal>
-        ensures { IfErr result (λ e. e ≡ Refusal.NoMemory) }
-    {
+    fn new(question: &Question<'_>, obstacle: Option<Obstacle>) -> Result<Greedy, AllocError> {
         Ok(Greedy {
             numbers: Vec::with_capacity(question.alloc, ROOM)?,
             needed: Vec::with_capacity(question.alloc, ROOM)?,
@@ -120,9 +114,7 @@ impl Greedy {
     }
 
     /// Adds a package that was not needed before.
-    fn add(&mut self, question: &Question<'_>, pkg: Pkg, left: Term) -> Result<(), Refusal>
-        ensures { IfErr result (λ e. e ≡ Refusal.NoMemory) }
-    {
+    fn add(&mut self, question: &Question<'_>, pkg: Pkg, left: Term) -> Result<(), AllocError> {
         let alike = depend_alike(question, pkg);
         if alike {
             self.alike.push(pkg)?;
@@ -148,14 +140,11 @@ impl Greedy {
         question: &Question<'_>,
         pkg: Pkg,
         left: Term,
-    ) -> Result<Term, Refusal>
-        ensures { IfErr result (λ e. e ≡ Refusal.NoMemory) }
-    {
+    ) -> Result<Term, AllocError> {
         match &self.obstacle {
-            Some(obstacle) if obstacle.target == pkg => Ok(left.and(
-                question.alloc,
-                &obstacle.within,
-            )?),
+            Some(obstacle) if obstacle.target == pkg => {
+                left.and(question.alloc, &obstacle.within)
+            }
             Some(_) | None => Ok(left),
         }
     }
@@ -167,9 +156,7 @@ impl Greedy {
         question: &Question<'_>,
         pkg: Pkg,
         matching: &Matching<'_>,
-    ) -> Result<bool, Refusal>
-        ensures { IfErr result (λ e. e ≡ Refusal.NoMemory) }
-    {
+    ) -> Result<bool, AllocError> {
         let left = match self.get(pkg) {
             None => {
                 let allowed = allowed_of(question, pkg, matching.set(question.alloc)?)?;
@@ -190,9 +177,7 @@ impl Greedy {
     }
 
     /// Notes what the request's needs leave, up to the first that nothing meets.
-    fn meet_needs(&mut self, question: &Question<'_>) -> Result<bool, Refusal>
-        ensures { IfErr result (λ e. e ≡ Refusal.NoMemory) }
-    {
+    fn meet_needs(&mut self, question: &Question<'_>) -> Result<bool, AllocError> {
         self.beside.clear();
         for (name, need) in question.request.needs() {
             let Some(pkg) = question.registry.number(name) else {
@@ -212,9 +197,7 @@ impl Greedy {
         question: &Question<'_>,
         pkg: Pkg,
         ordinal: u32,
-    ) -> Result<bool, Refusal>
-        ensures { IfErr result (λ e. e ≡ Refusal.NoMemory) }
-    {
+    ) -> Result<bool, AllocError> {
         self.beside.clear();
         let count = Asker::Version(pkg, ordinal)
             .needs(question.registry, question.request)
@@ -229,9 +212,7 @@ impl Greedy {
     }
 
     /// Keeps what is left of a package, and puts it into the order.
-    fn keep(&mut self, question: &Question<'_>, pkg: Pkg, left: Term) -> Result<(), Refusal>
-        ensures { IfErr result (λ e. e ≡ Refusal.NoMemory) }
-    {
+    fn keep(&mut self, question: &Question<'_>, pkg: Pkg, left: Term) -> Result<(), AllocError> {
         self.order.add(count_of(&left), pkg)?;
         match self.get_mut(pkg) {
             None => self.add(question, pkg, left),
@@ -243,9 +224,7 @@ impl Greedy {
     }
 
     /// Keeps what was noted.
-    fn keep_all(&mut self, question: &Question<'_>) -> Result<(), Refusal>
-        ensures { IfErr result (λ e. e ≡ Refusal.NoMemory) }
-    {
+    fn keep_all(&mut self, question: &Question<'_>) -> Result<(), AllocError> {
         for _ in 0..self.beside.len() {
             if let Some((pkg, left)) = self.beside.pop() {
                 self.keep(question, pkg, left)?;
@@ -260,9 +239,7 @@ impl Greedy {
         question: &Question<'_>,
         pkg: Pkg,
         ordinal: u32,
-    ) -> Result<bool, Refusal>
-        ensures { IfErr result (λ e. e ≡ Refusal.NoMemory) }
-    {
+    ) -> Result<bool, AllocError> {
         let Some(needed) = self.get(pkg) else {
             return Ok(false);
         };
@@ -298,9 +275,7 @@ impl Greedy {
 
     /// Decides on a package, or passes a version of it over. Answers whether some version can be met
     /// beside what is decided.
-    fn decide(&mut self, question: &Question<'_>, pkg: Pkg) -> Result<bool, Refusal>
-        ensures { IfErr result (λ e. e ≡ Refusal.NoMemory) }
-    {
+    fn decide(&mut self, question: &Question<'_>, pkg: Pkg) -> Result<bool, AllocError> {
         let Some(needed) = self.get(pkg) else {
             return Ok(false);
         };
@@ -312,7 +287,7 @@ impl Greedy {
             return Ok(true);
         }
         if !self.meet_dependencies(question, pkg, ordinal)? {
-            return Ok(self.pass_over(question, pkg, ordinal)?);
+            return self.pass_over(question, pkg, ordinal);
         }
         self.settle(pkg, ordinal);
         self.keep_all(question)?;
@@ -335,9 +310,7 @@ impl Greedy {
 
     /// Keeps what all versions of a package depend on. Answers whether it can be met beside what is
     /// decided.
-    fn meet_alike(&mut self, question: &Question<'_>, pkg: Pkg) -> Result<bool, Refusal>
-        ensures { IfErr result (λ e. e ≡ Refusal.NoMemory) }
-    {
+    fn meet_alike(&mut self, question: &Question<'_>, pkg: Pkg) -> Result<bool, AllocError> {
         if !self.meet_dependencies(question, pkg, 0)? {
             return Ok(false);
         }
@@ -347,9 +320,7 @@ impl Greedy {
 
     /// A step towards what is needed: what is alike in all versions is met, and else a package is decided
     /// on. Answers whether it could be made, and nothing where nothing is left to do.
-    fn step(&mut self, question: &Question<'_>) -> Result<Option<bool>, Refusal>
-        ensures { IfErr result (λ e. e ≡ Refusal.NoMemory) }
-    {
+    fn step(&mut self, question: &Question<'_>) -> Result<Option<bool>, AllocError> {
         if let Some(pkg) = self.next_alike() {
             return Ok(Some(self.meet_alike(question, pkg)?));
         }
@@ -360,9 +331,7 @@ impl Greedy {
     }
 
     /// Decides on all packages that are needed. Answers whether each could be met.
-    fn decide_all(&mut self, question: &Question<'_>) -> Result<bool, Refusal>
-        ensures { IfErr result (λ e. e ≡ Refusal.NoMemory) }
-    {
+    fn decide_all(&mut self, question: &Question<'_>) -> Result<bool, AllocError> {
         if !self.meet_needs(question)? {
             return Ok(false);
         }
@@ -386,9 +355,7 @@ impl Greedy {
     }
 
     /// What is decided, by package.
-    fn decisions(&self, question: &Question<'_>) -> Result<IndexMap<Pkg, u32>, Refusal>
-        ensures { IfErr result (λ e. e ≡ Refusal.NoMemory) }
-    {
+    fn decisions(&self, question: &Question<'_>) -> Result<IndexMap<Pkg, u32>, AllocError> {
         let mut decided = IndexMap::with_capacity(question.alloc, self.needed.len())?;
         for needed in self.needed.as_slice() {
             if let Some(ordinal) = needed.decided {
@@ -400,9 +367,10 @@ impl Greedy {
 }
 
 /// A greedy search that has come to its end, if none of its steps failed.
-fn finished(question: &Question<'_>, obstacle: Option<Obstacle>) -> Result<Option<Greedy>, Refusal>
-    ensures { IfErr result (λ e. e ≡ Refusal.NoMemory) }
-{
+fn finished(
+    question: &Question<'_>,
+    obstacle: Option<Obstacle>,
+) -> Result<Option<Greedy>, AllocError> {
     let mut greedy = Greedy::new(question, obstacle)?;
     if !greedy.decide_all(question)? {
         return Ok(None);
@@ -414,9 +382,7 @@ fn finished(question: &Question<'_>, obstacle: Option<Obstacle>) -> Result<Optio
 fn decisions_of(
     question: &Question<'_>,
     found: &Option<Greedy>,
-) -> Result<Option<IndexMap<Pkg, u32>>, Refusal>
-    ensures { IfErr result (λ e. e ≡ Refusal.NoMemory) }
-{
+) -> Result<Option<IndexMap<Pkg, u32>>, AllocError> {
     match found {
         None => Ok(None),
         Some(greedy) => Ok(Some(greedy.decisions(question)?)),
@@ -427,9 +393,7 @@ fn decisions_of(
 pub fn decide_greedily(
     question: &Question<'_>,
     obstacle: Option<Obstacle>,
-) -> Result<Option<IndexMap<Pkg, u32>>, Refusal>
-    ensures { IfErr result (λ e. e ≡ Refusal.NoMemory) }
-{
+) -> Result<Option<IndexMap<Pkg, u32>>, AllocError> {
     let mut found = finished(question, obstacle)?;
     if matches!(&found, Some(greedy) if greedy.is_misled()) {
         // The obstacle's package is not needed, so it must not bind another one.

@@ -1,13 +1,9 @@
 // What is kept of a package that lines name.
 
-ghost use Rattle.std.specs.Prelude.{◌≡◌, IfErr};
-ghost use Rattle.versions.specs.declared.refusal.Refusal.TheVariants.{NoMemory};
-
 use crate::covered::Targets;
 use crate::question::Question;
-use std::alloc::Global;
+use std::alloc::{AllocError, Global};
 use terms::{Pkg, Term, VSet};
-use versions::Refusal;
 
 /// What is kept of a package.
 #[derive(Drop)]
@@ -34,9 +30,7 @@ enum Allowed {
 }
 
 /// Which versions of a package are allowed.
-fn allowed_of(question: &Question<'_>, pkg: Pkg) -> Result<Allowed, Refusal>
-    ensures { IfErr result (λ e. e ≡ NoMemory) }
-{
+fn allowed_of(question: &Question<'_>, pkg: Pkg) -> Result<Allowed, AllocError> {
     if !question.registry.has_yanks(pkg) {
         return Ok(Allowed::All);
     }
@@ -73,9 +67,7 @@ impl Kept {
         question: &Question<'_>,
         pkg: Pkg,
         said: &Term,
-    ) -> Result<usize, Refusal>
-        ensures { IfErr result (λ e. e ≡ NoMemory) }
-    {
+    ) -> Result<usize, AllocError> {
         let Term::In(left) = said else {
             return Ok(0);
         };

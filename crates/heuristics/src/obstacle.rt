@@ -1,11 +1,9 @@
 // What stands in the way of the preferred selection.
 
-ghost use Rattle.std.specs.Prelude.{◌≡◌, IfErr};
-
 use crate::alike::are_alike;
 use crate::question::Question;
+use std::alloc::AllocError;
 use terms::{Pkg, Term};
-use versions::Refusal;
 use walk::Asker;
 
 /// A dependency that the preferred selection does not meet, and that all versions of a package have. A
@@ -24,9 +22,7 @@ pub fn obstacle_at(
     question: &Question<'_>,
     asker: Asker,
     index: usize,
-) -> Result<Option<Obstacle>, Refusal>
-    ensures { IfErr result (λ e. e ≡ Refusal.NoMemory) }
-{
+) -> Result<Option<Obstacle>, AllocError> {
     let Asker::Version(pkg, ordinal) = asker else {
         return Ok(None);
     };

@@ -1,17 +1,13 @@
 // Occurrence lists: for each package the lines that name it, and what is kept of it beside.
 
-ghost use Rattle.std.specs.Prelude.{◌≡◌, IfErr};
-ghost use Rattle.versions.specs.declared.refusal.Refusal.TheVariants.{NoMemory};
-
 use crate::alike::several_depend_alike;
 use crate::covered::Covered;
 use crate::kept::Kept;
 use crate::question::{Question, ROOM};
 use crate::spent::Spent;
 use partial::Partial;
-use std::alloc::Global;
+use std::alloc::{AllocError, Global};
 use terms::{Incompat, Pkg, Relation, Term, relation};
-use versions::Refusal;
 
 /// How many spent lines of a package are passed over before they are put aside: so a package with very many
 /// lines costs no look at each of them whenever it changes, and short lists are left as they are.
@@ -69,9 +65,7 @@ enum Use {
 }
 
 impl Occurrences {
-    pub fn new(alloc: Global) -> Result<Occurrences, Refusal>
-        ensures { IfErr result (λ e. e ≡ NoMemory) }
-    {
+    pub fn new(alloc: Global) -> Result<Occurrences, AllocError> {
         Ok(Occurrences {
             numbers: Vec::with_capacity(alloc, ROOM)?,
             kept: Vec::with_capacity(alloc, ROOM)?,
@@ -95,9 +89,7 @@ impl Occurrences {
     }
 
     /// Begins to keep something of a package that has none.
-    fn add(&mut self, pkg: Pkg, kept: Kept) -> Result<(), Refusal>
-        ensures { IfErr result (λ e. e ≡ NoMemory) }
-    {
+    fn add(&mut self, pkg: Pkg, kept: Kept) -> Result<(), AllocError> {
         for _ in self.numbers.len()..pkg as usize + 1 {
             self.numbers.push(0)?;
         }
@@ -122,9 +114,7 @@ impl Occurrences {
         at: usize,
         entry: &(Pkg, Term),
         other: u32,
-    ) -> Result<(), Refusal>
-        ensures { IfErr result (λ e. e ≡ NoMemory) }
-    {
+    ) -> Result<(), AllocError> {
         let Ok(at) = u32::try_from(at) else {
             return Ok(());
         };
@@ -149,6 +139,7 @@ impl Occurrences {
     }
 
     /// Makes the occurrence of one number the next after that of another, or the first of a package.
+    #[inline(always)]
     fn link(&mut self, pkg: Pkg, before: u32, number: u32) {
         match before.checked_sub(1) {
             None => {
@@ -212,9 +203,6 @@ impl Occurrences {
     /// As `put_back`, for each occurrence of the line at a place. They stand one behind the other, by the
     /// order of the lines.
     fn put_back_line(&mut self, at: usize) {
-        if self.aside == 0 {
-            return;
-        }
         let before = self
             .occurrences
             .as_slice()
@@ -232,12 +220,12 @@ impl Occurrences {
 
     /// Takes back what was spent above a level.
     pub fn backjump(&mut self, spent: &mut Spent, level: usize) {
-        for _ in 0..spent.len() {
-            match spent.pop_above(level) {
-                None => return,
-                Some(at) => self.put_back_line(at),
+        if self.aside > 0 {
+            for (at, _) in spent.above(level).iter().rev() {
+                self.put_back_line(*at);
             }
         }
+        spent.backjump(level);
     }
 
     /// The occurrence of this number, if there is one.
@@ -275,9 +263,7 @@ impl Occurrences {
         pkg: Pkg,
         target: Pkg,
         versions: &Term,
-    ) -> Result<(), Refusal>
-        ensures { IfErr result (λ e. e ≡ NoMemory) }
-    {
+    ) -> Result<(), AllocError> {
         let before = match self.get(pkg) {
             None => return Ok(()),
             Some(kept) => kept.targets,
@@ -290,9 +276,12 @@ impl Occurrences {
     }
 
     /// Notes the line at a place, which concludes this, with each package that it names.
-    pub fn note(&mut self, alloc: Global, conclusion: &Incompat, at: usize) -> Result<(), Refusal>
-        ensures { IfErr result (λ e. e ≡ NoMemory) }
-    {
+    pub fn note(
+        &mut self,
+        alloc: Global,
+        conclusion: &Incompat,
+        at: usize,
+    ) -> Result<(), AllocError> {
         let terms = conclusion.terms();
         if let [one, another] = terms {
             let number = self.next_number();
@@ -307,9 +296,7 @@ impl Occurrences {
 
     /// Whether the dependencies of a version are not all among the lines; they are taken to be from now
     /// on.
-    pub fn enters(&mut self, pkg: Pkg, ordinal: u32) -> Result<bool, Refusal>
-        ensures { IfErr result (λ e. e ≡ NoMemory) }
-    {
+    pub fn enters(&mut self, pkg: Pkg, ordinal: u32) -> Result<bool, AllocError> {
         let Some(kept) = self.get_mut(pkg) else {
             return Ok(true);
         };
@@ -340,9 +327,7 @@ impl Occurrences {
         question: &Question<'_>,
         pkg: Pkg,
         said: &Term,
-    ) -> Result<usize, Refusal>
-        ensures { IfErr result (λ e. e ≡ NoMemory) }
-    {
+    ) -> Result<usize, AllocError> {
         match self.get_mut(pkg) {
             None => Ok(0),
             Some(kept) => Ok(kept.count(question, pkg, said)?),
@@ -412,9 +397,7 @@ impl Occurrences {
         said: &Term,
         spent: &mut Spent,
         ripe: &mut Vec<usize>,
-    ) -> Result<usize, Refusal>
-        ensures { IfErr result (λ e. e ≡ NoMemory) }
-    {
+    ) -> Result<usize, AllocError> {
         let level = partial.level();
         let mut passed = 0usize;
         let mut number = self.after(pkg, 0);
@@ -424,7 +407,7 @@ impl Occurrences {
             };
             let at = occurrence.at as usize;
             if spent.has(at) {
-                passed = passed.saturating_add(1);
+                passed = passed.wrapping_add(1);
             } else {
                 match self.use_of(partial, number, said) {
                     Use::Ripe => ripe.push(at)?,
@@ -445,9 +428,7 @@ impl Occurrences {
         said: &Term,
         spent: &mut Spent,
         ripe: &mut Vec<usize>,
-    ) -> Result<(), Refusal>
-        ensures { IfErr result (λ e. e ≡ NoMemory) }
-    {
+    ) -> Result<(), AllocError> {
         if self.gather_ripe(partial, pkg, said, spent, ripe)? > PASSED {
             self.sweep(pkg, spent);
         }

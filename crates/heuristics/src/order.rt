@@ -1,14 +1,10 @@
 // The order of decisions (doc/solver.md, "Decision Making").
 
-ghost use Rattle.std.specs.Prelude.{◌≡◌, IfErr};
-ghost use Rattle.versions.specs.declared.refusal.Refusal.TheVariants.{NoMemory};
-
 use crate::question::ROOM;
-use std::alloc::Global;
+use std::alloc::{AllocError, Global};
 use std::cmp::Reverse;
 use std::collections::BinaryHeap;
 use terms::Pkg;
-use versions::Refusal;
 
 /// Packages, each with the number of versions that were left of it: the one with the fewest comes first,
 /// of several the one with the lowest number.
@@ -18,9 +14,7 @@ pub(crate) struct Order {
 }
 
 impl Order {
-    pub fn new(alloc: Global) -> Result<Order, Refusal>
-        ensures { IfErr result (λ e. e ≡ NoMemory) }
-    {
+    pub fn new(alloc: Global) -> Result<Order, AllocError> {
         Ok(Order {
             heap: BinaryHeap::with_capacity(alloc, ROOM)?,
         })
@@ -32,9 +26,7 @@ impl Order {
     }
 
     /// Adds a package of which so many versions are left.
-    pub fn add(&mut self, count: usize, pkg: Pkg) -> Result<(), Refusal>
-        ensures { IfErr result (λ e. e ≡ NoMemory) }
-    {
+    pub fn add(&mut self, count: usize, pkg: Pkg) -> Result<(), AllocError> {
         self.heap.push(Reverse((count, pkg)))?;
         Ok(())
     }

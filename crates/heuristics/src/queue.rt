@@ -1,15 +1,13 @@
 // The packages that are to be decided.
 
-ghost use Rattle.std.specs.Prelude.{◌≡◌, IfErr};
-ghost use Rattle.versions.specs.declared.refusal.Refusal.TheVariants.{NoMemory};
+ghost use Rattle.std.specs.Prelude.{◌≡◌};
 
 use crate::occurrences::Occurrences;
 use crate::order::Order;
 use crate::question::{Question, ROOM};
 use partial::Partial;
-use std::alloc::Global;
+use std::alloc::{AllocError, Global};
 use terms::{Pkg, Term};
-use versions::Refusal;
 
 /// Undecided packages with a positive term, in the order in which they are decided.
 #[derive(Drop)]
@@ -37,9 +35,7 @@ fn undecided(partial: &Partial, pkg: Pkg) -> Option<&Term> {
 }
 
 impl Queue {
-    pub fn new(alloc: Global) -> Result<Queue, Refusal>
-        ensures { IfErr result (λ e. e ≡ NoMemory) }
-    {
+    pub fn new(alloc: Global) -> Result<Queue, AllocError> {
         Ok(Queue {
             order: Order::new(alloc)?,
             decided: Vec::with_capacity(alloc, ROOM)?,
@@ -54,9 +50,8 @@ impl Queue {
         occurrences: &mut Occurrences,
         partial: &Partial,
         pkg: Pkg,
-    ) -> Result<(), Refusal>
-        ensures decided { self.new.decided.items ≡ self.old.decided.items }
-        ensures only { IfErr result (λ e. e ≡ NoMemory) }
+    ) -> Result<(), AllocError>
+        ensures { self.new.decided.items ≡ self.old.decided.items }
     {
         if let Some(said) = undecided(partial, pkg) {
             let count = occurrences.count(question, pkg, said)?;
@@ -71,9 +66,7 @@ impl Queue {
         question: &Question<'_>,
         occurrences: &mut Occurrences,
         partial: &Partial,
-    ) -> Result<(), Refusal>
-        ensures { IfErr result (λ e. e ≡ NoMemory) }
-    {
+    ) -> Result<(), AllocError> {
         'decisions: while let Some(pkg) = self.decided.pop() {
             if partial.decision(pkg).is_some() {
                 self.decided.push(pkg)?;
@@ -92,9 +85,7 @@ impl Queue {
         question: &Question<'_>,
         occurrences: &mut Occurrences,
         partial: &Partial,
-    ) -> Result<Option<Pkg>, Refusal>
-        ensures { IfErr result (λ e. e ≡ NoMemory) }
-    {
+    ) -> Result<Option<Pkg>, AllocError> {
         if let Some(pkg) = self.last.take() {
             self.offer(question, occurrences, partial, pkg)?;
         }

@@ -1,14 +1,11 @@
 // Where versions of a package may have the same dependency.
 
-ghost use Rattle.std.specs.Prelude.{◌≡◌, IfErr};
-ghost use Rattle.versions.specs.declared.refusal.Refusal.TheVariants.{NoMemory};
-
 use crate::question::Question;
 use indexmap::IndexMap;
-use std::alloc::Global;
+use std::alloc::{AllocError, Global};
 use std::hash::{DefaultHasher, Hash, Hasher};
 use terms::Pkg;
-use versions::{Name, Need, Refusal};
+use versions::{Name, Need};
 use walk::Asker;
 
 /// Up to this many dependencies of a package are compared with each that is looked for, which takes less
@@ -92,9 +89,7 @@ impl Sharing {
     }
 
     /// Whether the dependencies of a package are listed, which they are from now on if they are many.
-    pub fn lists(&mut self, question: &Question<'_>, pkg: Pkg) -> Result<bool, Refusal>
-        ensures { IfErr result (λ e. e ≡ NoMemory) }
-    {
+    pub fn lists(&mut self, question: &Question<'_>, pkg: Pkg) -> Result<bool, AllocError> {
         if let Some(many) = self.has_many.get(&pkg) {
             return Ok(*many);
         }
@@ -106,9 +101,7 @@ impl Sharing {
         Ok(many)
     }
 
-    fn list_package(&mut self, question: &Question<'_>, pkg: Pkg) -> Result<(), Refusal>
-        ensures { IfErr result (λ e. e ≡ NoMemory) }
-    {
+    fn list_package(&mut self, question: &Question<'_>, pkg: Pkg) -> Result<(), AllocError> {
         for ordinal in 0..question.registry.version_count(pkg) {
             if !is_repeated(question, pkg, ordinal) {
                 self.list_version(question, pkg, ordinal)?;
@@ -122,18 +115,14 @@ impl Sharing {
         question: &Question<'_>,
         pkg: Pkg,
         ordinal: u32,
-    ) -> Result<(), Refusal>
-        ensures { IfErr result (λ e. e ≡ NoMemory) }
-    {
+    ) -> Result<(), AllocError> {
         for (index, entry) in needs(question, pkg, ordinal).iter().enumerate() {
             self.list(pkg, Place { ordinal, index }, entry)?;
         }
         Ok(())
     }
 
-    fn list(&mut self, pkg: Pkg, place: Place, entry: &(Name, Need)) -> Result<(), Refusal>
-        ensures { IfErr result (λ e. e ≡ NoMemory) }
-    {
+    fn list(&mut self, pkg: Pkg, place: Place, entry: &(Name, Need)) -> Result<(), AllocError> {
         let number = self.listed.len().saturating_add(1);
         let before = self.last.insert((pkg, key_of(entry)), number)?.unwrap_or(0);
         self.listed.push(Listed { place, before })?;
@@ -151,9 +140,7 @@ impl Sharing {
         question: &Question<'_>,
         pkg: Pkg,
         entry: &(Name, Need),
-    ) -> Result<(), Refusal>
-        ensures { IfErr result (λ e. e ≡ NoMemory) }
-    {
+    ) -> Result<(), AllocError> {
         self.found.clear();
         let mut number = self.last.get(&(pkg, key_of(entry))).copied().unwrap_or(0);
         for _ in 0..self.listed.len() {
@@ -167,9 +154,12 @@ impl Sharing {
     }
 
     /// Finds a place, and that in each of the next versions that repeat its own.
-    fn find_from(&mut self, question: &Question<'_>, pkg: Pkg, place: Place) -> Result<(), Refusal>
-        ensures { IfErr result (λ e. e ≡ NoMemory) }
-    {
+    fn find_from(
+        &mut self,
+        question: &Question<'_>,
+        pkg: Pkg,
+        place: Place,
+    ) -> Result<(), AllocError> {
         self.found.push(place)?;
         let index = place.index;
         for ordinal in place.ordinal.saturating_add(1)..question.registry.version_count(pkg) {

@@ -1,11 +1,9 @@
 // Lines that nothing follows from until the search jumps back.
 
-ghost use Rattle.std.specs.Prelude.{◌≡◌, IfErr};
-ghost use Rattle.versions.specs.declared.refusal.Refusal.TheVariants.{NoMemory};
+ghost use Rattle.std.specs.Prelude.{◌≤◌, length};
 
 use crate::question::ROOM;
-use std::alloc::Global;
-use versions::Refusal;
+use std::alloc::{AllocError, Global};
 
 /// Lines of which a term is contradicted as long as what was settled stands: those by which something
 /// was derived, and those that were found so.
@@ -24,9 +22,7 @@ fn mark(lines: &mut [bool], at: usize, is_spent: bool) {
 }
 
 impl Spent {
-    pub fn new(alloc: Global) -> Result<Spent, Refusal>
-        ensures { IfErr result (λ e. e ≡ NoMemory) }
-    {
+    pub fn new(alloc: Global) -> Result<Spent, AllocError> {
         Ok(Spent {
             is_spent: Vec::with_capacity(alloc, 2 * ROOM)?,
             order: Vec::with_capacity(alloc, 2 * ROOM)?,
@@ -39,9 +35,7 @@ impl Spent {
     }
 
     /// Notes that the line at a place is spent at a level, unless it is noted.
-    pub fn add(&mut self, at: usize, level: usize) -> Result<(), Refusal>
-        ensures { IfErr result (λ e. e ≡ NoMemory) }
-    {
+    pub fn add(&mut self, at: usize, level: usize) -> Result<(), AllocError> {
         if self.has(at) {
             return Ok(());
         }
@@ -53,19 +47,27 @@ impl Spent {
         Ok(())
     }
 
-    /// How many lines are spent.
-    pub fn len(&self) -> usize {
-        self.order.len()
+    /// How many of what was noted stands at or below a level.
+    fn kept(&self, level: usize) -> usize
+        ensures { result ≤ length self.now.order.items }
+    {
+        self.order
+            .as_slice()
+            .partition_point(|(_, made)| *made <= level)
     }
 
-    /// Takes back what was noted last, if it was above a level, and answers the place of the line.
-    pub fn pop_above(&mut self, level: usize) -> Option<usize> {
-        let (at, made) = *self.order.as_slice().last()?;
-        if made <= level {
-            return None;
+    /// What was noted above a level: the places of the lines, in order.
+    pub fn above(&self, level: usize) -> &[(usize, usize)] {
+        let kept = self.kept(level);
+        &self.order.as_slice()[kept..]
+    }
+
+    /// Takes back what was noted above a level.
+    pub fn backjump(&mut self, level: usize) {
+        let kept = self.kept(level);
+        for (at, _) in &self.order.as_slice()[kept..] {
+            mark(&mut self.is_spent, *at, false);
         }
-        self.order.pop();
-        mark(&mut self.is_spent, at, false);
-        Some(at)
+        self.order.truncate(kept);
     }
 }

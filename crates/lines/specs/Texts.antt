@@ -1,6 +1,7 @@
 -- What a writer takes of a text.
 use Rattle.std.specs.Prelude.{◌≡◌, ℕ, List, ◌++◌, Option, Result, MatchResult}
 use Rattle.std.specs.Io.KnownBytes.{Appends}
+use Rattle.lines.specs.declared.outbox.TheConstants.{OUTBOX_ROOM}
 
 -- front stands at the beginning of the text
 abbrev pub IsBeginning : List ℕ → List ℕ → Type 0
@@ -19,4 +20,4 @@ Puts old new before after r text = (written : List ℕ) × Appends old new writt
 
 -- how many bytes may wait
 abbrev pub outbox_room : ℕ
-outbox_room = 65536
+outbox_room = OUTBOX_ROOM

@@ -2,12 +2,13 @@
 use Rattle.std.specs.Prelude.{◌≡◌, ℕ, ◌<◌, ◌≤◌, Bool, true, false, Option, List, [], ◌∷◌, ◌++◌, length, MatchBool}
 use Rattle.std.specs.Io.KnownBytes.{Consumes, IsAtEnd}
 use Rattle.lines.specs.Lines.{HasNoFeed, line_feed}
+use Rattle.lines.specs.declared.buffer.TheConstants.{LINE_LIMIT}
 use Rattle.lines.specs.declared.buffer.Next.{Next}
 use Rattle.lines.specs.declared.buffer.Next.TheVariants.{Line, TooLong, More}
 
 -- the most bytes that a line may have without its line feed
 abbrev pub line_limit : ℕ
-line_limit = 1048576
+line_limit = LINE_LIMIT
 
 -- what a line buffer holds
 pub record Unread : Type 0 where

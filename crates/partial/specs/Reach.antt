@@ -4,12 +4,18 @@ use Rattle.terms.specs.Terms.{true_of}
 use Rattle.terms.specs.declared.term.Term.{Term}
 use Rattle.partial.specs.declared.assignment.Assignment.{Assignment}
 use Rattle.partial.specs.Assignments.{says}
-use Rattle.partial.specs.Ledger.{IsPlaceOn}
+use Rattle.partial.specs.Ledger.{IsPlaceOn, through}
 use Rattle.partial.specs.Satisfying.{Satisfied, SatisfiedBut}
 
 -- the assignments leave of the package no choice of which the term is false
 abbrev pub Holds : List Assignment → ℕ → Term → Type 0
 Holds made pkg term = (choice : Option ℕ) → says made pkg choice ≡ true → true_of term choice ≡ true
+
+-- the term holds with the assignments up to the place, which is one on the package before another, or with none
+pub record IsHeldBefore (made : List Assignment) (pkg : ℕ) (term : Term) (at : ℕ) (place : Option ℕ) : Type 0 where
+  pub on : IsPlaceOn made pkg place
+  pub before : through place ≤ at
+  pub holds : Holds (take (through place) made) pkg term
 
 -- the fact holds of the number, and of none below it
 abbrev pub IsLeast : (ℕ → Type 0) → ℕ → Type 0

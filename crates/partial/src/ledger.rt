@@ -18,6 +18,27 @@ pub(crate) struct Note {
     pub(crate) decided: Option<u32>,
     /// The place of the one before it on its package.
     pub(crate) earlier: Option<usize>,
+    /// A jump further back on the package. No proof rests on it: where it leads is looked at.
+    pub(crate) jump: Jump,
+}
+
+/// Up to so many assignments on a package a walk along them is as short as one by jumps.
+pub(crate) const SHALLOW: usize = 8;
+
+/// Before the first assignment on a package.
+const START: Jump = Jump {
+    depth: 0,
+    far: None,
+};
+
+/// Where a jump back along a package leads. Beyond the first few, each place before is reached by few jumps
+/// and steps: Myers, "An applicative random-access stack", 1983.
+#[derive(Clone, Copy)]
+pub(crate) struct Jump {
+    /// How many assignments on the package there are up to this one.
+    pub(crate) depth: usize,
+    /// The place where the jump ends, if it does not end before all of them.
+    pub(crate) far: Option<usize>,
 }
 
 /// The assignments in order, a note beside each, and for each package the place of its last one.
@@ -57,6 +78,32 @@ pub(crate) fn with_room(alloc: Global, room: usize) -> Result<Ledger, AllocError
         heads: Vec::with_capacity(alloc, room)?,
         any,
     })
+}
+
+/// The jump from a place, or from none.
+fn jump_at(notes: &[Note], place: Option<usize>) -> Jump {
+    match place {
+        None => START,
+        Some(at) => notes.get(at).map_or(START, |note| note.jump),
+    }
+}
+
+/// The jump from the assignment that follows on its package to the one at a place: as far as two jumps from
+/// there, if they are equally long, else to there.
+#[inline(always)]
+fn jump_from(notes: &[Note], last: Option<usize>) -> Jump {
+    let one = jump_at(notes, last);
+    let depth = one.depth.saturating_add(1);
+    if depth <= SHALLOW {
+        return Jump { depth, far: last };
+    }
+    let two = jump_at(notes, one.far);
+    let three = jump_at(notes, two.far);
+    let is_double = one.depth.saturating_sub(two.depth) == two.depth.saturating_sub(three.depth);
+    Jump {
+        depth,
+        far: if is_double { two.far } else { last },
+    }
 }
 
 /// The place of the last assignment on a package.
@@ -182,12 +229,14 @@ fn put(ledger: &mut Ledger, a: Assignment, last: Option<usize>, said: Term)
         Why::Decided(ordinal) => Some(ordinal),
         Why::Derived(_) => decided_at(ledger, last),
     };
+    let jump = jump_from(&ledger.notes, last);
     let place = ledger.made.len();
     enter(&mut ledger.heads, a.pkg, Some(place));
     let note = Note {
         said,
         decided,
         earlier: last,
+        jump,
     };
     ledger.notes.push(note).unwrap();
     ledger.made.push(a).unwrap();

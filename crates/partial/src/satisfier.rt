@@ -1,14 +1,14 @@
 // The satisfier of an incompatibility, and the previous level.
 
-ghost use Rattle.std.specs.Prelude.{◌≡◌, ◌≤◌, ◌<◌, ◌||◌, Option, ℕ, length, not, take, true, false, IfOk};
+ghost use Rattle.std.specs.Prelude.{◌≡◌, ◌≤◌, ◌<◌, ◌+◌, ◌||◌, Option, Some, ℕ, length, not, take, true, false, IfNone, IfOk, IfSome};
 ghost use Rattle.terms.specs.Incompats.{IsIncompat};
 ghost use Rattle.terms.specs.Terms.{true_of, Exception, Implies};
 ghost use Rattle.partial.specs.Assignments.{LevelsFrom};
 ghost use Rattle.partial.specs.Ledger.{through, IsLedger, IsPlaceOn};
-ghost use Rattle.partial.specs.Reach.{Holds, IsReach, IsShortestOn};
+ghost use Rattle.partial.specs.Reach.{Holds, IsHeldBefore, IsReach, IsShortestOn};
 ghost use Rattle.partial.specs.Satisfying.{Satisfied, IsSatisfier};
 
-use crate::ledger::{Ledger, last_on, level_of, said_at};
+use crate::ledger::{Ledger, SHALLOW, last_on, level_of, said_at};
 use std::alloc::{AllocError, Global};
 use terms::{Pkg, Relation, Term, relation};
 
@@ -36,8 +36,60 @@ fn implies(said: &Term, term: &Term) -> bool
     }
 }
 
+/// Whether a place, if it is one, is before another, with an assignment on a package.
+fn is_before(ledger: &Ledger, place: Option<usize>, at: usize, pkg: Pkg) -> bool
+    ensures { result ≡ true → IsPlaceOn ledger.now.made.items pkg place × (through place ≤ at) }
+{
+    match place {
+        None => true,
+        Some(far) => match ledger.made.as_slice().get(far) {
+            None => false,
+            Some(a) => far < at && a.pkg == pkg,
+        },
+    }
+}
+
+/// The place where a jump back along a package ends, if the term holds with the assignments up to there.
+#[inline(always)]
+fn jump(ledger: &Ledger, at: usize, entry: &(Pkg, Term)) -> Option<Option<usize>>
+    requires kept { IsLedger ledger.now }
+    requires on { IsPlaceOn ledger.now.made.items entry.now.0 (Some at) }
+    ensures { IfSome result (IsHeldBefore ledger.now.made.items entry.now.0 entry.now.1 at) }
+{
+    let note = &ledger.notes[at];
+    let far = note.jump.far;
+    if note.jump.depth <= SHALLOW || far == note.earlier || !is_before(ledger, far, at, entry.0) {
+        return None;
+    }
+    if implies(said_at(ledger, far), &entry.1) {
+        Some(far)
+    } else {
+        None
+    }
+}
+
+/// A place further back on a package up to which the term holds, if it does not only do from this one on.
+#[inline(always)]
+fn step_back(ledger: &Ledger, at: usize, entry: &(Pkg, Term)) -> Option<Option<usize>>
+    requires kept { IsLedger ledger.now }
+    requires on { IsPlaceOn ledger.now.made.items entry.now.0 (Some at) }
+    requires holds { Holds (take (through (Some at)) ledger.now.made.items) entry.now.0 entry.now.1 }
+    ensures some { IfSome result (IsHeldBefore ledger.now.made.items entry.now.0 entry.now.1 at) }
+    ensures none { IfNone result (IsShortestOn ledger.now.made.items entry.now.0 entry.now.1 (at + 1)) }
+{
+    if let Some(far) = jump(ledger, at, entry) {
+        return Some(far);
+    }
+    let earlier = ledger.notes[at].earlier;
+    if implies(said_at(ledger, earlier), &entry.1) {
+        Some(earlier)
+    } else {
+        None
+    }
+}
+
 /// How many assignments it takes, from the first on, until a package's term must hold, where it must
-/// with those up to the place `last`. This looks at the assignments on that package alone.
+/// with those up to the place `last`. This looks at few of the assignments on that package, and at no other.
 fn shortest_on(ledger: &Ledger, last: Option<usize>, entry: &(Pkg, Term)) -> usize
     requires kept { IsLedger ledger.now }
     requires on { IsPlaceOn ledger.now.made.items entry.now.0 last }
@@ -45,14 +97,12 @@ fn shortest_on(ledger: &Ledger, last: Option<usize>, entry: &(Pkg, Term)) -> usi
     ensures shortest { IsShortestOn ledger.now.made.items entry.now.0 entry.now.1 result }
     ensures within { result ≤ through last }
 {
-    let notes = ledger.notes.as_slice();
     let mut place = last;
     'walk: while let Some(at) = place {
-        let note = &notes[at];
-        if !implies(said_at(ledger, note.earlier), &entry.1) {
-            return at + 1;
+        match step_back(ledger, at, entry) {
+            None => return at + 1,
+            Some(before) => place = before,
         }
-        place = note.earlier;
     }
     0
 }

@@ -5,7 +5,7 @@ ghost use Rattle.book.specs.Items.{refusal};
 
 use crate::item_texts::{ItemText, item_at};
 use book::{Item, Replica};
-use rows::{Answer, StoreText, Unread, all_stand, count, member, shown};
+use rows::{Answer, Unread, all_stand, count, member, shown};
 use serde_json::Value;
 use std::alloc::Global;
 
@@ -16,19 +16,10 @@ pub fn book_call(
     row: &Value,
 ) -> Result<Answer, Unread> {
     match name {
-        "stored" => shown(alloc, &StoreText(replica.store())),
+        "stored" => shown(alloc, replica.store()),
         "standing" => Ok(standing(replica)),
-        _ => item_call(alloc, replica, name, row),
+        _ => about_item(alloc, replica, name, row, &item_at(alloc, row)?),
     }
-}
-
-fn item_call(
-    alloc: Global,
-    replica: &mut Replica,
-    name: &str,
-    row: &Value,
-) -> Result<Answer, Unread> {
-    about_item(alloc, replica, name, row, &item_at(alloc, row)?)
 }
 
 fn about_item(
@@ -41,7 +32,7 @@ fn about_item(
     match name {
         "check" => check(replica, item),
         "judge" => judge(replica, row, item),
-        "shared" => shared(alloc, replica, item),
+        "shared" => shown(alloc, &ItemText(&replica.shared(item)?)),
         "reserve" => reserve(replica, item),
         "apply" => apply(replica, item),
         "enter" => enter(replica, item),
@@ -69,11 +60,6 @@ fn judge(replica: &Replica, row: &Value, item: &Item) -> Result<Answer, Unread> 
     let full = member(row, "full")?.as_bool().ok_or(Unread::Row)?;
     replica.judge(full, item)?;
     Ok(Answer::None)
-}
-
-/// The equal item that the book answers.
-fn shared(alloc: Global, replica: &Replica, item: &Item) -> Result<Answer, Unread> {
-    shown(alloc, &ItemText(&replica.shared(item)?))
 }
 
 fn reserve(replica: &mut Replica, item: &Item) -> Result<Answer, Unread> {

@@ -1,12 +1,11 @@
 //! Calls of by_name: derivations by name and by number.
 
-use crate::texts::Quoted;
 use crate::wire_calls::{check_at, derivation_at};
 use by_name::{NamedDerivation, derived_packages_have_names, named, numbered};
 use derivations::{Derivation, check};
 use registry::{Registry, Request};
 use replies::Explained;
-use rows::{Answer, Unread};
+use rows::{Answer, Unread, shown};
 use serde_json::Value;
 use std::alloc::Global;
 
@@ -60,6 +59,5 @@ fn again_told(
 ) -> Result<Answer, Unread> {
     let stands = numbered(alloc, registry, &named)?.is_some();
     let explained = Explained::new(alloc, named, Vec::new(alloc))?;
-    let text = Quoted(explained.derivation_text());
-    Ok(Answer::Text(format!(in alloc; "[{stands},{text}]")?))
+    shown(alloc, &(stands, explained.derivation_text()))
 }

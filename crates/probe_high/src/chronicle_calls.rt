@@ -3,7 +3,7 @@
 
 ghost use Rattle.std.specs.Prelude.{◌≡◌, ◌≤◌, IfOk};
 
-use crate::seat_steps::{made, seat_step};
+use crate::seat_steps::seat_step;
 use chronicle::{CAPACITY_LIMIT, Mark, Row, SEAT_LIMIT, Seat, agree, seats};
 use rows::{Answer, Answers, Unread, all_stand, items, member, size_at, text, whole};
 use serde_json::Value;
@@ -64,7 +64,7 @@ fn with_first<'a>(
 }
 
 /// The last of so many seats.
-fn last_of<'a>(alloc: Global, cells: &'a Row, count: u32) -> Result<Seat<'a>, Unread>
+pub fn last_of<'a>(alloc: Global, cells: &'a Row, count: u32) -> Result<Seat<'a>, Unread>
     requires { (1 ≤ count) × (count ≤ 64) }
     ensures { IfOk result (λ s. s.row ≡ cells.now) }
 {
@@ -83,7 +83,7 @@ fn all_told<'a>(
 ) -> Result<Answer, Unread>
     requires { first.old.row ≡ second.old.row }
 {
-    let mut mark = made(first)?;
+    let mut mark = first.mark()?;
     let mut answers = Answers::new(alloc);
     take_all(alloc, steps, first, second, &mut mark, &mut answers)?;
     answers.told(alloc)

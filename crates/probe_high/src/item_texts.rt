@@ -1,7 +1,7 @@
 //! Items of rows and of answers.
 
 use book::Item;
-use rows::{CommandText, Unread, command_of, learnt_at, text_at, write_terms};
+use rows::{Shows, Unread, as_told, command_of, learnt_at, text_at};
 use serde_json::Value;
 use std::alloc::Global;
 use std::fmt;
@@ -18,15 +18,11 @@ pub fn item_at(alloc: Global, row: &Value) -> Result<Item, Unread> {
 #[derive(Clone, Copy)]
 pub struct ItemText<'a>(pub &'a Item);
 
-impl fmt::Display for ItemText<'_> {
-    fn fmt<W: fmt::Write>(&self, f: &mut fmt::Formatter<W>) -> fmt::Result {
+impl Shows for ItemText<'_> {
+    fn show<W: fmt::Write>(&self, f: &mut fmt::Formatter<W>) -> fmt::Result {
         match self.0 {
-            Item::Command(command) => write!(f, "{}", CommandText(command)),
-            Item::Learnt(learnt) => {
-                f.write_str("[\"learn\",")?;
-                write_terms(f, learnt.conclusion().terms())?;
-                f.write_str("]")
-            }
+            Item::Command(command) => command.show(f),
+            Item::Learnt(learnt) => write!(f, "[\"learn\",{}]", as_told(learnt)),
         }
     }
 }

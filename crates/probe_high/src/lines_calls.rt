@@ -1,9 +1,9 @@
 //! Calls of lines: a reader or a writer, and steps over it in one call.
 
 use crate::fakes::{Narrow, Pieces};
-use crate::texts::{both_told, bytes, end_of, failure, told};
+use crate::texts::{Bytes, both_told, end_of, failure, told};
 use lines::{LineBuffer, Next, Outbox, count_lines, first_line, write_text, write_texts};
-use rows::{Answer, Answers, Unread, items, list, member, text, text_at};
+use rows::{Answer, Answers, Given, Unread, at, items, member, text, text_at};
 use serde_json::Value;
 use std::alloc::Global;
 use std::io;
@@ -36,13 +36,13 @@ fn first(alloc: Global, row: &Value) -> Result<Answer, Unread> {
 /// A reader gives the text of a row, and `then` once it is renewed. The steps are taken in turn; each one's answer is
 /// told: a line as its text, `null` where none has ended, and of a read whether anything came.
 fn read(alloc: Global, row: &Value) -> Result<Answer, Unread> {
-    let text = bytes(alloc, member(row, "text")?)?;
-    read_first(alloc, row, &text)
-}
-
-fn read_first(alloc: Global, row: &Value, text: &[u8]) -> Result<Answer, Unread> {
-    let then = bytes(alloc, member(row, "then")?)?;
-    taken(alloc, row, &mut Pieces::new(row, text, &then)?)
+    let text = at::<Bytes>(alloc, row, "text")?;
+    let then = at::<Bytes>(alloc, row, "then")?;
+    taken(
+        alloc,
+        row,
+        &mut Pieces::new(row, text.as_slice(), then.as_slice())?,
+    )
 }
 
 fn taken(alloc: Global, row: &Value, reader: &mut Pieces<'_>) -> Result<Answer, Unread> {
@@ -244,8 +244,16 @@ fn text_step(
     outbox: &mut Outbox,
 ) -> Result<Answer, Unread> {
     match name {
-        "put" | "write_text" => put_text(name, &bytes(alloc, given)?, writer, outbox),
-        _ => put_texts(alloc, name, &list(alloc, given, bytes)?, writer, outbox),
+        "put" | "write_text" => {
+            put_text(name, Bytes::of(alloc, given)?.as_slice(), writer, outbox)
+        },
+        _ => put_texts(
+            alloc,
+            name,
+            &<Vec<Bytes>>::of(alloc, given)?,
+            writer,
+            outbox,
+        ),
     }
 }
 
@@ -266,7 +274,7 @@ fn put_text(
 fn put_texts(
     alloc: Global,
     name: &str,
-    texts: &[Vec<u8>],
+    texts: &[Bytes],
     writer: &mut Narrow,
     outbox: &mut Outbox,
 ) -> Result<Answer, Unread> {
@@ -286,7 +294,7 @@ fn put_lent(
     }
 }
 
-fn lent<'t>(alloc: Global, texts: &'t [Vec<u8>]) -> Result<Vec<&'t [u8]>, Unread> {
+fn lent<'t>(alloc: Global, texts: &'t [Bytes]) -> Result<Vec<&'t [u8]>, Unread> {
     let mut all = Vec::new(alloc);
     for text in texts {
         all.push(text.as_slice())?;

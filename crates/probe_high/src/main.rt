@@ -1,5 +1,5 @@
 //! The program `probe_high`: makes one call of `lines`, `explain`, `by_name`, `wire`, `replies`, `journals`, `solver`,
-//! `book` or `chronicle` for each row that it reads, and writes what the call answered.
+//! `book`, `chronicle` or `pool` for each row that it reads, and writes what the call answered.
 //!
 //! A call is guarded by what the crate offers to test what the call requires; where that does not hold, the answer
 //! says that the call was left out.
@@ -11,21 +11,28 @@ mod chronicle_calls;
 mod explain_calls;
 mod fakes;
 mod item_texts;
+mod jobs_calls;
 mod journal_calls;
 mod lines_calls;
+mod order;
 mod outcomes;
+mod pool_calls;
 mod reply_calls;
 mod seat_steps;
 mod session;
 mod solver_calls;
 mod texts;
+mod thread_calls;
 mod wire_calls;
 
-use rows::serve;
+use rows::tell;
 use session::Session;
 use std::io;
 
 fn main(rt: HostRuntime) -> io::Result<()> {
     let mut session = Session::new(rt.alloc());
-    serve(&rt, &mut session)
+    for line in rt.lines(rt.alloc()) {
+        tell(&rt, session.answer_to(&rt, line?.as_str()))?;
+    }
+    Ok(())
 }

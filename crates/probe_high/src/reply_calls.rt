@@ -1,18 +1,16 @@
-//! Calls of replies: what is told, and the lines that tell it.
+//! Calls of replies: what is told, and the lines that tell it; and lock lists.
 
 use crate::fakes::Narrow;
 use crate::texts::{both_told, written};
 use crate::wire_calls::derivation_at;
 use lines::Outbox;
 use registry::Registry;
-use replies::{Body, Explained, Listing, Reply, Spot, reply_line};
-use rows::{
-    Answer, Unread, list, lock_at, member, refusal, size_at, text, text_at, whole, whole_at,
-};
+use replies::{Body, Explained, Listing, Reply, Spot, reply_line, write_lock};
+use rows::{Answer, Unread, at, member, refusal, size_at, text_at, whole, whole_at};
 use serde_json::Value;
 use std::alloc::Global;
 use std::io;
-use versions::Refusal;
+use versions::{Name, Published, Refusal};
 
 pub fn replies_call(
     alloc: Global,
@@ -23,23 +21,23 @@ pub fn replies_call(
     match name {
         "explained" => rewritten(alloc, row),
         "reply_line" => reply_call(alloc, registry, row),
+        "write_lock" => lock_list(alloc, row),
         _ => Err(Unread::Row),
     }
+}
+
+/// The lock lines of the row are written.
+fn lock_list(alloc: Global, row: &Value) -> Result<Answer, Unread> {
+    let mut writer = Narrow::new(alloc, row)?;
+    let mut lines = at::<Vec<(Name, Published)>>(alloc, row, "lock")?;
+    let outcome = write_lock(alloc, &mut lines, &mut writer);
+    written(alloc, &writer, &outcome)
 }
 
 /// The derivation of a check line with texts that explain it.
 fn explained_at(alloc: Global, row: &Value) -> Result<Explained, Unread> {
     let derivation = derivation_at(alloc, row)?;
-    let texts = texts_at(alloc, row)?;
-    Ok(Explained::new(alloc, derivation, texts)?)
-}
-
-fn texts_at(alloc: Global, row: &Value) -> Result<Vec<String>, Unread> {
-    list(alloc, member(row, "texts")?, copied)
-}
-
-fn copied(alloc: Global, value: &Value) -> Result<String, Unread> {
-    Ok(String::from_str(alloc, text(value)?)?)
+    Ok(Explained::new(alloc, derivation, at(alloc, row, "texts")?)?)
 }
 
 /// The JSON of a derivation and of its explanation, each as a text, so that every byte counts.
@@ -80,7 +78,7 @@ fn is_yes(row: &Value) -> bool {
 
 /// The lock lines of the row are the selection.
 fn selection(alloc: Global, row: &Value) -> Result<Answer, Unread> {
-    let lock = lock_at(alloc, row)?;
+    let lock = at::<Vec<(Name, Published)>>(alloc, row, "lock")?;
     put(alloc, row, Body::Selection(&lock))
 }
 

@@ -9,14 +9,13 @@ use chronicle::{Entry, Mark, Seat, Stamp};
 use derivations::Learnt;
 use registry::Request;
 use rows::{
-    Answer, LockText, StoreText, Unread, command_of, count, learnt_at, name_at, needs_at,
-    request_at, shown, text_at, version_at,
+    Answer, Shows, Unread, as_told, at, command_of, count, learnt_at, request_at, shown, text_at,
 };
 use serde_json::Value;
 use solver::Outcome;
 use std::alloc::Global;
 use std::fmt;
-use versions::Refusal;
+use versions::{Name, Need, Published, Refusal};
 
 pub fn seat_step<'a>(
     alloc: Global,
@@ -30,25 +29,11 @@ pub fn seat_step<'a>(
     ensures mark { mark.new.row ≡ seat.old.row }
 {
     match name {
-        "mark" => marked(seat, mark),
-        "meet" => end_told(met(seat, mark)),
-        _ => step_alone(alloc, name, given, seat),
-    }
-}
-
-fn step_alone(
-    alloc: Global,
-    name: &str,
-    given: &Value,
-    seat: &mut Seat<'_>,
-) -> Result<Answer, Unread>
-    ensures { seat.new.row ≡ seat.old.row }
-{
-    match name {
-        "publish" | "yank" | "unyank" | "enter" | "learn" => entered_told(alloc, name, given, seat),
+        "mark" | "meet" | "catch_up" | "publish" | "yank" | "unyank" | "enter" | "learn" => {
+            changed_told(alloc, name, given, seat, mark)
+        }
         "resolve" => resolve(alloc, false, given, seat),
         "resolve_and_learn" => resolve(alloc, true, given, seat),
-        "catch_up" => end_told(caught_up(seat)),
         _ => about(alloc, name, seat),
     }
 }
@@ -62,7 +47,7 @@ fn about(alloc: Global, name: &str, seat: &Seat<'_>) -> Result<Answer, Unread> {
         "number" => Ok(Answer::Number(seat.number() as usize)),
         "registry" => Ok(Answer::Number(seat.registry().revision() as usize)),
         "journal" => shown(alloc, &JournalText(seat.journal())),
-        "stored" => shown(alloc, &StoreText(seat.store())),
+        "stored" => shown(alloc, seat.store()),
         _ => Err(Unread::Row),
     }
 }
@@ -71,78 +56,42 @@ fn about(alloc: Global, name: &str, seat: &Seat<'_>) -> Result<Answer, Unread> {
 #[derive(Clone, Copy)]
 struct JournalText<'a>(&'a [&'a Entry]);
 
-impl fmt::Display for JournalText<'_> {
-    fn fmt<W: fmt::Write>(&self, f: &mut fmt::Formatter<W>) -> fmt::Result {
+impl Shows for JournalText<'_> {
+    fn show<W: fmt::Write>(&self, f: &mut fmt::Formatter<W>) -> fmt::Result {
         let mut before = "";
         f.write_str("[")?;
         for entry in self.0 {
-            write_entry(f, before, *entry)?;
+            f.write_str(before)?;
+            write_entry(f, *entry)?;
             before = ",";
         }
         f.write_str("]")
     }
 }
 
-fn write_entry<W: fmt::Write>(
-    f: &mut fmt::Formatter<W>,
-    before: &str,
-    entry: &Entry,
-) -> fmt::Result {
+fn write_entry<W: fmt::Write>(f: &mut fmt::Formatter<W>, entry: &Entry) -> fmt::Result {
     let seat = entry.seat;
     let serial = entry.serial;
     let item = ItemText(&entry.item);
-    write!(f, "{before}[{seat},{serial},{item}]")
+    write!(f, "[{seat},{serial},{}]", as_told(&item))
 }
 
-// ---- marks
+// ---- marking, meeting and entering
 
-/// What a seat had seen is kept until the next mark is made; the answer is its place.
-fn marked<'a>(seat: &mut Seat<'a>, mark: &mut Mark<'a>) -> Result<Answer, Unread>
+fn changed_told<'a>(
+    alloc: Global,
+    name: &str,
+    given: &Value,
+    seat: &mut Seat<'a>,
+    mark: &mut Mark<'a>,
+) -> Result<Answer, Unread>
     requires { mark.old.row ≡ seat.old.row }
     ensures seat { seat.new.row ≡ seat.old.row }
     ensures mark { mark.new.row ≡ seat.old.row }
 {
-    *mark = made(seat)?;
-    Ok(Answer::Number(mark.place()))
-}
-
-/// A mark, which is made again where memory is refused.
-pub fn made<'a>(seat: &mut Seat<'a>) -> Result<Mark<'a>, Refusal>
-    ensures mark { IfOk result (λ m. m.row ≡ seat.old.row) }
-    ensures seat { seat.new.row ≡ seat.old.row }
-{
-    match seat.mark() {
-        Err(Refusal::NoMemory) => seat.mark(),
-        outcome => outcome,
-    }
-}
-
-/// Meets a mark, and once more where memory is refused.
-fn met<'a>(seat: &mut Seat<'a>, mark: &mut Mark<'a>) -> Result<(), Refusal>
-    requires { mark.old.row ≡ seat.old.row }
-    ensures seat { seat.new.row ≡ seat.old.row }
-    ensures mark { mark.new ≡ mark.old }
-{
-    match seat.meet(mark) {
-        Err(Refusal::NoMemory) => seat.meet(mark),
-        outcome => outcome,
-    }
-}
-
-/// Catches up, and once more where memory is refused.
-fn caught_up(seat: &mut Seat<'_>) -> Result<(), Refusal>
-    ensures { seat.new.row ≡ seat.old.row }
-{
-    match seat.catch_up() {
-        Err(Refusal::NoMemory) => seat.catch_up(),
-        outcome => outcome,
-    }
-}
-
-fn end_told(outcome: Result<(), Refusal>) -> Result<Answer, Unread> {
-    match outcome {
-        Ok(()) => Ok(Answer::None),
-        Err(why) => refusal_told(Unread::Refused(why)),
+    match changed_again(alloc, name, given, seat, mark) {
+        Err(why) => refusal_told(why),
+        answer => answer,
     }
 }
 
@@ -155,7 +104,53 @@ fn refusal_told(why: Unread) -> Result<Answer, Unread> {
     }
 }
 
-// ---- entering
+/// Takes a step, and once more where memory is refused: then it has done nothing.
+fn changed_again<'a>(
+    alloc: Global,
+    name: &str,
+    given: &Value,
+    seat: &mut Seat<'a>,
+    mark: &mut Mark<'a>,
+) -> Result<Answer, Unread>
+    requires { mark.old.row ≡ seat.old.row }
+    ensures seat { seat.new.row ≡ seat.old.row }
+    ensures mark { mark.new.row ≡ seat.old.row }
+{
+    match changed(alloc, name, given, seat, mark) {
+        Err(Unread::Refused(Refusal::NoMemory)) => changed(alloc, name, given, seat, mark),
+        outcome => outcome,
+    }
+}
+
+/// Takes a step whose answer takes no memory. What a seat had seen is kept until the next mark is made; the answer of
+/// that is its place.
+fn changed<'a>(
+    alloc: Global,
+    name: &str,
+    given: &Value,
+    seat: &mut Seat<'a>,
+    mark: &mut Mark<'a>,
+) -> Result<Answer, Unread>
+    requires { mark.old.row ≡ seat.old.row }
+    ensures seat { seat.new.row ≡ seat.old.row }
+    ensures mark { mark.new.row ≡ seat.old.row }
+{
+    match name {
+        "mark" => {
+            *mark = seat.mark()?;
+            Ok(Answer::Number(mark.place()))
+        }
+        "meet" => {
+            seat.meet(mark)?;
+            Ok(Answer::None)
+        }
+        "catch_up" => {
+            seat.catch_up()?;
+            Ok(Answer::None)
+        }
+        _ => entered_told(alloc, name, given, seat),
+    }
+}
 
 fn entered_told(
     alloc: Global,
@@ -165,25 +160,8 @@ fn entered_told(
 ) -> Result<Answer, Unread>
     ensures { seat.new.row ≡ seat.old.row }
 {
-    match entered_again(alloc, name, given, seat) {
-        Ok(stamp) => Ok(Answer::Places(stamp.place, stamp.revision as usize)),
-        Err(why) => refusal_told(why),
-    }
-}
-
-/// Enters an item, and once more where memory is refused: then nothing was entered.
-fn entered_again(
-    alloc: Global,
-    name: &str,
-    given: &Value,
-    seat: &mut Seat<'_>,
-) -> Result<Stamp, Unread>
-    ensures { seat.new.row ≡ seat.old.row }
-{
-    match entered(alloc, name, given, seat) {
-        Err(Unread::Refused(Refusal::NoMemory)) => entered(alloc, name, given, seat),
-        outcome => outcome,
-    }
+    let stamp = entered(alloc, name, given, seat)?;
+    Ok(Answer::Places(stamp.place, stamp.revision as usize))
 }
 
 fn entered(alloc: Global, name: &str, given: &Value, seat: &mut Seat<'_>) -> Result<Stamp, Unread>
@@ -193,16 +171,16 @@ fn entered(alloc: Global, name: &str, given: &Value, seat: &mut Seat<'_>) -> Res
         "publish" => published(alloc, given, seat),
         "yank" | "unyank" => yanked(alloc, name, given, seat),
         "learn" => Ok(seat.learn(learnt_at(alloc, given)?)?),
-        _ => command_entered(alloc, given, seat),
+        _ => Ok(seat.enter(command_of(alloc, text_at(given, "op")?, given)?)?),
     }
 }
 
 fn published(alloc: Global, given: &Value, seat: &mut Seat<'_>) -> Result<Stamp, Unread>
     ensures { seat.new.row ≡ seat.old.row }
 {
-    let name = name_at(alloc, given, "name")?;
-    let version = version_at(alloc, given, "version")?;
-    let needs = needs_at(alloc, given)?;
+    let name = at::<Name>(alloc, given, "name")?;
+    let version = at::<Published>(alloc, given, "version")?;
+    let needs = at::<Vec<(Name, Need)>>(alloc, given, "needs")?;
     Ok(seat.publish(name, version, needs)?)
 }
 
@@ -210,18 +188,12 @@ fn published(alloc: Global, given: &Value, seat: &mut Seat<'_>) -> Result<Stamp,
 fn yanked(alloc: Global, kind: &str, given: &Value, seat: &mut Seat<'_>) -> Result<Stamp, Unread>
     ensures { seat.new.row ≡ seat.old.row }
 {
-    let name = name_at(alloc, given, "name")?;
-    let version = version_at(alloc, given, "version")?;
+    let name = at::<Name>(alloc, given, "name")?;
+    let version = at::<Published>(alloc, given, "version")?;
     match kind {
         "yank" => Ok(seat.yank(name, version)?),
         _ => Ok(seat.unyank(name, version)?),
     }
-}
-
-fn command_entered(alloc: Global, given: &Value, seat: &mut Seat<'_>) -> Result<Stamp, Unread>
-    ensures { seat.new.row ≡ seat.old.row }
-{
-    Ok(seat.enter(command_of(alloc, text_at(given, "op")?, given)?)?)
 }
 
 // ---- resolving
@@ -281,8 +253,7 @@ fn learnt_told(
 {
     learn_all(alloc, offered(outcome), seat)?;
     let stored = count(seat.store());
-    let resolved = ResolvedText { stamp, outcome };
-    Ok(Answer::Text(format!(in alloc; "[{resolved},{stored}]")?))
+    shown(alloc, &(ResolvedText { stamp, outcome }, stored))
 }
 
 fn learn_all(alloc: Global, offered: &[Learnt], seat: &mut Seat<'_>) -> Result<(), Unread>
@@ -337,13 +308,13 @@ struct ResolvedText<'a> {
     outcome: &'a Outcome,
 }
 
-impl fmt::Display for ResolvedText<'_> {
-    fn fmt<W: fmt::Write>(&self, f: &mut fmt::Formatter<W>) -> fmt::Result {
+impl Shows for ResolvedText<'_> {
+    fn show<W: fmt::Write>(&self, f: &mut fmt::Formatter<W>) -> fmt::Result {
         let place = self.stamp.place;
         let revision = self.stamp.revision;
         write!(f, "{{\"at\":[{place},{revision}],\"selected\":")?;
         match self.outcome {
-            Outcome::Selection(list, _) => write!(f, "{}}}", LockText(list)),
+            Outcome::Selection(items, _) => write!(f, "{}}}", as_told(items)),
             Outcome::Refused(_, _) => f.write_str("null}"),
         }
     }

@@ -4,16 +4,21 @@ use crate::book_calls::book_call;
 use crate::by_name_calls::by_name_call;
 use crate::chronicle_calls::chronicle_call;
 use crate::explain_calls::explain_call;
+use crate::jobs_calls::jobs_call;
 use crate::journal_calls::journal_call;
 use crate::lines_calls::lines_call;
+use crate::pool_calls::pool_call;
 use crate::reply_calls::replies_call;
 use crate::solver_calls::solver_call;
+use crate::thread_calls::thread_call;
 use crate::wire_calls::wire_call;
 use book::Replica;
 use registry::Registry;
-use rows::{Answer, Calls, Unread, command_call, derivation_check};
+use rows::{Answer, Unread, command_call, derivation_check, row_of, text_at};
 use serde_json::Value;
 use std::alloc::Global;
+use std::sync::Wait;
+use std::thread::Threads;
 
 /// A registry, and a book that has one of its own, until a row asks for new ones.
 #[derive(Drop)]
@@ -29,17 +34,32 @@ impl Session {
             replica: Replica::new(alloc),
         }
     }
-}
 
-impl<R: AllocGlobal> Calls<R> for Session {
-    fn call(&mut self, rt: &R, of: &str, name: &str, row: &Value) -> Result<Answer, Unread> {
+    /// Makes the call that the row of a line names.
+    pub fn answer_to<R: AllocGlobal + Threads + Wait + Sync>(
+        &mut self,
+        rt: &R,
+        line: &str,
+    ) -> Result<Answer, Unread> {
+        self.call(rt, &row_of(rt.alloc(), line)?)
+    }
+
+    fn call<R: AllocGlobal + Threads + Wait + Sync>(
+        &mut self,
+        rt: &R,
+        row: &Value,
+    ) -> Result<Answer, Unread> {
+        let name = text_at(row, "call")?;
         let alloc = rt.alloc();
-        match of {
+        match text_at(row, "of")? {
             "session" => anew(alloc, self),
             "registry" => command_call(alloc, &mut self.registry, name, row),
             "book" => book_call(alloc, &mut self.replica, name, row),
             "chronicle" => chronicle_call(alloc, name, row),
-            _ => call_for(alloc, &self.registry, of, name, row),
+            "threads" => thread_call(rt, alloc, name),
+            "jobs" => jobs_call(rt, alloc, row),
+            "pool" => pool_call(rt, alloc, &self.registry, name, row),
+            of => call_for(alloc, &self.registry, of, name, row),
         }
     }
 }

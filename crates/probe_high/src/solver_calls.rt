@@ -1,9 +1,9 @@
 //! Calls of the solver.
 
 use crate::outcomes::{budget_at, offered};
-use derivations::{Cause, Derivation, Learnt, Store, check};
+use derivations::{Cause, Derivation, Learnt, Line, Store, check};
 use registry::{Registry, Request};
-use rows::{Answer, LinesText, LockText, Unread, request_at, shown, size_at, write_conclusion};
+use rows::{Answer, List, Shows, Unread, as_told, given, request_at, shown, size_at};
 use serde_json::Value;
 use solver::{Outcome, solve_under};
 use std::alloc::{AllocError, Global};
@@ -53,8 +53,8 @@ fn told(
     match name {
         "solve" => shown(alloc, &OutcomeText(outcome)),
         "judge" => judged(alloc, registry, request, outcome),
-        "offered" => shown(alloc, &ConclusionsText(offered(outcome))),
-        "counts" => Ok(Answer::Numbers(counts(alloc, offered(outcome))?)),
+        "offered" => conclusions(alloc, offered(outcome)),
+        "counts" => given(alloc, counts(alloc, offered(outcome))?),
         "cited_beyond" => cited_beyond(alloc, offered(outcome), row),
         _ => Err(Unread::Row),
     }
@@ -75,7 +75,8 @@ fn judged(
 }
 
 fn selected(alloc: Global, list: &[(Name, Published)], stand: bool) -> Result<Answer, Unread> {
-    let listed = LockText(list);
+    let listed = List { items: list };
+    let listed = as_told(&listed);
     let text = format!(in alloc; "{{\"selected\":{listed},\"offers_stand\":{stand}}}")?;
     Ok(Answer::Text(text))
 }
@@ -117,8 +118,7 @@ fn counts(alloc: Global, offered: &[Learnt]) -> Result<Vec<u32>, AllocError> {
 fn cited_beyond(alloc: Global, offered: &[Learnt], row: &Value) -> Result<Answer, Unread> {
     let limit = size_at(row, "limit")?;
     let (as_cited, once) = most_cited(alloc, offered)?;
-    let (first, second) = (as_cited > limit, once > limit);
-    Ok(Answer::Text(format!(in alloc; "[{first},{second}]")?))
+    shown(alloc, &(as_cited > limit, once > limit))
 }
 
 fn most_cited(alloc: Global, offered: &[Learnt]) -> Result<(usize, usize), AllocError> {
@@ -158,48 +158,37 @@ fn count_as_cited(alloc: Global, learnt: &Learnt) -> Result<usize, AllocError> {
 #[derive(Clone, Copy)]
 struct OutcomeText<'a>(&'a Outcome);
 
-impl fmt::Display for OutcomeText<'_> {
-    fn fmt<W: fmt::Write>(&self, f: &mut fmt::Formatter<W>) -> fmt::Result {
+impl Shows for OutcomeText<'_> {
+    fn show<W: fmt::Write>(&self, f: &mut fmt::Formatter<W>) -> fmt::Result {
         match self.0 {
-            Outcome::Selection(list, _) => {
-                write!(f, "{{\"selected\":{}", LockText(list))?;
-            }
+            Outcome::Selection(list, _) => write!(f, "{{\"selected\":{}", as_told(list))?,
             Outcome::Refused(derivation, _) => {
-                write!(f, "{{\"derivation\":{}", LinesText(derivation.lines()))?;
+                f.write_str("{\"derivation\":")?;
+                write_lines(f, derivation.lines())?;
             }
         }
-        write!(f, ",\"offered\":{}}}", OffersText(offered(self.0)))
+        f.write_str(",\"offered\":[")?;
+        write_offers(f, offered(self.0))?;
+        f.write_str("]}")
     }
+}
+
+fn write_lines<W: fmt::Write>(f: &mut fmt::Formatter<W>, items: &[Line]) -> fmt::Result {
+    List { items }.show(f)
 }
 
 /// The lines of each that is offered.
-#[derive(Clone, Copy)]
-struct OffersText<'a>(&'a [Learnt]);
-
-impl fmt::Display for OffersText<'_> {
-    fn fmt<W: fmt::Write>(&self, f: &mut fmt::Formatter<W>) -> fmt::Result {
-        let mut before = "";
-        f.write_str("[")?;
-        for learnt in self.0 {
-            write!(f, "{before}{}", LinesText(learnt.lines()))?;
-            before = ",";
-        }
-        f.write_str("]")
+fn write_offers<W: fmt::Write>(f: &mut fmt::Formatter<W>, offered: &[Learnt]) -> fmt::Result {
+    let mut before = "";
+    for learnt in offered {
+        f.write_str(before)?;
+        write_lines(f, learnt.lines())?;
+        before = ",";
     }
+    Ok(())
 }
 
 /// What each that is offered says.
-#[derive(Clone, Copy)]
-struct ConclusionsText<'a>(&'a [Learnt]);
-
-impl fmt::Display for ConclusionsText<'_> {
-    fn fmt<W: fmt::Write>(&self, f: &mut fmt::Formatter<W>) -> fmt::Result {
-        let mut is_first = true;
-        f.write_str("[")?;
-        for learnt in self.0 {
-            write_conclusion(f, learnt, is_first)?;
-            is_first = false;
-        }
-        f.write_str("]")
-    }
+fn conclusions(alloc: Global, items: &[Learnt]) -> Result<Answer, Unread> {
+    shown(alloc, &List { items })
 }

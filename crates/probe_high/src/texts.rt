@@ -1,18 +1,31 @@
 //! Texts of rows and of answers.
 
 use crate::fakes::Narrow;
-use rows::{Answer, Unread, items, text, whole};
+use rows::{Answer, Given, Unread, as_told, items, shown, text, whole};
 use serde_json::Value;
 use std::alloc::Global;
+use std::io;
 use std::io::ErrorKind;
-use std::{fmt, io};
 use versions::Refusal;
 
 /// The bytes of a text, or of texts that come so often, as `[["x",1000],["\n",1]]`, one behind another.
-pub fn bytes(alloc: Global, value: &Value) -> Result<Vec<u8>, Unread> {
-    let mut bytes = Vec::new(alloc);
-    put_bytes(&mut bytes, value)?;
-    Ok(bytes)
+#[derive(Drop)]
+pub struct Bytes {
+    bytes: Vec<u8>,
+}
+
+impl Bytes {
+    pub fn as_slice(&self) -> &[u8] {
+        self.bytes.as_slice()
+    }
+}
+
+impl Given for Bytes {
+    fn of(alloc: Global, value: &Value) -> Result<Bytes, Unread> {
+        let mut bytes = Vec::new(alloc);
+        put_bytes(&mut bytes, value)?;
+        Ok(Bytes { bytes })
+    }
 }
 
 fn put_bytes(bytes: &mut Vec<u8>, value: &Value) -> Result<(), Unread> {
@@ -43,47 +56,23 @@ fn put_often(bytes: &mut Vec<u8>, text: &str, times: u32) -> Result<(), Unread> 
     Ok(())
 }
 
-/// A text, as JSON has it.
-#[derive(Clone, Copy)]
-pub struct Quoted<'a>(pub &'a str);
-
-impl fmt::Display for Quoted<'_> {
-    fn fmt<W: fmt::Write>(&self, f: &mut fmt::Formatter<W>) -> fmt::Result {
-        f.write_str("\"")?;
-        for c in self.0.chars() {
-            write_quoted(f, c)?;
-        }
-        f.write_str("\"")
-    }
-}
-
-fn write_quoted<W: fmt::Write>(f: &mut fmt::Formatter<W>, c: char) -> fmt::Result {
-    match c {
-        '"' => f.write_str("\\\""),
-        '\\' => f.write_str("\\\\"),
-        '\0'..='\x1f' => write!(f, "\\u{:04x}", c as u32),
-        _ => f.write_char(c),
-    }
-}
-
 /// Bytes as a text of an answer. No row makes a call that answers bytes which are no text.
-pub fn text_of(bytes: &[u8]) -> Result<Quoted<'_>, Unread> {
+pub fn text_of(bytes: &[u8]) -> Result<&str, Unread> {
     match str::from_utf8(bytes) {
-        Ok(text) => Ok(Quoted(text)),
+        Ok(text) => Ok(text),
         Err(_) => Err(Unread::Row),
     }
 }
 
 /// The answer that bytes are.
 pub fn told(alloc: Global, bytes: &[u8]) -> Result<Answer, Unread> {
-    let text = text_of(bytes)?;
-    Ok(Answer::Text(format!(in alloc; "{text}")?))
+    shown(alloc, &text_of(bytes)?)
 }
 
 /// Two texts as an answer.
 pub fn both_told(alloc: Global, first: &[u8], second: &[u8]) -> Result<Answer, Unread> {
-    let first = text_of(first)?;
-    let second = text_of(second)?;
+    let (first, second) = (text_of(first)?, text_of(second)?);
+    let (first, second) = (as_told(&first), as_told(&second));
     Ok(Answer::Text(format!(in alloc; "[{first},{second}]")?))
 }
 
@@ -109,5 +98,6 @@ pub fn failure(kind: ErrorKind) -> Result<&'static str, Unread> {
 pub fn written(alloc: Global, writer: &Narrow, outcome: &io::Result<()>) -> Result<Answer, Unread> {
     let end = end_of(outcome)?;
     let text = text_of(writer.text())?;
+    let text = as_told(&text);
     Ok(Answer::Text(format!(in alloc; "{{\"end\":\"{end}\",\"written\":{text}}}")?))
 }

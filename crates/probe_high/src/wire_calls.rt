@@ -1,19 +1,29 @@
-//! Calls of wire: lines that are read.
+//! Calls of wire: lines that are read, and lock lists.
 
+use crate::texts::Bytes;
 use by_name::NamedDerivation;
 use registry::Request;
 use replies::derivation_text;
-use rows::{Answer, ChoiceText, CommandText, Unread, shown, text_at};
+use rows::{Answer, Unread, as_told, at, given, shown, text_at};
 use serde_json::Value;
 use std::alloc::Global;
-use wire::{Asked, read_learn, read_request};
+use wire::{Asked, read_learn, read_lock, read_request};
 
 pub fn wire_call(alloc: Global, name: &str, row: &Value) -> Result<Answer, Unread> {
     match name {
+        "read_lock" => lock_list(alloc, row),
         "read_request" => read(alloc, row),
         "read_learn" => read_learnt(alloc, row),
         _ => Err(Unread::Row),
     }
+}
+
+/// The lines of a lock list.
+fn lock_list(alloc: Global, row: &Value) -> Result<Answer, Unread> {
+    given(
+        alloc,
+        read_lock(alloc, at::<Bytes>(alloc, row, "text")?.as_slice())?,
+    )
 }
 
 // ---- what a line asks, in short
@@ -25,7 +35,7 @@ fn read(alloc: Global, row: &Value) -> Result<Answer, Unread> {
 
 fn asked_told(alloc: Global, asked: &Asked) -> Result<Answer, Unread> {
     match asked {
-        Asked::Command(command) => shown(alloc, &CommandText(command)),
+        Asked::Command(command) => shown(alloc, command),
         Asked::Resolve {
             request,
             explain,
@@ -47,7 +57,7 @@ fn resolve_told(
 ) -> Result<Answer, Unread> {
     let needs = request.needs().len();
     let lock = request.lock().len();
-    let budget = ChoiceText(budget);
+    let budget = as_told(&budget);
     let text = format!(in alloc;
         "{{\"resolve\":[{needs},{lock}],\"explain\":{explain},\"budget\":{budget}}}"
     )?;

@@ -1,7 +1,7 @@
 //! Calls of commands, by themselves and of the registry of a session, and of lists of dependencies.
 
 use registry::{Command, Dependencies, Registry};
-use rows::{Answer, CommandText, NeedsText, Unread, apply, command_at, dependencies_at, shown};
+use rows::{Answer, List, Unread, apply, as_told, command_at, dependencies_at, given};
 use serde_json::Value;
 use std::alloc::Global;
 
@@ -32,25 +32,9 @@ fn about(
             Ok(Answer::None)
         }
         "apply" => apply(registry, command),
-        "copy" | "shared" => equal_told(alloc, registry, name, command),
+        "copy" => given(alloc, command.copy()?),
+        "shared" => given(alloc, registry.shared(command)?),
         _ => Err(Unread::Row),
-    }
-}
-
-fn equal_told(
-    alloc: Global,
-    registry: &Registry,
-    name: &str,
-    command: &Command,
-) -> Result<Answer, Unread> {
-    shown(alloc, &CommandText(&equal(registry, name, command)?))
-}
-
-/// A copy of a command, or the equal one that the registry answers.
-fn equal(registry: &Registry, name: &str, command: &Command) -> Result<Command, Unread> {
-    match name {
-        "copy" => Ok(command.copy()?),
-        _ => Ok(registry.shared(command)?),
     }
 }
 
@@ -65,7 +49,7 @@ fn of_dependencies(
 ) -> Result<Answer, Unread> {
     match name {
         "new" => listed(alloc, dependencies),
-        "copy" => listed(alloc, &dependencies.copy()?),
+        "copy" => listed(alloc, &dependencies.clone()?),
         _ => Err(Unread::Row),
     }
 }
@@ -73,6 +57,8 @@ fn of_dependencies(
 /// Whether a list repeats a name, and its needs.
 fn listed(alloc: Global, dependencies: &Dependencies) -> Result<Answer, Unread> {
     let repeats = dependencies.repeats_name();
-    let needs = NeedsText(dependencies.needs());
+    let items = dependencies.needs();
+    let needs = List { items };
+    let needs = as_told(&needs);
     Ok(Answer::Text(format!(in alloc; "{{\"repeats\":{repeats},\"needs\":{needs}}}")?))
 }

@@ -2,12 +2,10 @@
 
 use derivations::{Cause, Derivation, Line, Premise, need_incompat};
 use registry::Registry;
-use rows::{
-    Answer, CauseText, Unread, cause, derivation_check, line, lines_at, lines_told, member,
-    name_at, need_at, premise, shown,
-};
+use rows::{Answer, List, Unread, at, derivation_check, given, shown};
 use serde_json::Value;
 use std::alloc::Global;
+use versions::{Name, Need};
 
 pub fn derivation_call(
     alloc: Global,
@@ -21,46 +19,35 @@ pub fn derivation_call(
         "copy_line" => line_copied(alloc, row),
         "copy_cause" => cause_copied(alloc, row),
         "need_says" => need_says(alloc, registry, row),
-        _ => premise_call(alloc, registry, name, row),
+        _ => about_premise(
+            alloc,
+            registry,
+            name,
+            &at::<Premise>(alloc, row, "premise")?,
+        ),
     }
 }
 
 fn copied(alloc: Global, row: &Value) -> Result<Answer, Unread> {
-    copy_told(alloc, &Derivation::new(lines_at(alloc, row)?))
+    copy_told(alloc, &Derivation::new(at(alloc, row, "lines")?))
 }
 
 fn copy_told(alloc: Global, derivation: &Derivation) -> Result<Answer, Unread> {
-    lines_told(alloc, derivation.copy(alloc)?.lines())
+    let copy = derivation.copy(alloc)?;
+    shown(
+        alloc,
+        &List {
+            items: copy.lines(),
+        },
+    )
 }
 
 fn line_copied(alloc: Global, row: &Value) -> Result<Answer, Unread> {
-    line_copy_told(alloc, &line(alloc, member(row, "line")?)?)
-}
-
-fn line_copy_told(alloc: Global, line: &Line) -> Result<Answer, Unread> {
-    lines_told(alloc, &[line.copy(alloc)?])
+    given(alloc, at::<Line>(alloc, row, "line")?.copy(alloc)?)
 }
 
 fn cause_copied(alloc: Global, row: &Value) -> Result<Answer, Unread> {
-    cause_copy_told(alloc, &cause(alloc, member(row, "cause")?)?)
-}
-
-fn cause_copy_told(alloc: Global, cause: &Cause) -> Result<Answer, Unread> {
-    shown(alloc, &CauseText(&cause.copy(alloc)?))
-}
-
-fn premise_call(
-    alloc: Global,
-    registry: &Registry,
-    name: &str,
-    row: &Value,
-) -> Result<Answer, Unread> {
-    about_premise(
-        alloc,
-        registry,
-        name,
-        &premise(alloc, member(row, "premise")?)?,
-    )
+    given(alloc, at::<Cause>(alloc, row, "cause")?.copy(alloc)?)
 }
 
 fn about_premise(
@@ -70,26 +57,15 @@ fn about_premise(
     premise: &Premise,
 ) -> Result<Answer, Unread> {
     match name {
-        "copy_premise" => premise_copy_told(alloc, premise),
+        "copy_premise" => given(alloc, premise.copy(alloc)?),
         "premise_stands" => Ok(Answer::Bool(premise.stands(registry))),
-        "premise_says" => premise_says(alloc, premise),
+        "premise_says" => given(alloc, premise.incompat(alloc)?),
         _ => Err(Unread::Row),
     }
 }
 
-fn premise_copy_told(alloc: Global, premise: &Premise) -> Result<Answer, Unread> {
-    shown(alloc, &CauseText(&Cause::Premise(premise.copy(alloc)?)))
-}
-
-fn premise_says(alloc: Global, premise: &Premise) -> Result<Answer, Unread> {
-    match premise.incompat(alloc)? {
-        Some(incompat) => Ok(Answer::Terms(incompat)),
-        None => Ok(Answer::None),
-    }
-}
-
 fn need_says(alloc: Global, registry: &Registry, row: &Value) -> Result<Answer, Unread> {
-    let name = name_at(alloc, row, "name")?;
-    let need = need_at(alloc, row, "need")?;
-    Ok(Answer::Terms(need_incompat(alloc, registry, &name, &need)?))
+    let name = at::<Name>(alloc, row, "name")?;
+    let need = at::<Need>(alloc, row, "need")?;
+    given(alloc, need_incompat(alloc, registry, &name, &need)?)
 }

@@ -1,6 +1,6 @@
 //! Calls of two sets that a session holds, which take ordinals one by one.
 
-use rows::{Answer, Unread, whole_at};
+use rows::{Answer, Unread, given, whole_at};
 use serde_json::Value;
 use std::alloc::Global;
 use terms::{GrowingSet, VSet};
@@ -18,7 +18,7 @@ pub fn held_set_call(
         }
         "has" => Ok(Answer::Bool(set.has(whole_at(row, "k")?))),
         "is_empty" => Ok(Answer::Bool(set.is_empty())),
-        "ordinals" => Ok(Answer::Numbers(set.ordinals(alloc)?)),
+        "ordinals" => given(alloc, set.ordinals(alloc)?),
         _ => Err(Unread::Row),
     }
 }
@@ -39,7 +39,7 @@ pub fn growing_set_call(
             Ok(Answer::None)
         }
         "has" => Ok(Answer::Bool(growing.has(whole_at(row, "k")?))),
-        "set" => Ok(Answer::Set(growing.set(alloc)?)),
+        "set" => given(alloc, growing.set(alloc)?),
         _ => Err(Unread::Row),
     }
 }

@@ -2,7 +2,7 @@
 
 use derivations::Learnt;
 use registry::Registry;
-use rows::{Answer, Unread, learnt_at, lines_told};
+use rows::{Answer, List, Unread, learnt_at, shown};
 use serde_json::Value;
 use std::alloc::Global;
 
@@ -22,20 +22,28 @@ fn about(
     learnt: &Learnt,
 ) -> Result<Answer, Unread> {
     match name {
-        "new" => Ok(Answer::Terms(learnt.conclusion().copy(alloc)?)),
-        "copy" => copy_told(alloc, learnt),
+        "new" => shown(alloc, learnt.conclusion()),
         "count" => Ok(Answer::Number(learnt.lines().len())),
-        "stands" => copy_stands(alloc, registry, learnt),
-        "rests_on" => Ok(Answer::Set(learnt.rests_on().copy(alloc)?)),
+        "rests_on" => shown(alloc, learnt.rests_on()),
+        "copy" | "stands" => about_copy(alloc, registry, name, &learnt.copy(alloc)?),
         _ => Err(Unread::Row),
     }
 }
 
-fn copy_told(alloc: Global, learnt: &Learnt) -> Result<Answer, Unread> {
-    lines_told(alloc, learnt.copy(alloc)?.lines())
-}
-
-/// Whether a copy of what is learnt stands.
-fn copy_stands(alloc: Global, registry: &Registry, learnt: &Learnt) -> Result<Answer, Unread> {
-    Ok(Answer::Bool(learnt.copy(alloc)?.stands(registry)))
+/// The lines of a copy, or whether it stands.
+fn about_copy(
+    alloc: Global,
+    registry: &Registry,
+    name: &str,
+    learnt: &Learnt,
+) -> Result<Answer, Unread> {
+    match name {
+        "copy" => shown(
+            alloc,
+            &List {
+                items: learnt.lines(),
+            },
+        ),
+        _ => Ok(Answer::Bool(learnt.stands(registry))),
+    }
 }

@@ -9,7 +9,6 @@ mod command_calls;
 mod derivation_calls;
 mod held_calls;
 mod incompat_calls;
-mod known_rows;
 mod learnt_calls;
 mod package_calls;
 mod partial_calls;
@@ -25,11 +24,14 @@ mod term_calls;
 mod text_calls;
 mod walk_calls;
 
-use rows::serve;
+use rows::tell;
 use session::Session;
 use std::io;
 
 fn main(rt: HostRuntime) -> io::Result<()> {
     let mut session = Session::new(rt.alloc());
-    serve(&rt, &mut session)
+    for line in rt.lines(rt.alloc()) {
+        tell(&rt, session.answer_to(rt.alloc(), line?.as_str()))?;
+    }
+    Ok(())
 }

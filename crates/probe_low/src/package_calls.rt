@@ -1,15 +1,13 @@
 //! Calls of a registry about one of its packages.
 
-use crate::releases_calls::{is_kept, those_below};
-use crate::text_calls::quoted;
+use crate::releases_calls::is_kept;
 use registry::{Facts, Matching, Registry, ordinals_are_below_the_count};
-use rows::{
-    Answer, NeedsText, NumbersText, Unread, need_at, set_at, shown, size_at, version_at, whole_at,
-};
+use rows::{Answer, List, Shows, Unread, as_told, at, given, shown, size_at, whole_at};
 use serde_json::Value;
 use std::alloc::Global;
 use std::fmt;
-use versions::Need;
+use terms::VSet;
+use versions::{Need, Published};
 
 pub fn package_call(
     alloc: Global,
@@ -24,53 +22,40 @@ pub fn package_call(
         "version_count" => Ok(Answer::Number(registry.version_count(pkg) as usize)),
         "facts" => facts(alloc, registry, pkg, whole_at(row, "k")?),
         "facts_at" => facts_at(alloc, registry, pkg, whole_at(row, "k")?),
-        "repeats" => shown(alloc, &Marks(registry.repeats(pkg))),
+        "repeats" => repeats(alloc, registry, pkg),
         "has_yanks" => Ok(Answer::Bool(registry.has_yanks(pkg))),
         "find" => find(alloc, registry, pkg, row),
         "highest" => highest(alloc, registry, pkg, row),
         "highest_where" => highest_where(registry, pkg, whole_at(row, "below")?),
         "dependency" => dependency(alloc, registry, pkg, row),
-        _ => need_call(alloc, registry, name, pkg, row),
+        "matching" => matching(alloc, registry, pkg, row),
+        "matching_set" => matching_set(alloc, registry, pkg, row),
+        _ => Err(Unread::Row),
     }
 }
 
 fn find(alloc: Global, registry: &Registry, pkg: u32, row: &Value) -> Result<Answer, Unread> {
-    Ok(Answer::Choice(registry.find(pkg, &version_at(alloc, row, "version")?)))
+    Ok(Answer::choice(registry.find(pkg, &at::<Published>(alloc, row, "version")?)))
 }
 
 fn highest(alloc: Global, registry: &Registry, pkg: u32, row: &Value) -> Result<Answer, Unread> {
-    Ok(Answer::Choice(registry.highest(pkg, &set_at(alloc, row, "set")?)))
+    Ok(Answer::choice(registry.highest(pkg, &at::<VSet>(alloc, row, "set")?)))
 }
 
-fn need_call(
-    alloc: Global,
-    registry: &Registry,
-    name: &str,
-    pkg: u32,
-    row: &Value,
-) -> Result<Answer, Unread> {
-    by_need(
-        alloc,
-        registry,
-        name,
-        pkg,
-        row,
-        &need_at(alloc, row, "need")?,
-    )
+fn repeats(alloc: Global, registry: &Registry, pkg: u32) -> Result<Answer, Unread> {
+    let items = registry.repeats(pkg);
+    shown(alloc, &List { items })
 }
 
 /// The name of a package, by the call that requires one or the call that answers none.
 fn name_of(alloc: Global, registry: &Registry, call: &str, pkg: u32) -> Result<Answer, Unread> {
     if call == "name_at" {
-        return match registry.name_at(pkg) {
-            Some(name) => quoted(alloc, name.text()),
-            None => Ok(Answer::None),
-        };
+        return shown(alloc, &registry.name_at(pkg));
     }
     if pkg < 1 || pkg as usize > registry.packages() {
         return Ok(Answer::Skipped);
     }
-    quoted(alloc, registry.name(pkg).text())
+    shown(alloc, registry.name(pkg))
 }
 
 fn facts(alloc: Global, registry: &Registry, pkg: u32, ordinal: u32) -> Result<Answer, Unread> {
@@ -93,39 +78,35 @@ fn facts_at(alloc: Global, registry: &Registry, pkg: u32, ordinal: u32) -> Resul
 fn facts_told(alloc: Global, facts: Facts<'_>) -> Result<Answer, Unread> {
     let version = facts.version.text();
     let yanked = facts.yanked;
-    let needs = NeedsText(facts.needs);
+    let items = facts.needs;
+    let needs = List { items };
+    let needs = as_told(&needs);
     Ok(Answer::Text(format!(in alloc; "[{version:?},{yanked},{needs}]")?))
 }
 
 /// The highest of the versions whose ordinals are below a number.
 fn highest_where(registry: &Registry, pkg: u32, below: u32) -> Result<Answer, Unread> {
-    Ok(Answer::Choice(registry.highest_where(pkg, |ordinal| ordinal < below)))
+    Ok(Answer::choice(registry.highest_where(pkg, |ordinal| ordinal < below)))
 }
 
-/// The matching set, or whether it is kept, and which of the ordinals below a number are in it.
-fn by_need(
-    alloc: Global,
-    registry: &Registry,
-    name: &str,
-    pkg: u32,
-    row: &Value,
-    need: &Need,
-) -> Result<Answer, Unread> {
-    match name {
-        "matching" => Ok(Answer::Set(registry.matching(pkg, need)?)),
-        "matching_set" => matching_set(alloc, registry, pkg, need, whole_at(row, "below")?),
-        _ => Err(Unread::Row),
-    }
+fn matching(alloc: Global, registry: &Registry, pkg: u32, row: &Value) -> Result<Answer, Unread> {
+    let need = at::<Need>(alloc, row, "need")?;
+    given(alloc, registry.matching(pkg, &need)?)
 }
 
+/// Whether the matching set is kept, and which of the ordinals below a number are in it.
 fn matching_set(
     alloc: Global,
     registry: &Registry,
     pkg: u32,
-    need: &Need,
-    below: u32,
+    row: &Value,
 ) -> Result<Answer, Unread> {
-    matching_told(alloc, &registry.matching_set(pkg, need)?, below)
+    let need = at::<Need>(alloc, row, "need")?;
+    let told = MatchingText {
+        set: &registry.matching_set(pkg, &need)?,
+        below: whole_at(row, "below")?,
+    };
+    shown(alloc, &told)
 }
 
 /// The package that a dependency names, and the matching set as a call by its requirement tells it.
@@ -159,49 +140,29 @@ fn depends(
         return Ok(Answer::Skipped);
     }
     let (target, set) = registry.dependency(pkg, ordinal, index)?;
-    dependency_told(alloc, target, &set, below)
+    shown(alloc, &(target, MatchingText { set: &set, below }))
 }
 
-fn dependency_told(
-    alloc: Global,
-    target: u32,
-    set: &Matching<'_>,
+/// Whether a matching set is kept, and which of the ordinals below a number are in it.
+#[derive(Clone, Copy)]
+struct MatchingText<'a> {
+    set: &'a Matching<'a>,
     below: u32,
-) -> Result<Answer, Unread> {
-    let members = those_below(alloc, set, below)?;
-    let told = MatchingText(is_kept(set), &members);
-    Ok(Answer::Text(format!(in alloc; "[{target},{told}]")?))
 }
 
-fn matching_told(alloc: Global, set: &Matching<'_>, below: u32) -> Result<Answer, Unread> {
-    shown(
-        alloc,
-        &MatchingText(is_kept(set), &those_below(alloc, set, below)?),
-    )
-}
-
-/// Whether a matching set is kept, and some of its members.
-#[derive(Clone, Copy)]
-struct MatchingText<'a>(bool, &'a [u32]);
-
-impl fmt::Display for MatchingText<'_> {
-    fn fmt<W: fmt::Write>(&self, f: &mut fmt::Formatter<W>) -> fmt::Result {
-        write!(f, "{{\"kept\":{},\"has\":{}}}", self.0, NumbersText(self.1))
-    }
-}
-
-/// Marks, as `[false,true]`.
-#[derive(Clone, Copy)]
-struct Marks<'a>(&'a [bool]);
-
-impl fmt::Display for Marks<'_> {
-    fn fmt<W: fmt::Write>(&self, f: &mut fmt::Formatter<W>) -> fmt::Result {
-        let mut before = "";
-        f.write_str("[")?;
-        for is_marked in self.0 {
-            write!(f, "{before}{is_marked}")?;
-            before = ",";
+impl Shows for MatchingText<'_> {
+    fn show<W: fmt::Write>(&self, f: &mut fmt::Formatter<W>) -> fmt::Result {
+        let mut is_first = true;
+        write!(f, "{{\"kept\":{},\"has\":[", is_kept(self.set))?;
+        for ordinal in 0..self.below {
+            if self.set.has(ordinal) {
+                if !is_first {
+                    f.write_str(",")?;
+                }
+                ordinal.show(f)?;
+                is_first = false;
+            }
         }
-        f.write_str("]")
+        f.write_str("]}")
     }
 }

@@ -5,10 +5,7 @@ ghost use Rattle.terms.specs.Terms.{true_of};
 ghost use Rattle.partial.specs.Assignments.{is_decided, says, IsOpenTo};
 
 use partial::{Assignment, Partial, Standing, Why};
-use rows::{
-    Answer, ChoiceText, TermText, Unread, incompat_at, shown, size_at, term_at, whole_at,
-    write_term,
-};
+use rows::{Answer, Shows, Unread, as_told, at, given, shown, size_at, whole_at};
 use serde_json::Value;
 use std::alloc::Global;
 use std::fmt;
@@ -42,12 +39,12 @@ pub fn partial_call(
 fn about(alloc: Global, partial: &Partial, name: &str, row: &Value) -> Result<Answer, Unread> {
     match name {
         "level" => Ok(Answer::Number(partial.level())),
-        "undecided" => Ok(Answer::Numbers(partial.undecided()?)),
+        "undecided" => given(alloc, partial.undecided()?),
         "assignments" => shown(alloc, &Listed(partial.assignments())),
-        "decision" => Ok(Answer::Choice(partial.decision(whole_at(row, "pkg")?))),
-        "said" => said(alloc, partial, row),
+        "decision" => Ok(Answer::choice(partial.decision(whole_at(row, "pkg")?))),
+        "said" => shown(alloc, &partial.said(whole_at(row, "pkg")?)),
         "settled" => settled(alloc, partial, row),
-        _ => on_terms(partial, name, &incompat_at(alloc, row, "terms")?),
+        _ => on_terms(alloc, partial, name, &at::<Incompat>(alloc, row, "terms")?),
     }
 }
 
@@ -86,7 +83,7 @@ fn is_left(partial: &Partial, pkg: Pkg, ordinal: u32) -> bool
 fn derive(alloc: Global, partial: &mut Partial, row: &Value) -> Result<Answer, Unread> {
     let pkg = whole_at(row, "pkg")?;
     let cause = size_at(row, "cause")?;
-    let term = term_at(alloc, row, "term")?;
+    let term = at::<Term>(alloc, row, "term")?;
     if !is_open_to(alloc, partial, pkg, &term) {
         return Ok(Answer::Skipped);
     }
@@ -104,19 +101,24 @@ fn decide(partial: &mut Partial, row: &Value) -> Result<Answer, Unread> {
     Ok(Answer::None)
 }
 
-fn on_terms(partial: &Partial, name: &str, incompat: &Incompat) -> Result<Answer, Unread> {
+fn on_terms(
+    alloc: Global,
+    partial: &Partial,
+    name: &str,
+    incompat: &Incompat,
+) -> Result<Answer, Unread> {
     match name {
-        "relation" => Ok(relation_to(partial, incompat)),
+        "relation" => relation_to(alloc, partial, incompat),
         "satisfier" => satisfier(partial, incompat),
         _ => Err(Unread::Row),
     }
 }
 
-fn relation_to(partial: &Partial, incompat: &Incompat) -> Answer {
+fn relation_to(alloc: Global, partial: &Partial, incompat: &Incompat) -> Result<Answer, Unread> {
     match partial.relation(incompat) {
-        Standing::Satisfied => Answer::Word("satisfied"),
-        Standing::Almost(pkg) => Answer::Almost(pkg),
-        Standing::Other => Answer::Word("other"),
+        Standing::Satisfied => Ok(Answer::Word("satisfied")),
+        Standing::Almost(pkg) => Ok(Answer::Text(format!(in alloc; "{{\"almost\":{pkg}}}")?)),
+        Standing::Other => Ok(Answer::Word("other")),
     }
 }
 
@@ -133,18 +135,11 @@ fn satisfier(partial: &Partial, incompat: &Incompat) -> Result<Answer, Unread> {
     }
 }
 
-fn said(alloc: Global, partial: &Partial, row: &Value) -> Result<Answer, Unread> {
-    match partial.said(whole_at(row, "pkg")?) {
-        Some(term) => Ok(Answer::Term(term.copy(alloc)?)),
-        None => Ok(Answer::None),
-    }
-}
-
 /// What is said together with the decision.
 fn settled(alloc: Global, partial: &Partial, row: &Value) -> Result<Answer, Unread> {
     match partial.settled(whole_at(row, "pkg")?) {
         Some(settled) => {
-            let (said, decision) = (TermText(settled.said), ChoiceText(settled.decision));
+            let (said, decision) = (as_told(settled.said), as_told(&settled.decision));
             Ok(Answer::Text(format!(in alloc; "{{\"said\":{said},\"decision\":{decision}}}")?))
         }
         None => Ok(Answer::None),
@@ -155,24 +150,23 @@ fn settled(alloc: Global, partial: &Partial, row: &Value) -> Result<Answer, Unre
 #[derive(Clone, Copy)]
 struct Listed<'a>(&'a [Assignment]);
 
-impl fmt::Display for Listed<'_> {
-    fn fmt<W: fmt::Write>(&self, f: &mut fmt::Formatter<W>) -> fmt::Result {
+impl Shows for Listed<'_> {
+    fn show<W: fmt::Write>(&self, f: &mut fmt::Formatter<W>) -> fmt::Result {
         let mut before = "";
         f.write_str("[")?;
         for made in self.0 {
-            f.write_str(before)?;
-            write_assignment(f, made)?;
+            let (pkg, term, level) = (made.pkg, as_told(&made.term), made.level);
+            write!(f, "{before}[{pkg},{term},{level},")?;
+            write_why(f, made.why)?;
             before = ",";
         }
         f.write_str("]")
     }
 }
 
-fn write_assignment<W: fmt::Write>(f: &mut fmt::Formatter<W>, made: &Assignment) -> fmt::Result {
-    write!(f, "[{},", made.pkg)?;
-    write_term(f, &made.term)?;
-    match made.why {
-        Why::Derived(cause) => write!(f, ",{},{cause}]", made.level),
-        Why::Decided(_) => write!(f, ",{},null]", made.level),
+fn write_why<W: fmt::Write>(f: &mut fmt::Formatter<W>, why: Why) -> fmt::Result {
+    match why {
+        Why::Derived(cause) => write!(f, "{cause}]"),
+        Why::Decided(_) => f.write_str("null]"),
     }
 }

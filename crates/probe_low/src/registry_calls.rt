@@ -3,9 +3,10 @@
 use crate::command_calls;
 use crate::package_calls::package_call;
 use registry::Registry;
-use rows::{Answer, Unread, command_call, name_at, whole_at};
+use rows::{Answer, Unread, at, command_call, whole_at};
 use serde_json::Value;
 use std::alloc::Global;
+use versions::Name;
 
 pub fn registry_call(
     alloc: Global,
@@ -20,7 +21,7 @@ pub fn registry_call(
         }
         "revision" => Ok(Answer::Number(registry.revision() as usize)),
         "packages" => Ok(Answer::Number(registry.packages())),
-        "number" => Ok(Answer::Choice(registry.number(&name_at(alloc, row, "name")?))),
+        "number" => Ok(Answer::choice(registry.number(&at::<Name>(alloc, row, "name")?))),
         _ => package_call(alloc, registry, name, whole_at(row, "pkg")?, row),
     }
 }

@@ -1,12 +1,12 @@
 //! Calls of the releases of one package, which a session's rows change.
 
 use releases::{Matching, Release, Releases};
-use rows::{Answer, Unread, need_at, set_at, shown, version_at, whole, whole_at};
+use rows::{Answer, Shows, Unread, at, given, shown, whole, whole_at};
 use serde_json::Value;
 use std::alloc::{AllocError, Global};
 use std::fmt;
 use terms::VSet;
-use versions::Need;
+use versions::{Need, Published};
 
 pub fn releases_call(
     alloc: Global,
@@ -20,7 +20,7 @@ pub fn releases_call(
             releases.reserve()?;
             Ok(Answer::None)
         }
-        "name_need" => Ok(Answer::Number(releases.name_need(&need_at(alloc, row, "need")?)?)),
+        "name_need" => Ok(Answer::Number(releases.name_need(&at::<Need>(alloc, row, "need")?)?)),
         "yank" => yank(releases, whole_at(row, "k")?, true),
         "unyank" => yank(releases, whole_at(row, "k")?, false),
         _ => about(alloc, releases, name, row),
@@ -29,7 +29,7 @@ pub fn releases_call(
 
 /// Publishes a version, once room was made for it.
 fn publish(alloc: Global, releases: &mut Releases, row: &Value) -> Result<Answer, Unread> {
-    let version = version_at(alloc, row, "version")?;
+    let version = at::<Published>(alloc, row, "version")?;
     if releases.find(&version).is_some() || releases.len() > u32::MAX as usize {
         return Ok(Answer::Skipped);
     }
@@ -55,18 +55,18 @@ fn about(alloc: Global, releases: &Releases, name: &str, row: &Value) -> Result<
     match name {
         "len" => Ok(Answer::Number(releases.len())),
         "list" => shown(alloc, &Listed(releases.as_slice())),
-        "rising" => Ok(Answer::Numbers(releases.rising().to_vec(alloc)?)),
-        "find" => Ok(Answer::Choice(releases.find(&version_at(alloc, row, "version")?))),
-        "highest" | "highest_where" => Ok(highest(releases, name, &set_at(alloc, row, "set")?)),
-        _ => by_need(alloc, releases, name, row, &need_at(alloc, row, "need")?),
+        "rising" => given(alloc, releases.rising().to_vec(alloc)?),
+        "find" => Ok(Answer::choice(releases.find(&at::<Published>(alloc, row, "version")?))),
+        "highest" | "highest_where" => Ok(highest(releases, name, &at::<VSet>(alloc, row, "set")?)),
+        _ => by_need(alloc, releases, name, row, &at::<Need>(alloc, row, "need")?),
     }
 }
 
 /// The highest of a set, by the set itself or by a test of each ordinal.
 fn highest(releases: &Releases, name: &str, set: &VSet) -> Answer {
     match name {
-        "highest" => Answer::Choice(releases.highest(set)),
-        _ => Answer::Choice(releases.highest_where(|ordinal| set.has(ordinal))),
+        "highest" => Answer::choice(releases.highest(set)),
+        _ => Answer::choice(releases.highest_where(|ordinal| set.has(ordinal))),
     }
 }
 
@@ -78,7 +78,7 @@ fn by_need(
     need: &Need,
 ) -> Result<Answer, Unread> {
     match name {
-        "named" => named(alloc, releases, need),
+        "named" => shown(alloc, &releases.named(need)),
         _ => matching(alloc, name, row, &found(releases, row, need)?),
     }
 }
@@ -100,10 +100,10 @@ fn matching(
     matching: &Matching<'_>,
 ) -> Result<Answer, Unread> {
     match name {
-        "matching" | "matching_at" => Ok(Answer::Set(matching.set(alloc)?)),
+        "matching" | "matching_at" => given(alloc, matching.set(alloc)?),
         "matching_has" => {
             let below = whole_at(row, "below")?;
-            Ok(Answer::Numbers(those_below(alloc, matching, below)?))
+            given(alloc, those_below(alloc, matching, below)?)
         }
         "is_kept" => Ok(Answer::Bool(is_kept(matching))),
         _ => Err(Unread::Row),
@@ -116,11 +116,7 @@ pub fn is_kept(matching: &Matching<'_>) -> bool {
 }
 
 /// The ordinals below a number that a matching set has.
-pub fn those_below(
-    alloc: Global,
-    matching: &Matching<'_>,
-    below: u32,
-) -> Result<Vec<u32>, AllocError> {
+fn those_below(alloc: Global, matching: &Matching<'_>, below: u32) -> Result<Vec<u32>, AllocError> {
     let mut those = Vec::new(alloc);
     for ordinal in 0..below {
         if matching.has(ordinal) {
@@ -130,28 +126,17 @@ pub fn those_below(
     Ok(those)
 }
 
-/// The place and the text of the equal requirement that is named.
-fn named(alloc: Global, releases: &Releases, need: &Need) -> Result<Answer, Unread> {
-    match releases.named(need) {
-        Some((place, kept)) => {
-            let text = kept.text();
-            Ok(Answer::Text(format!(in alloc; "[{place},{text:?}]")?))
-        }
-        None => Ok(Answer::None),
-    }
-}
-
 /// The texts of the versions, each with whether it is yanked.
 #[derive(Clone, Copy)]
 struct Listed<'a>(&'a [Release]);
 
-impl fmt::Display for Listed<'_> {
-    fn fmt<W: fmt::Write>(&self, f: &mut fmt::Formatter<W>) -> fmt::Result {
+impl Shows for Listed<'_> {
+    fn show<W: fmt::Write>(&self, f: &mut fmt::Formatter<W>) -> fmt::Result {
         let mut before = "";
         f.write_str("[")?;
         for release in self.0 {
-            let (text, yanked) = (release.version.text(), release.yanked);
-            write!(f, "{before}[{text:?},{yanked}]")?;
+            f.write_str(before)?;
+            (release.version.text(), release.yanked).show(f)?;
             before = ",";
         }
         f.write_str("]")

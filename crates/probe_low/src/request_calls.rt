@@ -1,13 +1,10 @@
 //! Calls of requests.
 
 use registry::{Registry, Request};
-use rows::{
-    Answer, LockText, NeedsText, Unread, name_at, names_at, request_at, shown, version_at, whole_at,
-};
+use rows::{Answer, List, Unread, at, given, request_at, shown, whole_at};
 use serde_json::Value;
 use std::alloc::Global;
-use std::fmt;
-use versions::Name;
+use versions::{Name, Published};
 
 pub fn request_call(
     alloc: Global,
@@ -27,8 +24,8 @@ fn about(
 ) -> Result<Answer, Unread> {
     match name {
         "new" => Ok(Answer::Word("made")),
-        "needs" => shown(alloc, &NeedsText(request.needs())),
-        "lock" => shown(alloc, &LockText(request.lock())),
+        "needs" => needs(alloc, request),
+        "lock" => lock(alloc, request),
         "need_on" => each_of(alloc, row, request, false),
         "locked" => each_of(alloc, row, request, true),
         "is_locked" => of_version(alloc, row, request, true),
@@ -38,17 +35,33 @@ fn about(
     }
 }
 
+fn needs(alloc: Global, request: &Request) -> Result<Answer, Unread> {
+    let items = request.needs();
+    shown(alloc, &List { items })
+}
+
+fn lock(alloc: Global, request: &Request) -> Result<Answer, Unread> {
+    let items = request.lock();
+    shown(alloc, &List { items })
+}
+
 /// The requirement on each of the names, or the version that the lock names of it, or null.
 fn each_of(alloc: Global, row: &Value, request: &Request, locked: bool) -> Result<Answer, Unread> {
-    let names = names_at(alloc, row, "names")?;
-    shown(
-        alloc,
-        &Found {
-            request,
-            names: &names,
-            locked,
-        },
-    )
+    let names = at::<Vec<Name>>(alloc, row, "names")?;
+    given(alloc, texts_of(alloc, request, &names, locked)?)
+}
+
+fn texts_of<'r>(
+    alloc: Global,
+    request: &'r Request,
+    names: &[Name],
+    locked: bool,
+) -> Result<Vec<Option<&'r str>>, Unread> {
+    let mut texts = Vec::new(alloc);
+    for name in names {
+        texts.push(text_of(request, name, locked))?;
+    }
+    Ok(texts)
 }
 
 /// Whether the lock names a version of a name, or the needs admit it.
@@ -58,8 +71,8 @@ fn of_version(
     request: &Request,
     locked: bool,
 ) -> Result<Answer, Unread> {
-    let name = name_at(alloc, row, "name")?;
-    let version = version_at(alloc, row, "version")?;
+    let name = at::<Name>(alloc, row, "name")?;
+    let version = at::<Published>(alloc, row, "version")?;
     if locked {
         Ok(Answer::Bool(request.is_locked(&name, &version)))
     } else {
@@ -70,39 +83,6 @@ fn of_version(
 fn allowed(registry: &Registry, row: &Value, request: &Request) -> Result<Answer, Unread> {
     let pkg = whole_at(row, "pkg")?;
     Ok(Answer::Bool(registry.allowed(request, pkg, whole_at(row, "k")?)))
-}
-
-/// What a request needs of each of these names, or what its lock names of it.
-#[derive(Clone, Copy)]
-struct Found<'a> {
-    request: &'a Request,
-    names: &'a [Name],
-    locked: bool,
-}
-
-impl fmt::Display for Found<'_> {
-    fn fmt<W: fmt::Write>(&self, f: &mut fmt::Formatter<W>) -> fmt::Result {
-        let mut before = "";
-        f.write_str("[")?;
-        for name in self.names {
-            f.write_str(before)?;
-            write_found(f, self.request, name, self.locked)?;
-            before = ",";
-        }
-        f.write_str("]")
-    }
-}
-
-fn write_found<W: fmt::Write>(
-    f: &mut fmt::Formatter<W>,
-    request: &Request,
-    name: &Name,
-    locked: bool,
-) -> fmt::Result {
-    match text_of(request, name, locked) {
-        Some(text) => write!(f, "{text:?}"),
-        None => f.write_str("null"),
-    }
 }
 
 fn text_of<'r>(request: &'r Request, name: &Name, locked: bool) -> Option<&'r str> {

@@ -4,9 +4,8 @@ ghost use Rattle.std.specs.Prelude.{◌≡◌, ◌↔◌, [], IsTrue};
 ghost use Rattle.std.specs.Bool.{OnTrue};
 ghost use Rattle.derivations.specs.Known.{AreOrdered, EndsAt, IsBefore, IsResolved, IsResolvedAt};
 
-use crate::known_rows::known_at;
-use derivations::{Known, Learnt, Line, Reason, cut, lines_of};
-use rows::{Answer, Unread, lines_told, size_at};
+use derivations::{Derivation, Known, Learnt, Line, Reason, cut, lines_of};
+use rows::{Answer, List, Unread, at, given, shown, size_at};
 use serde_json::Value;
 use std::alloc::Global;
 
@@ -74,11 +73,16 @@ fn ends_at(known: &[Known], place: usize) -> bool
 }
 
 fn cut_at(alloc: Global, row: &Value, place: usize) -> Result<Answer, Unread> {
-    let known = known_at(alloc, row)?;
+    let known = at::<Vec<Known>>(alloc, row, "known")?;
     if !are_ordered(&known) || !ends_at(&known, place) {
         return Ok(Answer::Skipped);
     }
-    lines_told(alloc, cut(alloc, known, place)?.lines())
+    cut_told(alloc, &cut(alloc, known, place)?)
+}
+
+fn cut_told(alloc: Global, derivation: &Derivation) -> Result<Answer, Unread> {
+    let items = derivation.lines();
+    shown(alloc, &List { items })
 }
 
 /// The lines that show the line at a place, or how many of them are learnt.
@@ -88,7 +92,7 @@ fn lines_at_place(
     place: usize,
     learns: bool,
 ) -> Result<Answer, Unread> {
-    let known = known_at(alloc, row)?;
+    let known = at::<Vec<Known>>(alloc, row, "known")?;
     if !are_ordered(&known) || !is_resolved_at(&known, place) {
         return Ok(Answer::Skipped);
     }
@@ -99,5 +103,5 @@ fn told(alloc: Global, lines: Vec<Line>, learns: bool) -> Result<Answer, Unread>
     if learns {
         return Ok(Answer::Number(Learnt::new(alloc, lines)?.lines().len()));
     }
-    lines_told(alloc, &lines)
+    given(alloc, lines)
 }

@@ -20,7 +20,7 @@ use derivations::Store;
 use partial::Partial;
 use registry::Registry;
 use releases::Releases;
-use rows::{Answer, Calls, Unread};
+use rows::{Answer, Unread, row_of, text_at};
 use serde_json::Value;
 use std::alloc::Global;
 use terms::{GrowingSet, VSet};
@@ -47,12 +47,15 @@ impl Session {
             store: Store::new(alloc),
         }
     }
-}
 
-impl<R: AllocGlobal> Calls<R> for Session {
-    fn call(&mut self, rt: &R, of: &str, name: &str, row: &Value) -> Result<Answer, Unread> {
-        let alloc = rt.alloc();
-        match of {
+    /// Makes the call that the row of a line names.
+    pub fn answer_to(&mut self, alloc: Global, line: &str) -> Result<Answer, Unread> {
+        self.call(alloc, &row_of(alloc, line)?)
+    }
+
+    fn call(&mut self, alloc: Global, row: &Value) -> Result<Answer, Unread> {
+        let name = text_at(row, "call")?;
+        match text_at(row, "of")? {
             "session" => anew(alloc, self),
             "held_set" => held_set_call(alloc, &mut self.set, name, row),
             "growing_set" => growing_set_call(alloc, &mut self.growing, name, row),
@@ -61,7 +64,7 @@ impl<R: AllocGlobal> Calls<R> for Session {
             "registry" => registry_call(alloc, &mut self.registry, name, row),
             "command" => command_call(alloc, &mut self.registry, name, row),
             "store" => follow_call(alloc, &mut self.registry, &mut self.store, name, row),
-            _ => call_for(alloc, &self.registry, of, name, row),
+            of => call_for(alloc, &self.registry, of, name, row),
         }
     }
 }

@@ -3,35 +3,35 @@
 //! Here and in the other calls, what a row gives is read in one function, and what is called with it is chosen in
 //! another that borrows it: a proof grows with the values that a function owns, times its ways out.
 
-use rows::{Answer, SetText, Unread, ordinals_at, set, set_at, shown, whole_at};
+use rows::{Answer, Given, Unread, at, given, shown, whole_at};
 use serde_json::Value;
 use std::alloc::Global;
 use terms::VSet;
 
 pub fn set_call(alloc: Global, name: &str, row: &Value) -> Result<Answer, Unread> {
-    about(alloc, name, row, &given(alloc, row)?)
+    about(alloc, name, row, &set_of(alloc, row)?)
 }
 
 /// The set `a` of a row, or the one of its ordinal `k` alone.
-fn given(alloc: Global, row: &Value) -> Result<VSet, Unread> {
+fn set_of(alloc: Global, row: &Value) -> Result<VSet, Unread> {
     match row.get("a") {
-        Some(listed) => set(alloc, listed),
+        Some(listed) => <VSet as Given>::of(alloc, listed),
         None => Ok(VSet::single(alloc, whole_at(row, "k")?)?),
     }
 }
 
 fn about(alloc: Global, name: &str, row: &Value, set: &VSet) -> Result<Answer, Unread> {
     match name {
-        "of" | "single" => shown(alloc, &SetText(set)),
+        "of" | "single" => shown(alloc, set),
         "single_has" => Ok(Answer::Bool(set.has(whole_at(row, "other")?))),
         "len" => Ok(Answer::Number(set.len())),
         "is_empty" => Ok(Answer::Bool(set.is_empty())),
-        "ordinals" => Ok(Answer::Numbers(set.ordinals(alloc)?)),
+        "ordinals" => given(alloc, set.ordinals(alloc)?),
         "has" => Ok(Answer::Bool(set.has(whole_at(row, "k")?))),
-        "copy" => Ok(Answer::Set(set.copy(alloc)?)),
+        "copy" => given(alloc, set.copy(alloc)?),
         "copy_with" => copy_with(alloc, set, whole_at(row, "k")?),
-        "highest" => Ok(Answer::Choice(set.highest(&ordinals_at(alloc, row, "ranked")?))),
-        _ => Ok(beside(name, set, &set_at(alloc, row, "b")?)),
+        "highest" => Ok(Answer::choice(set.highest(&at::<Vec<u32>>(alloc, row, "ranked")?))),
+        _ => Ok(beside(name, set, &at::<VSet>(alloc, row, "b")?)),
     }
 }
 

@@ -3,13 +3,10 @@
 use derivations::{Learnt, Store};
 use registry::{Command, Registry};
 use rows::{
-    Answer, StoreText, Unread, all_stand, command_of, count, enter, learnt_at, shown, whole_at,
-    write_conclusion,
+    Answer, Unread, all_stand, command_of, count, enter, given, learnt_at, shown, whole_at,
 };
 use serde_json::Value;
 use std::alloc::Global;
-use std::fmt;
-use terms::Pkg;
 
 /// A call that changes the registry too: a command, and what the store does after it.
 pub fn follow_call(
@@ -90,8 +87,8 @@ fn about(
     row: &Value,
 ) -> Result<Answer, Unread> {
     match name {
-        "members" => shown(alloc, &StoreText(store)),
-        "named" => shown(alloc, &NamedText(store, whole_at(row, "package")?)),
+        "members" => shown(alloc, store),
+        "named" => given(alloc, named(alloc, store, whole_at(row, "package")?)?),
         "stand" => Ok(Answer::Bool(all_stand(registry, store))),
         _ => of_learnt(registry, store, name, &learnt_at(alloc, row)?),
     }
@@ -114,33 +111,18 @@ fn of_learnt(
     }
 }
 
-/// What those members conclude that are found by a package, newest first.
-#[derive(Clone, Copy)]
-struct NamedText<'a>(&'a Store, Pkg);
-
-impl fmt::Display for NamedText<'_> {
-    fn fmt<W: fmt::Write>(&self, f: &mut fmt::Formatter<W>) -> fmt::Result {
-        f.write_str("[")?;
-        write_named(f, self.0, u64::from(self.1))?;
-        f.write_str("]")
-    }
-}
-
-fn write_named<W: fmt::Write>(
-    f: &mut fmt::Formatter<W>,
-    store: &Store,
-    number: u64,
-) -> fmt::Result {
-    let mut is_first = true;
+/// The members that are found by a package, newest first.
+fn named(alloc: Global, store: &Store, pkg: u32) -> Result<Vec<&Learnt>, Unread> {
+    let number = u64::from(pkg);
+    let mut found = Vec::new(alloc);
     let mut at = store.naming().first(number);
     'walk: while let Some(link) = store.naming().link(at) {
         if link.number == number {
             if let Some(member) = store.member(link.place) {
-                write_conclusion(f, member, is_first)?;
-                is_first = false;
+                found.push(member)?;
             }
         }
         at = link.before;
     }
-    Ok(())
+    Ok(found)
 }

@@ -4,12 +4,12 @@ ghost use Rattle.std.specs.Ordering.{nat_cmp};
 ghost use Rattle.std.specs.BTreeMap.{get};
 
 use registry::{Pkg, Registry, Request};
-use rows::{Answer, Unread, items, member, request_at, whole, whole_at};
+use rows::{Answer, Shows, Unread, as_told, items, member, request_at, shown, whole, whole_at};
 use serde_json::Value;
 use std::alloc::Global;
 use std::collections::BTreeMap;
 use std::fmt;
-use versions::{Name, Need, Published};
+use versions::{Name, Published};
 use walk::{
     Asker, Chooser, Preferred, Reached, preferred_version, reach, reach_preferred, sort_by_name,
 };
@@ -36,7 +36,7 @@ fn about(
         "reach_preferred" => reach_by_itself(alloc, registry, request),
         "preferred_version" => {
             let pkg = whole_at(row, "pkg")?;
-            Ok(Answer::Choice(preferred_version(registry, request, pkg)))
+            Ok(Answer::choice(preferred_version(registry, request, pkg)))
         }
         _ => Err(Unread::Row),
     }
@@ -86,7 +86,9 @@ fn reach_chosen(
     walked(alloc, registry, request, &Chosen { choices: &choices })
 }
 
-/// What a walk answers, a selection in the order of names.
+/// What a walk answers, a selection in the order of names: `{"selected":[["a","1.0.0"]]}`,
+/// `{"not_allowed":["a","1.0.0"]}`, `{"asks":"request","for":["a","^1"]}`, or by a version,
+/// `{"asks":["b","1.0.0"],"for":["a","^1"]}`.
 fn walked<C: Chooser>(
     alloc: Global,
     registry: &Registry,
@@ -118,30 +120,27 @@ fn reach_by_itself(
     }
 }
 
-// ---- answers
-
-/// `{"selected":[["a","1.0.0"]]}`.
-fn selected(alloc: Global, registry: &Registry, list: &[(Pkg, u32)]) -> Result<Answer, Unread> {
+fn selected<'a>(
+    alloc: Global,
+    registry: &'a Registry,
+    list: &'a [(Pkg, u32)],
+) -> Result<Answer, Unread> {
     let listed = SelectedText { registry, list };
+    let listed = as_told(&listed);
     Ok(Answer::Text(format!(in alloc; "{{\"selected\":{listed}}}")?))
 }
 
-/// `{"not_allowed":["a","1.0.0"]}`.
 fn not_allowed(
     alloc: Global,
     registry: &Registry,
     pkg: Pkg,
     ordinal: u32,
 ) -> Result<Answer, Unread> {
-    let version = VersionText {
-        registry,
-        pkg,
-        ordinal,
-    };
+    let version = version_of(registry, pkg, ordinal);
+    let version = as_told(&version);
     Ok(Answer::Text(format!(in alloc; "{{\"not_allowed\":{version}}}")?))
 }
 
-/// `{"asks":"request","for":["a","^1"]}`, or by a version, `{"asks":["b","1.0.0"],"for":["a","^1"]}`.
 fn unmet(
     alloc: Global,
     registry: &Registry,
@@ -149,23 +148,12 @@ fn unmet(
     asker: Asker,
     index: usize,
 ) -> Result<Answer, Unread> {
-    match asker.needs(registry, request).get(index) {
-        Some((name, need)) => asks(alloc, registry, asker, name, need),
-        None => Ok(Answer::Word("nothing")),
-    }
-}
-
-fn asks(
-    alloc: Global,
-    registry: &Registry,
-    asker: Asker,
-    name: &Name,
-    need: &Need,
-) -> Result<Answer, Unread> {
-    let who = AskerText { registry, asker };
-    let (name, need) = (name.text(), need.text());
-    let text = format!(in alloc; "{{\"asks\":{who},\"for\":[{name:?},{need:?}]}}")?;
-    Ok(Answer::Text(text))
+    let Some(need) = asker.needs(registry, request).get(index) else {
+        return Ok(Answer::Word("nothing"));
+    };
+    let (who, need) = (AskerText { registry, asker }, as_told(need));
+    let who = as_told(&who);
+    Ok(Answer::Text(format!(in alloc; "{{\"asks\":{who},\"for\":{need}}}")?))
 }
 
 #[derive(Clone, Copy)]
@@ -174,11 +162,11 @@ struct AskerText<'a> {
     asker: Asker,
 }
 
-impl fmt::Display for AskerText<'_> {
-    fn fmt<W: fmt::Write>(&self, f: &mut fmt::Formatter<W>) -> fmt::Result {
+impl Shows for AskerText<'_> {
+    fn show<W: fmt::Write>(&self, f: &mut fmt::Formatter<W>) -> fmt::Result {
         match self.asker {
             Asker::Request => f.write_str("\"request\""),
-            Asker::Version(pkg, ordinal) => write_version(f, self.registry, pkg, ordinal),
+            Asker::Version(pkg, ordinal) => version_of(self.registry, pkg, ordinal).show(f),
         }
     }
 }
@@ -189,48 +177,21 @@ struct SelectedText<'a> {
     list: &'a [(Pkg, u32)],
 }
 
-impl fmt::Display for SelectedText<'_> {
-    fn fmt<W: fmt::Write>(&self, f: &mut fmt::Formatter<W>) -> fmt::Result {
+impl Shows for SelectedText<'_> {
+    fn show<W: fmt::Write>(&self, f: &mut fmt::Formatter<W>) -> fmt::Result {
         let mut before = "";
         f.write_str("[")?;
         for (pkg, ordinal) in self.list {
             f.write_str(before)?;
-            write_version(f, self.registry, *pkg, *ordinal)?;
+            version_of(self.registry, *pkg, *ordinal).show(f)?;
             before = ",";
         }
         f.write_str("]")
     }
 }
 
-#[derive(Clone, Copy)]
-struct VersionText<'a> {
-    registry: &'a Registry,
-    pkg: Pkg,
-    ordinal: u32,
-}
-
-impl fmt::Display for VersionText<'_> {
-    fn fmt<W: fmt::Write>(&self, f: &mut fmt::Formatter<W>) -> fmt::Result {
-        write_version(f, self.registry, self.pkg, self.ordinal)
-    }
-}
-
 /// A version by its package's name and its own text.
-fn write_version<W: fmt::Write>(
-    f: &mut fmt::Formatter<W>,
-    registry: &Registry,
-    pkg: Pkg,
-    ordinal: u32,
-) -> fmt::Result {
-    match version_of(registry, pkg, ordinal) {
-        Some((name, version)) => write!(f, "[{:?},{:?}]", name.text(), version.text()),
-        None => f.write_str("null"),
-    }
-}
-
 fn version_of(registry: &Registry, pkg: Pkg, ordinal: u32) -> Option<(&Name, &Published)> {
-    Some((
-        registry.name_at(pkg)?,
-        registry.facts_at(pkg, ordinal)?.version,
-    ))
+    let name = registry.name_at(pkg)?;
+    Some((name, registry.facts_at(pkg, ordinal)?.version))
 }

@@ -1,6 +1,6 @@
 // Lines that begin with a name: whether a name comes twice, and the line of a name.
 
-ghost use Rattle.std.specs.Prelude.{◌≡◌, false, IfErr, IfOk};
+ghost use Rattle.std.specs.Prelude.{◌≡◌, false, IfOk};
 ghost use Rattle.std.specs.List.{range_with_len};
 ghost use Rattle.std.specs.Map.{keys_of, lookup};
 ghost use Rattle.std.specs.Option.{option_copied};
@@ -10,7 +10,7 @@ ghost use Rattle.registry.specs.Needs.{repeats};
 
 use std::alloc::{AllocError, Global};
 use std::cmp::Ordering;
-use versions::{Name, Refusal};
+use versions::Name;
 
 /// The name of the line at a place; no text where there is no line.
 fn name_at<V>(lines: &[(Name, V)], place: usize) -> &str
@@ -37,9 +37,8 @@ fn places_below(alloc: Global, count: usize) -> Result<Vec<usize>, AllocError>
 }
 
 /// The places of the lines in the order of their names. The cost grows with n log n.
-pub fn places_by_name<V>(alloc: Global, lines: &[(Name, V)]) -> Result<Vec<usize>, Refusal>
-    ensures sorted { IfOk result (λ places. IsByName (keys_of lines.now) places.items) }
-    ensures only { IfErr result (λ e. e ≡ Refusal.NoMemory) }
+pub fn places_by_name<V>(alloc: Global, lines: &[(Name, V)]) -> Result<Vec<usize>, AllocError>
+    ensures { IfOk result (λ places. IsByName (keys_of lines.now) places.items) }
 {
     let mut places = places_below(alloc, lines.len())?;
     places.sort_unstable_by(|a, b| compare_names(lines, *a, *b));

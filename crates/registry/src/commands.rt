@@ -3,6 +3,7 @@
 ghost use Rattle.std.specs.Prelude.{◌≡◌, IfErr, IfOk};
 
 use crate::dependencies::Dependencies;
+use std::alloc::AllocError;
 use versions::{Name, Published, Refusal};
 
 /// A change of the registry that is asked for.
@@ -17,20 +18,28 @@ pub enum Command {
     Unyank(Name, Published),
 }
 
+impl Clone for Command {
+    ghost is_clone = { λ command copy. copy ≡ command };
+
+    fn clone(&self) -> Result<Command, AllocError> {
+        match self {
+            Command::Publish(name, version, needs) => Ok(Command::Publish(
+                name.clone()?,
+                version.clone()?,
+                needs.clone()?,
+            )),
+            Command::Yank(name, version) => Ok(Command::Yank(name.clone()?, version.clone()?)),
+            Command::Unyank(name, version) => Ok(Command::Unyank(name.clone()?, version.clone()?)),
+        }
+    }
+}
+
 impl Command {
     /// An equal command, which shares its texts and its list of dependencies with this one.
     pub fn copy(&self) -> Result<Command, Refusal>
         ensures same { IfOk result (λ command. command ≡ self.now) }
         ensures only { IfErr result (λ e. e ≡ Refusal.NoMemory) }
     {
-        match self {
-            Command::Publish(name, version, needs) => Ok(Command::Publish(
-                name.copy()?,
-                version.copy()?,
-                needs.copy()?,
-            )),
-            Command::Yank(name, version) => Ok(Command::Yank(name.copy()?, version.copy()?)),
-            Command::Unyank(name, version) => Ok(Command::Unyank(name.copy()?, version.copy()?)),
-        }
+        Ok(self.clone()?)
     }
 }

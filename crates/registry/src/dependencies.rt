@@ -1,14 +1,14 @@
 // What a version depends on.
 
-ghost use Rattle.std.specs.Prelude.{◌≡◌, ◌≢◌, ◌↔◌, ◌∷◌, ℕ, List, IfErr, IfNone, IfOk, IfSome, IsTrue};
+ghost use Rattle.std.specs.Prelude.{◌≡◌, ◌≢◌, ◌↔◌, ◌∷◌, ℕ, List, IfNone, IfOk, IfSome, IsTrue};
 ghost use Rattle.registry.specs.Needs.{has_name, repeats_name};
 
 use crate::by_name::{places_by_name, repeats};
 use crate::listed::{Listed, Place};
-use std::alloc::Global;
+use std::alloc::{AllocError, Global};
 use std::marker::Model;
 use std::sync::Arc;
-use versions::{Name, Need, Refusal};
+use versions::{Name, Need};
 
 /// Up to this many needs are compared each with each, which takes less time than to sort them.
 const FEW: usize = 8;
@@ -34,11 +34,22 @@ impl Model for Dependencies {
     ghost invariant = { λ d. d.repeats ≡ repeats_name (arc_value d.listed) };
 }
 
+impl Clone for Dependencies {
+    ghost is_clone = { λ dependencies copy. copy ≡ dependencies };
+
+    /// Shares the list.
+    fn clone(&self) -> Result<Dependencies, AllocError> {
+        Ok(Dependencies {
+            listed: Arc::try_clone(&self.listed)?,
+            repeats: self.repeats,
+        })
+    }
+}
+
 impl Dependencies {
     /// Keeps these needs in their order. Takes time in proportion to n log n.
-    pub fn new(alloc: Global, needs: Vec<(Name, Need)>) -> Result<Dependencies, Refusal>
-        ensures kept { IfOk result (λ dependencies. dependencies ≡ needs.items) }
-        ensures only { IfErr result (λ e. e ≡ Refusal.NoMemory) }
+    pub fn new(alloc: Global, needs: Vec<(Name, Need)>) -> Result<Dependencies, AllocError>
+        ensures { IfOk result (λ dependencies. dependencies ≡ needs.items) }
     {
         let repeats = repeats_name(alloc, &needs)?;
         Ok(Dependencies {
@@ -71,24 +82,12 @@ impl Dependencies {
         &self,
         alloc: Global,
         listed: Listed,
-    ) -> Result<Dependencies, Refusal>
+    ) -> Result<Dependencies, AllocError>
         requires { listed ≡ self.now }
-        ensures same { IfOk result (λ dependencies. dependencies ≡ self.now) }
-        ensures only { IfErr result (λ e. e ≡ Refusal.NoMemory) }
+        ensures { IfOk result (λ dependencies. dependencies ≡ self.now) }
     {
         Ok(Dependencies {
             listed: Arc::new(alloc, listed)?,
-            repeats: self.repeats,
-        })
-    }
-
-    /// An equal list, which is shared with this one.
-    pub fn copy(&self) -> Result<Dependencies, Refusal>
-        ensures same { IfOk result (λ dependencies. dependencies ≡ self.now) }
-        ensures only { IfErr result (λ e. e ≡ Refusal.NoMemory) }
-    {
-        Ok(Dependencies {
-            listed: Arc::try_clone(&self.listed)?,
             repeats: self.repeats,
         })
     }
@@ -138,9 +137,8 @@ fn repeats_among_few(needs: &[(Name, Need)]) -> bool
 }
 
 /// Whether a name comes twice.
-fn repeats_name(alloc: Global, needs: &[(Name, Need)]) -> Result<bool, Refusal>
-    ensures found { IfOk result (λ repeats. repeats ≡ repeats_name needs.now) }
-    ensures only { IfErr result (λ e. e ≡ Refusal.NoMemory) }
+fn repeats_name(alloc: Global, needs: &[(Name, Need)]) -> Result<bool, AllocError>
+    ensures { IfOk result (λ repeats. repeats ≡ repeats_name needs.now) }
 {
     if needs.len() <= FEW {
         return Ok(repeats_among_few(needs));

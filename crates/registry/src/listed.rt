@@ -1,10 +1,10 @@
 // Needs in a list, and where a registry keeps their names and requirements.
 
-ghost use Rattle.std.specs.Prelude.{◌≡◌, ◌∷◌, ◌++◌, [], IfErr, IfOk, OnOk};
+ghost use Rattle.std.specs.Prelude.{◌≡◌, ◌∷◌, ◌++◌, [], IfOk, OnOk};
 
-use std::alloc::Global;
+use std::alloc::{AllocError, Global};
 use std::marker::Model;
-use versions::{Name, Need, Refusal};
+use versions::{Name, Need};
 
 /// Where a registry may keep the name and the requirement of a dependency: the place of the name among
 /// its names, and that of the requirement among those that are named on the package.
@@ -68,9 +68,8 @@ impl Listed {
     }
 
     /// No needs, with room for so many.
-    pub fn with_capacity(alloc: Global, count: usize) -> Result<Listed, Refusal>
-        ensures empty { IfOk result (λ listed. listed ≡ []) }
-        ensures err { IfErr result (λ e. e ≡ Refusal.NoMemory) }
+    pub fn with_capacity(alloc: Global, count: usize) -> Result<Listed, AllocError>
+        ensures { IfOk result (λ listed. listed ≡ []) }
     {
         Ok(Listed {
             needs: Vec::with_capacity(alloc, count)?,
@@ -79,9 +78,8 @@ impl Listed {
     }
 
     /// Puts a need at the end, with its place.
-    pub fn push(&mut self, need: (Name, Need), place: Place) -> Result<(), Refusal>
-        ensures pushed { OnOk result (self.new ≡ self.old ++ need ∷ []) }
-        ensures err { IfErr result (λ e. e ≡ Refusal.NoMemory) }
+    pub fn push(&mut self, need: (Name, Need), place: Place) -> Result<(), AllocError>
+        ensures { OnOk result (self.new ≡ self.old ++ need ∷ []) }
     {
         self.needs.push(need)?;
         self.places.push(place)?;

@@ -1,6 +1,6 @@
 // What is made ready for a publication, so that it takes no memory.
 
-ghost use Rattle.std.specs.Prelude.{◌≡◌, ◌<◌, ◌≤◌, ◌-◌, ◌↔◌, ◌≢◌, ◌∷◌, ◌++◌, ℕ, List, [], length, vec_capacity, vec_len, None, Some, IfErr, IfNone, IfOk, IfSome, IsTrue, OnOk, is_some, position};
+ghost use Rattle.std.specs.Prelude.{◌≡◌, ◌<◌, ◌≤◌, ◌-◌, ◌↔◌, ◌≢◌, ◌∷◌, ◌++◌, ℕ, List, [], length, vec_capacity, vec_len, None, Some, IfNone, IfOk, IfSome, IsTrue, OnOk, is_some, position};
 ghost use Rattle.std.specs.List.{list_any};
 ghost use Rattle.std.specs.Option.{ForSome, option_map};
 ghost use Rattle.std.specs.Str.{bytes_eq};
@@ -12,8 +12,8 @@ use crate::dependencies::{Dependencies, are_same};
 use crate::listed::{Listed, Place};
 use crate::publications::Publications;
 use indexmap::IndexSet;
-use std::alloc::Global;
-use versions::{Name, Need, Refusal};
+use std::alloc::{AllocError, Global};
+use versions::{Name, Need};
 
 /// What is made ready for a publication: where its package stands, and the names to be numbered,
 /// each with its list of publications, which keeps the matching sets of what the publication needs.
@@ -48,14 +48,13 @@ pub fn ready_for<'a>(
 }
 
 /// A package that is new, which keeps the matching set of the need that names it.
-fn new_package(alloc: Global, need: &(Name, Need)) -> Result<(Name, Publications), Refusal>
+fn new_package(alloc: Global, need: &(Name, Need)) -> Result<(Name, Publications), AllocError>
     ensures name { IfOk result (λ new. new.0 ≡ need.now.0) }
     ensures empty { IfOk result (λ new. new.1.publications ≡ []) }
-    ensures err { IfErr result (λ e. e ≡ Refusal.NoMemory) }
 {
     let mut publications = Publications::new(alloc);
     publications.name_need(&need.1)?;
-    Ok((need.0.copy()?, publications))
+    Ok((need.0.clone()?, publications))
 }
 
 /// What the needs of a publication come to.
@@ -79,35 +78,36 @@ fn kept_in<'a>(names: &'a IndexSet<Name>, name: &Name) -> Option<(usize, &'a Nam
 }
 
 /// An equal need.
-fn copied(need: &(Name, Need)) -> Result<(Name, Need), Refusal>
-    ensures same { IfOk result (λ copy. copy ≡ need.now) }
-    ensures err { IfErr result (λ e. e ≡ Refusal.NoMemory) }
+fn copied(need: &(Name, Need)) -> Result<(Name, Need), AllocError>
+    ensures { IfOk result (λ copy. copy ≡ need.now) }
 {
-    Ok((need.0.copy()?, need.1.copy()?))
+    Ok((need.0.clone()?, need.1.clone()?))
 }
 
 /// Names a requirement on a package, and answers the equal one that the package keeps, with the name,
 /// and the requirement's place.
-fn kept(list: &mut Publications, name: &Name, need: &Need) -> Result<((Name, Need), usize), Refusal>
+fn kept(
+    list: &mut Publications,
+    name: &Name,
+    need: &Need,
+) -> Result<((Name, Need), usize), AllocError>
     ensures publications { list.new.publications ≡ list.old.publications }
     ensures same { IfOk result (λ kept. kept.0 ≡ (name.now, need.now)) }
-    ensures err { IfErr result (λ e. e ≡ Refusal.NoMemory) }
 {
     let (need, place) = kept_need(list, need)?;
-    Ok(((name.copy()?, need), place))
+    Ok(((name.clone()?, need), place))
 }
 
 /// Names a requirement on a package, and answers the equal one that the package keeps, and its place.
-fn kept_need(list: &mut Publications, need: &Need) -> Result<(Need, usize), Refusal>
+fn kept_need(list: &mut Publications, need: &Need) -> Result<(Need, usize), AllocError>
     ensures publications { list.new.publications ≡ list.old.publications }
     ensures same { IfOk result (λ kept. kept.0 ≡ need.now) }
-    ensures err { IfErr result (λ e. e ≡ Refusal.NoMemory) }
 {
     if let Some((place, kept)) = list.named(need) {
-        return Ok((kept.copy()?, place));
+        return Ok((kept.clone()?, place));
     }
     let place = list.name_need(need)?;
-    Ok((need.copy()?, place))
+    Ok((need.clone()?, place))
 }
 
 /// The place that is next for a name, once the package's own has one.
@@ -125,10 +125,9 @@ fn add_known(
     name: &Name,
     need: &Need,
     same: &mut Listed,
-) -> Result<(), Refusal>
+) -> Result<(), AllocError>
     ensures publications { list.new.publications ≡ list.old.publications }
     ensures same { OnOk result (same.new ≡ same.old ++ (name.now, need.now) ∷ []) }
-    ensures err { IfErr result (λ e. e ≡ Refusal.NoMemory) }
 {
     let (shared, place) = kept(list, name, need)?;
     same.push(shared, Place::new(index, place))
@@ -140,11 +139,10 @@ fn add_new(
     need: &(Name, Need),
     next: usize,
     named: &mut Named,
-) -> Result<(), Refusal>
+) -> Result<(), AllocError>
     ensures same { OnOk result (named.new.needs ≡ named.old.needs ++ need.now ∷ []) }
     ensures added { OnOk result (names_in named.new.added.items ≡ names_in named.old.added.items ++ need.now.0 ∷ []) }
     ensures empty { OnOk result (AreEmpty named.old.added.items → AreEmpty named.new.added.items) }
-    ensures err { IfErr result (λ e. e ≡ Refusal.NoMemory) }
 {
     // The first requirement that is named on a package has the place 0.
     let place = Place::new(next.saturating_add(named.added.len()), 0);
@@ -160,14 +158,13 @@ fn add_need(
     need: &(Name, Need),
     next: usize,
     named: &mut Named,
-) -> Result<(), Refusal>
+) -> Result<(), AllocError>
     requires paired { length names.now.keys ≡ length lists.old.items }
     ensures lists { lists_of lists.new.items ≡ lists_of lists.old.items }
     ensures length { length lists.new.items ≡ length lists.old.items }
     ensures same { OnOk result (named.new.needs ≡ named.old.needs ++ need.now ∷ []) }
     ensures added { OnOk result (names_in named.new.added.items ≡ names_in named.old.added.items ++ unknown_names (λ name. list_any (bytes_eq name) names.now.keys) (need.now ∷ [])) }
     ensures empty { OnOk result (AreEmpty named.old.added.items → AreEmpty named.new.added.items) }
-    ensures err { IfErr result (λ e. e ≡ Refusal.NoMemory) }
 {
     match kept_in(names, &need.0) {
         Some((index, name)) => {
@@ -186,14 +183,13 @@ fn name_needs(
     lists: &mut Vec<Publications>,
     needs: &[(Name, Need)],
     next: usize,
-) -> Result<Named, Refusal>
+) -> Result<Named, AllocError>
     requires paired { length names.now.keys ≡ length lists.old.items }
     ensures lists { lists_of lists.new.items ≡ lists_of lists.old.items }
     ensures length { length lists.new.items ≡ length lists.old.items }
     ensures same { IfOk result (λ named. named.needs ≡ needs.now) }
     ensures named { IfOk result (λ named. names_in named.added.items ≡ unknown_names (λ name. list_any (bytes_eq name) names.now.keys) needs.now) }
     ensures empty { IfOk result (λ named. AreEmpty named.added.items) }
-    ensures err { IfErr result (λ e. e ≡ Refusal.NoMemory) }
 {
     let mut named = Named {
         needs: Listed::with_capacity(alloc, needs.len())?,
@@ -213,14 +209,13 @@ fn named_needs(
     lists: &mut Vec<Publications>,
     needs: &Dependencies,
     place: Option<usize>,
-) -> Result<(Dependencies, Vec<(Name, Publications)>), Refusal>
+) -> Result<(Dependencies, Vec<(Name, Publications)>), AllocError>
     requires paired { length names.now.keys ≡ length lists.old.items }
     ensures lists { lists_of lists.new.items ≡ lists_of lists.old.items }
     ensures length { length lists.new.items ≡ length lists.old.items }
     ensures same { IfOk result (λ named. named.0 ≡ needs.now) }
     ensures named { IfOk result (λ named. names_in named.1.items ≡ unknown_names (λ name. list_any (bytes_eq name) names.now.keys) needs.now) }
     ensures empty { IfOk result (λ named. AreEmpty named.1.items) }
-    ensures err { IfErr result (λ e. e ≡ Refusal.NoMemory) }
 {
     let next = next_place(names, place);
     let named = name_needs(alloc, names, lists, needs.needs(), next)?;
@@ -233,14 +228,13 @@ fn make_list_room(
     lists: &mut Vec<Publications>,
     own: &mut Publications,
     place: Option<usize>,
-) -> Result<(), Refusal>
+) -> Result<(), AllocError>
     requires within { ForSome place (λ i. i < length lists.old.items) }
     ensures lists { lists_of lists.new.items ≡ lists_of lists.old.items }
     ensures length { length lists.new.items ≡ length lists.old.items }
     ensures same_room { vec_capacity lists.new - vec_len lists.new ≡ vec_capacity lists.old - vec_len lists.old }
     ensures own { own.new.publications ≡ own.old.publications }
     ensures room { OnOk result (0 < room_where (rooms_of lists.new.items) own.new.room place) }
-    ensures err { IfErr result (λ e. e ≡ Refusal.NoMemory) }
 {
     match place {
         None => own.reserve()?,
@@ -259,7 +253,7 @@ fn make_room(
     own: &mut Publications,
     place: Option<usize>,
     count: usize,
-) -> Result<(), Refusal>
+) -> Result<(), AllocError>
     requires within { ForSome place (λ i. i < length lists.old.items) }
     ensures keys { names.new.keys ≡ names.old.keys }
     ensures lists { lists_of lists.new.items ≡ lists_of lists.old.items }
@@ -268,7 +262,6 @@ fn make_room(
     ensures names_room { OnOk result (count ≤ spare names.new) }
     ensures lists_room { OnOk result (count ≤ vec_capacity lists.new - vec_len lists.new) }
     ensures room { OnOk result (0 < room_where (rooms_of lists.new.items) own.new.room place) }
-    ensures err { IfErr result (λ e. e ≡ Refusal.NoMemory) }
 {
     names.reserve(count)?;
     lists.reserve(count)?;
@@ -276,14 +269,13 @@ fn make_room(
 }
 
 /// Where a name stands, if it does, and an equal name: the one that stands there, where there is one.
-fn kept_name(names: &IndexSet<Name>, name: &Name) -> Result<(Option<usize>, Name), Refusal>
+fn kept_name(names: &IndexSet<Name>, name: &Name) -> Result<(Option<usize>, Name), AllocError>
     ensures place { IfOk result (λ found. found.0 ≡ position (bytes_eq name.now) names.now.keys) }
     ensures same { IfOk result (λ found. found.1 ≡ name.now) }
-    ensures err { IfErr result (λ e. e ≡ Refusal.NoMemory) }
 {
     match kept_in(names, name) {
-        Some((index, kept)) => Ok((Some(index), kept.copy()?)),
-        None => Ok((None, name.copy()?)),
+        Some((index, kept)) => Ok((Some(index), kept.clone()?)),
+        None => Ok((None, name.clone()?)),
     }
 }
 
@@ -294,14 +286,13 @@ pub fn make_ready(
     lists: &mut Vec<Publications>,
     name: &Name,
     needs: &Dependencies,
-) -> Result<Ready, Refusal>
+) -> Result<Ready, AllocError>
     requires paired { length names.old.keys ≡ length lists.old.items }
     ensures keys { names.new.keys ≡ names.old.keys }
     ensures lists { lists_of lists.new.items ≡ lists_of lists.old.items }
     ensures length { length lists.new.items ≡ length lists.old.items }
     ensures ready { IfOk result (IsReady names.new.keys (spare names.new) lists.new.items (vec_capacity lists.new - vec_len lists.new)) }
     ensures publication { IfOk result (λ ready. publication_for (Some ready) ≡ Some (name.now, needs.now)) }
-    ensures err { IfErr result (λ e. e ≡ Refusal.NoMemory) }
 {
     let (place, name) = kept_name(names, name)?;
     let (needs, added) = named_needs(alloc, names, lists, needs, place)?;

@@ -25,7 +25,7 @@ use crate::ready::{Ready, make_ready, ready_for};
 use crate::requests::Request;
 use indexmap::IndexSet;
 use releases::Matching;
-use std::alloc::Global;
+use std::alloc::{AllocError, Global};
 use std::marker::Model;
 use terms::{GrowingSet, VSet, same_set};
 use versions::{Name, Need, Published, Refusal, equal_precedence_is_an_equivalence};
@@ -224,12 +224,21 @@ impl Registry {
     }
 
     /// The ordinals of the published versions of a package that meet a requirement; none of one that
-    /// is not numbered. A copy of what [`Registry::matching_set`] lends.
+    /// is not numbered. Want of memory is refused by its number.
     pub fn matching(&self, pkg: Pkg, need: &Need) -> Result<VSet, Refusal>
         ensures members { IfOk result (λ set. (k : ℕ) → has set k ≡ meets_at self.now.packages pkg k need.now) }
         ensures ascending { IfOk result IsAscending }
         ensures set { IfOk result (λ set. set ≡ matching self.now.packages pkg need.now) }
         ensures only { IfErr result (λ e. e ≡ Refusal.NoMemory) }
+    {
+        Ok(self.matching_copy(pkg, need)?)
+    }
+
+    /// As [`Registry::matching`]: a copy of what [`Registry::matching_set`] lends.
+    pub fn matching_copy(&self, pkg: Pkg, need: &Need) -> Result<VSet, AllocError>
+        ensures members { IfOk result (λ set. (k : ℕ) → has set k ≡ meets_at self.now.packages pkg k need.now) }
+        ensures ascending { IfOk result IsAscending }
+        ensures set { IfOk result (λ set. set ≡ matching self.now.packages pkg need.now) }
     {
         same_set();
         let set = self.matching_set(pkg, need)?;
@@ -239,13 +248,12 @@ impl Registry {
     /// The ordinals of the published versions of a package that meet a requirement; none of one that
     /// is not numbered. Where some publication names this requirement on the package, its kept set is
     /// lent, at the cost of a look-up by the requirement's text; else each version is tested.
-    pub fn matching_set(&self, pkg: Pkg, need: &Need) -> Result<Matching<'_>, Refusal>
-        ensures members { IfOk result (λ set. (k : ℕ) → has (ordinals_of set) k ≡ meets_at self.now.packages pkg k need.now) }
-        ensures only { IfErr result (λ e. e ≡ Refusal.NoMemory) }
+    pub fn matching_set(&self, pkg: Pkg, need: &Need) -> Result<Matching<'_>, AllocError>
+        ensures { IfOk result (λ set. (k : ℕ) → has (ordinals_of set) k ≡ meets_at self.now.packages pkg k need.now) }
     {
         match self.publications_at(pkg) {
             None => Ok(Matching::Computed(GrowingSet::new(self.alloc))),
-            Some(publications) => Ok(publications.matching(need)?),
+            Some(publications) => publications.matching(need),
         }
     }
 
@@ -258,10 +266,9 @@ impl Registry {
         pkg: Pkg,
         ordinal: u32,
         index: usize,
-    ) -> Result<(Pkg, Matching<'_>), Refusal>
+    ) -> Result<(Pkg, Matching<'_>), AllocError>
         requires { index < length (needs_of self.now.packages pkg ordinal) }
-        ensures dependency { IfOk result (λ found. IsDependency self.now.packages pkg ordinal index found.0 (ordinals_of found.1)) }
-        ensures only { IfErr result (λ e. e ≡ Refusal.NoMemory) }
+        ensures { IfOk result (λ found. IsDependency self.now.packages pkg ordinal index found.0 (ordinals_of found.1)) }
     {
         let listed = self.dependencies(pkg, ordinal);
         let entry = &listed.needs()[index];
@@ -327,16 +334,15 @@ impl Registry {
         ensures err { IfErr result (λ e. e ≡ Refusal.NoMemory) }
     {
         match command {
-            Command::Publish(name, _, needs) => self.make_ready(name, needs),
+            Command::Publish(name, _, needs) => Ok(self.make_ready(name, needs)?),
             Command::Yank(_, _) | Command::Unyank(_, _) => Ok(()),
         }
     }
 
     /// An equal command. Where room was made for it, it shares the texts that the registry keeps, so
     /// that equal names and requirements of many commands are kept once; no contract shows that.
-    pub fn shared(&self, command: &Command) -> Result<Command, Refusal>
-        ensures same { IfOk result (λ copy. copy ≡ command.now) }
-        ensures only { IfErr result (λ e. e ≡ Refusal.NoMemory) }
+    pub fn shared(&self, command: &Command) -> Result<Command, AllocError>
+        ensures { IfOk result (λ copy. copy ≡ command.now) }
     {
         match command {
             Command::Publish(name, version, needs) => match ready_for(
@@ -345,13 +351,13 @@ impl Registry {
                 needs.needs(),
             ) {
                 Some(ready) => Ok(Command::Publish(
-                    ready.name.copy()?,
-                    version.copy()?,
-                    ready.needs.copy()?,
+                    ready.name.clone()?,
+                    version.clone()?,
+                    ready.needs.clone()?,
                 )),
-                None => command.copy(),
+                None => command.clone(),
             },
-            Command::Yank(_, _) | Command::Unyank(_, _) => command.copy(),
+            Command::Yank(_, _) | Command::Unyank(_, _) => command.clone(),
         }
     }
 
@@ -398,13 +404,12 @@ impl Registry {
 
     /// As [`Registry::matching_set`], of a requirement that may be named at this place: where it is, no
     /// look-up is made.
-    fn matching_at(&self, pkg: Pkg, need: &Need, place: usize) -> Result<Matching<'_>, Refusal>
-        ensures members { IfOk result (λ set. (k : ℕ) → has (ordinals_of set) k ≡ meets_at self.now.packages pkg k need.now) }
-        ensures only { IfErr result (λ e. e ≡ Refusal.NoMemory) }
+    fn matching_at(&self, pkg: Pkg, need: &Need, place: usize) -> Result<Matching<'_>, AllocError>
+        ensures { IfOk result (λ set. (k : ℕ) → has (ordinals_of set) k ≡ meets_at self.now.packages pkg k need.now) }
     {
         match self.publications_at(pkg) {
             None => Ok(Matching::Computed(GrowingSet::new(self.alloc))),
-            Some(publications) => Ok(publications.matching_at(need, place)?),
+            Some(publications) => publications.matching_at(need, place),
         }
     }
 
@@ -493,12 +498,11 @@ impl Registry {
     }
 
     /// Makes ready for a publication, unless that is done.
-    fn make_ready(&mut self, name: &Name, needs: &Dependencies) -> Result<(), Refusal>
+    fn make_ready(&mut self, name: &Name, needs: &Dependencies) -> Result<(), AllocError>
         ensures packages { self.new.packages ≡ self.old.packages }
         ensures revision { self.new.revision ≡ self.old.revision }
         ensures ok { OnOk result (self.new.ready ≡ Some (name.now, needs.now)) }
         ensures succeeds { self.old.ready ≡ Some (name.now, needs.now) → IsOk result }
-        ensures err { IfErr result (λ e. e ≡ Refusal.NoMemory) }
     {
         if ready_for(&self.ready, name, needs.needs()).is_some() {
             return Ok(());
@@ -515,13 +519,12 @@ impl Registry {
         name: Name,
         version: Published,
         needs: Dependencies,
-    ) -> Result<(), Refusal>
+    ) -> Result<(), AllocError>
         requires accepted { publish_refusal self.old.packages name version needs ≡ None }
         ensures packages { OnOk result (self.new.packages ≡ publish self.old.packages name version needs) }
         ensures unchanged { OnErr result (self.new.packages ≡ self.old.packages) }
         ensures revision { self.new.revision ≡ self.old.revision }
         ensures succeeds { self.old.ready ≡ Some (name, needs) → IsOk result }
-        ensures err { IfErr result (λ e. e ≡ Refusal.NoMemory) }
     {
         self.make_ready(&name, &needs)?;
         self.enter(name, version, needs);

@@ -81,6 +81,13 @@ impl Request {
         &self.lock
     }
 
+    /// The lock's lines, in the order that was given, of a request that is given up.
+    pub fn into_lock(self) -> Vec<(Name, Published)>
+        ensures { result.items ≡ self.lock }
+    {
+        self.lock
+    }
+
     /// The need on a package. The cost grows with the logarithm of the number of needs.
     pub fn need_on(&self, name: &Name) -> Option<&Need>
         ensures need { option_copied result ≡ lookup (bytes_eq name.now) self.now.needs }

@@ -21,6 +21,7 @@ use Rattle.clap.specs.declared.error.ErrorKind.{ErrorKind}
 use Rattle.clap.specs.declared.error.ErrorKind.TheVariants as kind
 use Rattle.clap.specs.declared.parser.matches.ValueSource.{ValueSource}
 use Rattle.registryd.specs.CommandLine.{program_app, serve_app, race_app, workers_rule, files_rule, option_rule}
+use Rattle.registryd.specs.declared.words.TheConstants.{MOST_WORKERS}
 use Rattle.registryd.specs.Words.{HasFiles, HasWorkers, IsGiven}
 use Rattle.registryd.proofs.CommandWalk.{Keeps, no_fault, walk_keeps, settle_keeps}
 
@@ -131,7 +132,7 @@ subcommands : (built program_app).subs ≡ serve_shape ∷ race_shape ∷ []
 subcommands = refl
 
 abbrev is_worker_count : Text → Bool
-is_worker_count = accepts false (Unsigned 1 64)
+is_worker_count = accepts false (Unsigned 1 MOST_WORKERS)
 
 accepted : (b : Bool) (k : ErrorKind) (ks : Kinds) → or_else (cond b [] (k ∷ [])) ks ≡ [] → b ≡ true
 accepted true k ks none = refl
@@ -187,7 +188,7 @@ workers_given words none =
     let left = level_leaves WorkersGood serve_shape words workers_kept (refl, (refl, (refl, (refl, tt)))) tt none in
     let rows = finished serve_shape.rules (walk serve_shape.rules [] nothing_held words).held in
     let read = first_read (codes "workers") is_worker_count rows left.0 (asked_for (is_given (codes "workers") rows) left.1) in
-    (read.0, read.2, accepts-Accepts false (Unsigned 1 64) read.0 read.4)
+    (read.0, read.2, accepts-Accepts false (Unsigned 1 MOST_WORKERS) read.0 read.4)
 
 -- what `race` was given: a file or more
 files_given : (words : List Text) → level_fault race_shape [] nothing_held words false [] ≡ []

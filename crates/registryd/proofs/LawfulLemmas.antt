@@ -52,10 +52,11 @@ told TooLong said is = inr is
 told NotADerivation said is = inr is
 told BudgetSpent said is = inr is
 
-asked-short : (line : List ℕ) → length line ≤ line_limit → asked line ≡ request_of line
+pub asked-short : (line : List ℕ) → length line ≤ line_limit → asked line ≡ request_of line
 asked-short line short = let fits : nat_le (length line) line_limit ≡ true = search rules in rw fits refl
 
-asked-long : (line : List ℕ) → line_limit < length line → asked line ≡ Err BadLine
+-- a line that is too long
+pub asked-long : (line : List ℕ) → line_limit < length line → asked line ≡ Err BadLine
 asked-long line long = let over : nat_le (length line) line_limit ≡ false = search rules in rw over refl
 
 -- the item of a command's change is the command
@@ -68,21 +69,16 @@ module _ {S : Type 0} (w : Ways S) where
   -- ---- one line
 
   -- what a line is answered where it asks this
-  as_asked : (line : List ℕ) (old : S) (reply : Reply) (new : S) (said : Result Request Refusal) → asked line ≡ said
+  pub as_asked : (line : List ℕ) (old : S) (reply : Reply) (new : S) (said : Result Request Refusal) → asked line ≡ said
       → MatchResult said (λ request. MayAnswer w request old reply new) (λ fault. IsRefused w fault old reply new) → IsLawful w line old reply new
   as_asked line old reply new said is h =
       inr (subst (λ (r : Result Request Refusal). MatchResult r (λ request. MayAnswer w request old reply new) (λ fault. IsRefused w fault old reply new)) (sym is) h)
 
-  -- a line that is too long
-  pub lawful_long : (line : List ℕ) (old : S) → line_limit < length line → IsLawful w line old (reply_at w old (refused BadLine)) old
-  lawful_long line old long = as_asked line old _ old _ (asked-long line long) (refl, refl)
-
   -- a line that is at fault
-  pub lawful_bad : (line : List ℕ) (old : S) (e : Refusal) → length line ≤ line_limit → Refuses e (request_of line)
-      → IsLawful w line old (reply_at w old (refused e)) old
-  lawful_bad line old e short said = elim (told e (request_of line) said) [
+  pub lawful_bad : (line : List ℕ) (old : S) (e : Refusal) → Refuses e (asked line) → IsLawful w line old (reply_at w old (refused e)) old
+  lawful_bad line old e said = elim (told e (asked line) said) [
     | inl memory ↦ inl (refl, ap (λ (r : Refusal). reply_at w old (refused r)) memory)
-    | inr bad ↦ as_asked line old _ old _ (asked-short line short ∙ bad) (refl, refl)
+    | inr bad ↦ as_asked line old _ old _ bad (refl, refl)
   ]
 
   leads_weaker : (P Q : Reply → S → Type 0) (a : Answer) (here : S) → ((reply : Reply) (new : S) → P reply new → Q reply new) → LeadsTo w P a here → LeadsTo w Q a here
@@ -91,11 +87,11 @@ module _ {S : Type 0} (w : Ways S) where
   leads_weaker P Q answer.Listing here f leads = λ body may. f _ here (leads body may)
 
   -- a line that was answered as what it asks
-  pub lawful_answered : (line : List ℕ) (old : S) (request : Request) (a : Answer) (here : S) → length line ≤ line_limit → request_of line ≡ Ok request
+  pub lawful_answered : (line : List ℕ) (old : S) (request : Request) (a : Answer) (here : S) → asked line ≡ Ok request
       → LeadsTo w (λ reply new. MayAnswer w request old reply new) a here → LeadsTo w (λ reply new. IsLawful w line old reply new) a here
-  lawful_answered line old request a here short said leads =
+  lawful_answered line old request a here said leads =
       leads_weaker (λ reply new. MayAnswer w request old reply new) (λ reply new. IsLawful w line old reply new) a here
-      (λ reply new answers. as_asked line old reply new _ (asked-short line short ∙ said) answers) leads
+      (λ reply new answers. as_asked line old reply new _ said answers) leads
 
   -- ---- what answers a request
 

@@ -1,3 +1,4 @@
+pub mod BatchLemmas
 pub mod CommandWalk
 pub mod GivenValues
 pub mod KeptLemmas
@@ -10,4 +11,5 @@ pub mod ServedLemmas
 pub mod LoadedLemmas
 pub mod SessionLemmas
 pub mod SessionRows
+pub mod WaitLemmas
 pub mod WordLemmas

@@ -13,7 +13,7 @@ use Rattle.replies.specs.Replies.{Reply, reply_text, replies_text}
 use Rattle.book.specs.declared.item.Item.{Item}
 use Rattle.registryd.specs.Lawful.{AreLawful, IsLawful}
 use Rattle.registryd.specs.Session.{Breaks, Serves, session_ways}
-use Rattle.registryd.proofs.LawfulLemmas.{lawful_append, lawful_more}
+use Rattle.registryd.proofs.LawfulLemmas.{lawful_append}
 
 -- Whole lines of what was read were answered, and the rest is held; the replies are written or wait.
 pub record Progress (r0 r w0 w : Option (List ℕ)) (old new : List Item) (held : Unread) (waiting : List ℕ) : Type 0 where
@@ -35,18 +35,18 @@ pub record Progress (r0 r w0 w : Option (List ℕ)) (old new : List Item) (held 
 with_feeds-cons : (line : List ℕ) (lines : List (List ℕ)) (rest : List ℕ) → with_feeds (line ∷ lines) ++ rest ≡ line ++ line_feed ∷ (with_feeds lines ++ rest)
 with_feeds-cons line lines rest = append_assoc (line ++ line_feed ∷ []) (with_feeds lines) rest ∙ append_assoc line (line_feed ∷ []) (with_feeds lines ++ rest)
 
-with_feeds-more : (lines : List (List ℕ)) (line rest : List ℕ) → with_feeds (lines ++ line ∷ []) ++ rest ≡ with_feeds lines ++ (line ++ line_feed ∷ rest)
-with_feeds-more [] line rest = with_feeds-cons line [] rest
-with_feeds-more (first ∷ lines) line rest = with_feeds-cons first (lines ++ line ∷ []) rest
-    ∙ ap (λ l. first ++ line_feed ∷ l) (with_feeds-more lines line rest) ∙ sym (with_feeds-cons first lines (line ++ line_feed ∷ rest))
+pub with_feeds-append : (lines more : List (List ℕ)) (rest : List ℕ) → with_feeds (lines ++ more) ++ rest ≡ with_feeds lines ++ (with_feeds more ++ rest)
+with_feeds-append [] more rest = refl
+with_feeds-append (first ∷ lines) more rest = with_feeds-cons first (lines ++ more) rest
+    ∙ ap (λ l. first ++ line_feed ∷ l) (with_feeds-append lines more rest) ∙ sym (with_feeds-cons first lines (with_feeds more ++ rest))
 
-no_feeds-more : (lines : List (List ℕ)) (line : List ℕ) → AllByRecursion HasNoFeed lines → HasNoFeed line → AllByRecursion HasNoFeed (lines ++ line ∷ [])
-no_feeds-more [] line h here = (here, tt)
-no_feeds-more (first ∷ lines) line h here = (h.0, no_feeds-more lines line h.1 here)
+pub no_feeds-append : (lines more : List (List ℕ)) → AllByRecursion HasNoFeed lines → AllByRecursion HasNoFeed more → AllByRecursion HasNoFeed (lines ++ more)
+no_feeds-append [] more h here = here
+no_feeds-append (first ∷ lines) more h here = (h.0, no_feeds-append lines more h.1 here)
 
 -- ---- the steps
 
-replies_text-more : (replies : List Reply) (reply : Reply) → replies_text (replies ++ reply ∷ []) ≡ replies_text replies ++ reply_text reply
+pub replies_text-more : (replies : List Reply) (reply : Reply) → replies_text (replies ++ reply ∷ []) ≡ replies_text replies ++ reply_text reply
 replies_text-more replies reply = flat_map-append reply_text replies (reply ∷ []) ∙ ap (λ l. replies_text replies ++ l) (append-nil (reply_text reply))
 
 -- before the first line
@@ -66,103 +66,76 @@ starts r w old held waiting stands none = record {
   said = none;
 }
 
--- a line was found and its reply put
-pub answers : (r0 r w0 w w' : Option (List ℕ)) (old mid new : List Item) (held held' : Unread) (waiting waiting' line : List ℕ) (reply : Reply) (written : List ℕ)
-    → (p : Progress r0 r w0 w old mid held waiting) → BeginsWith p.rest line held' → IsLawful session_ways line mid reply new → Appends w w' written
-    → written ++ waiting' ≡ waiting ++ reply_text reply → Progress r0 r w0 w' old new held' waiting'
-answers r0 r w0 w w' old mid new held held' waiting waiting' line reply written p begins lawful appends all = record {
-  input = p.input;
-  lines = p.lines ++ line ∷ [];
-  rest = begins.rest;
-  replies = p.replies ++ reply ∷ [];
-  text = p.text ++ written;
-  read = p.read;
-  split = p.split ∙ ap (λ l. with_feeds p.lines ++ l) begins.whole ∙ sym (with_feeds-more p.lines line begins.rest);
-  no_feeds = no_feeds-more p.lines line p.no_feeds begins.no_feed;
-  stands = begins.held;
-  session = lawful_more session_ways p.lines line p.replies reply old mid new p.session lawful;
-  written = Appends-trans w0 w w' p.text written p.written appends;
-  said = append_assoc p.text written waiting' ∙ ap (λ l. p.text ++ l) all ∙ sym (append_assoc p.text waiting (reply_text reply))
-      ∙ ap (λ l. l ++ reply_text reply) p.said ∙ sym (replies_text-more p.replies reply);
-}
+-- lines that stand at the front of the rest, the replies to them, and what was written of these
+pub record Answered (w w' : Option (List ℕ)) (rest : List ℕ) (mid new : List Item) (written : List ℕ) : Type 0 where
+  pub lines : List (List ℕ)
+  pub after : List ℕ
+  pub replies : List Reply
+  pub whole : rest ≡ with_feeds lines ++ after
+  pub no_feeds : AllByRecursion HasNoFeed lines
+  pub session : AreLawful session_ways lines mid replies new
+  pub appends : Appends w w' written
 
--- a line was found and the write of its reply failed
-pub answer_fails : LinesInFront → WholeLinesInFront → (r0 r w0 w w' : Option (List ℕ)) (old mid new : List Item) (held held' : Unread) (waiting line : List ℕ) (reply : Reply) (written : List ℕ)
-    → (p : Progress r0 r w0 w old mid held waiting) → BeginsWith p.rest line held' → IsLawful session_ways line mid reply new → Appends w w' written
-    → IsBeginning written (waiting ++ reply_text reply) → Breaks r0 r w0 w' old
-answer_fails in_front whole_in_front r0 r w0 w w' old mid new held held' waiting line reply written p begins lawful appends (more, is) = record {
-  input = p.input;
-  count = length (p.lines ++ line ∷ []);
-  replies = p.replies ++ reply ∷ [];
-  new = new;
-  text = p.text ++ written;
-  read = p.read;
-  whole = inl (omega (arith, ap length whole, length-append (p.lines ++ line ∷ []) (whole_lines_of begins.rest)));
-  session = subst (λ ls. AreLawful session_ways ls old (p.replies ++ reply ∷ []) new) (sym front)
-      (lawful_more session_ways p.lines line p.replies reply old mid new p.session lawful);
-  written = Appends-trans w0 w w' p.text written p.written appends;
-  beginning = (
-    more,
-    append_assoc p.text written more ∙ ap (λ l. p.text ++ l) is ∙ sym (append_assoc p.text waiting (reply_text reply))
-        ∙ ap (λ l. l ++ reply_text reply) p.said ∙ sym (replies_text-more p.replies reply),
-  );
-}
-  where
-    all : p.input ≡ with_feeds (p.lines ++ line ∷ []) ++ begins.rest
-    all = p.split ∙ ap (λ l. with_feeds p.lines ++ l) begins.whole ∙ sym (with_feeds-more p.lines line begins.rest)
+module _ (r0 r w0 w w' : Option (List ℕ)) (old mid new : List Item) (held : Unread) (waiting written : List ℕ) (p : Progress r0 r w0 w old mid held waiting)
+    (a : Answered w w' p.rest mid new written) where
+  all_split : p.input ≡ with_feeds (p.lines ++ a.lines) ++ a.after
+  all_split = p.split ∙ ap (λ l. with_feeds p.lines ++ l) a.whole ∙ sym (with_feeds-append p.lines a.lines a.after)
 
-    whole : whole_lines_of p.input ≡ (p.lines ++ line ∷ []) ++ whole_lines_of begins.rest
-    whole = ap whole_lines_of all ∙ whole_in_front (p.lines ++ line ∷ []) begins.rest (no_feeds-more p.lines line p.no_feeds begins.no_feed)
+  all_feeds : AllByRecursion HasNoFeed (p.lines ++ a.lines)
+  all_feeds = no_feeds-append p.lines a.lines p.no_feeds a.no_feeds
 
-    front : take (length (p.lines ++ line ∷ [])) (lines_of p.input) ≡ p.lines ++ line ∷ []
-    front = ap (λ l. take (length (p.lines ++ line ∷ [])) (lines_of l)) all
-        ∙ ap (take (length (p.lines ++ line ∷ []))) (in_front (p.lines ++ line ∷ []) begins.rest (no_feeds-more p.lines line p.no_feeds begins.no_feed))
-        ∙ take_at (p.lines ++ line ∷ []) (lines_of begins.rest) _ refl
+  all_lawful : AreLawful session_ways (p.lines ++ a.lines) old (p.replies ++ a.replies) new
+  all_lawful = lawful_append session_ways p.lines a.lines p.replies a.replies old mid new p.session a.session
 
--- what waited was sent
-pub sends : (r0 r w0 w w' : Option (List ℕ)) (old new : List Item) (held held' : Unread) (waiting waiting' : List ℕ) (written : List ℕ)
-    → (p : Progress r0 r w0 w old new held waiting) → HasNoFeed p.rest → StandsFor held' p.rest → Appends w w' written → written ≡ waiting → waiting' ≡ []
-    → (q : Progress r0 r w0 w' old new held' waiting') × HasNoFeed q.rest
-sends r0 r w0 w w' old new held held' waiting waiting' written p no_feed stands appends all none = (
-  record {
+  all_said : (text : List ℕ) → written ++ text ≡ waiting ++ replies_text a.replies → (p.text ++ written) ++ text ≡ replies_text (p.replies ++ a.replies)
+  all_said text all = append_assoc p.text written text ∙ ap (λ l. p.text ++ l) all ∙ sym (append_assoc p.text waiting (replies_text a.replies))
+      ∙ ap (λ l. l ++ replies_text a.replies) p.said ∙ sym (flat_map-append reply_text p.replies a.replies)
+
+  -- the replies were put
+  pub answers : (held' : Unread) (waiting' : List ℕ) → StandsFor held' a.after → written ++ waiting' ≡ waiting ++ replies_text a.replies → Progress r0 r w0 w' old new held' waiting'
+  answers held' waiting' stands all = record {
     input = p.input;
-    lines = p.lines;
-    rest = p.rest;
-    replies = p.replies;
+    lines = p.lines ++ a.lines;
+    rest = a.after;
+    replies = p.replies ++ a.replies;
     text = p.text ++ written;
     read = p.read;
-    split = p.split;
-    no_feeds = p.no_feeds;
+    split = all_split;
+    no_feeds = all_feeds;
     stands = stands;
-    session = p.session;
-    written = Appends-trans w0 w w' p.text written p.written appends;
-    said = ap (λ l. p.text ++ written ++ l) none ∙ append-nil (p.text ++ written) ∙ ap (λ l. p.text ++ l) all ∙ p.said;
-  },
-  no_feed,
-)
+    session = all_lawful;
+    written = Appends-trans w0 w w' p.text written p.written a.appends;
+    said = all_said waiting' all;
+  }
 
--- the write of what waited failed
-pub send_fails : LinesInFront → WholeLinesInFront → (r0 r w0 w w' : Option (List ℕ)) (old new : List Item) (held : Unread) (waiting written : List ℕ)
-    → (p : Progress r0 r w0 w old new held waiting) → Appends w w' written → IsBeginning written waiting → Breaks r0 r w0 w' old
-send_fails in_front whole_in_front r0 r w0 w w' old new held waiting written p appends (more, is) = record {
-  input = p.input;
-  count = length p.lines;
-  replies = p.replies;
-  new = new;
-  text = p.text ++ written;
-  read = p.read;
-  whole = inl (omega (arith, ap length whole, length-append p.lines (whole_lines_of p.rest)));
-  session = subst (λ ls. AreLawful session_ways ls old p.replies new) (sym front) p.session;
-  written = Appends-trans w0 w w' p.text written p.written appends;
-  beginning = (more, append_assoc p.text written more ∙ ap (λ l. p.text ++ l) is ∙ p.said);
-}
-  where
-    whole : whole_lines_of p.input ≡ p.lines ++ whole_lines_of p.rest
-    whole = ap whole_lines_of p.split ∙ whole_in_front p.lines p.rest p.no_feeds
+  -- and what stands behind the lines is left
+  pub answers_left : (held' : Unread) (waiting' : List ℕ) → StandsFor held' a.after → written ++ waiting' ≡ waiting ++ replies_text a.replies
+      → (q : Progress r0 r w0 w' old new held' waiting') × (q.rest ≡ a.after)
+  unfolding answers
+  answers_left held' waiting' stands all = (answers held' waiting' stands all, refl)
 
-    front : take (length p.lines) (lines_of p.input) ≡ p.lines
-    front = ap (λ l. take (length p.lines) (lines_of l)) p.split ∙ ap (take (length p.lines)) (in_front p.lines p.rest p.no_feeds)
-        ∙ take_at p.lines (lines_of p.rest) _ refl
+  -- the write of the replies failed
+  pub answer_fails : LinesInFront → WholeLinesInFront → IsBeginning written (waiting ++ replies_text a.replies) → Breaks r0 r w0 w' old
+  answer_fails in_front whole_in_front (more, is) = record {
+    input = p.input;
+    count = length (p.lines ++ a.lines);
+    replies = p.replies ++ a.replies;
+    new = new;
+    text = p.text ++ written;
+    read = p.read;
+    whole = inl (omega (arith, ap length whole, length-append (p.lines ++ a.lines) (whole_lines_of a.after)));
+    session = subst (λ ls. AreLawful session_ways ls old (p.replies ++ a.replies) new) (sym front) all_lawful;
+    written = Appends-trans w0 w w' p.text written p.written a.appends;
+    beginning = (more, all_said more is);
+  }
+    where
+      whole : whole_lines_of p.input ≡ (p.lines ++ a.lines) ++ whole_lines_of a.after
+      whole = ap whole_lines_of all_split ∙ whole_in_front (p.lines ++ a.lines) a.after all_feeds
+
+      front : take (length (p.lines ++ a.lines)) (lines_of p.input) ≡ p.lines ++ a.lines
+      front = ap (λ l. take (length (p.lines ++ a.lines)) (lines_of l)) all_split
+          ∙ ap (take (length (p.lines ++ a.lines))) (in_front (p.lines ++ a.lines) a.after all_feeds)
+          ∙ take_at (p.lines ++ a.lines) (lines_of a.after) _ refl
 
 -- more was read
 pub reads : ReadingGoesOn → (r0 r r' w0 w : Option (List ℕ)) (old new : List Item) (held held' : Unread) (waiting piece : List ℕ)

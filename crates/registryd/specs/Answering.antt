@@ -1,10 +1,19 @@
--- What an answer leads to, before it is told.
+-- What a line is read as, and what an answer leads to before it is told.
+use Rattle.std.specs.Prelude.{ℕ, List, Result}
+use Rattle.versions.specs.Refusals.{Gives}
+use Rattle.versions.specs.declared.refusal.Refusal.{Refusal}
+use Rattle.wire.specs.Asked.{asked_of}
+use Rattle.wire.specs.declared.request.Asked.{Asked}
 use Rattle.replies.specs.Replies.{Body, Reply}
-use Rattle.registryd.specs.Lawful.{LearnsSome, Ways, reply_at}
+use Rattle.registryd.specs.Lawful.{LearnsSome, Ways, asked, reply_at}
 use Rattle.registryd.specs.Outcomes.{MayTell, TellsListing}
 use Rattle.registryd.specs.Told.{told_body}
 use Rattle.registryd.specs.declared.answer.Answer.{Answer}
 use Rattle.registryd.specs.declared.answer.Answer.TheVariants as answer
+
+-- It is read as what the line asks, or as its fault, unless memory ran out.
+abbrev pub IsRead : Result Asked Refusal → List ℕ → Type 0
+IsRead read line = Gives asked_of read (asked line)
 
 -- Each reply that tells this answer where the ledger stands is such a reply, and leaves it so: of a search, once some of what it offers is learnt.
 abbrev pub LeadsTo : {S : Type 0} → Ways S → (Reply → S → Type 0) → Answer → S → Type 0

@@ -3,14 +3,15 @@ use Rattle.std.specs.Prelude.{Some, true, codes}
 use Rattle.clap.specs.Words.{App, Rule, Text, new_app, new_rule, with_rule, with_subcommand}
 use Rattle.clap.specs.declared.builder.action.ArgAction.TheVariants.{Set, Append}
 use Rattle.clap.specs.declared.builder.ValueParser.TheVariants.{Unsigned}
+use Rattle.registryd.specs.declared.words.TheConstants.{MOST_WORKERS}
 
 -- `--name VALUE`, which may be left out
 abbrev pub option_rule : Text → Rule
 option_rule name = record (new_rule name) { long = Some name; action = Some Set; value_names = 1 }
 
--- `--workers N`, which has to be there, N from 1 to 64
+-- `--workers N`, which has to be there, N from 1 to MOST_WORKERS
 abbrev pub workers_rule : Rule
-workers_rule = record (option_rule (codes "workers")) { required = true; parser = Some (Unsigned 1 64) }
+workers_rule = record (option_rule (codes "workers")) { required = true; parser = Some (Unsigned 1 MOST_WORKERS) }
 
 -- one file or more
 abbrev pub files_rule : Rule

@@ -6,6 +6,7 @@ pub mod Told
 pub mod Lawful
 pub mod Answering
 pub mod Session
+pub mod Batches
 pub mod Loaded
 pub mod Racing
 pub mod Kept

@@ -4,6 +4,7 @@ use Rattle.std.specs.Str.Parse.{IsNumeral, digits_value, without_leading_plus}
 use Rattle.std.specs.declared.alloc.Global.{Global}
 use Rattle.clap.specs.Words.{IsUnsignedIn, Row, Text, fault_of, subcommand_of, first_of, all_of, one_of}
 use Rattle.registryd.specs.CommandLine.{program_app}
+use Rattle.registryd.specs.declared.words.TheConstants.{MOST_FILES, MOST_WORKERS}
 use Rattle.registryd.specs.declared.words.Words.{Words}
 use Rattle.registryd.specs.declared.words.Words.TheVariants.{Serve, Race}
 
@@ -14,9 +15,9 @@ texts words = map string_bytes words
 abbrev pub Writes : Text → ℕ → Type 0
 Writes text n = IsNumeral 10 (without_leading_plus text) × (digits_value 10 (without_leading_plus text) ≡ n)
 
--- the number of workers, which is 1 to 64, is the one that was given
+-- the number of workers, which is 1 to MOST_WORKERS, is the one that was given
 abbrev pub SaysWorkers : ℕ → List Row → Type 0
-SaysWorkers workers rows = (1 ≤ workers) × (workers ≤ 64)
+SaysWorkers workers rows = (1 ≤ workers) × (workers ≤ MOST_WORKERS)
     × ((text : Text) × (one_of (codes "workers") rows ≡ Some text) × Writes text workers)
 
 -- the options of `serve` are those that were given
@@ -26,10 +27,10 @@ SaysServe (Serve workers load save) rows = SaysWorkers workers rows
     × (option_map string_bytes save ≡ first_of (codes "save") rows)
 SaysServe (Race files) rows = ⊥
 
--- the files of `race`, 1 to 63, are those that were given
+-- the files of `race`, 1 to MOST_FILES, are those that were given
 abbrev pub SaysRace : Words → List Row → Type 0
 SaysRace (Serve workers load save) rows = ⊥
-SaysRace (Race files) rows = (0 < length files.items) × (length files.items ≤ 63)
+SaysRace (Race files) rows = (0 < length files.items) × (length files.items ≤ MOST_FILES)
     × (Some (texts files.items) ≡ all_of (codes "files") rows)
 
 -- the words say what clap gives for them: a subcommand with its values
@@ -38,7 +39,7 @@ Says words given = (rows : List Row) × (((given ≡ Some (codes "serve", rows))
     ⊎ ((given ≡ Some (codes "race", rows)) × SaysRace words rows))
 
 abbrev pub IsManyFiles : List Row → Type 0
-IsManyFiles rows = (files : List Text) × (all_of (codes "files") rows ≡ Some files) × (63 < length files)
+IsManyFiles rows = (files : List Text) × (all_of (codes "files") rows ≡ Some files) × (MOST_FILES < length files)
 
 -- more files than a race takes
 abbrev pub HasManyFiles : Option (Text × List Row) → Type 0
@@ -53,10 +54,10 @@ IsServe load save given = (rows : List Row) × (given ≡ Some (codes "serve", r
 abbrev pub AskToServe : List Text → Option Text → Option Text → Type 0
 AskToServe words load save = (fault_of program_app words ≡ []) × IsServe load save (subcommand_of program_app words)
 
--- a race of so many files is given, at most 63
+-- a race of so many files is given, at most MOST_FILES
 abbrev pub IsRaceOf : ℕ → Option (Text × List Row) → Type 0
 IsRaceOf count given = (rows : List Row) × (files : List Text) × (given ≡ Some (codes "race", rows))
-    × (all_of (codes "files") rows ≡ Some files) × (length files ≡ count) × (count ≤ 63)
+    × (all_of (codes "files") rows ≡ Some files) × (length files ≡ count) × (count ≤ MOST_FILES)
 
 -- clap finds no fault in the words, and they ask for a race of so many files
 abbrev pub AskToRace : List Text → ℕ → Type 0
@@ -64,9 +65,9 @@ AskToRace words count = (fault_of program_app words ≡ []) × IsRaceOf count (s
 
 -- ---- what clap has seen to
 
--- a number of workers is given, from 1 to 64
+-- a number of workers is given, from 1 to MOST_WORKERS
 abbrev pub HasWorkers : List Row → Type 0
-HasWorkers rows = (text : Text) × (one_of (codes "workers") rows ≡ Some text) × IsUnsignedIn 1 64 text
+HasWorkers rows = (text : Text) × (one_of (codes "workers") rows ≡ Some text) × IsUnsignedIn 1 MOST_WORKERS text
 
 -- a file is given
 abbrev pub HasFiles : List Row → Type 0

@@ -1,9 +1,9 @@
 //! The answer to one line, of a session and of a seat of a race alike.
-ghost use Rattle.std.specs.Prelude.{◌⊎◌, IfErr, IfOk};
+ghost use Rattle.std.specs.Prelude.{◌⊎◌, ℕ, List, IfErr, IfOk};
 ghost use Rattle.registry.specs.Commands.{change_of};
 ghost use Rattle.chronicle.specs.Answers.{MayStop};
 ghost use Rattle.wire.specs.Shapes as shapes;
-ghost use Rattle.registryd.specs.Answering.{LeadsTo};
+ghost use Rattle.registryd.specs.Answering.{IsRead, LeadsTo};
 ghost use Rattle.registryd.specs.Lawful.{IsLawful, IsStopped, MayAnswer};
 ghost use Rattle.registryd.specs.Outcomes.{TellsFound};
 ghost use Rattle.registryd.specs.Told.{told_body};
@@ -34,10 +34,24 @@ pub enum Answer {
 pub fn answer_line<L: Ledger>(alloc: Global, ledger: &mut L, line: &[u8]) -> Answer
     ensures { LeadsTo L.ways (IsLawful L.ways line.now ledger.old) result ledger.new }
 {
+    answer_read(alloc, ledger, read_line(alloc, line))
+}
+
+/// Reads what a line asks. One that is too long is at fault.
+pub fn read_line(alloc: Global, line: &[u8]) -> Result<Asked, Refusal>
+    ensures { IsRead result line.now }
+{
     if line.len() > LINE_LIMIT {
-        return Answer::Told(Told::Refusal(Refusal::BadLine));
+        return Err(Refusal::BadLine);
     }
-    match read_request(alloc, line) {
+    read_request(alloc, line)
+}
+
+/// Answers a line of which this was read.
+pub fn answer_read<L: Ledger>(alloc: Global, ledger: &mut L, read: Result<Asked, Refusal>) -> Answer
+    ensures { (line : List ℕ) → IsRead read line → LeadsTo L.ways (IsLawful L.ways line ledger.old) result ledger.new }
+{
+    match read {
         Ok(Asked::Command(command)) => enter(ledger, command),
         Ok(
             Asked::Resolve {
@@ -137,5 +151,5 @@ fn found_here<L: Ledger>(
 {
     let registry = ledger.registry();
     let outcome = solve_under(alloc, registry, request, ledger.store(), budget)?;
-    told_of(alloc, registry, request, explain, outcome)
+    Ok(told_of(alloc, registry, request, explain, outcome)?)
 }

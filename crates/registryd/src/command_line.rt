@@ -4,6 +4,7 @@ ghost use Rattle.clap.specs.Words.{app_of, rule_of};
 ghost use Rattle.clap.specs.declared.Command.TheViews.{out-Command as fields_of};
 ghost use Rattle.registryd.specs.CommandLine.{option_rule, workers_rule, files_rule, serve_app, race_app, program_app};
 
+use crate::words::MOST_WORKERS;
 use clap::builder::ValueParser;
 use clap::{Arg, ArgAction, Command};
 use std::alloc::{AllocError, Global};
@@ -53,7 +54,7 @@ fn workers_option<'a>(alloc: Global) -> Arg<'a>
         .help("How many threads resolve, 1 to 64")
         .required(true)
         .action(ArgAction::Set)
-        .value_parser(ValueParser::Unsigned(1, 64))
+        .value_parser(ValueParser::Unsigned(1, MOST_WORKERS))
 }
 
 fn file_option<'a>(alloc: Global, name: &'a str, help: &'a str) -> Arg<'a>

@@ -4,9 +4,11 @@
 ghost use Rattle.std.specs.Prelude.{◌≡◌, drop};
 
 mod answer;
+mod batch;
 mod command_line;
 mod ending;
 mod files;
+mod found;
 mod freed;
 mod journal;
 mod kept;

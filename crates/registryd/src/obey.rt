@@ -8,16 +8,16 @@ ghost use Rattle.lines.specs.Lines.{lines_of, whole_lines_of};
 ghost use Rattle.registryd.specs.CommandLine.{program_app};
 ghost use Rattle.registryd.specs.Obeyed.{HasBroken, HasNoJournal, HasServed, MayBegin};
 ghost use Rattle.registryd.specs.Racing.{Races, RacesInPart};
-ghost use Rattle.registryd.specs.Served.{MayBeServed};
 ghost use Rattle.registryd.specs.Session.{Serves, Breaks};
 ghost use Rattle.registryd.specs.Words.{AskToRace, AskToServe, HasManyFiles, texts};
+ghost use Rattle.registryd.specs.declared.words.TheConstants.{MOST_FILES, MOST_WORKERS};
 
 use crate::ending::{End, end_of_read};
 use crate::files::{loaded_from, saved_to};
 use crate::race::race;
 use crate::serve::serve_session;
+use crate::served::Served;
 use crate::words::{WordFault, Words, advice_on, read_words};
-use book::Item;
 use lines::write_text;
 use std::alloc::Global;
 use std::io::{Read, Write};
@@ -96,7 +96,7 @@ fn lent_name(name: &Option<String>) -> Option<&str>
 
 /// Serves the lines of a reader: from the items of a journal on where its file is named, and with a journal at the end
 /// where a file is named for it.
-fn serve<H: Wait + Files, R: Read, W: Write>(
+fn serve<H: Threads + Wait + Sync + Files, R: Read, W: Write>(
     rt: &H,
     alloc: Global,
     reader: &mut R,
@@ -105,7 +105,7 @@ fn serve<H: Wait + Files, R: Read, W: Write>(
     load: Option<&str>,
     save: Option<&str>,
 ) -> End
-    requires { (1 ≤ workers) × (workers ≤ 64) }
+    requires { (1 ≤ workers) × (workers ≤ MOST_WORKERS) }
     ensures done { result ≡ End.Done → IsAtEnd (R.remaining reader.new) × ((loaded items : List Item) × MayBegin (option_map (λ t. t.now) load.entry) loaded
         × Serves (R.remaining reader.old) (R.remaining reader.new) (W.contents writer.old) (W.contents writer.new) lines_of loaded items) }
     ensures input { result ≡ End.Input → ((loaded items : List Item) × MayBegin (option_map (λ t. t.now) load.entry) loaded
@@ -122,37 +122,36 @@ fn serve<H: Wait + Files, R: Read, W: Write>(
     ensures words { result ≢ End.Words }
 {
     match loaded_from(rt, alloc, load) {
-        Ok(items) => serve_items(rt, alloc, reader, writer, workers, items, save),
+        Ok(served) => serve_from(rt, alloc, reader, writer, workers, served, save),
         Err(end) => end,
     }
 }
 
-/// Serves the lines of a reader from these items on.
-fn serve_items<H: Wait + Files, R: Read, W: Write>(
+/// Serves the lines of a reader by a session that stands already.
+fn serve_from<H: Threads + Wait + Sync + Files, R: Read, W: Write>(
     rt: &H,
     alloc: Global,
     reader: &mut R,
     writer: &mut W,
     workers: usize,
-    items: Vec<Item>,
+    begun: Served,
     save: Option<&str>,
 ) -> End
-    requires items { MayBeServed items.items }
-    requires workers { (1 ≤ workers) × (workers ≤ 64) }
+    requires { (1 ≤ workers) × (workers ≤ MOST_WORKERS) }
     ensures done { result ≡ End.Done → IsAtEnd (R.remaining reader.new) × ((accepted : List Item)
-        × Serves (R.remaining reader.old) (R.remaining reader.new) (W.contents writer.old) (W.contents writer.new) lines_of items.items accepted) }
+        × Serves (R.remaining reader.old) (R.remaining reader.new) (W.contents writer.old) (W.contents writer.new) lines_of begun accepted) }
     ensures input { result ≡ End.Input → (accepted : List Item)
-        × Serves (R.remaining reader.old) (R.remaining reader.new) (W.contents writer.old) (W.contents writer.new) whole_lines_of items.items accepted }
+        × Serves (R.remaining reader.old) (R.remaining reader.new) (W.contents writer.old) (W.contents writer.new) whole_lines_of begun accepted }
     ensures output { result ≡ End.Output
-        → Breaks (R.remaining reader.old) (R.remaining reader.new) (W.contents writer.old) (W.contents writer.new) items.items
+        → Breaks (R.remaining reader.old) (R.remaining reader.new) (W.contents writer.old) (W.contents writer.new) begun
         ⊎ (IsAtEnd (R.remaining reader.new) × ((accepted : List Item)
-        × Serves (R.remaining reader.old) (R.remaining reader.new) (W.contents writer.old) (W.contents writer.new) lines_of items.items accepted)) }
+        × Serves (R.remaining reader.old) (R.remaining reader.new) (W.contents writer.old) (W.contents writer.new) lines_of begun accepted)) }
     ensures memory { result ≡ End.Memory
         → Keeps (R.remaining reader.old) (R.remaining reader.new) × Keeps (W.contents writer.old) (W.contents writer.new) }
     ensures words { result ≢ End.Words }
     ensures no_journal { (line : ℕ) → result ≢ End.Journal line }
 {
-    match serve_session(rt, alloc, reader, writer, items, workers) {
+    match serve_session(rt, alloc, reader, writer, begun, workers) {
         Ok(served) => {
             let end = saved_to(rt, alloc, save, &served);
             // The program ends here, so what they hold needs no walk to be given back.
@@ -171,7 +170,7 @@ fn race_files<H: Threads + Sync + Files + AllocGlobal, W: Write>(
     writer: &mut W,
 ) -> End
     requires some { 0 < length names.now }
-    requires few { length names.now ≤ 63 }
+    requires few { length names.now ≤ MOST_FILES }
     ensures done { result ≡ End.Done → (files : List Text) × (length files ≡ length names.now) × Races (W.contents writer.old) (W.contents writer.new) files }
     ensures input { result ≡ End.Input → Keeps (W.contents writer.old) (W.contents writer.new) }
     ensures output { result ≡ End.Output → (files : List Text) × (length files ≡ length names.now)

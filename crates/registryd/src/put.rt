@@ -13,6 +13,7 @@ use replies::{Body, Listing, Reply, reply_line};
 use std::alloc::Global;
 use std::io;
 use std::io::Write;
+use versions::Refusal;
 
 /// Puts the line of what is told. It takes no memory.
 pub fn put_told<W: Write>(
@@ -47,7 +48,7 @@ pub fn put_listing<W: Write>(
 {
     match Listing::new(alloc, registry) {
         Ok(listing) => put_reply(outbox, writer, at, Body::Listing(listing)),
-        Err(e) => put_reply(outbox, writer, at, Body::Refusal(e)),
+        Err(_) => put_reply(outbox, writer, at, Body::Refusal(Refusal::NoMemory)),
     }
 }
 

@@ -1,5 +1,5 @@
 //! Why no selection meets a request: told by names, and judged.
-ghost use Rattle.std.specs.Prelude.{◌≡◌, ◌↔◌, IfErr, IfOk, IsTrue};
+ghost use Rattle.std.specs.Prelude.{◌≡◌, ◌↔◌, IfOk, IsTrue};
 ghost use Rattle.derivations.specs.Derivations.{IsDerivation};
 ghost use Rattle.explain.specs.Explanations.{explanation};
 ghost use Rattle.by_name.specs.Named.{IsNumbered};
@@ -10,8 +10,7 @@ use derivations::{Derivation, check};
 use explain::explanation;
 use registry::{Registry, Request};
 use replies::Explained;
-use std::alloc::Global;
-use versions::Refusal;
+use std::alloc::{AllocError, Global};
 
 /// A derivation of the refusal of a request, by the names of its packages, with the lines that explain it.
 pub fn explained(
@@ -19,18 +18,17 @@ pub fn explained(
     registry: &Registry,
     request: &Request,
     derivation: &Derivation,
-) -> Result<Explained, Refusal>
+) -> Result<Explained, AllocError>
     requires { IsDerivation registry.now.packages request.now derivation.now }
     ensures named { IfOk result (λ e. IsNumbered registry.now.packages e.lines derivation.now) }
     ensures told { IfOk result (λ e. e.texts ≡ explanation registry.now.packages request.now derivation.now) }
-    ensures only { IfErr result (λ e. e ≡ Refusal.NoMemory) }
 {
     // Known of every derivation, and asked by `named`: each of its packages has a name.
     derivation.conclusions_are_lawful();
     derived_packages_have_names();
     let by_name = named(alloc, registry, derivation)?;
     let lines = explanation(alloc, registry, request, derivation)?;
-    Ok(Explained::new(alloc, by_name, lines)?)
+    Explained::new(alloc, by_name, lines)
 }
 
 /// Whether a derivation in names shows that no selection meets the request. One whose names have no number, or of
@@ -40,12 +38,11 @@ pub fn follows(
     registry: &Registry,
     request: &Request,
     derivation: &NamedDerivation,
-) -> Result<bool, Refusal>
-    ensures exact { IfOk result (λ verdict. IsTrue verdict ↔ Proves registry.now.packages request.now derivation.now) }
-    ensures only { IfErr result (λ e. e ≡ Refusal.NoMemory) }
+) -> Result<bool, AllocError>
+    ensures { IfOk result (λ verdict. IsTrue verdict ↔ Proves registry.now.packages request.now derivation.now) }
 {
     match numbered(alloc, registry, derivation)? {
         None => Ok(false),
-        Some(lines) => Ok(check(alloc, registry, request, &lines)?),
+        Some(lines) => check(alloc, registry, request, &lines),
     }
 }

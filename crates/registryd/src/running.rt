@@ -11,7 +11,7 @@ use crate::kept::{Kept, keep_listing};
 use crate::ledger::{Ledger, learn_all};
 use chronicle::{Mark, Seat};
 use lines::{count_lines, first_line};
-use std::alloc::Global;
+use std::alloc::{AllocError, Global};
 use versions::Refusal;
 
 /// What a thread of a race is given: a seat, the file whose lines it answers, and room for a reply a
@@ -33,7 +33,7 @@ pub struct Run<'a> {
 
 impl<'a> Job<'a> {
     /// Makes the room.
-    pub fn new(alloc: Global, seat: Seat<'a>, file: Vec<u8>) -> Result<Job<'a>, Refusal>
+    pub fn new(alloc: Global, seat: Seat<'a>, file: Vec<u8>) -> Result<Job<'a>, AllocError>
         ensures seat { IfOk result (λ job. job.seat ≡ seat.entry) }
         ensures file { IfOk result (λ job. job.file.items ≡ file.items) }
         ensures empty { IfOk result (λ job. job.replies.items ≡ []) }

@@ -1,5 +1,5 @@
 //! What is told in reply to a line, by a session and by the seats of a race alike.
-ghost use Rattle.std.specs.Prelude.{◌≡◌, IfErr, IfOk};
+ghost use Rattle.std.specs.Prelude.{IfOk};
 ghost use Rattle.derivations.specs.Derivations.{IsDerivation};
 ghost use Rattle.walk.specs.Preferring.{IfPreferredServes};
 ghost use Rattle.solver.specs.Outcomes as outcomes;
@@ -12,7 +12,7 @@ use derivations::{Derivation, Learnt, derivations_refute};
 use registry::{Registry, Request};
 use replies::{Explained, Spot};
 use solver::Outcome;
-use std::alloc::Global;
+use std::alloc::{AllocError, Global};
 use versions::{Name, Published, Refusal};
 
 /// Where a line is answered, which its reply tells too.
@@ -42,11 +42,10 @@ pub fn told_of(
     request: &Request,
     explain: bool,
     outcome: Outcome,
-) -> Result<(Told, Vec<Learnt>), Refusal>
+) -> Result<(Told, Vec<Learnt>), AllocError>
     requires lawful { outcomes.IsLawful registry.now.packages request.now outcome }
     requires preferred { IfPreferredServes registry.now.packages request.now (λ s. outcomes.Answers registry.now.packages s outcome) }
-    ensures told { IfOk result (λ r. TellsFound registry.now.packages request.now explain (told_body r.0)) }
-    ensures only { IfErr result (λ e. e ≡ Refusal.NoMemory) }
+    ensures { IfOk result (λ r. TellsFound registry.now.packages request.now explain (told_body r.0)) }
 {
     match outcome {
         Outcome::Selection(list, offered) => Ok((Told::Selection(list), offered)),
@@ -64,10 +63,9 @@ fn told_refused(
     request: &Request,
     explain: bool,
     derivation: &Derivation,
-) -> Result<Told, Refusal>
+) -> Result<Told, AllocError>
     requires { IsDerivation registry.now.packages request.now derivation.now }
-    ensures told { IfOk result (λ told. TellsNone registry.now.packages request.now explain (told_body told)) }
-    ensures only { IfErr result (λ e. e ≡ Refusal.NoMemory) }
+    ensures { IfOk result (λ told. TellsNone registry.now.packages request.now explain (told_body told)) }
 {
     derivations_refute();
     if !explain {
@@ -88,6 +86,6 @@ pub fn verdict_on(
 {
     match follows(alloc, registry, request, derivation) {
         Ok(verdict) => Told::Follows(verdict),
-        Err(e) => Told::Refusal(e),
+        Err(_) => Told::Refusal(Refusal::NoMemory),
     }
 }

@@ -11,6 +11,9 @@ use clap::{ArgMatches, Error};
 use std::alloc::{AllocError, Global};
 use thiserror::Error as ThisError;
 
+/// The most threads that resolve requests.
+pub const MOST_WORKERS: u64 = 64;
+
 /// The most files that a race takes: with the seat that prints the journal they are 64 seats.
 pub const MOST_FILES: usize = 63;
 

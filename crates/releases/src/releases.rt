@@ -206,9 +206,7 @@ impl Releases {
         }
         let set = computed(self.alloc, &self.releases, need)?;
         self.sets.reserve(1)?;
-        let Ok(named) = need.copy() else {
-            return Err(AllocError);
-        };
+        let named = need.clone()?;
         let place = self.needs.len();
         self.needs.insert(named)?;
         self.sets.push(set).unwrap();

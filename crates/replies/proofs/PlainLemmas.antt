@@ -5,7 +5,9 @@ use Rattle.std.proofs.lemmas.Bool.Decides.{nat_tests}
 use Rattle.std.proofs.lemmas.Fmt.{decimal_by_steps}
 use Rattle.std.proofs.lemmas.List.Folds.{list_all-append}
 use Rattle.std.proofs.lemmas.List.Splits.{join_with_byte-slice_split}
+use Rattle.std.specs.Str.{IsUtf8}
 use Rattle.json.specs.Print.{escape, escape_byte, quoted}
+use Rattle.json.proofs.Printed.Utf8.{IsUtf8-are_ascii, are_ascii}
 use Rattle.semver.proofs.Grammar.{version_parts-sound}
 use Rattle.semver.specs.Grammar.{IsValid, is_build, is_build_identifier, is_identifier_byte, is_pre_identifier, is_pre_release}
 use Rattle.semver.specs.Identifiers.{marked, parts_text}
@@ -14,9 +16,9 @@ use Rattle.semver.specs.Parse.{Parts, version_parts}
 use Rattle.semver.specs.declared.error.Error.{Error}
 use Rattle.versions.specs.Words.{Text, is_name, is_name_byte, is_version}
 
--- a byte from the space on, which is no quote and no backslash
+-- a byte of ASCII from the space on, which is no quote and no backslash
 abbrev pub is_plain : ℕ → Bool
-is_plain b = nat_le 32 b && not (b == 34) && not (b == 92)
+is_plain b = nat_le 32 b && nat_le b 126 && not (b == 34) && not (b == 92)
 
 escape_byte-plain : (b : ℕ) → is_plain b ≡ true → escape_byte b ≡ b ∷ []
 unfolding escape_byte
@@ -43,6 +45,17 @@ escape-plain (b ∷ text) plain =
     let parts = both (is_plain b) (list_all is_plain text) plain in
     rw (escape_byte-plain b parts.0, escape-plain text parts.1) refl
 
+plain_ascii : (text : List ℕ) → list_all is_plain text ≡ true → are_ascii text ≡ true
+plain_ascii [] plain = refl
+plain_ascii (b ∷ text) plain =
+    let parts = both (is_plain b) (list_all is_plain text) plain in
+    let small : nat_lt b 128 ≡ true = grind (arith, nat_tests) in
+    rw (small, plain_ascii text parts.1) refl
+
+-- a plain text is UTF-8
+pub utf8-plain : (text : List ℕ) → list_all is_plain text ≡ true → IsUtf8 text
+utf8-plain text plain = IsUtf8-are_ascii text (plain_ascii text plain)
+
 -- a plain text in quotes
 pub quoted-plain : (text : List ℕ) → list_all is_plain text ≡ true → quoted text ≡ 34 ∷ (text ++ 34 ∷ [])
 quoted-plain text plain = ap (λ (l : List ℕ). 34 ∷ (l ++ 34 ∷ [])) (escape-plain text plain)
@@ -54,12 +67,13 @@ all_weaker strong weak step (x ∷ xs) all =
     let parts = both (strong x) (list_all strong xs) all in
     rw (step x parts.0, all_weaker strong weak step xs parts.1) refl
 
-plain_from : (b : ℕ) → 32 ≤ b → b ≢ 34 → b ≢ 92 → is_plain b ≡ true
-plain_from b low quote slash =
+plain_from : (b : ℕ) → 32 ≤ b → b ≤ 126 → b ≢ 34 → b ≢ 92 → is_plain b ≡ true
+plain_from b low high quote slash =
     let floor : nat_le 32 b ≡ true = search rules in
+    let roof : nat_le b 126 ≡ true = search rules in
     let other : (b == 34) ≡ false = search rules in
     let another : (b == 92) ≡ false = search rules in
-    rw (floor, other, another) refl
+    rw (floor, roof, other, another) refl
 
 -- a byte within one of these ranges
 within : (low high b : ℕ) → (nat_le low b && nat_le b high) ≡ true → (low ≤ b) × (b ≤ high)
@@ -89,7 +103,7 @@ identifier_byte-plain : (b : ℕ) → is_identifier_byte b ≡ true → is_plain
 identifier_byte-plain b named = grind (arith, nat_tests)
 
 digit-plain : (d : ℕ) → d < 10 → is_plain (48 + d) ≡ true
-digit-plain d small = plain_from (48 + d) (omega arith) (omega arith) (omega arith)
+digit-plain d small = plain_from (48 + d) (omega arith) (omega arith) (omega arith) (omega arith)
 
 pub decimal-plain : (n : ℕ) → n < 2 ^ 64 → list_all is_plain (decimal n) ≡ true
 decimal-plain n fits = decimal_by_steps (λ _ digits. list_all is_plain digits ≡ true) (λ d small. rw (digit-plain d small) refl)

@@ -13,6 +13,7 @@ use Rattle.versions.specs.declared.refusal.Refusal.TheVariants.{BadName, BadVers
 use Rattle.replies.proofs.PlainLemmas.{escape-plain, is_plain, name-plain}
 use Rattle.versions.specs.Words.{Text, is_name}
 use Rattle.replies.specs.Joined.{closing, found_text, joined, joined_after, verdict}
+use Rattle.replies.specs.Locks.{lock_text}
 use Rattle.registry.specs.Registry.{Packages, Publication, package_at, versions_or_none}
 use Rattle.replies.specs.Entries.{entry_json, publication_json, row_at}
 use Rattle.replies.specs.declared.listing.Entry.{Entry}
@@ -229,6 +230,14 @@ listed_parts rows stamp revision = record { whole = listed_text rows stamp revis
 -- the parts in which an array is put
 pub array_parts : (ds : List Data) → Makes (91 ∷ []) (joined ds) (93 ∷ []) (compact_text (array (items_of ds)))
 array_parts ds = record { whole = array_text ds }
+
+-- the parts in which a lock list is put
+pub lock_parts : (lines : List (Text × Text)) → Makes (91 ∷ []) (joined (map pair_json lines)) (93 ∷ 10 ∷ []) (lock_text lines)
+unfolding lock_text
+lock_parts lines = record {
+  whole = ap (λ (l : List ℕ). 91 ∷ l) (sym (append_assoc (joined (map pair_json lines)) (93 ∷ []) (10 ∷ [])))
+      ∙ ap (λ (l : List ℕ). l ++ 10 ∷ []) (array_text (map pair_json lines));
+}
 
 -- the parts in which the reply with a selection is put
 pub selected_parts : (pairs : List (Text × Text)) (stamp : Option Spot) (revision : ℕ)

@@ -5,6 +5,7 @@ pub mod Objects
 pub mod NamedJson
 pub mod Told
 pub mod Replies
+pub mod Locks
 pub mod Joined
 pub mod Replied
 pub mod Plain

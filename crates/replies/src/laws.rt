@@ -1,10 +1,15 @@
 //! What the texts of other files may be built on.
-ghost use Rattle.replies.specs.Plain.{NeedNoEscapes};
+ghost use Rattle.replies.specs.Plain.{AreUtf8, NeedNoEscapes};
 ghost use Rattle.replies.specs.Putting.{PutsAddUp};
 
 /// JSON writes names, versions and requirements between quotes as they are.
 pub fn texts_need_no_escapes()
     ensures { NeedNoEscapes }
+{}
+
+/// Names, versions and requirements are UTF-8.
+pub fn texts_are_utf8()
+    ensures { AreUtf8 }
 {}
 
 /// One text that is put after another is put like both in one.

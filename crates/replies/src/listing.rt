@@ -1,5 +1,5 @@
 //! Listings of what is published.
-ghost use Rattle.std.specs.Prelude.{◌≡◌, IfErr, IfOk, map};
+ghost use Rattle.std.specs.Prelude.{◌≡◌, IfOk, map};
 ghost use Rattle.std.specs.Cmp.Lexicographic.{slice_cmp};
 ghost use Rattle.std.specs.List.Sorted.{IsPermutation, IsSortedBy};
 ghost use Rattle.std.specs.Ordering.{is_lt, nat_cmp};
@@ -10,10 +10,10 @@ ghost use Rattle.replies.specs.Entries.{row_at};
 mod text;
 
 use registry::{Pkg, Registry};
-use std::alloc::Global;
+use std::alloc::{AllocError, Global};
 use std::marker::Model;
 pub use text::put_packages;
-use versions::{Name, Refusal};
+use versions::Name;
 
 /// The packages with at least one publication, in byte order of their names, each with its versions in order of
 /// publication and whether they are yanked.
@@ -47,9 +47,8 @@ impl<'r> Model for Listing<'r> {
 
 impl<'r> Listing<'r> {
     /// Lists what is published. Takes time in proportion to n log n, for n packages.
-    pub fn new(alloc: Global, registry: &'r Registry) -> Result<Listing<'r>, Refusal>
-        ensures listed { IfOk result (IsListing registry.now.packages) }
-        ensures only { IfErr result (λ e. e ≡ Refusal.NoMemory) }
+    pub fn new(alloc: Global, registry: &'r Registry) -> Result<Listing<'r>, AllocError>
+        ensures { IfOk result (IsListing registry.now.packages) }
     {
         let entries = sorted(published(alloc, registry)?);
         Ok(Listing { registry, entries })
@@ -57,10 +56,9 @@ impl<'r> Listing<'r> {
 }
 
 /// The packages with at least one publication, in order of their numbers.
-fn published(alloc: Global, registry: &Registry) -> Result<Vec<Entry<'_>>, Refusal>
+fn published(alloc: Global, registry: &Registry) -> Result<Vec<Entry<'_>>, AllocError>
     ensures reachable { IsRegistry registry.now.packages }
     ensures rows { IfOk result (λ v. map (row_at registry.now.packages) v.items ≡ rows_of registry.now.packages) }
-    ensures only { IfErr result (λ e. e ≡ Refusal.NoMemory) }
 {
     let count = registry.packages();
     let mut entries = Vec::with_capacity(alloc, count)?;

@@ -1,14 +1,13 @@
 //! A refusal as it is told: its derivation and what explains it, with their texts made beforehand.
-ghost use Rattle.std.specs.Prelude.{◌≡◌, map, string_bytes, IfErr, IfOk};
+ghost use Rattle.std.specs.Prelude.{◌≡◌, map, string_bytes, IfOk};
 ghost use Rattle.serde_json.specs.Written.{compact_text};
 ghost use Rattle.replies.specs.NamedJson.{derivation_json};
 ghost use Rattle.replies.specs.Replies.{texts_json};
 
 use crate::written::{derivation_text, texts_json};
 use by_name::NamedDerivation;
-use std::alloc::Global;
+use std::alloc::{AllocError, Global};
 use std::marker::Model;
-use versions::Refusal;
 
 /// A derivation that no selection meets a request, with the lines that explain it.
 ///
@@ -42,9 +41,8 @@ impl Explained {
         alloc: Global,
         derivation: NamedDerivation,
         lines: Vec<String>,
-    ) -> Result<Explained, Refusal>
-        ensures same { IfOk result (λ e. e ≡ record { lines = derivation; texts = map (λ t. string_bytes t) lines.items }) }
-        ensures only { IfErr result (λ e. e ≡ Refusal.NoMemory) }
+    ) -> Result<Explained, AllocError>
+        ensures { IfOk result (λ e. e ≡ record { lines = derivation; texts = map (λ t. string_bytes t) lines.items }) }
     {
         let derivation_text = derivation_text(alloc, &derivation)?;
         let lines_text = texts_json(alloc, &lines)?.to_string(alloc)?;

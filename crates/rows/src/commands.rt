@@ -1,8 +1,7 @@
 //! Commands of one registry, which a session's rows change.
 
 use crate::answer::Answer;
-use crate::published::{name_at, needs_at, version_at};
-use crate::reading::{Unread, text_at};
+use crate::reading::{Unread, at, text_at};
 use registry::{Command, Dependencies, Registry};
 use serde_json::Value;
 use std::alloc::Global;
@@ -32,15 +31,15 @@ pub fn command_of(alloc: Global, kind: &str, row: &Value) -> Result<Command, Unr
 }
 
 fn publication(alloc: Global, row: &Value) -> Result<Command, Unread> {
-    let name = name_at(alloc, row, "name")?;
-    let version = version_at(alloc, row, "version")?;
+    let name = at(alloc, row, "name")?;
+    let version = at(alloc, row, "version")?;
     Ok(Command::Publish(name, version, dependencies_at(alloc, row)?))
 }
 
 /// The yank of a version, or what takes it back.
 fn yank(alloc: Global, kind: &str, row: &Value) -> Result<Command, Unread> {
-    let name = name_at(alloc, row, "name")?;
-    let version = version_at(alloc, row, "version")?;
+    let name = at(alloc, row, "name")?;
+    let version = at(alloc, row, "version")?;
     match kind {
         "yank" => Ok(Command::Yank(name, version)),
         _ => Ok(Command::Unyank(name, version)),
@@ -49,7 +48,7 @@ fn yank(alloc: Global, kind: &str, row: &Value) -> Result<Command, Unread> {
 
 /// The list of dependencies of a row.
 pub fn dependencies_at(alloc: Global, row: &Value) -> Result<Dependencies, Unread> {
-    Ok(Dependencies::new(alloc, needs_at(alloc, row)?)?)
+    Ok(Dependencies::new(alloc, at(alloc, row, "needs")?)?)
 }
 
 /// Makes room for a command, enters a copy of it, and answers the revision after it.

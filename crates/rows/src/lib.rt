@@ -6,6 +6,7 @@
 
 mod answer;
 mod answers;
+mod command_texts;
 mod commands;
 mod line_rows;
 mod line_texts;
@@ -13,22 +14,16 @@ mod published;
 mod reading;
 mod refusals;
 mod serving;
-mod store_texts;
-mod told;
+mod showing;
+mod stored;
 
-pub use answer::{
-    Answer, ChoiceText, NumbersText, SetText, TermText, shown, write_set, write_term, write_terms,
-};
+pub use answer::Answer;
 pub use answers::Answers;
 pub use commands::{apply, command_at, command_call, command_of, dependencies_at, enter};
-pub use line_rows::{cause, derivation_check, learnt_at, line, lines_at, premise};
-pub use line_texts::{CauseText, LinesText, lines_told, write_conclusion};
-pub use published::{lock_at, name_at, names_at, need_at, needs_at, request_at, version_at};
-pub use reading::{
-    Unread, incompat_at, items, list, member, ordinals_at, set, set_at, size_at, term_at, terms_at,
-    text, text_at, whole, whole_at,
-};
+pub use line_rows::{derivation_check, learnt_at};
+pub use published::request_at;
+pub use reading::{Given, Unread, at, items, member, size_at, text, text_at, whole, whole_at};
 pub use refusals::refusal;
-pub use serving::{Calls, serve};
-pub use store_texts::{StoreText, all_stand, count};
-pub use told::{CommandText, LockText, NeedsText};
+pub use serving::{row_of, tell};
+pub use showing::{List, Shows, Told, as_told, given, shown};
+pub use stored::{all_stand, count};

@@ -1,94 +1,104 @@
-//! Lines of derivations that rows give.
+//! Lines of derivations and of searches that rows give.
 
 use crate::answer::Answer;
-use crate::published::{need_at, request_at};
-use crate::reading::{
-    Unread, incompat_at, items, list, member, set, set_at, size_at, whole, whole_at,
-};
-use derivations::{Cause, Derivation, Learnt, Line, Premise, check};
+use crate::published::request_at;
+use crate::reading::{Given, Unread, at, items, member, size_at, whole, whole_at};
+use derivations::{Cause, Derivation, Known, Learnt, Line, Premise, Reason, check};
 use registry::Registry;
 use serde_json::Value;
 use std::alloc::Global;
 
-/// Lines of a derivation, each as `{"conclusion":[..],"causes":[..,..],"pivot":1}`.
-pub fn lines_at(alloc: Global, row: &Value) -> Result<Vec<Line>, Unread> {
-    list(alloc, member(row, "lines")?, line)
-}
-
 /// What is learnt of the lines of a row.
 pub fn learnt_at(alloc: Global, row: &Value) -> Result<Learnt, Unread> {
-    Ok(Learnt::new(alloc, lines_at(alloc, row)?)?)
+    Ok(Learnt::new(alloc, at(alloc, row, "lines")?)?)
 }
 
 /// Whether the lines of a row are a derivation for its request.
 pub fn derivation_check(alloc: Global, registry: &Registry, row: &Value) -> Result<Answer, Unread> {
     let request = request_at(alloc, row)?;
-    let derivation = Derivation::new(lines_at(alloc, row)?);
+    let derivation = Derivation::new(at(alloc, row, "lines")?);
     Ok(Answer::Bool(check(alloc, registry, &request, &derivation)?))
 }
 
-/// A line of a derivation.
-pub fn line(alloc: Global, value: &Value) -> Result<Line, Unread> {
-    let pivot = whole_at(value, "pivot")?;
-    match items(member(value, "causes")?)? {
-        [first, second] => derived(alloc, value, first, second, pivot),
-        _ => Err(Unread::Row),
+/// A line of a derivation, as `{"conclusion":[..],"causes":[..,..],"pivot":1}`.
+impl Given for Line {
+    fn of(alloc: Global, value: &Value) -> Result<Line, Unread> {
+        let pivot = whole_at(value, "pivot")?;
+        let causes = at(alloc, value, "causes")?;
+        Ok(Line {
+            conclusion: at(alloc, value, "conclusion")?,
+            causes,
+            pivot,
+        })
     }
-}
-
-fn derived(
-    alloc: Global,
-    value: &Value,
-    first: &Value,
-    second: &Value,
-    pivot: u32,
-) -> Result<Line, Unread> {
-    let causes = causes(alloc, first, second)?;
-    Ok(Line {
-        conclusion: incompat_at(alloc, value, "conclusion")?,
-        causes,
-        pivot,
-    })
-}
-
-fn causes(alloc: Global, first: &Value, second: &Value) -> Result<(Cause, Cause), Unread> {
-    Ok((cause(alloc, first)?, cause(alloc, second)?))
 }
 
 /// A cause, by the member that it has: `{"line":1}` counted from 1, `{"need_at":0}` counted from 0,
 /// `{"not_allowed":[2,[0]]}`, `{"root":true}`, or a premise.
-pub fn cause(alloc: Global, value: &Value) -> Result<Cause, Unread> {
-    if value.get("line").is_some() {
-        return Ok(Cause::Line(size_at(value, "line")?));
-    }
-    if value.get("need_at").is_some() {
-        return Ok(Cause::Need(size_at(value, "need_at")?));
-    }
-    if value.get("root").is_some() {
-        return Ok(Cause::Root);
-    }
-    match value.get("not_allowed") {
-        Some(barred) => not_allowed(alloc, barred),
-        None => Ok(Cause::Premise(premise(alloc, value)?)),
+impl Given for Cause {
+    fn of(alloc: Global, value: &Value) -> Result<Cause, Unread> {
+        if value.get("line").is_some() {
+            return Ok(Cause::Line(size_at(value, "line")?));
+        }
+        if value.get("need_at").is_some() {
+            return Ok(Cause::Need(size_at(value, "need_at")?));
+        }
+        if value.get("root").is_some() {
+            return Ok(Cause::Root);
+        }
+        match value.get("not_allowed") {
+            Some(barred) => not_allowed(alloc, barred),
+            None => Ok(Cause::Premise(Premise::of(alloc, value)?)),
+        }
     }
 }
 
 fn not_allowed(alloc: Global, value: &Value) -> Result<Cause, Unread> {
-    match items(value)? {
-        [pkg, versions] => Ok(Cause::NotAllowed(whole(pkg)?, set(alloc, versions)?)),
-        _ => Err(Unread::Row),
-    }
+    let (pkg, versions) = Given::of(alloc, value)?;
+    Ok(Cause::NotAllowed(pkg, versions))
 }
 
 /// `{"package":1,"versions":[0],"target":2,"need":"^2.0.0","within":[0]}`.
-pub fn premise(alloc: Global, value: &Value) -> Result<Premise, Unread> {
-    let package = whole_at(value, "package")?;
-    let target = whole_at(value, "target")?;
-    Ok(Premise {
-        package,
-        versions: set_at(alloc, value, "versions")?,
-        target,
-        need: need_at(alloc, value, "need")?,
-        within: set_at(alloc, value, "within")?,
-    })
+impl Given for Premise {
+    fn of(alloc: Global, value: &Value) -> Result<Premise, Unread> {
+        let package = whole_at(value, "package")?;
+        let target = whole_at(value, "target")?;
+        Ok(Premise {
+            package,
+            versions: at(alloc, value, "versions")?,
+            target,
+            need: at(alloc, value, "need")?,
+            within: at(alloc, value, "within")?,
+        })
+    }
+}
+
+/// A line of a search, as `{"conclusion":[..],"fact":..}`, where the fact is a cause, or as
+/// `{"conclusion":[..],"from":[0,1],"pivot":1}`, where it follows from the lines at two places counted
+/// from 0.
+impl Given for Known {
+    fn of(alloc: Global, value: &Value) -> Result<Known, Unread> {
+        let conclusion = at(alloc, value, "conclusion")?;
+        Ok(Known {
+            conclusion,
+            reason: Reason::of(alloc, value)?,
+        })
+    }
+}
+
+impl Given for Reason {
+    fn of(alloc: Global, value: &Value) -> Result<Reason, Unread> {
+        match value.get("fact") {
+            Some(fact) => Ok(Reason::Fact(Cause::of(alloc, fact)?)),
+            None => resolved(value),
+        }
+    }
+}
+
+fn resolved(value: &Value) -> Result<Reason, Unread> {
+    let pivot = whole_at(value, "pivot")?;
+    match items(member(value, "from")?)? {
+        [one, two] => Ok(Reason::Resolved(whole(one)? as usize, whole(two)? as usize, pivot)),
+        _ => Err(Unread::Row),
+    }
 }

@@ -2,7 +2,7 @@
 
 use serde_json::Value;
 use std::alloc::{AllocError, AllocFailed, Global};
-use terms::{Incompat, Pkg, Term, VSet};
+use terms::{Incompat, Term, VSet};
 use versions::Refusal;
 
 /// Why a call was not made.
@@ -64,62 +64,68 @@ pub fn size_at(row: &Value, name: &str) -> Result<usize, Unread> {
     Ok(whole_at(row, name)? as usize)
 }
 
-/// The items of a list, as `read` gives each.
-pub fn list<T: Drop, F: Fn(Global, &Value) -> Result<T, Unread>>(
-    alloc: Global,
-    value: &Value,
-    read: F,
-) -> Result<Vec<T>, Unread>
-    requires { F.IsAlwaysCallable read }
-{
-    let mut all = Vec::new(alloc);
-    for item in items(value)? {
-        all.push(read(alloc, item)?)?;
+/// What a row can give.
+pub trait Given: Sized {
+    fn of(alloc: Global, value: &Value) -> Result<Self, Unread>;
+}
+
+/// What a row gives under a name.
+pub fn at<T: Given>(alloc: Global, row: &Value, name: &str) -> Result<T, Unread> {
+    T::of(alloc, member(row, name)?)
+}
+
+/// A list, as `[1,2]`.
+impl<T: Given + Drop> Given for Vec<T> {
+    fn of(alloc: Global, value: &Value) -> Result<Vec<T>, Unread> {
+        let mut all = Vec::new(alloc);
+        for item in items(value)? {
+            all.push(T::of(alloc, item)?)?;
+        }
+        Ok(all)
     }
-    Ok(all)
 }
 
-fn ordinals(alloc: Global, value: &Value) -> Result<Vec<u32>, Unread> {
-    list(alloc, value, |_, item| whole(item))
+/// A pair, as `["a","^1"]`.
+impl<A: Given + Drop, B: Given> Given for (A, B) {
+    fn of(alloc: Global, value: &Value) -> Result<(A, B), Unread> {
+        match items(value)? {
+            [first, second] => Ok((A::of(alloc, first)?, B::of(alloc, second)?)),
+            _ => Err(Unread::Row),
+        }
+    }
 }
 
-pub fn ordinals_at(alloc: Global, row: &Value, name: &str) -> Result<Vec<u32>, Unread> {
-    ordinals(alloc, member(row, name)?)
+impl Given for u32 {
+    fn of(_alloc: Global, value: &Value) -> Result<u32, Unread> {
+        whole(value)
+    }
 }
 
-pub fn set(alloc: Global, value: &Value) -> Result<VSet, Unread> {
-    let ordinals = ordinals(alloc, value)?;
-    Ok(VSet::of(alloc, &ordinals)?)
+impl Given for String {
+    fn of(alloc: Global, value: &Value) -> Result<String, Unread> {
+        Ok(String::from_str(alloc, text(value)?)?)
+    }
 }
 
-pub fn set_at(alloc: Global, row: &Value, name: &str) -> Result<VSet, Unread> {
-    set(alloc, member(row, name)?)
+impl Given for VSet {
+    fn of(alloc: Global, value: &Value) -> Result<VSet, Unread> {
+        Ok(VSet::of(alloc, &<Vec<u32>>::of(alloc, value)?)?)
+    }
 }
 
 /// `{"in":[0,1]}` or `{"not":[2]}`.
-fn term(alloc: Global, value: &Value) -> Result<Term, Unread> {
-    match value.get("in") {
-        Some(listed) => Ok(Term::In(set(alloc, listed)?)),
-        None => Ok(Term::NotIn(set_at(alloc, value, "not")?)),
+impl Given for Term {
+    fn of(alloc: Global, value: &Value) -> Result<Term, Unread> {
+        match value.get("in") {
+            Some(listed) => Ok(Term::In(<VSet as Given>::of(alloc, listed)?)),
+            None => Ok(Term::NotIn(at(alloc, value, "not")?)),
+        }
     }
 }
 
-pub fn term_at(alloc: Global, row: &Value, name: &str) -> Result<Term, Unread> {
-    term(alloc, member(row, name)?)
-}
-
-/// `[3,{"in":[0]}]`.
-fn entry(alloc: Global, value: &Value) -> Result<(Pkg, Term), Unread> {
-    match items(value)? {
-        [pkg, said] => Ok((whole(pkg)?, term(alloc, said)?)),
-        _ => Err(Unread::Row),
+/// Terms by package, as `[[3,{"in":[0]}]]`.
+impl Given for Incompat {
+    fn of(alloc: Global, value: &Value) -> Result<Incompat, Unread> {
+        Incompat::new(Given::of(alloc, value)?).ok_or(Unread::Row)
     }
-}
-
-pub fn terms_at(alloc: Global, row: &Value, name: &str) -> Result<Vec<(Pkg, Term)>, Unread> {
-    list(alloc, member(row, name)?, entry)
-}
-
-pub fn incompat_at(alloc: Global, row: &Value, name: &str) -> Result<Incompat, Unread> {
-    Incompat::new(terms_at(alloc, row, name)?).ok_or(Unread::Row)
 }

@@ -2,15 +2,11 @@
 //
 // No proof rests on it: it chooses which members are used, and a search that uses fewer is as right.
 
-ghost use Rattle.std.specs.Prelude.{◌≡◌, IfErr};
-ghost use Rattle.versions.specs.declared.refusal.Refusal.TheVariants.{NoMemory};
-
 use crate::task::Task;
 use derivations::Link;
 use partial::{Partial, Standing};
-use std::alloc::Global;
+use std::alloc::{AllocError, Global};
 use terms::{Incompat, Pkg, VSet};
-use versions::Refusal;
 
 /// The most members that are asked when something was settled of a package: the newest that name it.
 const NEWEST: usize = 256;
@@ -85,9 +81,7 @@ impl Asked {
         partial: &Partial,
         lines: usize,
         pkg: Pkg,
-    ) -> Result<(), Refusal>
-        ensures { IfErr result (λ e. e ≡ NoMemory) }
-    {
+    ) -> Result<(), AllocError> {
         self.found.clear();
         if self.unnamed.has(pkg) {
             return Ok(());
@@ -123,9 +117,7 @@ impl Asked {
 
     /// Notes that the lines of the member in a place are among the lines, of which there are so many
     /// now.
-    pub fn take(&mut self, place: u32, lines: usize) -> Result<(), Refusal>
-        ensures { IfErr result (λ e. e ≡ NoMemory) }
-    {
+    pub fn take(&mut self, place: u32, lines: usize) -> Result<(), AllocError> {
         self.taken.insert(place)?;
         self.lines = lines;
         Ok(())

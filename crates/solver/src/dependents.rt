@@ -1,6 +1,6 @@
 // Which versions of a package have a dependency: they share one line.
 
-ghost use Rattle.std.specs.Prelude.{◌≡◌, ◌↔◌, ◌+◌, ℕ, true, Contains, IfErr, IfOk, IsTrue};
+ghost use Rattle.std.specs.Prelude.{◌≡◌, ◌↔◌, ◌+◌, ℕ, true, Contains, IfOk, IsTrue};
 ghost use Rattle.terms.specs.Sets.{has};
 ghost use Rattle.registry.specs.Registry.{Repeats, is_published, needs_of};
 ghost use Rattle.solver.specs.Pushing.{AreDependents};
@@ -8,8 +8,9 @@ ghost use Rattle.solver.specs.Pushing.{AreDependents};
 use crate::task::Task;
 use heuristics::{Place, Sharing};
 use registry::ordinals_are_below_the_count;
+use std::alloc::AllocError;
 use terms::{Pkg, VSet};
-use versions::{Name, Need, Refusal};
+use versions::{Name, Need};
 
 fn is_entry(entry: &(Name, Need), name: &Name, need: &Need) -> bool
     ensures { IsTrue result ↔ ((entry.now.0 ≡ name.now) × (entry.now.1 ≡ need.now)) }
@@ -58,9 +59,8 @@ pub(crate) fn versions_with(
     pkg: Pkg,
     name: &Name,
     need: &Need,
-) -> Result<VSet, Refusal>
-    ensures exactly { IfOk result (λ set. (k : ℕ) → IsTrue (has set k) ↔ Contains (needs_of task.now.registry.now.packages pkg k) (name.now, need.now)) }
-    ensures only { IfErr result (λ e. e ≡ Refusal.NoMemory) }
+) -> Result<VSet, AllocError>
+    ensures { IfOk result (λ set. (k : ℕ) → IsTrue (has set k) ↔ Contains (needs_of task.now.registry.now.packages pkg k) (name.now, need.now)) }
 {
     ordinals_are_below_the_count();
     let repeats = task.registry.repeats(pkg);
@@ -97,10 +97,9 @@ fn versions_among(
     ordinal: u32,
     entry: &(Name, Need),
     places: &[Place],
-) -> Result<VSet, Refusal>
+) -> Result<VSet, AllocError>
     requires { Contains (needs_of task.now.registry.now.packages pkg ordinal) entry.now }
-    ensures dependents { IfOk result (AreDependents task.now.registry.now.packages pkg entry.now) }
-    ensures only { IfErr result (λ e. e ≡ Refusal.NoMemory) }
+    ensures { IfOk result (AreDependents task.now.registry.now.packages pkg entry.now) }
 {
     let mut set = VSet::single(task.alloc, ordinal)?;
     for place in places {
@@ -119,14 +118,13 @@ pub(crate) fn versions_sharing(
     pkg: Pkg,
     ordinal: u32,
     entry: &(Name, Need),
-) -> Result<VSet, Refusal>
+) -> Result<VSet, AllocError>
     requires { Contains (needs_of task.now.registry.now.packages pkg ordinal) entry.now }
-    ensures dependents { IfOk result (AreDependents task.now.registry.now.packages pkg entry.now) }
-    ensures only { IfErr result (λ e. e ≡ Refusal.NoMemory) }
+    ensures { IfOk result (AreDependents task.now.registry.now.packages pkg entry.now) }
 {
     if !sharing.lists(&task.question(), pkg)? {
-        return Ok(versions_with(task, pkg, &entry.0, &entry.1)?);
+        return versions_with(task, pkg, &entry.0, &entry.1);
     }
     sharing.find(&task.question(), pkg, entry)?;
-    Ok(versions_among(task, pkg, ordinal, entry, sharing.found())?)
+    versions_among(task, pkg, ordinal, entry, sharing.found())
 }

@@ -1,6 +1,6 @@
 // The dependencies of versions, put among the lines (doc/solver.md, "Decision Making").
 
-ghost use Rattle.std.specs.Prelude.{◌≡◌, ◌<◌, true, length, IfErr, OnOk};
+ghost use Rattle.std.specs.Prelude.{◌≡◌, ◌<◌, true, length, OnOk};
 ghost use Rattle.registry.specs.Registry.{is_published, needs_of};
 ghost use Rattle.solver.specs.Pushing.{Extends};
 
@@ -12,8 +12,8 @@ use crate::worklist::Worklist;
 use derivations::Known;
 use partial::Partial;
 use registry::ordinals_are_below_the_count;
+use std::alloc::AllocError;
 use terms::Pkg;
-use versions::Refusal;
 
 /// Puts the dependency of a version at an index behind the lines, unless it is there.
 fn add_dependency(
@@ -23,11 +23,10 @@ fn add_dependency(
     pkg: Pkg,
     ordinal: u32,
     index: usize,
-) -> Result<(), Refusal>
+) -> Result<(), AllocError>
     requires { index < length (needs_of task.now.registry.now.packages pkg ordinal) }
     ensures extends { OnOk result (Extends task.now known.old.items known.new.items) }
     ensures changed { OnOk result (worklist.new.changed.items ≡ worklist.old.changed.items) }
-    ensures only { IfErr result (λ e. e ≡ Refusal.NoMemory) }
 {
     let (target, matching) = task.registry.dependency(pkg, ordinal, index)?;
     if target == pkg {
@@ -40,7 +39,7 @@ fn add_dependency(
     let versions = versions_sharing(task, &mut worklist.sharing, pkg, ordinal, entry)?;
     let within = matching.set(task.alloc)?;
     let at = push_dependency(task, known, pkg, versions, entry, target, within)?;
-    Ok(worklist.note_dependency(task.alloc, known, at, pkg, target)?)
+    worklist.note_dependency(task.alloc, known, at, pkg, target)
 }
 
 /// Puts the dependencies of a package that is needed behind the lines, if all its versions have the same:
@@ -51,10 +50,9 @@ pub(crate) fn enter_alike(
     known: &mut Vec<Known>,
     worklist: &mut Worklist,
     pkg: Pkg,
-) -> Result<(), Refusal>
+) -> Result<(), AllocError>
     ensures extends { OnOk result (Extends task.now known.old.items known.new.items) }
     ensures changed { OnOk result (worklist.new.changed.items ≡ worklist.old.changed.items) }
-    ensures only { IfErr result (λ e. e ≡ Refusal.NoMemory) }
 {
     ordinals_are_below_the_count();
     if !is_open(partial, pkg) {
@@ -64,7 +62,7 @@ pub(crate) fn enter_alike(
     if count == 0 || !worklist.agenda.enters_alike(&task.question(), pkg) {
         return Ok(());
     }
-    Ok(add_dependencies(task, known, worklist, pkg, 0)?)
+    add_dependencies(task, known, worklist, pkg, 0)
 }
 
 /// Puts the dependencies of a version behind the lines, all of them before it is first decided.
@@ -74,15 +72,14 @@ pub(crate) fn enter(
     worklist: &mut Worklist,
     pkg: Pkg,
     ordinal: u32,
-) -> Result<(), Refusal>
+) -> Result<(), AllocError>
     requires { is_published task.now.registry.now.packages pkg ordinal ≡ true }
-    ensures extends { OnOk result (Extends task.now known.old.items known.new.items) }
-    ensures only { IfErr result (λ e. e ≡ Refusal.NoMemory) }
+    ensures { OnOk result (Extends task.now known.old.items known.new.items) }
 {
     if !worklist.agenda.enters(pkg, ordinal)? {
         return Ok(());
     }
-    Ok(add_dependencies(task, known, worklist, pkg, ordinal)?)
+    add_dependencies(task, known, worklist, pkg, ordinal)
 }
 
 /// Puts the dependencies of a version behind the lines that are not there.
@@ -92,11 +89,10 @@ fn add_dependencies(
     worklist: &mut Worklist,
     pkg: Pkg,
     ordinal: u32,
-) -> Result<(), Refusal>
+) -> Result<(), AllocError>
     requires { is_published task.now.registry.now.packages pkg ordinal ≡ true }
     ensures extends { OnOk result (Extends task.now known.old.items known.new.items) }
     ensures changed { OnOk result (worklist.new.changed.items ≡ worklist.old.changed.items) }
-    ensures only { IfErr result (λ e. e ≡ Refusal.NoMemory) }
 {
     let count = task.registry.facts(pkg, ordinal).needs.len();
     for index in 0..count {

@@ -1,6 +1,6 @@
 // What the registry and the request say, as lines.
 
-ghost use Rattle.std.specs.Prelude.{◌≡◌, ◌≢◌, ◌<◌, ◌∷◌, [], ℕ, Some, length, IfErr, IfOk, IsSome, OnOk};
+ghost use Rattle.std.specs.Prelude.{◌≡◌, ◌≢◌, ◌<◌, ◌∷◌, [], ℕ, Some, length, IfOk, IsSome, OnOk};
 ghost use Rattle.terms.specs.Sets.{has};
 ghost use Rattle.terms.specs.declared.term.Term.TheVariants.{In};
 ghost use Rattle.registry.specs.Registry.{meets_at, number_of, package_at};
@@ -11,8 +11,9 @@ ghost use Rattle.solver.specs.Reusing.{Keeps};
 
 use crate::task::Task;
 use derivations::{Cause, Known, Premise, Reason, need_incompat};
+use std::alloc::AllocError;
 use terms::{Incompat, Pkg, Term, VSet};
-use versions::{Name, Need, Refusal};
+use versions::{Name, Need};
 
 /// Puts a fact behind the lines, and answers its place.
 fn push_fact(
@@ -20,12 +21,11 @@ fn push_fact(
     known: &mut Vec<Known>,
     conclusion: Incompat,
     cause: Cause,
-) -> Result<usize, Refusal>
+) -> Result<usize, AllocError>
     requires { IsFact task.now.registry.now.packages task.now.request.now cause conclusion }
     ensures extends { OnOk result (Extends task.now known.old.items known.new.items) }
     ensures keeps { OnOk result (Keeps known.old.items known.new.items) }
     ensures place { IfOk result (SaysAt known.new.items conclusion) }
-    ensures only { IfErr result (λ e. e ≡ Refusal.NoMemory) }
 {
     let at = known.as_slice().len();
     known.push(Known {
@@ -42,17 +42,16 @@ pub(crate) fn push_premise(
     task: &Task<'_>,
     known: &mut Vec<Known>,
     premise: Premise,
-) -> Result<usize, Refusal>
+) -> Result<usize, AllocError>
     requires { Stands task.now.registry.now.packages premise }
     ensures extends { OnOk result (Extends task.now known.old.items known.new.items) }
     ensures keeps { OnOk result (Keeps known.old.items known.new.items) }
     ensures place { IfOk result (SaysAt known.new.items (premise_terms premise)) }
-    ensures only { IfErr result (λ e. e ≡ Refusal.NoMemory) }
 {
     let Some(conclusion) = premise.incompat(task.alloc)? else {
         unreachable!()
     };
-    Ok(push_fact(task, known, conclusion, Cause::Premise(premise))?)
+    push_fact(task, known, conclusion, Cause::Premise(premise))
 }
 
 /// Puts a dependency behind the lines: these versions, which have it, need a version of the target that
@@ -65,23 +64,22 @@ pub(crate) fn push_dependency(
     entry: &(Name, Need),
     target: Pkg,
     within: VSet,
-) -> Result<usize, Refusal>
+) -> Result<usize, AllocError>
     requires apart { pkg ≢ target }
     requires numbered { number_of task.now.registry.now.packages entry.now.0 ≡ Some target }
     requires dependents { AreDependents task.now.registry.now.packages pkg entry.now versions }
     requires within { (k : ℕ) → has within k ≡ meets_at task.now.registry.now.packages target k entry.now.1 }
     ensures extends { OnOk result (Extends task.now known.old.items known.new.items) }
     ensures place { IfOk result (SaysAt known.new.items (dependency pkg versions target within)) }
-    ensures only { IfErr result (λ e. e ≡ Refusal.NoMemory) }
 {
     let premise = Premise {
         package: pkg,
         versions,
         target,
-        need: entry.1.copy()?,
+        need: entry.1.clone()?,
         within,
     };
-    Ok(push_premise(task, known, premise)?)
+    push_premise(task, known, premise)
 }
 
 // ---- the request
@@ -91,15 +89,14 @@ pub(crate) fn push_need(
     task: &Task<'_>,
     known: &mut Vec<Known>,
     index: usize,
-) -> Result<usize, Refusal>
+) -> Result<usize, AllocError>
     requires { index < length task.now.request.now.needs }
     ensures extends { OnOk result (Extends task.now known.old.items known.new.items) }
     ensures place { IfOk result (IsForNeed task.now.registry.now.packages task.now.request.now.needs known.new.items index) }
-    ensures only { IfErr result (λ e. e ≡ Refusal.NoMemory) }
 {
     let entry = &task.request.needs()[index];
     let conclusion = need_incompat(task.alloc, task.registry, &entry.0, &entry.1)?;
-    Ok(push_fact(task, known, conclusion, Cause::Need(index))?)
+    push_fact(task, known, conclusion, Cause::Need(index))
 }
 
 /// Puts behind the lines that none of these versions of a package is allowed.
@@ -108,15 +105,14 @@ pub(crate) fn push_barred(
     known: &mut Vec<Known>,
     pkg: Pkg,
     versions: VSet,
-) -> Result<usize, Refusal>
+) -> Result<usize, AllocError>
     requires numbered { IsSome (package_at task.now.registry.now.packages pkg) }
     requires barred { NoneAllowed task.now.registry.now.packages task.now.request.now pkg versions }
     ensures extends { OnOk result (Extends task.now known.old.items known.new.items) }
     ensures place { IfOk result (SaysAt known.new.items ((pkg, In versions) ∷ [])) }
-    ensures only { IfErr result (λ e. e ≡ Refusal.NoMemory) }
 {
     let term = Term::In(versions.copy(task.alloc)?);
     let conclusion = Incompat::single(task.alloc, pkg, term)?;
     let cause = Cause::NotAllowed(pkg, versions);
-    Ok(push_fact(task, known, conclusion, cause)?)
+    push_fact(task, known, conclusion, cause)
 }

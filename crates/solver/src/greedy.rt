@@ -1,14 +1,14 @@
 // What a greedy search finds, validated by the walk.
 
-ghost use Rattle.std.specs.Prelude.{◌≡◌, IfErr, IfOk, IfSome};
+ghost use Rattle.std.specs.Prelude.{IfOk, IfSome};
 ghost use Rattle.walk.specs.Choosing.{choice_of};
 ghost use Rattle.solver.specs.Answering.{IsAnswer};
 
 use crate::task::Task;
 use heuristics::{Obstacle, decide_greedily};
 use indexmap::IndexMap;
+use std::alloc::AllocError;
 use terms::Pkg;
-use versions::Refusal;
 use walk::{Chooser, Reached, reach};
 
 /// Chooses what is decided.
@@ -29,9 +29,8 @@ impl Chooser for Decisions<'_> {
 pub(crate) fn search_greedily(
     task: &Task<'_>,
     obstacle: Option<Obstacle>,
-) -> Result<Option<Vec<(Pkg, u32)>>, Refusal>
-    ensures meets { IfOk result (λ found. IfSome found (λ list. IsAnswer task.now list.items)) }
-    ensures only { IfErr result (λ e. e ≡ Refusal.NoMemory) }
+) -> Result<Option<Vec<(Pkg, u32)>>, AllocError>
+    ensures { IfOk result (λ found. IfSome found (λ list. IsAnswer task.now list.items)) }
 {
     let Some(decided) = decide_greedily(&task.question(), obstacle)? else {
         return Ok(None);

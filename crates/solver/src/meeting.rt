@@ -18,6 +18,7 @@ use crate::task::Task;
 use crate::worklist::Worklist;
 use partial::Partial;
 use registry::{matching_is_what_meets, publications_are_lawful};
+use std::alloc::AllocError;
 use terms::{Pkg, VSet};
 use versions::Refusal;
 use walk::{Chooser, Reached, reach};
@@ -37,12 +38,11 @@ impl Chooser for Decided<'_> {
 }
 
 /// The walk by the decisions.
-pub(crate) fn walk_decided(task: &Task<'_>, partial: &Partial) -> Result<Reached, Refusal>
-    ensures reaches { IfOk result (ReachesBy task.now.registry.now.packages task.now.request.now (decided partial.now)) }
-    ensures only { IfErr result (λ e. e ≡ Refusal.NoMemory) }
+pub(crate) fn walk_decided(task: &Task<'_>, partial: &Partial) -> Result<Reached, AllocError>
+    ensures { IfOk result (ReachesBy task.now.registry.now.packages task.now.request.now (decided partial.now)) }
 {
     let chooser = Decided { partial };
-    Ok(reach(task.alloc, task.registry, task.request, &chooser)?)
+    reach(task.alloc, task.registry, task.request, &chooser)
 }
 
 /// Uses a need that the decisions don't meet.

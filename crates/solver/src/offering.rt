@@ -1,12 +1,12 @@
 // What a search offers to be learnt.
 
-ghost use Rattle.std.specs.Prelude.{◌≡◌, All, IfErr, IfOk};
+ghost use Rattle.std.specs.Prelude.{All, IfOk};
 ghost use Rattle.derivations.specs.Known.{AreLawful, AreOrdered};
 ghost use Rattle.derivations.specs.Learning.{AllStand};
 
 use crate::task::Task;
 use derivations::{Cause, Known, Learnt, Reason, STORE_LIMIT, offers};
-use versions::Refusal;
+use std::alloc::AllocError;
 
 /// Whether the line at a place is a fact of the request.
 fn is_asked(known: &[Known], place: usize) -> bool {
@@ -85,9 +85,7 @@ fn new_places(
     known: &[Known],
     places: &[usize],
     end: Option<usize>,
-) -> Result<Vec<usize>, Refusal>
-    ensures { IfErr result (λ e. e ≡ Refusal.NoMemory) }
-{
+) -> Result<Vec<usize>, AllocError> {
     let mut wanted = Vec::new(task.alloc);
     if (places.is_empty() && end.is_none()) || task.store.len() >= STORE_LIMIT {
         return Ok(wanted);
@@ -109,13 +107,13 @@ fn find_offers(
     known: &[Known],
     places: &[usize],
     end: Option<usize>,
-) -> Result<Vec<Learnt>, Refusal>
+) -> Result<Vec<Learnt>, AllocError>
     requires lawful { AreLawful task.now.registry.now.packages task.now.request.now known.now }
     requires ordered { AreOrdered known.now }
     ensures { IfOk result (λ offered. All (AllStand task.now.registry.now.packages) offered.items) }
 {
     let wanted = new_places(task, known, places, end)?;
-    Ok(offers(task.alloc, known, &wanted)?)
+    offers(task.alloc, known, &wanted)
 }
 
 /// What a search offers of the lines at these places, and of the refusal in which it ended, if it did.
@@ -132,6 +130,6 @@ pub(crate) fn offered_of(
 {
     match find_offers(task, known, places, end) {
         Ok(offered) => offered,
-        Err(_refusal) => Vec::new(task.alloc),
+        Err(_error) => Vec::new(task.alloc),
     }
 }

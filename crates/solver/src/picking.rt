@@ -1,6 +1,6 @@
 // What is decided: a package, and a version of it (doc/solver.md, "Decision Making").
 
-ghost use Rattle.std.specs.Prelude.{◌≡◌, ◌<◌, ℕ, true, false, not, None, length, IfErr, IfNone, IfOk, IfSome, IsSome};
+ghost use Rattle.std.specs.Prelude.{◌≡◌, ◌<◌, ℕ, true, false, not, None, length, IfNone, IfOk, IfSome, IsSome};
 ghost use Rattle.registry.specs.Highest.{IsHighest};
 ghost use Rattle.registry.specs.Registry.{package_at, versions_or_none};
 ghost use Rattle.terms.specs.Terms.{true_of};
@@ -13,8 +13,8 @@ use crate::worklist::Worklist;
 use heuristics::locked_version;
 use partial::Partial;
 use registry::{allowed_is_published, ordinals_are_below_the_count};
+use std::alloc::AllocError;
 use terms::{Pkg, Term, VSet};
-use versions::Refusal;
 
 // ---- the package
 
@@ -62,9 +62,8 @@ pub(crate) fn choose_package(
     task: &Task<'_>,
     partial: &Partial,
     worklist: &mut Worklist,
-) -> Result<Option<Pkg>, Refusal>
-    ensures chosen { IfOk result (λ chosen. IfSome chosen (IsToDecide task.now partial.now)) }
-    ensures only { IfErr result (λ e. e ≡ Refusal.NoMemory) }
+) -> Result<Option<Pkg>, AllocError>
+    ensures { IfOk result (λ chosen. IfSome chosen (IsToDecide task.now partial.now)) }
 {
     let Some(pkg) = worklist.agenda.next(&task.question(), partial)? else {
         return Ok(None);
@@ -152,10 +151,9 @@ fn version_within(task: &Task<'_>, pkg: Pkg, said: &Term) -> Option<u32>
 }
 
 /// What may be decided of a package that is selected.
-pub(crate) fn pick(task: &Task<'_>, partial: &Partial, pkg: Pkg) -> Result<Picked, Refusal>
+pub(crate) fn pick(task: &Task<'_>, partial: &Partial, pkg: Pkg) -> Result<Picked, AllocError>
     requires { says partial.now pkg None ≡ false }
-    ensures picks { IfOk result (PicksBy task.now partial.now pkg) }
-    ensures only { IfErr result (λ e. e ≡ Refusal.NoMemory) }
+    ensures { IfOk result (PicksBy task.now partial.now pkg) }
 {
     let Some(said) = partial.said(pkg) else {
         unreachable!()

@@ -3,7 +3,7 @@
 // A member of the store stands, so that its lines are lawful lines of the search: its premises are
 // facts, and each of its lines follows from two.
 
-ghost use Rattle.std.specs.Prelude.{◌≡◌, Ok, length, IfErr, IfOk, IfSome, OnOk};
+ghost use Rattle.std.specs.Prelude.{◌≡◌, Ok, IfErr, IfOk, IfSome, OnOk};
 ghost use Rattle.derivations.specs.Facts.{Terms};
 ghost use Rattle.derivations.specs.Learning.{AllStand, CauseStands};
 ghost use Rattle.solver.specs.Pushing.{Extends, SaysAt};
@@ -17,6 +17,7 @@ use crate::task::Task;
 use crate::worklist::Worklist;
 use derivations::{Cause, Known, Learnt, Line, Reason};
 use partial::Standing;
+use std::alloc::AllocError;
 use terms::Pkg;
 use versions::Refusal;
 
@@ -27,17 +28,16 @@ fn place_of(
     known: &mut Vec<Known>,
     places: &[usize],
     cause: &Cause,
-) -> Result<usize, Refusal>
+) -> Result<usize, AllocError>
     requires given { (terms : Terms) × IsGivenAt known.old.items places.now cause.now terms }
     requires stands { CauseStands task.now.registry.now.packages cause.now }
     ensures extends { OnOk result (Extends task.now known.old.items known.new.items) }
     ensures keeps { OnOk result (Keeps known.old.items known.new.items) }
     ensures place { IfOk result (λ at. (terms : Terms) → IsGivenAt known.old.items places.now cause.now terms → SaysAt known.new.items terms at) }
-    ensures only { IfErr result (λ e. e ≡ Refusal.NoMemory) }
 {
     match cause {
         Cause::Line(number) => Ok(places[*number - 1]),
-        Cause::Premise(premise) => Ok(push_premise(task, known, premise.copy(task.alloc)?)?),
+        Cause::Premise(premise) => push_premise(task, known, premise.cloned(task.alloc)?),
         Cause::Need(_) | Cause::NotAllowed(_, _) | Cause::Root => unreachable!(),
     }
 }
@@ -48,12 +48,11 @@ fn push_line(
     known: &mut Vec<Known>,
     places: &[usize],
     line: &Line,
-) -> Result<usize, Refusal>
+) -> Result<usize, AllocError>
     requires { IsDerivedAt task.now.registry.now.packages known.old.items places.now line.now }
     ensures extends { OnOk result (Extends task.now known.old.items known.new.items) }
     ensures keeps { OnOk result (Keeps known.old.items known.new.items) }
     ensures place { IfOk result (SaysAt known.new.items line.now.conclusion) }
-    ensures only { IfErr result (λ e. e ≡ Refusal.NoMemory) }
 {
     let first = place_of(task, known, places, &line.causes.0)?;
     let second = place_of(task, known, places, &line.causes.1)?;
@@ -71,11 +70,10 @@ pub(crate) fn push_learnt(
     task: &Task<'_>,
     known: &mut Vec<Known>,
     learnt: &Learnt,
-) -> Result<usize, Refusal>
+) -> Result<usize, AllocError>
     requires { AllStand task.now.registry.now.packages learnt.now }
     ensures extends { OnOk result (Extends task.now known.old.items known.new.items) }
     ensures place { IfOk result (IsForMember known.new.items learnt.now) }
-    ensures only { IfErr result (λ e. e ≡ Refusal.NoMemory) }
 {
     let lines = learnt.lines();
     let mut places = Vec::with_capacity(task.alloc, lines.len())?;
@@ -102,13 +100,12 @@ fn enter_member(
     search: &mut Search,
     worklist: &mut Worklist,
     place: u32,
-) -> Result<Option<usize>, Refusal>
+) -> Result<Option<usize>, AllocError>
     requires search { Searches task.now search.old }
     requires stored { StoreStands task.now }
     ensures idle { OnOk result (IsIdle task.now search.old search.new) }
     ensures within { IfOk result (λ found. IfSome found (λ at. (terms : Terms) × SaysAt search.new.known.items terms at)) }
     ensures changed { OnOk result (worklist.new.changed.items ≡ worklist.old.changed.items) }
-    ensures only { IfErr result (λ e. e ≡ Refusal.NoMemory) }
 {
     let Some(learnt) = member_of(task, place) else {
         return Ok(None);

@@ -22,7 +22,7 @@ use crate::worklist::Worklist;
 use derivations::{Derivation, Known, Learnt, Store, cut};
 use heuristics::{Obstacle, obstacle_at};
 use registry::{Registry, Request, ordinals_are_below_the_count};
-use std::alloc::Global;
+use std::alloc::{AllocError, Global};
 use terms::Pkg;
 use versions::{Name, Published, Refusal};
 use walk::{Reached, reach_preferred, sort_by_name};
@@ -37,17 +37,16 @@ pub enum Outcome {
 }
 
 /// A version by its package's name and its own text.
-fn named(registry: &Registry, chosen: &(Pkg, u32)) -> Result<(Name, Published), Refusal>
+fn named(registry: &Registry, chosen: &(Pkg, u32)) -> Result<(Name, Published), AllocError>
     requires { is_published registry.now.packages chosen.now.0 chosen.now.1 ≡ true }
-    ensures same { IfOk result (λ pair. pair ≡ told registry.now.packages chosen.now) }
-    ensures only { IfErr result (λ e. e ≡ Refusal.NoMemory) }
+    ensures { IfOk result (λ pair. pair ≡ told registry.now.packages chosen.now) }
 {
     ordinals_are_below_the_count();
     // That a registry has few packages is told with their count.
     let _packages = registry.packages();
     let facts = registry.facts(chosen.0, chosen.1);
-    let name = registry.name(chosen.0).copy()?;
-    Ok((name, facts.version.copy()?))
+    let name = registry.name(chosen.0).clone()?;
+    Ok((name, facts.version.clone()?))
 }
 
 /// What a list selects, by names and versions.
@@ -55,11 +54,10 @@ fn named_all(
     alloc: Global,
     registry: &Registry,
     list: &[(Pkg, u32)],
-) -> Result<Vec<(Name, Published)>, Refusal>
+) -> Result<Vec<(Name, Published)>, AllocError>
     requires once { IsDistinct nat_eq (keys_of list.now) }
     requires selection { IsSelection registry.now.packages (choice_of list.now) }
-    ensures same { IfOk result (λ pairs. pairs.items ≡ map (told registry.now.packages) list.now) }
-    ensures only { IfErr result (λ e. e ≡ Refusal.NoMemory) }
+    ensures { IfOk result (λ pairs. pairs.items ≡ map (told registry.now.packages) list.now) }
 {
     let mut pairs = Vec::new(alloc);
     for chosen in list {
@@ -73,11 +71,10 @@ fn tell(
     alloc: Global,
     registry: &Registry,
     chosen: Vec<(Pkg, u32)>,
-) -> Result<Vec<(Name, Published)>, Refusal>
+) -> Result<Vec<(Name, Published)>, AllocError>
     requires once { IsDistinct nat_eq (keys_of chosen.items) }
     requires selection { IsSelection registry.now.packages (choice_of chosen.items) }
-    ensures tells { IfOk result (λ pairs. Tells registry.now.packages (choice_of chosen.items) pairs.items) }
-    ensures only { IfErr result (λ e. e ≡ Refusal.NoMemory) }
+    ensures { IfOk result (λ pairs. Tells registry.now.packages (choice_of chosen.items) pairs.items) }
 {
     let mut list = chosen;
     sort_by_name(registry, &mut list);

@@ -1,6 +1,6 @@
 // The start of a search: the root, and the needs of the request.
 
-ghost use Rattle.std.specs.Prelude.{◌≡◌, IfErr, IfOk, OnOk};
+ghost use Rattle.std.specs.Prelude.{◌≡◌, IfOk, OnOk};
 ghost use Rattle.solver.specs.Lines.{root_terms};
 ghost use Rattle.solver.specs.Pushing.{Extends};
 ghost use Rattle.solver.specs.Searching.{Searches};
@@ -12,13 +12,12 @@ use crate::worklist::Worklist;
 use derivations::{Cause, Known, ROOT, Reason};
 use heuristics::ROOM;
 use partial::Partial;
+use std::alloc::AllocError;
 use terms::{Incompat, Term, VSet};
-use versions::Refusal;
 
 /// That the root is chosen.
-fn root_line(task: &Task<'_>) -> Result<Known, Refusal>
-    ensures same { IfOk result (λ line. line ≡ record { conclusion = root_terms; reason = Reason.Fact Cause.Root }) }
-    ensures only { IfErr result (λ e. e ≡ Refusal.NoMemory) }
+fn root_line(task: &Task<'_>) -> Result<Known, AllocError>
+    ensures { IfOk result (λ line. line ≡ record { conclusion = root_terms; reason = Reason.Fact Cause.Root }) }
 {
     let term = Term::NotIn(VSet::single(task.alloc, 0)?);
     Ok(Known {
@@ -28,9 +27,8 @@ fn root_line(task: &Task<'_>) -> Result<Known, Refusal>
 }
 
 /// The root alone: its fact, its derivation and its decision.
-fn begin(task: &Task<'_>) -> Result<Search, Refusal>
-    ensures search { IfOk result (Searches task.now) }
-    ensures only { IfErr result (λ e. e ≡ Refusal.NoMemory) }
+fn begin(task: &Task<'_>) -> Result<Search, AllocError>
+    ensures { IfOk result (Searches task.now) }
 {
     let mut known = Vec::with_capacity(task.alloc, 2 * ROOM)?;
     known.push(root_line(task)?)?;
@@ -49,9 +47,8 @@ fn add_needs(
     task: &Task<'_>,
     known: &mut Vec<Known>,
     worklist: &mut Worklist,
-) -> Result<(), Refusal>
-    ensures extends { OnOk result (Extends task.now known.old.items known.new.items) }
-    ensures only { IfErr result (λ e. e ≡ Refusal.NoMemory) }
+) -> Result<(), AllocError>
+    ensures { OnOk result (Extends task.now known.old.items known.new.items) }
 {
     for index in 0..task.request.needs().len() {
         let at = push_need(task, known, index)?;
@@ -61,9 +58,8 @@ fn add_needs(
 }
 
 /// A search that has met nothing but the request.
-pub(crate) fn start(task: &Task<'_>, worklist: &mut Worklist) -> Result<Search, Refusal>
-    ensures search { IfOk result (Searches task.now) }
-    ensures only { IfErr result (λ e. e ≡ Refusal.NoMemory) }
+pub(crate) fn start(task: &Task<'_>, worklist: &mut Worklist) -> Result<Search, AllocError>
+    ensures { IfOk result (Searches task.now) }
 {
     let mut search = begin(task)?;
     add_needs(task, &mut search.known, worklist)?;

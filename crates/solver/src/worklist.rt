@@ -3,8 +3,7 @@
 // No proof rests on it but for one thing: what only looks leaves the list of changed packages as it is,
 // so that propagation ends.
 
-ghost use Rattle.std.specs.Prelude.{◌≡◌, IfErr};
-ghost use Rattle.versions.specs.declared.refusal.Refusal.TheVariants.{NoMemory};
+ghost use Rattle.std.specs.Prelude.{◌≡◌};
 
 use crate::acting::Acted;
 use crate::asked::Asked;
@@ -12,9 +11,8 @@ use crate::task::Task;
 use derivations::Known;
 use heuristics::{Agenda, ROOM, Sharing};
 use partial::Partial;
-use std::alloc::Global;
+use std::alloc::{AllocError, Global};
 use terms::Pkg;
-use versions::Refusal;
 
 /// The packages that changed, and what chooses among the lines and the packages.
 #[derive(Drop)]
@@ -32,9 +30,7 @@ pub(crate) struct Worklist {
 }
 
 impl Worklist {
-    pub fn new(alloc: Global) -> Result<Worklist, Refusal>
-        ensures { IfErr result (λ e. e ≡ NoMemory) }
-    {
+    pub fn new(alloc: Global) -> Result<Worklist, AllocError> {
         Ok(Worklist {
             changed: Vec::with_capacity(alloc, ROOM)?,
             learnt: Vec::new(alloc),
@@ -45,9 +41,8 @@ impl Worklist {
     }
 
     /// Notes the line at a place with each package that it names.
-    pub fn note(&mut self, alloc: Global, known: &[Known], at: usize) -> Result<(), Refusal>
-        ensures changed { self.new.changed.items ≡ self.old.changed.items }
-        ensures only { IfErr result (λ e. e ≡ NoMemory) }
+    pub fn note(&mut self, alloc: Global, known: &[Known], at: usize) -> Result<(), AllocError>
+        ensures { self.new.changed.items ≡ self.old.changed.items }
     {
         match known.get(at) {
             None => Ok(()),
@@ -63,9 +58,8 @@ impl Worklist {
         at: usize,
         pkg: Pkg,
         target: Pkg,
-    ) -> Result<(), Refusal>
-        ensures changed { self.new.changed.items ≡ self.old.changed.items }
-        ensures only { IfErr result (λ e. e ≡ NoMemory) }
+    ) -> Result<(), AllocError>
+        ensures { self.new.changed.items ≡ self.old.changed.items }
     {
         match known.get(at) {
             None => Ok(()),
@@ -83,9 +77,8 @@ impl Worklist {
         known: &[Known],
         place: u32,
         at: usize,
-    ) -> Result<(), Refusal>
-        ensures changed { self.new.changed.items ≡ self.old.changed.items }
-        ensures only { IfErr result (λ e. e ≡ NoMemory) }
+    ) -> Result<(), AllocError>
+        ensures { self.new.changed.items ≡ self.old.changed.items }
     {
         self.note(alloc, known, at)?;
         self.asked.take(place, known.len())
@@ -102,9 +95,7 @@ impl Worklist {
         known: &[Known],
         before: usize,
         acted: Acted,
-    ) -> Result<(), Refusal>
-        ensures { IfErr result (λ e. e ≡ NoMemory) }
-    {
+    ) -> Result<(), AllocError> {
         match acted {
             Acted::Derived(pkg) => self.changed.push(pkg)?,
             Acted::Backjumped(at, pkg) => {

@@ -7,6 +7,8 @@ use Rattle.semver.specs.Identifiers.{comparator_view, parts_of}
 use Rattle.semver.specs.Parse.{IsRefused, is_memory, memory_error, req_of, version_parts}
 use Rattle.semver.specs.declared.error.Error.{Error}
 use Rattle.versions.proofs.NeverMemory.{NeverMemory, req_of-NeverMemory, version_parts-NeverMemory}
+use Rattle.versions.specs.declared.need.TheConstants.{REQUIREMENT_LIMIT}
+use Rattle.versions.specs.declared.published.TheConstants.{VERSION_LIMIT}
 use Rattle.versions.specs.declared.refusal.Refusal.{Refusal}
 use Rattle.versions.specs.declared.refusal.Refusal.TheVariants.{BadRequirement, BadVersion, NoMemory}
 use Rattle.semver.specs.declared.Comparator.{Comparator}
@@ -41,21 +43,21 @@ told_apart (Err found) result fault answer bad never apart is how refused memory
     (λ e. refl, λ e. other (λ same. not_memory found never (err-same result found fault refused is ∙ same)))
 
 -- the same of a version's text, which is short enough
-pub refused_version : {T : Type 0} (text : Text) (result : Result T Error) (fault : Error) (answer : Refusal) → length text ≤ 256
+pub refused_version : {T : Type 0} (text : Text) (result : Result T Error) (fault : Error) (answer : Refusal) → length text ≤ VERSION_LIMIT
     → result ≡ Err fault → (fault ≡ memory_error) ⊎ (version_parts text ≡ Err fault) → IsRefused (version_parts text) result
     → (fault ≡ memory_error → answer ≡ NoMemory) → ((fault ≡ memory_error → ⊥) → answer ≡ BadVersion)
     → (answer ≡ BadVersion) ↔ (is_version text ≡ false)
 refused_version text result fault answer short is how refused memory other =
-    let le : nat_le (length text) 256 ≡ true = search rules in
+    let le : nat_le (length text) VERSION_LIMIT ≡ true = search rules in
     let apart : BadVersion ≡ NoMemory → ⊥ = λ e. cc e in
     rw le (told_apart (version_parts text) result fault answer BadVersion (version_parts-NeverMemory text) apart is how refused memory other)
 
 -- the same of a requirement's text
-pub refused_requirement : {T : Type 0} (text : Text) (result : Result T Error) (fault : Error) (answer : Refusal) → length text ≤ 256
+pub refused_requirement : {T : Type 0} (text : Text) (result : Result T Error) (fault : Error) (answer : Refusal) → length text ≤ REQUIREMENT_LIMIT
     → result ≡ Err fault → (fault ≡ memory_error) ⊎ (req_of text ≡ Err fault) → IsRefused (req_of text) result
     → (fault ≡ memory_error → answer ≡ NoMemory) → ((fault ≡ memory_error → ⊥) → answer ≡ BadRequirement)
     → (answer ≡ BadRequirement) ↔ (is_requirement text ≡ false)
 refused_requirement text result fault answer short is how refused memory other =
-    let le : nat_le (length text) 256 ≡ true = search rules in
+    let le : nat_le (length text) REQUIREMENT_LIMIT ≡ true = search rules in
     let apart : BadRequirement ≡ NoMemory → ⊥ = λ e. cc e in
     rw le (told_apart (req_of text) result fault answer BadRequirement (req_of-NeverMemory text) apart is how refused memory other)

@@ -14,7 +14,7 @@ ghost use Rattle.versions.specs.Words.{is_name};
 ghost use Rattle.versions.specs.Words as words;
 
 use crate::refusal::Refusal;
-use std::alloc::Global;
+use std::alloc::{AllocError, Global};
 use std::cmp::Ordering;
 use std::hash::{Hash, Hasher};
 use std::marker::Model;
@@ -120,6 +120,16 @@ pub fn is_name_text(text: &str) -> bool
     bytes.len() <= NAME_LIMIT && begins_with_letter(bytes) && has_name_bytes(bytes)
 }
 
+impl Clone for Name {
+    ghost is_clone = { λ name copy. copy ≡ name };
+
+    fn clone(&self) -> Result<Name, AllocError> {
+        Ok(Name {
+            text: self.text.clone()?,
+        })
+    }
+}
+
 impl Name {
     /// Reads a name and keeps its text. A text that is no name is refused before memory is asked for.
     pub fn read(alloc: Global, text: &str) -> Result<Name, Refusal>
@@ -147,8 +157,6 @@ impl Name {
         ensures same { IfOk result (λ name. name ≡ self.now) }
         ensures only { IfErr result (λ e. e ≡ Refusal.NoMemory) }
     {
-        Ok(Name {
-            text: self.text.clone()?,
-        })
+        Ok(self.clone()?)
     }
 }

@@ -17,7 +17,7 @@ use crate::kept::Kept;
 use crate::published::Published;
 use crate::refusal::Refusal;
 use semver::VersionReq;
-use std::alloc::Global;
+use std::alloc::{AllocError, Global};
 use std::hash::{Hash, Hasher};
 use std::marker::Model;
 use std::sync::Arc;
@@ -39,12 +39,13 @@ impl Model for Need {
     ghost use Rattle.std.specs.Arc.{arc_value};
     ghost use Rattle.semver.specs.Identifiers.{comparator_view};
     ghost use Rattle.semver.specs.Parse.{req_of};
+    ghost use Rattle.versions.specs.declared.need.TheConstants.{REQUIREMENT_LIMIT};
 
     ghost Value = { List ℕ };
 
     ghost view = { λ n. string_bytes (arc_value n.kept).text };
 
-    ghost invariant = { λ n. (length (string_bytes (arc_value n.kept).text) ≤ 256)
+    ghost invariant = { λ n. (length (string_bytes (arc_value n.kept).text) ≤ REQUIREMENT_LIMIT)
         × (req_of (string_bytes (arc_value n.kept).text) ≡ Ok (map comparator_view (arc_value n.kept).parsed.comparators.items)) };
 }
 
@@ -69,6 +70,16 @@ impl Hash for Need {
 
     fn hash<H: Hasher>(&self, state: &mut H) {
         self.kept.text.as_str().hash(state);
+    }
+}
+
+impl Clone for Need {
+    ghost is_clone = { λ need copy. copy ≡ need };
+
+    fn clone(&self) -> Result<Need, AllocError> {
+        Ok(Need {
+            kept: self.kept.clone()?,
+        })
     }
 }
 
@@ -107,9 +118,7 @@ impl Need {
         ensures same { IfOk result (λ need. need ≡ self.now) }
         ensures only { IfErr result (λ e. e ≡ Refusal.NoMemory) }
     {
-        Ok(Need {
-            kept: self.kept.clone()?,
-        })
+        Ok(self.clone()?)
     }
 
     /// Whether a version meets the requirement.

@@ -11,7 +11,7 @@ use crate::faults::refusal_of;
 use crate::kept::Kept;
 use crate::refusal::Refusal;
 use semver::Version;
-use std::alloc::Global;
+use std::alloc::{AllocError, Global};
 use std::marker::Model;
 use std::sync::Arc;
 
@@ -32,13 +32,24 @@ impl Model for Published {
     ghost use Rattle.std.specs.Arc.{arc_value};
     ghost use Rattle.semver.specs.Identifiers.{parts_of};
     ghost use Rattle.semver.specs.Parse.{version_parts};
+    ghost use Rattle.versions.specs.declared.published.TheConstants.{VERSION_LIMIT};
 
     ghost Value = { List ℕ };
 
     ghost view = { λ p. string_bytes (arc_value p.kept).text };
 
-    ghost invariant = { λ p. (length (string_bytes (arc_value p.kept).text) ≤ 256)
+    ghost invariant = { λ p. (length (string_bytes (arc_value p.kept).text) ≤ VERSION_LIMIT)
         × (version_parts (string_bytes (arc_value p.kept).text) ≡ Ok (parts_of (arc_value p.kept).parsed)) };
+}
+
+impl Clone for Published {
+    ghost is_clone = { λ version copy. copy ≡ version };
+
+    fn clone(&self) -> Result<Published, AllocError> {
+        Ok(Published {
+            kept: self.kept.clone()?,
+        })
+    }
 }
 
 impl Published {
@@ -74,9 +85,7 @@ impl Published {
         ensures same { IfOk result (λ version. version ≡ self.now) }
         ensures only { IfErr result (λ e. e ≡ Refusal.NoMemory) }
     {
-        Ok(Published {
-            kept: self.kept.clone()?,
-        })
+        Ok(self.clone()?)
     }
 
     /// What was read from the text.

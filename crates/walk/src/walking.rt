@@ -99,9 +99,7 @@ fn follow_dependency<C: Chooser>(
     ensures met { IfOk result (λ met. OnTrue met (IsMetAt registry.now.packages (choice_of found.new.entries) (needs_of registry.now.packages pkg ordinal) index)) }
     ensures unmet { IfOk result (λ met. OnFalse met (IsUnmetAt registry.now.packages (C.chooses chooser.now) (needs_of registry.now.packages pkg ordinal) index)) }
 {
-    let Ok((target, matching)) = registry.dependency(pkg, ordinal, index) else {
-        return Err(AllocError);
-    };
+    let (target, matching) = registry.dependency(pkg, ordinal, index)?;
     let meets_need = |ordinal| matching.has(ordinal);
     Ok(follow_to(chooser, target, meets_need, found)?)
 }

@@ -12,6 +12,7 @@ use Rattle.registry.specs.Needs.{names_of}
 use Rattle.registry.specs.Requests as kept
 use Rattle.registry.specs.Requests.{Wanted, request_refusal}
 use Rattle.wire.specs.Requests.{checked, judged, locked_versions, requirements_of, unless_refused}
+use Rattle.wire.specs.Locks.{judged_lock, lines_unless}
 use Rattle.wire.specs.NamedShapes.{premise_requirements, requirement_of}
 use Rattle.wire.specs.Shapes.{Request, check, resolve}
 use Rattle.by_name.specs.declared.derivation.NamedCause.{NamedCause}
@@ -143,6 +144,31 @@ asks_line ask wanted made (Some bad) is = absurd (cc)
 -- what needs and a lock ask for
 abbrev pub wanted_of : List (Text × Text) → List (Text × Text) → Wanted
 wanted_of needs lock = record { needs = needs; lock = lock }
+
+-- ---- the lines of lock lists
+
+-- what a request is refused for, its lock's lines are
+refuses_lines : (refusal : Option Refusal) (wanted : Wanted) (lines : List (Text × Text)) (e : Refusal) → Refuses e (kept.unless_refused refusal wanted) → Refuses e (lines_unless refusal lines)
+refuses_lines None wanted lines e refuses = refuses_none _ e wanted _ refuses
+refuses_lines (Some bad) wanted lines e refuses = refuses_alike _ _ bad e refuses
+
+-- of the request that is made the lock has the lines
+gives_lines : (refusal : Option Refusal) (wanted made : Wanted) → kept.unless_refused refusal wanted ≡ Ok made → lines_unless refusal wanted.lock ≡ Ok made.lock
+gives_lines None wanted made is = let same : wanted ≡ made = cc in ap (λ (w : Wanted). Ok w.lock) same
+gives_lines (Some bad) wanted made is = absurd (cc)
+
+module _ (lock kept_needs kept_lock : List (Text × Text)) (named : list_all is_name (names_of lock) ≡ true) (versioned : list_all is_version (locked_versions lock) ≡ true)
+    (nothing : kept_needs ≡ []) (same : kept_lock ≡ lock) where
+  read_as : (P : Result Wanted Refusal → Type 0) → P (kept.request_in kept_needs kept_lock) → P (kept.request_in [] lock)
+  read_as P h = subst (λ (l : List (Text × Text)). P (kept.request_in l lock)) nothing (subst (λ (l : List (Text × Text)). P (kept.request_in kept_needs l)) same h)
+
+  -- the request that needs nothing, of what was read of these texts, is refused
+  pub refuses_lock : (e : Refusal) → Refuses e (kept.request_in kept_needs kept_lock) → Refuses e (judged_lock lock)
+  refuses_lock e refuses = rw (named, versioned) (refuses_lines (request_refusal (wanted_of [] lock)) (wanted_of [] lock) lock e (read_as (λ said. Refuses e said) refuses))
+
+  -- or it is made
+  pub gives_lock : (made : Wanted) → kept.request_in kept_needs kept_lock ≡ Ok made → judged_lock lock ≡ Ok made.lock
+  gives_lock made is = rw (named, versioned) (gives_lines (request_refusal (wanted_of [] lock)) (wanted_of [] lock) made (read_as (λ said. said ≡ Ok made) is))
 
 -- the texts of needs and a lock are names, versions and requirements
 pub record AreTexts (needs lock : List (Text × Text)) : Type 0 where

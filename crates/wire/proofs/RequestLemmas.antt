@@ -1,5 +1,5 @@
 -- Lines that ask nothing, and arrays of another length.
-use Rattle.std.proofs.Common.{◌≡◌, ◌≢◌, ℕ, ◌+◌, List, Bool, true, false, refl, Option, None, Some, Err, length, ◌==◌, if◌then◌else◌, ne_eqb, codes, rules}
+use Rattle.std.proofs.Common.{◌≡◌, ◌≢◌, ℕ, ◌+◌, List, Bool, true, false, refl, Option, None, Some, Err, length, ◌==◌, if◌then◌else◌, nat_le, ne_eqb, codes, rules}
 use Rattle.std.specs.Str.{IsUtf8, is_utf8}
 use Rattle.std.proofs.lemmas.Str.{IsUtf8-from_is_utf8, is_utf8-from_IsUtf8}
 use Rattle.serde_json.specs.Data.{Data}
@@ -16,6 +16,8 @@ use Rattle.by_name.specs.declared.derivation.NamedLine.{NamedLine}
 use Rattle.wire.specs.Shapes.{budget_in, check, checking_in, explain_in, lock_in, pairs_at, resolution_in, resolve}
 use Rattle.wire.specs.Requests.{request_in, request_of}
 use Rattle.wire.specs.Learn.{judged_learn, learn_in, learn_of}
+use Rattle.wire.specs.Locks.{lock_in as lock_list_in, lock_of, lock_of_text}
+use Rattle.wire.specs.declared.request.lock.TheConstants.{LOCK_BYTES}
 
 bad_by : (line : List ℕ) (b : Bool) → is_utf8 line ≡ b → (IsUtf8 line → read line ≡ None) → request_of line ≡ Err BadLine
 unfolding request_of
@@ -48,6 +50,25 @@ learn_of-bad line none = no_learn line _ refl none
 pub learn_of-read : (line : List ℕ) (d : Data) → IsUtf8 line → read line ≡ Some d → learn_of line ≡ judged_learn (learn_in d)
 unfolding learn_of
 learn_of-read line d text is = rw (is_utf8-from_IsUtf8 line text, is) refl
+
+-- ---- lock lists
+
+-- a text that is too long
+pub lock_of-long : (text : List ℕ) → nat_le (length text) LOCK_BYTES ≡ false → lock_of text ≡ Err BadLine
+unfolding lock_of
+lock_of-long text long = rw long refl
+
+no_lock : (text : List ℕ) (b : Bool) → is_utf8 text ≡ b → (IsUtf8 text → read text ≡ None) → lock_of_text text ≡ Err BadLine
+no_lock text false is none = rw is refl
+no_lock text true is none = rw (is, none (IsUtf8-from_is_utf8 text is)) refl
+
+pub lock_of-bad : (text : List ℕ) → nat_le (length text) LOCK_BYTES ≡ true → (IsUtf8 text → read text ≡ None) → lock_of text ≡ Err BadLine
+unfolding lock_of
+lock_of-bad text fits none = rw fits (no_lock text _ refl none)
+
+pub lock_of-read : (text : List ℕ) (d : Data) → nat_le (length text) LOCK_BYTES ≡ true → IsUtf8 text → read text ≡ Some d → lock_of text ≡ lock_list_in d
+unfolding lock_of
+lock_of-read text d fits utf8 is = rw (fits, is_utf8-from_IsUtf8 text utf8, is) refl
 
 -- ---- resolve and check lines
 

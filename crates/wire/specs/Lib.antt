@@ -4,5 +4,6 @@ pub mod NamedShapes
 pub mod Shapes
 pub mod Requests
 pub mod Learn
+pub mod Locks
 pub mod DerivedShapes
 pub mod Asked

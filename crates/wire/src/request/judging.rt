@@ -105,7 +105,7 @@ fn checking(
 }
 
 /// The names of these needs or lock lines.
-fn names_in(alloc: Global, pairs: &Pairs<'_>) -> Result<Vec<Name>, Refusal>
+pub fn names_in(alloc: Global, pairs: &Pairs<'_>) -> Result<Vec<Name>, Refusal>
     ensures { Gives (λ v. v.items) result (checked (list_all is_name (names_of pairs.now)) (names_of pairs.now) BadName) }
 {
     let mut names = Vec::with_capacity(alloc, pairs.len())?;
@@ -134,7 +134,7 @@ fn needs_in(
 }
 
 /// The lock lines with these names, which are theirs.
-fn lock_in(
+pub fn lock_in(
     alloc: Global,
     names: Vec<Name>,
     lock: &Pairs<'_>,

@@ -1,16 +1,14 @@
 //! Sets of ordinals, as arrays of whole numbers that ascend.
-ghost use Rattle.std.specs.Prelude.{◌≡◌, [], is_some, option_and_then, true, unwrap_or, IfErr, IfOk};
+ghost use Rattle.std.specs.Prelude.{◌≡◌, [], is_some, option_and_then, true, unwrap_or, IfOk};
 ghost use Rattle.serde_json.specs.View.{items_view, view};
-ghost use Rattle.versions.specs.declared.refusal.Refusal.{Refusal};
 ghost use Rattle.wire.specs.Members.{whole_of};
 ghost use Rattle.wire.specs.NamedShapes.{at_least, ordinals_at, ordinals_from, ordinals_in};
 
 use super::members::whole_of;
 use serde_json::Value;
-use std::alloc::Global;
+use std::alloc::{AllocError, Global};
 use std::marker::Model;
 use terms::VSet;
-use versions::Refusal;
 
 /// Ordinals, each above the one before, as they stand in a line.
 #[derive(Drop)]
@@ -44,9 +42,8 @@ impl<'v> OrdinalItems<'v> {
     }
 
     /// The set of them.
-    pub fn set(&self, alloc: Global) -> Result<VSet, Refusal>
-        ensures same { IfOk result (λ set. set ≡ self.now) }
-        ensures only { IfErr result (λ e. e ≡ Refusal.NoMemory) }
+    pub fn set(&self, alloc: Global) -> Result<VSet, AllocError>
+        ensures { IfOk result (λ set. set ≡ self.now) }
     {
         set_of(alloc, self.items)
     }
@@ -86,10 +83,9 @@ fn are_ordinals(items: &[Value]) -> bool
 }
 
 /// The ordinals that values are which ascend.
-fn listed(alloc: Global, items: &[Value]) -> Result<Vec<u32>, Refusal>
+fn listed(alloc: Global, items: &[Value]) -> Result<Vec<u32>, AllocError>
     requires { is_some (ordinals_from 0 (items_view items.now)) ≡ true }
-    ensures same { IfOk result (λ list. list.items ≡ unwrap_or (ordinals_from 0 (items_view items.now)) []) }
-    ensures only { IfErr result (λ e. e ≡ Refusal.NoMemory) }
+    ensures { IfOk result (λ list. list.items ≡ unwrap_or (ordinals_from 0 (items_view items.now)) []) }
 {
     let mut ordinals = Vec::with_capacity(alloc, items.len())?;
     for item in items {
@@ -99,10 +95,9 @@ fn listed(alloc: Global, items: &[Value]) -> Result<Vec<u32>, Refusal>
 }
 
 /// The set of values that are ordinals which ascend.
-fn set_of(alloc: Global, items: &[Value]) -> Result<VSet, Refusal>
+fn set_of(alloc: Global, items: &[Value]) -> Result<VSet, AllocError>
     requires { is_some (ordinals_from 0 (items_view items.now)) ≡ true }
-    ensures same { IfOk result (λ set. set ≡ unwrap_or (ordinals_from 0 (items_view items.now)) []) }
-    ensures only { IfErr result (λ e. e ≡ Refusal.NoMemory) }
+    ensures { IfOk result (λ set. set ≡ unwrap_or (ordinals_from 0 (items_view items.now)) []) }
 {
     let ordinals = listed(alloc, items)?;
     let set = VSet::of(alloc, &ordinals)?;

@@ -24,6 +24,6 @@ named_at numbers packages p name lawful is = by (package_at packages p) refl is
 pub unreachable-requires : goal.unreachable-requires
 unreachable-requires c = unnamed (package_at c.args.registry.now.packages c.args.pkg) (sym (ap option_copied c.in_default.is) ∙ c.name_at.ensures.name) c.requires
 
-pub returns-clause-same : goal.returns-clause-same
-returns-clause-same c = subst (λ (n : Text). number_of c.args.registry.now.packages n ≡ Some c.args.pkg) (sym c.in_ok-copy.ensures.same)
+pub returns : goal.returns
+returns c = subst (λ (n : Text). number_of c.args.registry.now.packages n ≡ Some c.args.pkg) (sym c.in_ok-clone.ensures.cases)
     (named_at c.names_have_their_numbers.ensures c.args.registry.now.packages c.args.pkg c.in-Some.name.now c.name_at.ensures.reachable (sym (ap option_copied c.in-Some.is) ∙ c.name_at.ensures.name))

@@ -7,8 +7,8 @@ use Rattle.by_name.specs.Named.{number_in, numbered_terms}
 use Rattle.by_name.proofs.NumberLemmas.{take_one, terms_more, terms_none}
 use Rattle.by_name.proofs.numbering.numbered_terms.Goals as goal
 
-pub returns-in_default-clause-same : goal.returns-in_default-clause-same
-returns-in_default-clause-same c =
+pub returns-in_default : goal.returns-in_default
+returns-in_default c =
     let here = slice_get_read c.args.terms.now _ c.loop-entry.entry-index _ refl c.loop-entry-test.true c.entry-item.is in
     let none : number_in c.args.registry.now.packages c.entry-item.result.0 ≡ None = cc in
     sym (terms_none c.args.registry.now.packages c.args.terms.now c.loop-entry.entry-index c.entry-item.result here none)

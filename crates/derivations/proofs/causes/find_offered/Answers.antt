@@ -6,6 +6,6 @@ use Rattle.derivations.specs.Learning.{Offers}
 use Rattle.derivations.specs.declared.facts.Cause.{Cause}
 use Rattle.derivations.proofs.causes.find_offered.Goals as goal
 
-pub returns-in-Line-clause-found : goal.returns-in-Line-clause-found
-returns-in-Line-clause-found c =
+pub returns-in-Line : goal.returns-in-Line
+returns-in-Line c =
     subst (λ (cause : Cause). Finds (Offers (conclusions c.args.earlier.now) cause) (option_map given_terms c.concluded.result)) (sym c.in-Line.is) c.concluded.ensures

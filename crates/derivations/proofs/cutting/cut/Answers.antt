@@ -17,7 +17,7 @@ returns-clause-derived c = λ packages wanted lawful.
     let steps = c.in_ok-steps.steps.items in
     let ends = subst (λ (lines : List Known). IsEndLine lines place) c.deref.ensures.value c.last_step-place.ensures.ends in
     let shows = subst (λ (lines : List Known). ShowsLine lines place (lines_at lines steps)) c.deref-2.ensures.value c.in_ok-steps.ensures.shows in
-    subst (λ (lines : List Line). IsDerivation packages wanted lines) (sym (c.new.ensures ∙ c.in_ok-lines.ensures.same)) (derivation_by known place (lines_at known steps) shows ends packages wanted lawful)
+    subst (λ (lines : List Line). IsDerivation packages wanted lines) (sym (c.new.ensures ∙ c.in_ok-lines.ensures)) (derivation_by known place (lines_at known steps) shows ends packages wanted lawful)
 
 pub returns-clause-early : goal.returns-clause-early
 returns-clause-early c = λ before.
@@ -28,4 +28,4 @@ returns-clause-early c = λ before.
     let there = subst (λ (lines : List Known). EndsBefore lines c.args.end) (sym c.deref.ensures.value) before in
     let says = subst (λ (lines : List Known). said_at lines place ≡ root) c.deref.ensures.value (c.last_step-place.ensures.early there) in
     let shows = subst (λ (lines : List Known). ShowsLine lines place (lines_at lines steps)) c.deref-2.ensures.value c.in_ok-steps.ensures.shows in
-    subst (λ (lines : List Line). last_conclusion lines ≡ Some root) (sym (c.new.ensures ∙ c.in_ok-lines.ensures.same)) (shows.last ∙ ap (λ (terms : Terms). Some terms) (sym (ap said_by shows.own_at) ∙ says))
+    subst (λ (lines : List Line). last_conclusion lines ≡ Some root) (sym (c.new.ensures ∙ c.in_ok-lines.ensures)) (shows.last ∙ ap (λ (terms : Terms). Some terms) (sym (ap said_by shows.own_at) ∙ says))

@@ -2,6 +2,6 @@ use Rattle.std.proofs.Common.{append_assoc, rules}
 use Rattle.explain.specs.Explanations.{premise_text}
 use Rattle.explain.proofs.causes.put_premise.Goals as goal
 
-pub returns-clause-text : goal.returns-clause-text
+pub returns : goal.returns
 unfolding premise_text
-returns-clause-text c = search (rules, append_assoc)
+returns c = search (rules, append_assoc)

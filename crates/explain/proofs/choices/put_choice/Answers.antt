@@ -2,10 +2,10 @@ use Rattle.std.proofs.Common.{◌∙◌, append_assoc, rules, sym}
 use Rattle.explain.proofs.ChoiceTexts.{name-alone, name-and-set}
 use Rattle.explain.proofs.choices.put_choice.Goals as goal
 
-pub returns-then-is_request-clause-text : goal.returns-then-is_request-clause-text
-returns-then-is_request-clause-text c =
+pub returns-then-is_request : goal.returns-then-is_request
+returns-then-is_request c =
     rw (name-alone c.args.registry.now.packages c.args.pkg c.args.set.now (sym c.is_request.ensures ∙ c.if-is_request.true)) (search (rules, append_assoc))
 
-pub returns-clause-text : goal.returns-clause-text
-returns-clause-text c =
+pub returns : goal.returns
+returns c =
     rw (name-and-set c.args.registry.now.packages c.args.pkg c.args.set.now (sym c.is_request.ensures ∙ c.if-is_request.false)) (search (rules, append_assoc))

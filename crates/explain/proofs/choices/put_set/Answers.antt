@@ -2,6 +2,6 @@ use Rattle.std.proofs.Common.{append_assoc, rules}
 use Rattle.explain.specs.Choices.{set_text}
 use Rattle.explain.proofs.choices.put_set.Goals as goal
 
-pub returns-clause-text : goal.returns-clause-text
+pub returns : goal.returns
 unfolding set_text
-returns-clause-text c = search (rules, append_assoc)
+returns c = search (rules, append_assoc)

@@ -3,7 +3,7 @@ use Rattle.explain.proofs.ListedTexts.{unpublished_text}
 use Rattle.explain.proofs.choices.put_version.Goals as goal
 
 -- what is not published is told by the mark and the number
-pub returns-clause-text : goal.returns-clause-text
-returns-clause-text c =
+pub returns : goal.returns
+returns c =
     let none = unpublished_text c.args.registry.now.packages c.args.pkg c.args.ordinal c.in_default.ensures.none in
     rw none (search (rules, append_assoc))

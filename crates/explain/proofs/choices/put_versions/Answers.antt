@@ -6,4 +6,4 @@ use Rattle.explain.proofs.choices.put_versions.Goals as goal
 pub loop-place-preserved : goal.loop-place-preserved
 loop-place-preserved c =
     let here = slice_get-get_or c.args.ordinals.now c.loop-place.place 0 c.loop-place-test.true in
-    put-next (version_text c.args.registry.now.packages c.args.pkg) c.args.ordinals.now c.loop-place.place _ _ _ _ here c.loop-place.invariant c.in_ok-put_next.ensures.text
+    put-next (version_text c.args.registry.now.packages c.args.pkg) c.args.ordinals.now c.loop-place.place _ _ _ _ here c.loop-place.invariant c.in_ok-put_next.ensures

@@ -16,7 +16,7 @@ returns-clause-kept c =
     let l = c.args.ledger.now in
     let a = c.args.a in
     let last = c.args.last in
-    let note : Note = record { said = c.args.said; decided = c.match-a.decided; earlier = last } in
+    let note : Note = record { said = c.args.said; decided = c.match-a.decided; earlier = last; jump = c.jump_from-jump.result } in
     let decides : c.match-a.decided ≡ option_or (decided l.made.items a.pkg) (decided_by a.why) = elim c.match-a.branch [
       | in-Decided w ↦ decided-new l.made.items a.pkg w.in-Decided.ordinal a.why c.match-a.decided w.in-Decided.is w.decided-is c.requires.once
       | in-Derived w ↦

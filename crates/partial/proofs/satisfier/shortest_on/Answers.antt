@@ -1,30 +1,20 @@
-use Rattle.std.proofs.Common.{arith, refl, slice_get}
-use Rattle.partial.proofs.Satisfiers.{step-within, step-falls, step-on, step-holds, step-ends}
+use Rattle.std.proofs.Common.{◌<◌, arith, subst, take}
+use Rattle.partial.specs.Ledger.{through}
+use Rattle.partial.specs.Reach.{Holds}
 use Rattle.partial.proofs.satisfier.shortest_on.Goals as goal
 
-pub said_at-requires-clause-within : goal.said_at-requires-clause-within
-said_at-requires-clause-within c =
-    let l = c.args.ledger.now in
-    step-within l.made.items l.notes.items (λ p. slice_get l.heads.items p) c.requires.kept.0 c.args.entry.now.0 c.args.entry.now.1 c.walk.place c.walk.invariant.on c.in-Some.at c.in-Some.is c.index-notes-at.result (rw c.as_slice-notes.ensures.value at c.index-notes-at.is)
-
-pub returns-then-not-implies-clause-shortest : goal.returns-then-not-implies-clause-shortest
-returns-then-not-implies-clause-shortest c =
-    let l = c.args.ledger.now in
-    step-ends l.made.items l.notes.items (λ p. slice_get l.heads.items p) c.requires.kept.0 c.args.entry.now.0 c.args.entry.now.1 c.walk.place c.walk.invariant.on c.in-Some.at c.in-Some.is c.index-notes-at.result (rw c.as_slice-notes.ensures.value at c.index-notes-at.is)
-    c.said_at.result.now c.said_at.ensures c.walk.invariant.holds (c.if-not-implies.ensures.no refl)
+pub step_back-requires-clause-holds : goal.step_back-requires-clause-holds
+step_back-requires-clause-holds c = subst (λ o. Holds (take (through o) c.args.ledger.now.made.items) c.args.entry.now.0 c.args.entry.now.1) c.in-Some.is c.walk.invariant.holds
 
 pub walk-smaller : goal.walk-smaller
-walk-smaller c =
-    let l = c.args.ledger.now in
-    step-falls l.made.items l.notes.items (λ p. slice_get l.heads.items p) c.requires.kept.0 c.args.entry.now.0 c.args.entry.now.1 c.walk.place c.walk.invariant.on c.in-Some.at c.in-Some.is c.index-notes-at.result (rw c.as_slice-notes.ensures.value at c.index-notes-at.is)
+walk-smaller c = let held = c.in-Some-step_back.ensures.some in rw c.in-Some.is (omega (arith, held.before))
 
 pub walk-preserved : goal.walk-preserved
 walk-preserved c =
-    let l = c.args.ledger.now in
-    let less = step-falls l.made.items l.notes.items (λ p. slice_get l.heads.items p) c.requires.kept.0 c.args.entry.now.0 c.args.entry.now.1 c.walk.place c.walk.invariant.on c.in-Some.at c.in-Some.is c.index-notes-at.result (rw c.as_slice-notes.ensures.value at c.index-notes-at.is) in
+    let held = c.in-Some-step_back.ensures.some in
+    let less : through c.in-Some-step_back.before < through c.walk.place = rw c.in-Some.is (omega (arith, held.before)) in
     record {
-      on = step-on l.made.items l.notes.items (λ p. slice_get l.heads.items p) c.requires.kept.0 c.args.entry.now.0 c.args.entry.now.1 c.walk.place c.walk.invariant.on c.in-Some.at c.in-Some.is c.index-notes-at.result (rw c.as_slice-notes.ensures.value at c.index-notes-at.is);
-      holds = step-holds l.made.items l.notes.items (λ p. slice_get l.heads.items p) c.requires.kept.0 c.args.entry.now.0 c.args.entry.now.1 c.walk.place c.walk.invariant.on c.in-Some.at c.in-Some.is c.index-notes-at.result (rw c.as_slice-notes.ensures.value at c.index-notes-at.is)
-          c.said_at.result.now c.said_at.ensures (c.if-not-implies.ensures.yes refl);
+      on = held.on;
+      holds = held.holds;
       within = omega (arith, less, c.walk.invariant.within);
     }

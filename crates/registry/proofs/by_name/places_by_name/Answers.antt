@@ -10,8 +10,8 @@ use Rattle.std.proofs.lemmas.Map.Entries.{length-keys_of}
 use Rattle.registry.specs.ByName.{by_name, name_at}
 use Rattle.registry.proofs.by_name.places_by_name.Goals as goal
 
-pub returns-clause-sorted : goal.returns-clause-sorted
-returns-clause-sorted g c =
+pub returns : goal.returns
+returns g c =
     let names = keys_of c.args.lines.now in
     let places : c.in_ok-places.places.items ≡ range_with_len 0 (length names) = search (rules, length-keys_of c.args.lines.now) in
     let ranks = ranks_by nat_list_cmp_total (name_at names) in

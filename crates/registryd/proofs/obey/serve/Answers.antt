@@ -5,19 +5,19 @@ use Rattle.registryd.proofs.obey.serve.Goals as goal
 
 pub returns-in-Ok-clause-done : goal.returns-in-Ok-clause-done
 returns-in-Ok-clause-done g c = λ is.
-    let done = c.serve_items.ensures.done is in
-    (done.0, (c.in-Ok.items.items, done.1.0, c.in-Ok.ensures.begins, done.1.1))
+    let done = c.serve_from.ensures.done is in
+    (done.0, (c.in-Ok.served, done.1.0, c.in-Ok.ensures.begins, done.1.1))
 
 pub returns-in-Ok-clause-input : goal.returns-in-Ok-clause-input
 returns-in-Ok-clause-input g c = λ is.
-    let read = c.serve_items.ensures.input is in
-    inl (c.in-Ok.items.items, read.0, c.in-Ok.ensures.begins, read.1)
+    let read = c.serve_from.ensures.input is in
+    inl (c.in-Ok.served, read.0, c.in-Ok.ensures.begins, read.1)
 
 pub returns-in-Ok-clause-output : goal.returns-in-Ok-clause-output
 returns-in-Ok-clause-output g c = λ is.
-    elim (c.serve_items.ensures.output is) [
-      | inl broken ↦ inl (c.in-Ok.items.items, c.in-Ok.ensures.begins, broken)
-      | inr served ↦ inr (served.0, (c.in-Ok.items.items, served.1.0, c.in-Ok.ensures.begins, served.1.1))
+    elim (c.serve_from.ensures.output is) [
+      | inl broken ↦ inl (c.in-Ok.served, c.in-Ok.ensures.begins, broken)
+      | inr served ↦ inr (served.0, (c.in-Ok.served, served.1.0, c.in-Ok.ensures.begins, served.1.1))
     ]
 
 pub returns-in-Err-clause-done : goal.returns-in-Err-clause-done

@@ -2,8 +2,8 @@ use Rattle.std.proofs.Common.{inr}
 use Rattle.registryd.proofs.OutcomeLemmas.{found_selection}
 use Rattle.registryd.proofs.told.told_of.Goals as goal
 
-pub returns-in-Selection-clause-told : goal.returns-in-Selection-clause-told
-returns-in-Selection-clause-told c =
+pub returns-in-Selection : goal.returns-in-Selection
+returns-in-Selection c =
     let lawful = rw c.in-Selection.is at c.requires.lawful in
     found_selection c.args.registry.now.packages c.args.request.now c.args.explain c.in-Selection.list.items lawful.0
     (λ s is meets. rw c.in-Selection.is at (c.requires.preferred s is meets))
@@ -11,5 +11,5 @@ returns-in-Selection-clause-told c =
 pub told_refused-requires : goal.told_refused-requires
 told_refused-requires c = let lawful = rw c.in-Refused.is at c.requires.lawful in lawful.0
 
-pub returns-in_ok-told-in-Refused-clause-told : goal.returns-in_ok-told-in-Refused-clause-told
-returns-in_ok-told-in-Refused-clause-told c = inr c.in_ok-told-in-Refused.ensures.told
+pub returns-in_ok-told-in-Refused : goal.returns-in_ok-told-in-Refused
+returns-in_ok-told-in-Refused c = inr c.in_ok-told-in-Refused.ensures

@@ -1,6 +1,10 @@
+use Rattle.std.proofs.lemmas.Result.{IfOk-weaker}
+use Rattle.solver.specs.Pushing.{AreDependents}
 use Rattle.solver.proofs.Pushed.{exactly_dependents}
 use Rattle.solver.proofs.dependents.versions_sharing.Goals as goal
 
-pub returns-then-not-branch-clause-dependents : goal.returns-then-not-branch-clause-dependents
-returns-then-not-branch-clause-dependents c =
-    exactly_dependents c.args.task.now.registry.now.packages c.args.pkg c.args.ordinal c.args.entry.now c.in_ok-versions_with.field-0 c.in_ok-versions_with.ensures.exactly c.requires
+pub returns-then-not-branch : goal.returns-then-not-branch
+returns-then-not-branch c =
+    let packages = c.args.task.now.registry.now.packages in
+    IfOk-weaker c.versions_with.result _ (AreDependents packages c.args.pkg c.args.entry.now)
+    (λ versions exactly. exactly_dependents packages c.args.pkg c.args.ordinal c.args.entry.now versions exactly c.requires) c.versions_with.ensures

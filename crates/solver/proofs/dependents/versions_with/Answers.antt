@@ -7,6 +7,6 @@ has_dependency-is_one-requires-clause-published c =
     let lt : c.loop-ordinal.ordinal < count c.args.task.now.registry.now.packages c.args.pkg = omega arith in
     c.ordinals_are_below_the_count.ensures.published c.args.task.now.registry.now.packages c.args.pkg c.loop-ordinal.ordinal lt
 
-pub returns-clause-exactly : goal.returns-clause-exactly
-returns-clause-exactly c =
+pub returns : goal.returns
+returns c =
     have_all c.ordinals_are_below_the_count.ensures.no_other c.args.task.now.registry.now.packages c.args.pkg (c.args.name.now, c.args.need.now) c.loop-ordinal.set c.loop-ordinal.ordinal (omega arith) c.loop-ordinal.invariant.set

@@ -23,7 +23,7 @@ bounds-facts-index c = index_read c.args.task.now.registry.now.packages c.args.p
 pub push_dependency-requires-clause-numbered : goal.push_dependency-requires-clause-numbered
 push_dependency-requires-clause-numbered c =
     let packages = c.args.task.now.registry.now.packages in
-    let found = c.in_ok-target.ensures.dependency in
+    let found = c.in_ok-target.ensures in
     let there = entry_there packages c.args.pkg c.args.ordinal _ c.args.index c.index-facts-index.result (found.name, found.need) c.facts.ensures found.at in
     subst (λ (x : Text × Text). number_of packages x.0 ≡ Some c.in_ok-target.target) (sym there) found.number
 
@@ -37,6 +37,6 @@ versions_sharing-requires c =
 pub push_dependency-requires-clause-within : goal.push_dependency-requires-clause-within
 push_dependency-requires-clause-within c k =
     let packages = c.args.task.now.registry.now.packages in
-    let found = c.in_ok-target.ensures.dependency in
+    let found = c.in_ok-target.ensures in
     let there = entry_there packages c.args.pkg c.args.ordinal _ c.args.index c.index-facts-index.result (found.name, found.need) c.facts.ensures found.at in
     ap (λ (s : List ℕ). has s k) c.in_ok-within.ensures.same ∙ found.members k ∙ ap (λ (x : Text × Text). meets_at packages c.in_ok-target.target k x.1) (sym there)

@@ -3,6 +3,6 @@ use Rattle.solver.proofs.facts.push_dependency.Goals as goal
 
 pub push_premise-requires : goal.push_premise-requires
 push_premise-requires c =
-    rw c.in_ok-copy.ensures.same (premise_stands c.args.task.now.registry.now.packages
+    rw c.in_ok-clone.ensures.cases (premise_stands c.args.task.now.registry.now.packages
     (record { «package» = c.args.pkg; versions = c.args.versions; target = c.args.target; need = c.args.entry.now.1; within = c.args.within })
     c.args.entry.now.0 c.requires.apart c.requires.numbered c.requires.dependents c.requires.within)

@@ -19,7 +19,7 @@ push_dependency-requires-clause-apart c =
 
 pub push_dependency-requires-clause-dependents : goal.push_dependency-requires-clause-dependents
 push_dependency-requires-clause-dependents c =
-    exactly_dependents c.args.task.now.registry.now.packages c.args.pkg c.args.ordinal _ c.in_ok-versions.versions c.in_ok-versions.ensures.exactly
+    exactly_dependents c.args.task.now.registry.now.packages c.args.pkg c.args.ordinal _ c.in_ok-versions.versions c.in_ok-versions.ensures
     (entry_contained c.args.task.now.registry.now.packages c.args.search.now.partial c.args.pkg c.args.ordinal c.args.index _ c.index-facts-index.result c.facts-facts.ensures c.requires.unmet c.index-facts-index.is)
 
 pub act-requires-clause-within : goal.act-requires-clause-within
@@ -33,6 +33,6 @@ decide_on-requires-clause-decide c =
     let used = entry_contained packages made c.args.pkg c.args.ordinal c.args.index _ c.index-facts-index.result c.facts-facts.ensures c.requires.unmet c.index-facts-index.is in
     let unmet = entry_unmet packages made c.args.pkg c.args.ordinal c.args.index _ c.index-facts-index.result c.facts-facts.ensures c.requires.unmet c.index-facts-index.is in
     let numbered = sym c.number.ensures ∙ c.in-Some.is in
-    let here = (c.in_ok-versions.ensures.exactly c.args.ordinal).1 used in
+    let here = (c.in_ok-versions.ensures c.args.ordinal).1 used in
     dependency_decides c.args.task.now made c.act.new.search.partial c.push_dependency.new.known.items c.in_ok-at.at c.args.pkg c.args.ordinal c.in-Some.target _ c.in_ok-versions.versions c.in_ok-within.within c.assignments-made.ensures.lawful
     (dependency_apart c.publications_are_lawful.ensures.lawful packages c.args.pkg c.args.ordinal c.in-Some.target _ c.packages-packages.ensures.reachable used numbered) c.requires.chosen here numbered unmet c.in_ok-within.ensures.members c.in_ok-at.ensures.place unused.0.0 unused.1

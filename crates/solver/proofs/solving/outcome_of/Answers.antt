@@ -20,7 +20,7 @@ offered_of-offered-requires-in-Refused-clause-lawful c =
 pub returns-in_ok-pairs-in-Selected-clause-lawful : goal.returns-in_ok-pairs-in-Selected-clause-lawful
 returns-in_ok-pairs-in-Selected-clause-lawful c =
     let ends = rw c.in-Selected.is at c.requires in (
-      record { selection = _; meets = ends.1.meets; tells = c.in_ok-pairs-in-Selected.ensures.tells },
+      record { selection = _; meets = ends.1.meets; tells = c.in_ok-pairs-in-Selected.ensures },
       c.offered_of-offered.ensures,
     )
 

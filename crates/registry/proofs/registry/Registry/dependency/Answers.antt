@@ -24,12 +24,12 @@ unreachable-requires c =
     let found = number_of-needed packages c.args.pkg c.args.ordinal c.args.index c.index-needs-index.result c.dependencies-listed.ensures.reachable at in
     none-some found.0 (sym c.in_default.is ∙ c.number_at.ensures ∙ found.1)
 
-pub returns-clause-dependency : goal.returns-clause-dependency
-returns-clause-dependency c = record {
+pub returns : goal.returns
+returns c = record {
   name = c.index-needs-index.result.0;
   need = c.index-needs-index.result.1;
   at = read c.needs.result.now (needs_of c.args.self.now.packages c.args.pkg c.args.ordinal) c.args.index c.index-needs-index.result
       (c.needs.ensures ∙ c.dependencies-listed.ensures.needs) c.requires c.index-needs-index.is;
   number = sym c.number_at.ensures ∙ c.in-Some.is;
-  members = c.in_ok-matching.ensures.members;
+  members = c.in_ok-matching.ensures;
 }

@@ -12,11 +12,11 @@ told : {V : Type 0} (lines seen : List (Text × V)) (answer said : Bool) → see
 told {V} lines seen answer said same e t = ap (λ (l : List (Text × V)). repeats (keys_of l)) (sym same) ∙ sym e ∙ t
 
 pub repeats-requires : goal.repeats-requires
-repeats-requires c = rw c.deref-3.ensures.value (rw c.deref-4.ensures.value (rw c.deref.ensures.value at c.in_ok-needs_by_name.ensures.sorted))
+repeats-requires c = rw c.deref-3.ensures.value (rw c.deref-4.ensures.value (rw c.deref.ensures.value at c.in_ok-needs_by_name.ensures))
 
 pub repeats-requires-else-repeats : goal.repeats-requires-else-repeats
 repeats-requires-else-repeats c =
-    rw c.deref-else-repeats.ensures.value (rw c.deref-else-repeats-2.ensures.value (rw c.deref-2.ensures.value at c.in_ok-lock_by_name.ensures.sorted))
+    rw c.deref-else-repeats.ensures.value (rw c.deref-else-repeats-2.ensures.value (rw c.deref-2.ensures.value at c.in_ok-lock_by_name.ensures))
 
 pub returns-then-repeats : goal.returns-then-repeats
 returns-then-repeats c = elim c.then-repeats.branch [
@@ -45,8 +45,8 @@ invariant_of-result c =
     record {
       lawful = request-lawful c.args.needs.items c.args.lock.items no_need no_line
           (omega (arith, c.args.needs.ok.0, c.len.ensures)) (omega (arith, c.args.lock.ok.0, c.len-else-len-gt-NEED_LIMIT.ensures));
-      needs = rw c.deref.ensures.value at c.in_ok-needs_by_name.ensures.sorted;
-      lock = rw c.deref-2.ensures.value at c.in_ok-lock_by_name.ensures.sorted;
+      needs = rw c.deref.ensures.value at c.in_ok-needs_by_name.ensures;
+      lock = rw c.deref-2.ensures.value at c.in_ok-lock_by_name.ensures;
     }
 
 pub returns : goal.returns

@@ -29,4 +29,4 @@ returns-in-Some-clause-place c = rw (← c.self.view_is) (known c.self.inside.ne
 
 pub returns-clause-place : goal.returns-clause-place
 returns-clause-place c =
-    last c.self.inside.needs.keys _ c.args.need.now c.in-Ok.named c.len-place.result c.in-Ok.ensures.same c.len-place.ensures.len (sym c.in_default.ensures.found) c.in_ok-insert.ensures.keys
+    last c.self.inside.needs.keys _ c.args.need.now c.in_ok-named.named c.len-place.result c.in_ok-named.ensures.cases c.len-place.ensures.len (sym c.in_default.ensures.found) c.in_ok-insert.ensures.keys

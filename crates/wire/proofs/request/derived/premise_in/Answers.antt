@@ -12,4 +12,4 @@ returns-in_err-need c =
 pub returns : goal.returns
 returns c =
     let need = given_by _ _ _ BadRequirement c.in_ok-need.ensures.gives in
-    rw (need.0, need.1, c.in_ok-package.ensures.same, c.in_ok-versions.ensures.same, c.in_ok-target.ensures.same, c.in_ok-within.ensures.same) refl
+    rw (need.0, need.1, c.in_ok-package.ensures.same, c.in_ok-versions.ensures, c.in_ok-target.ensures.same, c.in_ok-within.ensures) refl

@@ -36,4 +36,4 @@ returns c =
     let names = given_by _ _ _ BadName c.in_ok-names.ensures in
     let version = given_by _ _ _ BadVersion c.in_ok-version.ensures.gives in
     let needs = given_by _ _ _ BadRequirement c.in_ok-needs_in.ensures in
-    rw (name.0, names.0, version.0, needs.0, name.1, version.1, c.in_ok-needs.ensures.kept, needs.1) refl
+    rw (name.0, names.0, version.0, needs.0, name.1, version.1, c.in_ok-needs.ensures, needs.1) refl

@@ -17,8 +17,8 @@ loop-item-preserved c =
     let here = ordinal_at _ _ c.loop-item.item-index c.item-item.result read (omega arith) c.item-item.is ∙ sym c.whole_of.ensures ∙ c.unwrap.ensures in
     c.in_ok-push.ensures.items ∙ ap (λ (l : List ℕ). l ++ c.unwrap.result ∷ []) c.loop-item.invariant ∙ sym (take_one_more _ c.loop-item.item-index _ here)
 
-pub returns-clause-same : goal.returns-clause-same
-returns-clause-same c =
+pub returns : goal.returns
+returns c =
     let read = list_of_view _ _ c.requires refl in
     let same = length-ordinals 0 _ _ read in
     c.loop-item.invariant ∙ take_all _ _ (omega arith)

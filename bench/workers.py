@@ -1,0 +1,76 @@
+#!/usr/bin/env python3
+"""How many requests are answered a second by so many workers.
+
+    bench/workers.py [--packages 300] [--requests 256] [--rounds 10] [--program PATH] [--plot FILE]
+
+Sends different requests of the workload `lockfile` at once, so that they are answered together, and prints for each number
+of workers the best time over the rounds until the last reply, the requests answered a second, and these as a ratio to one
+worker. Then it asks one request at a time and waits for each reply: with 64 workers that is to take no longer than with
+one. Writes a plot of the requests a second, as SVG, where a file is named.
+"""
+import argparse
+import os
+import sys
+
+from ingest import PROGRAM
+from plot import svg
+from resolve import Session
+from workloads import lockfile
+
+WORKERS = [1, 2, 4, 8, 64]
+
+
+def together(program, workers, lines, requests, rounds):
+    """The least seconds in which all requests are answered that were sent at once, and the replies."""
+    with Session(program, workers) as session:
+        session.load(lines)
+        rows = [session.ask(requests) for _ in range(rounds)]
+    if any(replies != rows[0][1] for _, replies in rows):
+        sys.exit("the same requests were answered in two ways")
+    return min(spent for spent, _ in rows), rows[0][1]
+
+
+def alone(program, workers, lines, requests, rounds):
+    """The mean seconds until a request that is asked alone is answered: of each the best of the rounds."""
+    with Session(program, workers) as session:
+        session.load(lines)
+        best = [min(session.resolve(request)[0] for _ in range(rounds)) for request in requests]
+    return sum(best) / len(best)
+
+
+def by_workers(program, lines, requests, rounds):
+    """For each number of workers the requests that are answered a second. All have the same replies."""
+    rates, first = {}, None
+    for workers in WORKERS:
+        spent, replies = together(program, workers, lines, requests, rounds)
+        first = first or replies
+        if replies != first:
+            sys.exit(f"{workers} workers answered otherwise than {WORKERS[0]}")
+        rates[workers] = len(requests) / spent
+    return rates
+
+
+def main():
+    asked = argparse.ArgumentParser(description=__doc__.split("\n\n")[0])
+    asked.add_argument("--packages", type=int, default=300)
+    asked.add_argument("--requests", type=int, default=256)
+    asked.add_argument("--rounds", type=int, default=10)
+    asked.add_argument("--program", default=PROGRAM)
+    asked.add_argument("--plot")
+    asked = asked.parse_args()
+    lines, requests = lockfile(asked.packages, count=asked.requests)
+    print(f"{len(requests)} requests, {len(lines)} publications, {os.cpu_count()} processors")
+    rates = by_workers(asked.program, lines, requests, asked.rounds)
+    print("workers      time of all    requests a second    ratio to one worker")
+    for workers, rate in rates.items():
+        print(f"{workers:7}{len(requests) / rate * 1000:14.1f} ms{rate:21.0f}{rate / rates[1]:23.2f}")
+    one, most = (alone(asked.program, workers, lines, requests, asked.rounds) for workers in (1, WORKERS[-1]))
+    print(f"one request at a time: {one * 1000:.3f} ms by 1 worker, {most * 1000:.3f} ms by {WORKERS[-1]}, ratio {most / one:.2f}")
+    if asked.plot:
+        with open(asked.plot, "w", encoding="ascii") as out:
+            out.write(svg({"lockfile": list(rates.items())}, "workers", "requests answered a second"))
+    return 0
+
+
+if __name__ == "__main__":
+    sys.exit(main())

@@ -1,0 +1,6 @@
+mod Totals
+mod Orders
+mod Steps
+mod Takers
+mod Filling
+mod Found

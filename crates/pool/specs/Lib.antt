@@ -1,0 +1,5 @@
+pub mod Answering
+pub mod Finding
+pub mod Hands
+pub mod Sharing
+pub mod Taking

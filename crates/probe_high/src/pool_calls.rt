@@ -1,0 +1,106 @@
+//! Calls that answer many requests.
+
+use crate::order::InOrder;
+use crate::outcomes::budget_at;
+use derivations::Store;
+use pool::{Asked, answer_all, answer_all_with, answer_lent};
+use registry::Registry;
+use rows::{
+    Answer, List, Shows, Unread, as_told, items, member, request_at, shown, size_at, whole_at,
+};
+use serde_json::Value;
+use solver::Outcome;
+use std::alloc::Global;
+use std::fmt;
+use std::sync::Wait;
+use std::thread::Threads;
+
+/// `"workers":2,"requests":[{"needs":[["a","^1"]],"lock":[],"budget":3}]`: the answers, in order.
+pub fn pool_call<R: Threads + Wait + Sync>(
+    rt: &R,
+    alloc: Global,
+    registry: &Registry,
+    name: &str,
+    row: &Value,
+) -> Result<Answer, Unread> {
+    let store = Store::new(alloc);
+    let workers = size_at(row, "workers")?;
+    let requests = requests_at(alloc, row)?;
+    match name {
+        "answer_all" => {
+            let answers = answer_all(rt, alloc, registry, &store, requests, workers)?;
+            shown(alloc, &AnswersText(&answers))
+        }
+        "answer_lent" => {
+            let answers = answer_lent(rt, alloc, registry, &store, &requests, workers)?;
+            shown(alloc, &AnswersText(&answers))
+        }
+        "answer_all_with" => in_order(rt, alloc, registry, requests, workers, row),
+        _ => Err(Unread::Row),
+    }
+}
+
+/// With `"first":1,"later":0,"turns":1000` the request at 0 is begun once the one at 1 was answered, or
+/// after so many turns in vain.
+fn in_order<R: Threads + Wait + Sync>(
+    rt: &R,
+    alloc: Global,
+    registry: &Registry,
+    requests: Vec<Asked>,
+    workers: usize,
+    row: &Value,
+) -> Result<Answer, Unread> {
+    let store = Store::new(alloc);
+    let order = order_at(row)?;
+    let answers = answer_all_with(rt, alloc, registry, &store, requests, workers, &order)?;
+    if order.is_kept() {
+        shown(alloc, &AnswersText(&answers))
+    } else {
+        Ok(Answer::Word("waited in vain"))
+    }
+}
+
+fn order_at(row: &Value) -> Result<InOrder, Unread> {
+    let (first, later) = (size_at(row, "first")?, size_at(row, "later")?);
+    Ok(InOrder::new(first, later, whole_at(row, "turns")?))
+}
+
+fn requests_at(alloc: Global, row: &Value) -> Result<Vec<Asked>, Unread> {
+    let mut requests = Vec::new(alloc);
+    for one in items(member(row, "requests")?)? {
+        requests.push((request_at(alloc, one)?, budget_at(one)?))?;
+    }
+    Ok(requests)
+}
+
+// ---- texts
+
+/// The answers in order, each `{"selected":[["a","1.0.0"]]}`, `{"derivation":[..]}` or `{"refused":22}`.
+#[derive(Clone, Copy)]
+struct AnswersText<'a>(&'a [pool::Answer]);
+
+impl Shows for AnswersText<'_> {
+    fn show<W: fmt::Write>(&self, f: &mut fmt::Formatter<W>) -> fmt::Result {
+        let mut before = "";
+        f.write_str("[")?;
+        for answer in self.0 {
+            f.write_str(before)?;
+            write_answer(f, answer)?;
+            before = ",";
+        }
+        f.write_str("]")
+    }
+}
+
+fn write_answer<W: fmt::Write>(f: &mut fmt::Formatter<W>, answer: &pool::Answer) -> fmt::Result {
+    match answer {
+        Ok(Outcome::Selection(list, _)) => write!(f, "{{\"selected\":{}}}", as_told(list)),
+        Ok(Outcome::Refused(derivation, _)) => {
+            let lines = List {
+                items: derivation.lines(),
+            };
+            write!(f, "{{\"derivation\":{}}}", as_told(&lines))
+        }
+        Err(refusal) => write!(f, "{{\"refused\":{}}}", refusal.number()),
+    }
+}

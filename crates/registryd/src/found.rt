@@ -1,0 +1,110 @@
+//! Lines that were found: each is replied to, or waits to be answered with its neighbours.
+ghost use Rattle.std.specs.Prelude.{◌≡◌, ◌∷◌, ◌++◌, ℕ, List, []};
+ghost use Rattle.lines.specs.Texts.{Puts};
+ghost use Rattle.lines.specs.Unread.{IsFound};
+ghost use Rattle.replies.specs.Replies.{Reply, reply_text};
+ghost use Rattle.registryd.specs.Answering.{IsRead};
+ghost use Rattle.registryd.specs.Batches.{AreAsked, Takes};
+ghost use Rattle.registryd.specs.Lawful.{IsLawful};
+ghost use Rattle.registryd.specs.Session.{session_ways};
+
+use crate::answer::{Answer, answer_read, read_line};
+use crate::batch::Batch;
+use crate::ledger::{Ledger, learn_all};
+use crate::put::{put_listing, put_told};
+use crate::served::Served;
+use lines::{LineBuffer, Next, Outbox};
+use replies::puts_add_up;
+use std::alloc::Global;
+use std::io;
+use std::io::Write;
+use std::sync::Wait;
+use std::thread::Threads;
+use versions::Refusal;
+use wire::Asked;
+
+/// Reads what the line asks that was found.
+pub fn read_found(alloc: Global, lines: &LineBuffer, found: Next) -> Result<Asked, Refusal>
+    requires { (line : List ℕ) × IsFound found lines.now line }
+    ensures { (line : List ℕ) → IsFound found lines.now line → IsRead result line }
+{
+    match found {
+        Next::Line => read_line(alloc, lines.line()),
+        Next::TooLong => Err(Refusal::BadLine),
+        Next::More => unreachable!(),
+    }
+}
+
+/// Has a line wait that asks to resolve. Before a line of another kind, and before one for which there is no room, those
+/// that wait are replied to.
+pub fn take<H: Threads + Wait + Sync, W: Write>(
+    rt: &H,
+    alloc: Global,
+    served: &mut Served,
+    batch: &mut Batch,
+    outbox: &mut Outbox,
+    writer: &mut W,
+    read: Result<Asked, Refusal>,
+) -> io::Result<()>
+    ensures { (waiting : List (List ℕ)) (line : List ℕ) → AreAsked waiting batch.old → IsRead read line
+        → Takes (W.contents writer.old) (W.contents writer.new) outbox.old outbox.new result (waiting ++ line ∷ []) served.old served.new batch.new }
+{
+    match read {
+        Ok(
+            Asked::Resolve {
+                request,
+                explain,
+                budget,
+            },
+        ) => {
+            batch.make_room(rt, alloc, served, outbox, writer)?;
+            batch.push(request, explain, budget);
+            Ok(())
+        }
+        Ok(asked) => reply_behind(rt, alloc, served, batch, outbox, writer, Ok(asked)),
+        Err(fault) => reply_behind(rt, alloc, served, batch, outbox, writer, Err(fault)),
+    }
+}
+
+/// Replies to a line of which this was read, behind those that wait.
+fn reply_behind<H: Threads + Wait + Sync, W: Write>(
+    rt: &H,
+    alloc: Global,
+    served: &mut Served,
+    batch: &mut Batch,
+    outbox: &mut Outbox,
+    writer: &mut W,
+    read: Result<Asked, Refusal>,
+) -> io::Result<()>
+    ensures { (waiting : List (List ℕ)) (line : List ℕ) → AreAsked waiting batch.old → IsRead read line
+        → Takes (W.contents writer.old) (W.contents writer.new) outbox.old outbox.new result (waiting ++ line ∷ []) served.old served.new batch.new }
+{
+    puts_add_up();
+    batch.reply(rt, alloc, served, outbox, writer)?;
+    reply_to(alloc, served, outbox, writer, read)
+}
+
+/// Replies to a line of which this was read. The reply waits in the outbox where there is room. What a search offers is
+/// learnt once the reply is put.
+pub fn reply_to<W: Write>(
+    alloc: Global,
+    served: &mut Served,
+    outbox: &mut Outbox,
+    writer: &mut W,
+    read: Result<Asked, Refusal>,
+) -> io::Result<()>
+    ensures { (line : List ℕ) → IsRead read line → (reply : Reply) × IsLawful session_ways line served.old reply served.new
+        × Puts (W.contents writer.old) (W.contents writer.new) outbox.old outbox.new result (reply_text reply) }
+{
+    match answer_read(alloc, served, read) {
+        Answer::Told(told) => put_told(outbox, writer, served.standing(), &told),
+        Answer::Found(told, offered) => {
+            let put = put_told(outbox, writer, served.standing(), &told);
+            learn_all(served, offered);
+            put
+        }
+        Answer::Listing => {
+            put_listing(alloc, outbox, writer, served.standing(), served.registry())
+        }
+    }
+}

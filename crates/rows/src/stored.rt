@@ -1,0 +1,23 @@
+//! What is asked of each member of a store.
+
+use derivations::Store;
+use registry::Registry;
+
+/// How many members there are, counted one by one.
+pub fn count(store: &Store) -> usize {
+    let mut count: usize = 0;
+    for _member in store.members() {
+        count = count.saturating_add(1);
+    }
+    count
+}
+
+/// Whether each member stands.
+pub fn all_stand(registry: &Registry, store: &Store) -> bool {
+    for member in store.members() {
+        if !member.stands(registry) {
+            return false;
+        }
+    }
+    true
+}

@@ -1,0 +1,103 @@
+"""Lines that ask to resolve and come together are answered together by several threads, and as they are one by one."""
+import subprocess
+import unittest
+
+from program import LIST, PROGRAM, check, publish, resolve, run, unyank, yank
+from tables import tables_under
+
+WORKERS = ("1", "2", "7", "64")
+
+# Packages in a chain, the last of which has two versions; the older one of each other package asks for the newer of the next.
+CHAIN = [publish(f"p{i}", f"1.{minor}.0", [f"p{i + 1} ^1.{1 - minor}"]) for i in range(9) for minor in (0, 1)] + [publish("p9", f"1.{minor}.0") for minor in (0, 1)]
+
+
+def asked(count):
+    """So many requests of all kinds of answers, and what is answered: the package's version, or that there is none."""
+    kinds = [(resolve("p9 ^1"), '"selected":[["p9","1.1.0"]]'), (resolve("p9 =1.0.0"), '"selected":[["p9","1.0.0"]]'), (resolve("p9 ^2"), '"refused":true'),
+             (resolve("none *"), '"refused":true'), (resolve("none *", budget=0), '"error":22'), (resolve("p9 ^1", lock=["p9 1.0.0"]), '"selected":[["p9","1.0.0"]]'),
+             (resolve("p9 ^1", budget=0), '"selected":[["p9","1.1.0"]]'), (resolve(), '"selected":[]')]
+    return [kinds[i % len(kinds)] for i in range(count)]
+
+
+def served(workers, lines):
+    """The reply lines to these lines."""
+    done = run(["serve", "--workers", workers], "".join(line + "\n" for line in lines).encode())
+    assert (done.returncode, done.stderr) == (0, b""), done
+    return done.stdout.decode().splitlines()
+
+
+def asked_one_by_one(workers, lines):
+    """The reply lines to these lines, each of which is sent when the line before it is answered."""
+    with subprocess.Popen([PROGRAM, "serve", "--workers", workers], stdin=subprocess.PIPE, stdout=subprocess.PIPE) as client:
+        replies = []
+        for line in lines:
+            client.stdin.write(line.encode() + b"\n")
+            client.stdin.flush()
+            replies.append(client.stdout.readline().decode().removesuffix("\n"))
+        client.stdin.close()
+        assert (client.stdout.read(), client.wait()) == (b"", 0)
+    return replies
+
+
+class Batches(unittest.TestCase):
+    def test_tables_by_any_number_of_workers(self):
+        tables = tables_under("lines")
+        for table in tables:
+            first = run(["serve", "--workers", WORKERS[0]], table.requests()).stdout
+            for workers in WORKERS[1:]:
+                with self.subTest(table.place, workers=workers):
+                    self.assertEqual(run(["serve", "--workers", workers], table.requests()).stdout, first)
+
+    def test_each_request_has_its_own_answer(self):
+        for count in (1, 2, 255, 256, 257, 700):
+            wanted, first = asked(count), None
+            for workers in WORKERS:
+                replies = served(workers, CHAIN + [line for line, _ in wanted])[len(CHAIN):]
+                self.assertEqual(len(replies), count)
+                first = first or replies
+                self.assertEqual(replies, first)
+                for at, ((line, said), reply) in enumerate(zip(wanted, replies)):
+                    self.assertIn(said, reply, (count, workers, at, line))
+                    self.assertIn(f'"revision":{len(CHAIN)}', reply)
+
+    def test_lines_of_other_kinds_between(self):
+        lines, wanted = [], []
+        for i in range(40):
+            lines += [resolve("q *"), resolve("q *"), publish("q", f"1.{i}.0"), '{"op":"resolve","nee', resolve(f"q =1.{i}.0"), LIST]
+            before = f'{{"revision":{i},"selected":[["q","1.{i - 1}.0"]]}}' if i else '{"refused":true,"revision":0}'
+            listed = ",".join(f'["1.{k}.0",false]' for k in range(i + 1))
+            wanted += [before, before, f'{{"ok":true,"revision":{i + 1}}}', f'{{"error":19,"name":"BadLine","revision":{i + 1}}}',
+                       f'{{"revision":{i + 1},"selected":[["q","1.{i}.0"]]}}', f'{{"packages":[["q",[{listed}]]],"revision":{i + 1}}}']
+        for workers in WORKERS:
+            self.assertEqual(served(workers, lines), wanted)
+
+    def test_who_asks_and_waits_is_answered(self):
+        for workers in WORKERS:
+            with subprocess.Popen([PROGRAM, "serve", "--workers", workers], stdin=subprocess.PIPE, stdout=subprocess.PIPE, bufsize=0) as client:
+                for many in (1, 2, 3):
+                    client.stdin.write((resolve() + "\n").encode() * many)
+                    told = b""
+                    while told.count(b"\n") < many:
+                        told += client.stdout.read(4_096)
+                    self.assertEqual(told, b'{"revision":0,"selected":[]}\n' * many)
+                client.stdin.close()
+                self.assertEqual((client.stdout.read(), client.wait()), (b"", 0))
+
+    def test_who_waits_after_each_line_of_any_kind(self):
+        lines = [*CHAIN, LIST, resolve("p9 ^1"), resolve("p0 *", "p9 ^2", explain=True), resolve("p9 ^1", budget=0), yank("p9", "1.1.0"),
+                 resolve("p9 ^1"), yank("p9", "1.1.0"), check("p9 *", derivation=[]), '{"op":"resolve","nee', "", unyank("p9", "1.1.0"),
+                 resolve("p9 ^1", lock=["p9 1.0.0"]), LIST, resolve()]
+        whole = served(WORKERS[0], lines)
+        self.assertEqual(len(whole), len(lines))
+        for workers in (WORKERS[0], WORKERS[-1]):
+            self.assertEqual(served(workers, lines), whole)
+            self.assertEqual(asked_one_by_one(workers, lines), whole)
+
+    def test_the_last_line_may_lack_its_line_feed(self):
+        for workers in WORKERS:
+            done = run(["serve", "--workers", workers], (resolve() + "\n" + resolve()).encode())
+            self.assertEqual(done.stdout, b'{"revision":0,"selected":[]}\n' * 2)
+
+
+if __name__ == "__main__":
+    unittest.main()
