@@ -5,7 +5,7 @@ ghost use Rattle.std.specs.Prelude.{◌≡◌, ◌≤◌, IfOk};
 
 use crate::seat_steps::seat_step;
 use chronicle::{CAPACITY_LIMIT, Mark, Row, SEAT_LIMIT, Seat, agree, seats};
-use rows::{Answer, Answers, Unread, all_stand, items, member, size_at, text, whole};
+use rows::{Answer, Unread, all_stand, given, items, member, size_at, text, whole};
 use serde_json::Value;
 use std::alloc::Global;
 
@@ -84,9 +84,7 @@ fn all_told<'a>(
     requires { first.old.row ≡ second.old.row }
 {
     let mut mark = first.mark()?;
-    let mut answers = Answers::new(alloc);
-    take_all(alloc, steps, first, second, &mut mark, &mut answers)?;
-    answers.told(alloc)
+    given(alloc, take_all(alloc, steps, first, second, &mut mark)?)
 }
 
 fn take_all<'a>(
@@ -95,19 +93,18 @@ fn take_all<'a>(
     first: &mut Seat<'a>,
     second: &mut Seat<'a>,
     mark: &mut Mark<'a>,
-    answers: &mut Answers,
-) -> Result<(), Unread>
+) -> Result<Vec<Answer>, Unread>
     requires rows { first.old.row ≡ second.old.row }
     requires mark { mark.old.row ≡ first.old.row }
 {
+    let mut answers = Vec::new(alloc);
     for step in steps {
-        let answer = take(alloc, items(step)?, first, second, mark)?;
-        answers.put(alloc, &answer)?;
+        answers.push(take(alloc, items(step)?, first, second, mark)?)?;
         if !is_standing(first) || !is_standing(second) {
-            answers.put(alloc, &Answer::Word("a member does not stand"))?;
+            answers.push(Answer::Word("a member does not stand"))?;
         }
     }
-    Ok(())
+    Ok(answers)
 }
 
 fn is_standing(seat: &Seat<'_>) -> bool {

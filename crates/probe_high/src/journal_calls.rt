@@ -39,7 +39,17 @@ fn loaded(alloc: Global, name: &str, row: &Value) -> Result<Answer, Unread> {
 
 fn items_told(alloc: Global, name: &str, row: &Value, items: &[Item]) -> Result<Answer, Unread> {
     let mut replica = Replica::new(alloc);
-    replay_all(&mut replica, items)?;
+    replayed_told(alloc, name, row, items, &mut replica)
+}
+
+fn replayed_told(
+    alloc: Global,
+    name: &str,
+    row: &Value,
+    items: &[Item],
+    replica: &mut Replica,
+) -> Result<Answer, Unread> {
+    replay_all(replica, items)?;
     match name {
         "save_journal" => items_saved(alloc, row, replica.registry(), &lent(alloc, items)?),
         _ => saved_again(alloc, replica.registry(), items),

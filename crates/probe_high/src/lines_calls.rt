@@ -3,7 +3,7 @@
 use crate::fakes::{Narrow, Pieces};
 use crate::texts::{Bytes, both_told, end_of, failure, told};
 use lines::{LineBuffer, Next, Outbox, count_lines, first_line, write_text, write_texts};
-use rows::{Answer, Answers, Given, Unread, at, items, member, text, text_at};
+use rows::{Answer, Given, Unread, at, given, items, member, text, text_at};
 use serde_json::Value;
 use std::alloc::Global;
 use std::io;
@@ -48,9 +48,7 @@ fn read(alloc: Global, row: &Value) -> Result<Answer, Unread> {
 fn taken(alloc: Global, row: &Value, reader: &mut Pieces<'_>) -> Result<Answer, Unread> {
     let steps = items(member(row, "steps")?)?;
     let mut lines = LineBuffer::new(alloc)?;
-    let mut answers = Answers::new(alloc);
-    take_all(alloc, steps, reader, &mut lines, &mut answers)?;
-    answers.told(alloc)
+    given(alloc, take_all(alloc, steps, reader, &mut lines)?)
 }
 
 fn take_all(
@@ -58,12 +56,12 @@ fn take_all(
     steps: &[Value],
     reader: &mut Pieces<'_>,
     lines: &mut LineBuffer,
-    answers: &mut Answers,
-) -> Result<(), Unread> {
+) -> Result<Vec<Answer>, Unread> {
+    let mut answers = Vec::new(alloc);
     for step in steps {
-        answers.put(alloc, &take(alloc, text(step)?, reader, lines)?)?;
+        answers.push(take(alloc, text(step)?, reader, lines)?)?;
     }
-    Ok(())
+    Ok(answers)
 }
 
 fn take(
@@ -122,16 +120,16 @@ fn failed(alloc: Global, word: &str) -> Result<Answer, Unread> {
 
 /// All lines up to the reader's end.
 fn rest(alloc: Global, reader: &mut Pieces<'_>, lines: &mut LineBuffer) -> Result<Answer, Unread> {
-    let mut found = Answers::new(alloc);
+    let mut found = Vec::new(alloc);
     put_rest(alloc, reader, lines, &mut found)?;
-    found.told(alloc)
+    given(alloc, found)
 }
 
 fn put_rest(
     alloc: Global,
     reader: &mut Pieces<'_>,
     lines: &mut LineBuffer,
-    all: &mut Answers,
+    all: &mut Vec<Answer>,
 ) -> Result<(), Unread> {
     for _ in 0..u64::MAX {
         let found = lines.next();
@@ -148,9 +146,9 @@ fn put_found(
     alloc: Global,
     lines: &LineBuffer,
     found: Next,
-    all: &mut Answers,
+    all: &mut Vec<Answer>,
 ) -> Result<(), Unread> {
-    all.put(alloc, &found_told(alloc, lines, found)?)
+    Ok(all.push(found_told(alloc, lines, found)?)?)
 }
 
 /// Whether a read gave anything. A failed one is no answer here.
@@ -165,7 +163,7 @@ fn came(lines: &mut LineBuffer, reader: &mut Pieces<'_>) -> Result<bool, Unread>
     }
 }
 
-fn put_last(alloc: Global, lines: &mut LineBuffer, all: &mut Answers) -> Result<(), Unread> {
+fn put_last(alloc: Global, lines: &mut LineBuffer, all: &mut Vec<Answer>) -> Result<(), Unread> {
     let found = lines.last();
     if found == Next::More {
         return Ok(());
@@ -183,9 +181,7 @@ fn write(alloc: Global, row: &Value) -> Result<Answer, Unread> {
 
 fn put_steps(alloc: Global, steps: &[Value], writer: &mut Narrow) -> Result<Answer, Unread> {
     let mut outbox = Outbox::new(alloc)?;
-    let mut answers = Answers::new(alloc);
-    put_all_steps(alloc, steps, writer, &mut outbox, &mut answers)?;
-    answers.told(alloc)
+    given(alloc, put_all_steps(alloc, steps, writer, &mut outbox)?)
 }
 
 fn put_all_steps(
@@ -193,12 +189,12 @@ fn put_all_steps(
     steps: &[Value],
     writer: &mut Narrow,
     outbox: &mut Outbox,
-    answers: &mut Answers,
-) -> Result<(), Unread> {
+) -> Result<Vec<Answer>, Unread> {
+    let mut answers = Vec::new(alloc);
     for step in steps {
-        answers.put(alloc, &put_step(alloc, items(step)?, writer, outbox)?)?;
+        answers.push(put_step(alloc, items(step)?, writer, outbox)?)?;
     }
-    Ok(())
+    Ok(answers)
 }
 
 fn put_step(

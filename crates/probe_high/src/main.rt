@@ -25,14 +25,10 @@ mod texts;
 mod thread_calls;
 mod wire_calls;
 
-use rows::tell;
-use session::Session;
+use session::{Session, serve};
 use std::io;
 
 fn main(rt: HostRuntime) -> io::Result<()> {
     let mut session = Session::new(rt.alloc());
-    for line in rt.lines(rt.alloc()) {
-        tell(&rt, session.answer_to(&rt, line?.as_str()))?;
-    }
-    Ok(())
+    serve(&rt, &mut session)
 }

@@ -23,21 +23,42 @@ pub fn pool_call<R: Threads + Wait + Sync>(
     name: &str,
     row: &Value,
 ) -> Result<Answer, Unread> {
-    let store = Store::new(alloc);
     let workers = size_at(row, "workers")?;
     let requests = requests_at(alloc, row)?;
     match name {
-        "answer_all" => {
-            let answers = answer_all(rt, alloc, registry, &store, requests, workers)?;
-            shown(alloc, &AnswersText(&answers))
-        }
-        "answer_lent" => {
-            let answers = answer_lent(rt, alloc, registry, &store, &requests, workers)?;
-            shown(alloc, &AnswersText(&answers))
-        }
+        "answer_all" => all_answered(rt, alloc, registry, requests, workers),
+        "answer_lent" => lent_answered(rt, alloc, registry, &requests, workers),
         "answer_all_with" => in_order(rt, alloc, registry, requests, workers, row),
         _ => Err(Unread::Row),
     }
+}
+
+fn all_answered<R: Threads + Wait + Sync>(
+    rt: &R,
+    alloc: Global,
+    registry: &Registry,
+    requests: Vec<Asked>,
+    workers: usize,
+) -> Result<Answer, Unread> {
+    let store = Store::new(alloc);
+    answers_told(
+        alloc,
+        answer_all(rt, alloc, registry, &store, requests, workers)?,
+    )
+}
+
+fn lent_answered<R: Threads + Wait + Sync>(
+    rt: &R,
+    alloc: Global,
+    registry: &Registry,
+    requests: &[Asked],
+    workers: usize,
+) -> Result<Answer, Unread> {
+    let store = Store::new(alloc);
+    answers_told(
+        alloc,
+        answer_lent(rt, alloc, registry, &store, requests, workers)?,
+    )
 }
 
 /// With `"first":1,"later":0,"turns":1000` the request at 0 is begun once the one at 1 was answered, or
@@ -50,14 +71,26 @@ fn in_order<R: Threads + Wait + Sync>(
     workers: usize,
     row: &Value,
 ) -> Result<Answer, Unread> {
-    let store = Store::new(alloc);
     let order = order_at(row)?;
+    let store = Store::new(alloc);
     let answers = answer_all_with(rt, alloc, registry, &store, requests, workers, &order)?;
-    if order.is_kept() {
-        shown(alloc, &AnswersText(&answers))
+    told_in_order(alloc, order.is_kept(), answers)
+}
+
+fn told_in_order(
+    alloc: Global,
+    is_kept: bool,
+    answers: Vec<pool::Answer>,
+) -> Result<Answer, Unread> {
+    if is_kept {
+        answers_told(alloc, answers)
     } else {
         Ok(Answer::Word("waited in vain"))
     }
+}
+
+fn answers_told(alloc: Global, answers: Vec<pool::Answer>) -> Result<Answer, Unread> {
+    shown(alloc, &AnswersText(&answers))
 }
 
 fn order_at(row: &Value) -> Result<InOrder, Unread> {
@@ -68,9 +101,14 @@ fn order_at(row: &Value) -> Result<InOrder, Unread> {
 fn requests_at(alloc: Global, row: &Value) -> Result<Vec<Asked>, Unread> {
     let mut requests = Vec::new(alloc);
     for one in items(member(row, "requests")?)? {
-        requests.push((request_at(alloc, one)?, budget_at(one)?))?;
+        requests.push(asked(alloc, one)?)?;
     }
     Ok(requests)
+}
+
+fn asked(alloc: Global, one: &Value) -> Result<Asked, Unread> {
+    let budget = budget_at(one)?;
+    Ok((request_at(alloc, one)?, budget))
 }
 
 // ---- texts

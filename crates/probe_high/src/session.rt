@@ -14,11 +14,31 @@ use crate::thread_calls::thread_call;
 use crate::wire_calls::wire_call;
 use book::Replica;
 use registry::Registry;
-use rows::{Answer, Unread, command_call, derivation_check, row_of, text_at};
+use rows::{Answer, Unread, command_call, derivation_check, row_of, tell, text_at};
 use serde_json::Value;
 use std::alloc::Global;
+use std::io::{self, Input, Print};
 use std::sync::Wait;
 use std::thread::Threads;
+
+/// Answers each row that is read by a line.
+pub fn serve<R: Input + Print + AllocGlobal + Threads + Wait + Sync>(
+    rt: &R,
+    session: &mut Session,
+) -> io::Result<()> {
+    for line in rt.lines(rt.alloc()) {
+        tell(rt, answer_to(rt, session, line?.as_str()))?;
+    }
+    Ok(())
+}
+
+fn answer_to<R: AllocGlobal + Threads + Wait + Sync>(
+    rt: &R,
+    session: &mut Session,
+    line: &str,
+) -> Result<Answer, Unread> {
+    session.call(rt, &row_of(rt.alloc(), line)?)
+}
 
 /// A registry, and a book that has one of its own, until a row asks for new ones.
 #[derive(Drop)]
@@ -35,15 +55,7 @@ impl Session {
         }
     }
 
-    /// Makes the call that the row of a line names.
-    pub fn answer_to<R: AllocGlobal + Threads + Wait + Sync>(
-        &mut self,
-        rt: &R,
-        line: &str,
-    ) -> Result<Answer, Unread> {
-        self.call(rt, &row_of(rt.alloc(), line)?)
-    }
-
+    /// Makes the call that a row names.
     fn call<R: AllocGlobal + Threads + Wait + Sync>(
         &mut self,
         rt: &R,
@@ -65,8 +77,13 @@ impl Session {
 }
 
 fn anew(alloc: Global, session: &mut Session) -> Result<Answer, Unread> {
-    *session = Session::new(alloc);
+    put(session, Session::new(alloc));
     Ok(Answer::None)
+}
+
+/// Drops the value that stands at a place, for another one.
+fn put<T: Drop>(place: &mut T, value: T) {
+    *place = value;
 }
 
 fn call_for(

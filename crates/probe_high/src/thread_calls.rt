@@ -38,19 +38,42 @@ fn is_met_elsewhere<R: Threads + Sync>(rt: &R, alloc: Global) -> Result<bool, Un
 }
 
 fn is_met<R: Threads + Sync>(rt: &R, alloc: Global, row: &Row) -> Result<bool, Unread> {
-    let mut mark = publish_three(alloc, &mut last_of(alloc, row, 1)?)?;
-    let mut seat = last_of(alloc, row, 2)?;
-    Ok(meet_elsewhere(rt, &mut seat, &mut mark) == Ok(at(3, 3)))
+    let mut mark = marked(alloc, row)?;
+    is_met_by_second(rt, alloc, row, &mut mark)
+}
+
+/// The mark of a seat that has published three packages.
+fn marked<'a>(alloc: Global, row: &'a Row) -> Result<Mark<'a>, Unread>
+    ensures { IfOk result (λ m. m.row ≡ row.now) }
+{
+    let mut seat = last_of(alloc, row, 1)?;
+    publish_three(alloc, &mut seat)
 }
 
 /// Publishes a, b and c, and makes a mark.
-fn publish_three<'a>(alloc: Global, seat: &mut Seat<'a>) -> Result<Mark<'a>, Refusal>
+fn publish_three<'a>(alloc: Global, seat: &mut Seat<'a>) -> Result<Mark<'a>, Unread>
     ensures { IfOk result (λ m. m.row ≡ seat.old.row) }
 {
     publish(seat, alloc, "a")?;
     publish(seat, alloc, "b")?;
     publish(seat, alloc, "c")?;
-    seat.mark()
+    Ok(seat.mark()?)
+}
+
+fn is_met_by_second<'a, R: Threads + Sync>(
+    rt: &R,
+    alloc: Global,
+    row: &'a Row,
+    mark: &mut Mark<'a>,
+) -> Result<bool, Unread>
+    requires { mark.old.row ≡ row.now }
+{
+    let mut seat = last_of(alloc, row, 2)?;
+    Ok(is_behind_three(meet_elsewhere(rt, &mut seat, mark)))
+}
+
+fn is_behind_three(met: Result<Stamp, Refusal>) -> bool {
+    met == Ok(at(3, 3))
 }
 
 /// Meets a mark in another thread.

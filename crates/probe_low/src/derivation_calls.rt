@@ -43,7 +43,11 @@ fn copy_told(alloc: Global, derivation: &Derivation) -> Result<Answer, Unread> {
 }
 
 fn line_copied(alloc: Global, row: &Value) -> Result<Answer, Unread> {
-    given(alloc, at::<Line>(alloc, row, "line")?.copy(alloc)?)
+    line_copy_told(alloc, &at(alloc, row, "line")?)
+}
+
+fn line_copy_told(alloc: Global, line: &Line) -> Result<Answer, Unread> {
+    given(alloc, line.copy(alloc)?)
 }
 
 fn cause_copied(alloc: Global, row: &Value) -> Result<Answer, Unread> {

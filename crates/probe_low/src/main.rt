@@ -24,14 +24,10 @@ mod term_calls;
 mod text_calls;
 mod walk_calls;
 
-use rows::tell;
-use session::Session;
+use session::{Session, serve};
 use std::io;
 
 fn main(rt: HostRuntime) -> io::Result<()> {
     let mut session = Session::new(rt.alloc());
-    for line in rt.lines(rt.alloc()) {
-        tell(&rt, session.answer_to(rt.alloc(), line?.as_str()))?;
-    }
-    Ok(())
+    serve(&rt, &mut session)
 }

@@ -20,10 +20,23 @@ use derivations::Store;
 use partial::Partial;
 use registry::Registry;
 use releases::Releases;
-use rows::{Answer, Unread, row_of, text_at};
+use rows::{Answer, Unread, row_of, tell, text_at};
 use serde_json::Value;
 use std::alloc::Global;
+use std::io::{self, Input, Print};
 use terms::{GrowingSet, VSet};
+
+/// Answers each row that is read by a line.
+pub fn serve<R: Input + Print + AllocGlobal>(rt: &R, session: &mut Session) -> io::Result<()> {
+    for line in rt.lines(rt.alloc()) {
+        tell(rt, answer_to(rt.alloc(), session, line?.as_str()))?;
+    }
+    Ok(())
+}
+
+fn answer_to(alloc: Global, session: &mut Session, line: &str) -> Result<Answer, Unread> {
+    session.call(alloc, &row_of(alloc, line)?)
+}
 
 /// One of each thing that rows change, until a row asks for a new session. The store stands beside the registry.
 #[derive(Drop)]
@@ -48,11 +61,7 @@ impl Session {
         }
     }
 
-    /// Makes the call that the row of a line names.
-    pub fn answer_to(&mut self, alloc: Global, line: &str) -> Result<Answer, Unread> {
-        self.call(alloc, &row_of(alloc, line)?)
-    }
-
+    /// Makes the call that a row names.
     fn call(&mut self, alloc: Global, row: &Value) -> Result<Answer, Unread> {
         let name = text_at(row, "call")?;
         match text_at(row, "of")? {

@@ -1,7 +1,7 @@
 -- Requests that wait together, and the replies to them.
 use Rattle.std.proofs.Common.{◌≡◌, ◌⊎◌, Bool, false, ℕ, zero, suc, ◌+◌, ◌<◌, ◌≤◌, List, [], ◌∷◌, ◌++◌, length, take, drop, get_or, map, refl, sym, ap, subst, ◌∙◌, inl, inr, arith, Option, None, Some, Result, Ok, Err}
 use Rattle.std.proofs.KnownBytes.{Appends-nil}
-use Rattle.std.proofs.lemmas.List.{append-nil, drop_more, nil_from_length, take-append-drop, take_all, take_more}
+use Rattle.std.proofs.lemmas.List.{append-nil, drop_more, take-append-drop, take_all, take_more}
 use Rattle.std.proofs.lemmas.List.Concat.{flat_map-append}
 use Rattle.std.specs.Prelude.{if◌then◌else◌, is_none, OnOk}
 use Rattle.versions.specs.declared.refusal.Refusal.{Refusal}

@@ -8,10 +8,10 @@ use Rattle.std.proofs.KnownBytes.{Appends-nil, Appends-trans, Consumes-nil, Cons
 use Rattle.lines.specs.Laws.{LinesInFront, NoWholeLine, ReadingGoesOn, WholeLinesInFront}
 use Rattle.lines.specs.Lines.{HasNoFeed, line_feed, lines_of, whole_lines_of, with_feeds}
 use Rattle.lines.specs.Texts.{IsBeginning}
-use Rattle.lines.specs.Unread.{Unread, StandsFor, BeginsWith}
+use Rattle.lines.specs.Unread.{Unread, StandsFor}
 use Rattle.replies.specs.Replies.{Reply, reply_text, replies_text}
 use Rattle.book.specs.declared.item.Item.{Item}
-use Rattle.registryd.specs.Lawful.{AreLawful, IsLawful}
+use Rattle.registryd.specs.Lawful.{AreLawful}
 use Rattle.registryd.specs.Session.{Breaks, Serves, session_ways}
 use Rattle.registryd.proofs.LawfulLemmas.{lawful_append}
 

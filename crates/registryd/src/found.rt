@@ -1,5 +1,5 @@
 //! Lines that were found: each is replied to, or waits to be answered with its neighbours.
-ghost use Rattle.std.specs.Prelude.{◌≡◌, ◌∷◌, ◌++◌, ℕ, List, []};
+ghost use Rattle.std.specs.Prelude.{◌∷◌, ◌++◌, ℕ, List, []};
 ghost use Rattle.lines.specs.Texts.{Puts};
 ghost use Rattle.lines.specs.Unread.{IsFound};
 ghost use Rattle.replies.specs.Replies.{Reply, reply_text};

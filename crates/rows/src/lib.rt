@@ -5,7 +5,6 @@
 #![tactic(auto)]
 
 mod answer;
-mod answers;
 mod command_texts;
 mod commands;
 mod line_rows;
@@ -18,7 +17,6 @@ mod showing;
 mod stored;
 
 pub use answer::Answer;
-pub use answers::Answers;
 pub use commands::{apply, command_at, command_call, command_of, dependencies_at, enter};
 pub use line_rows::{derivation_check, learnt_at};
 pub use published::request_at;

@@ -2,7 +2,7 @@
 
 use crate::answer::Answer;
 use crate::published::request_at;
-use crate::reading::{Given, Unread, at, items, member, size_at, whole, whole_at};
+use crate::reading::{Given, Unread, at, size_at, whole_at};
 use derivations::{Cause, Derivation, Known, Learnt, Line, Premise, Reason, check};
 use registry::Registry;
 use serde_json::Value;
@@ -90,15 +90,13 @@ impl Given for Reason {
     fn of(alloc: Global, value: &Value) -> Result<Reason, Unread> {
         match value.get("fact") {
             Some(fact) => Ok(Reason::Fact(Cause::of(alloc, fact)?)),
-            None => resolved(value),
+            None => resolved(alloc, value),
         }
     }
 }
 
-fn resolved(value: &Value) -> Result<Reason, Unread> {
+fn resolved(alloc: Global, value: &Value) -> Result<Reason, Unread> {
     let pivot = whole_at(value, "pivot")?;
-    match items(member(value, "from")?)? {
-        [one, two] => Ok(Reason::Resolved(whole(one)? as usize, whole(two)? as usize, pivot)),
-        _ => Err(Unread::Row),
-    }
+    let (one, two) = at::<(u32, u32)>(alloc, value, "from")?;
+    Ok(Reason::Resolved(one as usize, two as usize, pivot))
 }

@@ -1,7 +1,6 @@
 use Rattle.std.proofs.Common.{inl, inr, sym, subst, All}
 use Rattle.registry.specs.Registry.{Packages}
 use Rattle.derivations.specs.Learning.{AllStand}
-use Rattle.pool.specs.Answering.{AreAnswers}
 use Rattle.registryd.proofs.batch.answers_to.Goals as goal
 
 pub answer_lent-requires : goal.answer_lent-requires

@@ -1,8 +1,6 @@
 use Rattle.std.proofs.Common.{inr, refl, subst, sym}
 use Rattle.registry.specs.Registry.{Packages}
-use Rattle.solver.specs.Outcomes.{MayStop}
 use Rattle.pool.specs.Answering.{IsAnswerTo}
-use Rattle.registryd.specs.Outcomes.{TellsFound}
 use Rattle.registryd.specs.Session.{session_ways}
 use Rattle.registryd.specs.Told.{told_body}
 use Rattle.registryd.proofs.BatchLemmas.{learning_keeps}

@@ -1,4 +1,4 @@
-use Rattle.std.proofs.Common.{◌++◌, List, ℕ, ◌+◌, ap, drop, refl, subst, sym, ◌∙◌}
+use Rattle.std.proofs.Common.{◌++◌, List, ◌+◌, ap, drop, refl, subst, sym, ◌∙◌}
 use Rattle.std.proofs.lemmas.Result.{err_from_is_err_and}
 use Rattle.book.specs.Items.{packages_of}
 use Rattle.pool.specs.Answering.{IsAnswerTo}
