@@ -64,6 +64,7 @@ def requirement(rng, name, versions):
 
 
 TALL = 6
+MOST_NEEDS = 64
 
 
 def tower(size, _seed=1):
@@ -88,6 +89,60 @@ def below(size, storey, side, minor):
         return [["foot", "~1.%d.0" % (minor if side == "l" else minor + 1)], ["key", "~1.%d.0" % minor]]
     span = ">=1.%d.0, <1.%d.0" % (max(0, minor - 1), minor + 1)
     return [["%s%03d" % (side, storey + 1), span] for side in "lr"]
+
+
+# ---- hard searches
+
+def through_hubs(names, prefix):
+    """Needs for all these packages, and the lines of packages that need 60 of them each, where they are too many for a request."""
+    if len(names) <= MOST_NEEDS:
+        return [[name, "^1"] for name in names], []
+    hubs, lines = [], []
+    for at in range(0, len(names), 60):
+        hubs.append("%s%04d" % (prefix, at // 60))
+        lines.append(publish(hubs[-1], (1, 0, 0), [[name, "^1"] for name in names[at:at + 60]]))
+    needs, more = through_hubs(hubs, prefix + "h")
+    return needs, lines + more
+
+
+def partial(size, _seed=1):
+    """`size` times the conflict by which PubGrub's document explains partial satisfiers, each with packages of its own, in one
+    request. None of these conflicts has to do with another."""
+    lines, names = [], []
+    for copy in range(size):
+        foo, left, right, shared, target, both = ("%s%04d" % (word, copy) for word in ("foo", "left", "right", "shared", "target", "both"))
+        lines += [publish(foo, (1, 0, 0), []), publish(foo, (1, 1, 0), [[left, "^1"], [right, "^1"]]),
+                  publish(left, (1, 0, 0), [[shared, ">=1.0.0"]]), publish(right, (1, 0, 0), [[shared, "<1.1.0"]]),
+                  publish(shared, (1, 0, 0), [[target, "~1.0.0"]]), publish(shared, (1, 1, 0), []),
+                  publish(target, (1, 0, 0), []), publish(target, (1, 1, 0), []),
+                  publish(both, (1, 0, 0), [[foo, "^1"], [target, "~1.1.0"]])]
+        names.append(both)
+    needs, hubs = through_hubs(names, "hub")
+    return lines + hubs, [resolve(needs)]
+
+
+def clauses(size, rng):
+    """A random formula: 4.26 clauses a variable, of three literals each, where half of such formulas hold of no values."""
+    return [[(variable, rng.randint(0, 1)) for variable in rng.sample(range(size), 3)] for _ in range(round(4.26 * size))]
+
+
+def sat(size, seed=1, count=6):
+    """So many random formulas of `size` variables, and a request for each. The two versions of a variable's package are its
+    values, the three of a clause's package need one of its literals each."""
+    rng = random.Random(seed)
+    lines, requests = [], []
+    for formula in range(count):
+        names = []
+        for variable in range(size):
+            lines += [publish("x%d-%03d" % (formula, variable), (1, value, 0), []) for value in (0, 1)]
+        for number, literals in enumerate(clauses(size, rng)):
+            names.append("k%d-%04d" % (formula, number))
+            lines += [publish(names[-1], (1, place, 0), [["x%d-%03d" % (formula, variable), "~1.%d.0" % value]])
+                      for place, (variable, value) in enumerate(literals)]
+        needs, hubs = through_hubs(names, "hub%d-" % formula)
+        lines += hubs
+        requests.append(resolve(needs))
+    return lines, requests
 
 
 # ---- requests that share conflicts
@@ -131,9 +186,6 @@ def chain(size, seed=1):
 
 # ---- what fills a store: each request leads to a conflict for each package that it asks for
 
-MOST_NEEDS = 64
-
-
 def in_parts(names, needs):
     """Requests for so many packages each, and for these needs."""
     most = MOST_NEEDS - len(needs)
@@ -173,44 +225,6 @@ def crossed():
     return resolve([["hub", "~1.1.0"], ["l", "^1"], ["r", "^1"]])
 
 
-# ---- what each version says anew
-
-VERSIONS = 4096
-
-
-def bumped(bumps, versions=VERSIONS):
-    """A package of so many versions with 64 dependencies each, and so many of them with another requirement than in the version
-    before, in turn, the one on `q` always. A request for it and for the versions of `q` that none of them admits, which is refused
-    for as many reasons as there are versions."""
-    names = ["t%02d" % number for number in range(MOST_NEEDS - 1)]
-    lines = [publish(name, (1, 0, 0), []) for name in names] + [publish("q", (major, 0, 0), []) for major in (1, 2)]
-    last = [0] * len(names)
-    for version in range(versions):
-        for step in range(bumps - 1):
-            last[(version * (bumps - 1) + step) % len(names)] = version
-        needs = [[name, ">=0.%d.%d" % (at, number)] for number, (name, at) in enumerate(zip(names, last))]
-        lines.append(publish("a", (1, version, 0), needs + [["q", ">=2.0.0, <3.%d.0" % version]]))
-    return lines, [resolve([["a", "*"], ["q", "^1"]])]
-
-
-def all_bumped(versions=VERSIONS):
-    return bumped(MOST_NEEDS, versions)
-
-
-def two_bumped(versions=VERSIONS):
-    return bumped(2, versions)
-
-
-def cited_again(versions=VERSIONS):
-    """A package of so many versions, and a check line of a megabyte whose lines all cite the request's one need, a requirement of as
-    many comparators as there may be that no version meets."""
-    lines = [publish("a", (1, version, 0), []) for version in range(versions)]
-    need = ",".join([">=1.0.0"] * 31 + [">=9.0.0"])
-    one = {"causes": [{"fact": "need", "index": 0}, {"fact": "root"}], "conclusion": [], "pivot": ""}
-    count = 1_040_000 // (len(json.dumps(one, separators=(",", ":"))) + 1)
-    return lines, [json.dumps({"op": "check", "needs": [["a", need]], "derivation": [one] * count}, separators=(",", ":"))]
-
-
-HOSTILE = {"all bumped": all_bumped, "two bumped": two_bumped, "cited again": cited_again}
 SHARED = {"tower": (towers, 16), "chain": (chain, 30), "worn": (worn, 300)}
-WORKLOADS = {"lockfile": (lockfile, (100, 300, 900)), "tower": (tower, (7, 20, 60))}
+WORKLOADS = {"lockfile": (lockfile, (100, 300, 900)), "tower": (tower, (7, 20, 60)), "partial": (partial, (30, 170, 1000)),
+             "sat": (sat, (20, 40, 80))}

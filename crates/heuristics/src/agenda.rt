@@ -1,17 +1,22 @@
 // Which lines are looked at, and which package is decided.
 
+use crate::late::Late;
 use crate::occurrences::Occurrences;
 use crate::question::{Question, ROOM};
 use crate::queue::Queue;
 use crate::spent::Spent;
+use crate::watches::{Situation, Watches};
+use derivations::Known;
 use partial::Partial;
 use std::alloc::{AllocError, Global};
-use terms::{Incompat, Pkg};
+use terms::{Incompat, Pkg, Term};
 
 /// What is to be looked at and to be decided. Lines are known by their places in the search.
 #[derive(Drop)]
 pub struct Agenda {
     occurrences: Occurrences,
+    /// The lines of three terms or more that conflicts led to.
+    watches: Watches,
     /// The lines that are looked at now.
     pub ripe: Vec<usize>,
     /// The lines by which something was derived since a package was last looked at.
@@ -20,16 +25,20 @@ pub struct Agenda {
     queue: Queue,
     /// Lines that are not looked at until the search jumps back.
     spent: Spent,
+    /// Lines that derived something later than they could have.
+    late: Late,
 }
 
 impl Agenda {
     pub fn new(alloc: Global) -> Result<Agenda, AllocError> {
         Ok(Agenda {
             occurrences: Occurrences::new(alloc)?,
+            watches: Watches::new(alloc),
             ripe: Vec::with_capacity(alloc, ROOM)?,
             used: Vec::with_capacity(alloc, ROOM)?,
             queue: Queue::new(alloc)?,
             spent: Spent::new(alloc)?,
+            late: Late::new(alloc),
         })
     }
 
@@ -78,24 +87,74 @@ impl Agenda {
         self.occurrences.enters_alike(question, pkg)
     }
 
+    /// Notes the line at a place that a conflict led to: a long one is watched, a short one noted with
+    /// each package that it names.
+    pub fn learn(
+        &mut self,
+        alloc: Global,
+        partial: &Partial,
+        known: &[Known],
+        at: usize,
+    ) -> Result<(), AllocError> {
+        let Some(line) = known.get(at) else {
+            return Ok(());
+        };
+        let terms = line.conclusion.terms();
+        if terms.len() <= 2 {
+            return self.occurrences.note(alloc, &line.conclusion, at);
+        }
+        let now = Situation {
+            alloc,
+            partial,
+            known,
+        };
+        self.watches.note(now, terms, at)
+    }
+
     /// Looks at a package of which something was settled: puts it into the queue, if it is to be
     /// decided, and gathers the lines from which something may follow now.
     pub fn look(
         &mut self,
         question: &Question<'_>,
         partial: &Partial,
+        known: &[Known],
         pkg: Pkg,
     ) -> Result<(), AllocError> {
         self.ripe.clear();
         self.spend(partial.level())?;
+        self.late.settle(partial, known)?;
         self.queue
             .offer(question, &mut self.occurrences, partial, pkg)?;
-        match partial.said(pkg) {
-            None => Ok(()),
-            Some(said) => self
-                .occurrences
-                .gather(partial, pkg, said, &mut self.spent, &mut self.ripe),
+        if let Some(said) = partial.said(pkg) {
+            self.occurrences
+                .gather(partial, pkg, said, &mut self.spent, &mut self.ripe)?;
+            self.gather_watched(question.alloc, partial, known, pkg, said)?;
         }
+        self.late.hand_out(&mut self.ripe, partial.level())
+    }
+
+    /// Gathers the lines from which something may follow, of those that are watched from a package.
+    fn gather_watched(
+        &mut self,
+        alloc: Global,
+        partial: &Partial,
+        known: &[Known],
+        pkg: Pkg,
+        said: &Term,
+    ) -> Result<(), AllocError> {
+        if !self.watches.has(pkg) {
+            return Ok(());
+        }
+        let now = Situation {
+            alloc,
+            partial,
+            known,
+        };
+        self.watches
+            .gather(now, pkg, said, &self.spent, &mut self.ripe)?;
+        // All are used newest first, wherever they stood.
+        self.ripe.sort_unstable();
+        Ok(())
     }
 
     /// Puts the lines by that were used at this level.
@@ -122,12 +181,16 @@ impl Agenda {
         &mut self,
         question: &Question<'_>,
         partial: &Partial,
+        known: &[Known],
         at: usize,
     ) -> Result<(), AllocError> {
+        let level = partial.level();
         self.queue
             .backjump(question, &mut self.occurrences, partial)?;
         self.used.clear();
-        self.occurrences.backjump(&mut self.spent, partial.level());
-        self.spent.add(at, partial.level())
+        self.occurrences.backjump(&mut self.spent, level);
+        self.spent.add(at, level)?;
+        self.late.backjump(level)?;
+        self.late.note(partial, known, at, level)
     }
 }

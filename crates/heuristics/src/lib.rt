@@ -9,6 +9,8 @@
 //! | `question.rt` | what is asked of which registry | |
 //! | `agenda.rt` | which lines are looked at, and which package is decided | Unit Propagation, Decision Making |
 //! | `occurrences.rt` | occurrence lists: the lines that name a package | Unit Propagation |
+//! | `watches.rt` | learnt lines of three terms or more, each looked at from two packages | Unit Propagation |
+//! | `late.rt` | lines that derived later than they could have | Unit Propagation |
 //! | `kept.rt` | what is kept of a package that lines name | Unit Propagation, Decision Making |
 //! | `spent.rt` | the lines that are not looked at until the search jumps back | Unit Propagation |
 //! | `queue.rt` | the packages that are to be decided | Decision Making |
@@ -25,6 +27,7 @@ mod alike;
 mod covered;
 mod greedy;
 mod kept;
+mod late;
 mod obstacle;
 mod occurrences;
 mod order;
@@ -32,9 +35,11 @@ mod question;
 mod queue;
 mod sharing;
 mod spent;
+mod watches;
 
 pub use agenda::Agenda;
 pub use greedy::decide_greedily;
+pub use late::FAR;
 pub use obstacle::{Obstacle, obstacle_at};
 pub use question::{Question, ROOM, locked_version};
 pub use sharing::{Place, Sharing};

@@ -19,6 +19,8 @@ pub(crate) struct Queue {
     decided: Vec<Pkg>,
     /// The package that came out last, until it is known to be decided.
     last: Option<Pkg>,
+    /// By number of the package: the lowest count that is known among its entries, where it has one.
+    held: Vec<Option<usize>>,
 }
 
 /// What is said of a package that is selected and has no decision.
@@ -34,13 +36,44 @@ fn undecided(partial: &Partial, pkg: Pkg) -> Option<&Term> {
     }
 }
 
+/// Notes the lowest count of a package among the entries.
+fn hold(held: &mut Vec<Option<usize>>, pkg: Pkg, count: Option<usize>) -> Result<(), AllocError> {
+    for _ in held.len()..pkg as usize + 1 {
+        held.push(None)?;
+    }
+    if let Some(own) = held.as_mut_slice().get_mut(pkg as usize) {
+        *own = count;
+    }
+    Ok(())
+}
+
 impl Queue {
     pub fn new(alloc: Global) -> Result<Queue, AllocError> {
         Ok(Queue {
             order: Order::new(alloc)?,
             decided: Vec::with_capacity(alloc, ROOM)?,
             last: None,
+            held: Vec::new(alloc),
         })
+    }
+
+    /// The lowest count that is known among the entries of a package.
+    #[inline(always)]
+    fn held_of(&self, pkg: Pkg) -> Option<usize> {
+        self.held.as_slice().get(pkg as usize).copied().flatten()
+    }
+
+    /// Adds an entry, unless there is one of the package that comes out no later.
+    fn put(&mut self, pkg: Pkg, count: usize) -> Result<(), AllocError>
+        ensures { self.new.decided.items ≡ self.old.decided.items }
+    {
+        if let Some(held) = self.held_of(pkg) {
+            if held <= count {
+                return Ok(());
+            }
+        }
+        self.order.add(count, pkg)?;
+        hold(&mut self.held, pkg, Some(count))
     }
 
     /// Puts a package into the queue, if it is to be decided.
@@ -55,7 +88,7 @@ impl Queue {
     {
         if let Some(said) = undecided(partial, pkg) {
             let count = occurrences.count(question, pkg, said)?;
-            self.order.add(count, pkg)?;
+            self.put(pkg, count)?;
         }
         Ok(())
     }
@@ -94,6 +127,9 @@ impl Queue {
             let Some((offered, pkg)) = self.order.pop() else {
                 return Ok(None);
             };
+            if self.held_of(pkg) == Some(offered) {
+                hold(&mut self.held, pkg, None)?;
+            }
             if let Some(said) = undecided(partial, pkg) {
                 let count = occurrences.count(question, pkg, said)?;
                 if count == offered {
@@ -101,7 +137,7 @@ impl Queue {
                     self.last = Some(pkg);
                     return Ok(Some(pkg));
                 }
-                self.order.add(count, pkg)?;
+                self.put(pkg, count)?;
             }
         }
         Ok(None)

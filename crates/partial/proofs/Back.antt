@@ -1,4 +1,4 @@
--- Going back from a satisfier to the previous level.
+-- Going back from a satisfier to the previous level, or to one above it.
 use Rattle.std.proofs.Common.{◌≡◌, ◌<◌, ◌≤◌, ◌+◌, ◌∙◌, ℕ, zero, suc, refl, sym, ap, subst, arith, true, List, [], ◌∷◌, take, inl, inr, nat_eq, nat_le, if◌then◌else◌, add-one}
 use Rattle.std.proofs.lemmas.Bool.{cases_Bool, cases_lt, and_parts, and_from, leb-false, le-leb, lt-leb}
 use Rattle.std.proofs.lemmas.List.{append-nil, take-take, length-take-le}
@@ -64,7 +64,7 @@ decisions-whole (suc n) [] = omega arith
 decisions-whole (suc n) (a ∷ made) = omega (arith, decisions-whole n made)
 
 pub can_go_back : (made : List Assignment) (terms : List (ℕ × Term)) (index level : ℕ) → IsPartial made → IsSatisfier made terms index level → CanGoBack made terms index level
-can_go_back made terms index level h found a at lt =
+can_go_back made terms index level h found a at lower from lt =
     let same : found.satisfier ≡ a = same_Some found.satisfier a (sym found.at ∙ at) in
     let w = h.possible a.pkg in
     let so_far : Satisfied (take (index + 1) made) terms = subst (λ xs. Satisfied xs terms) (append-nil (take (index + 1) made)) found.shortest.satisfied in
@@ -73,17 +73,17 @@ can_go_back made terms index level h found a at lt =
     rw add-one (ap decisions (next made index a at) ∙ decisions-append (take index made) (a ∷ []) ∙ omega arith) in
     record {
       opened = omega (arith, lt, is_level, after, decisions-whole (index + 1) made);
-      above_root = omega (arith, found.level_is);
+      above_root = omega (arith, from, found.level_is);
       not_yet = λ sat. found.shortest.least index (omega arith) (λ p c said.
-          sat p c (upto-within level 0 index made a p c h.levels at lt (subst (λ xs. says xs p c ≡ true) (append-nil (take index made)) said)));
+          sat p c (upto-within lower 0 index made a p c h.levels at lt (subst (λ xs. says xs p c ≡ true) (append-nil (take index made)) said)));
       out = a.pkg;
       others = λ p c apart said.
           let le : found.count ≤ index = omega (arith, found.previous.within, length-take-le index made (omega (arith, slice_get_within made index a at))) in
-          let below : 0 + decisions (take found.count made) ≤ level = omega (arith, found.level_is) in
-          let kept : says (take found.count made) p c ≡ true = upto-contains level 0 found.count made p c h.levels below said in
+          let below : 0 + decisions (take found.count made) ≤ lower = omega (arith, from, found.level_is) in
+          let kept : says (take found.count made) p c ≡ true = upto-contains lower 0 found.count made p c h.levels below said in
           let shown : says (take found.count (take index made)) p c ≡ true = subst (λ xs. says xs p c ≡ true) (sym (take-take found.count index made le)) kept in
           found.previous.satisfied p c (says-push_other (take found.count (take index made)) found.satisfier p c (λ e. apart (sym e ∙ ap (λ x. x.pkg) same)) ∙ shown);
       choice = w.0;
-      said = says-upto level made h.levels a.pkg w.0 w.1;
+      said = says-upto lower made h.levels a.pkg w.0 w.1;
       true_there = so_far a.pkg w.0 (says-take (index + 1) made a.pkg w.0 w.1);
     }

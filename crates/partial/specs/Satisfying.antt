@@ -68,9 +68,9 @@ pub record LeavesAlmost (made : List Assignment) (terms : List (ℕ × Term)) (l
   pub said : says (upto level made) out choice ≡ true
   pub true_there : true_at terms out choice ≡ true
 
--- going back from the satisfier to a previous level below its own leaves the terms almost satisfied
+-- going back from the satisfier to the previous level, or to one above it, that is below its own leaves the terms almost satisfied
 abbrev pub CanGoBack : List Assignment → List (ℕ × Term) → ℕ → ℕ → Type 0
-CanGoBack made terms index level = (satisfier : Assignment) → slice_get made index ≡ Some satisfier → level < satisfier.level → LeavesAlmost made terms level
+CanGoBack made terms index level = (satisfier : Assignment) → slice_get made index ≡ Some satisfier → (lower : ℕ) → level ≤ lower → lower < satisfier.level → LeavesAlmost made terms lower
 
 -- ---- by the choices of all packages
 

@@ -5,6 +5,7 @@ ghost use Rattle.std.specs.List.Sorted.{IsStrictlyIncreasing};
 ghost use Rattle.terms.specs.Sets.{has};
 ghost use Rattle.terms.specs.Terms.{true_of};
 ghost use Rattle.partial.specs.Assignments.{decided, decisions, is_decided, is_undecided, says, upto, IsOpenTo, IsPartial};
+ghost use Rattle.partial.specs.Ledger.{last_place};
 ghost use Rattle.partial.specs.Rank.{rank, FallsBack, TakesAway};
 ghost use Rattle.partial.specs.Satisfying.{CanGoBack, IsSatisfier, Satisfied, Stands};
 
@@ -123,6 +124,13 @@ impl Partial {
                 Some(Settled { said, decision })
             }
         }
+    }
+
+    /// The place of the last assignment on a package.
+    pub fn last_on(&self, pkg: Pkg) -> Option<usize>
+        ensures { result ≡ last_place self.now pkg }
+    {
+        last_on(&self.ledger, pkg)
     }
 
     /// The ordinal that is decided of a package.

@@ -58,8 +58,8 @@ module _ (packages : Packages) (wanted : Wanted) (made : List Assignment) (known
       pub satisfier_within : index < length made
       satisfier_within = slice_get_within made index found.satisfier found.at
 
-      pub back : (a : Assignment) → a ≡ get_or made index a → CanGoBack made line.conclusion index level → level < a.level → AtLine known at (λ l. LeavesAlmost made l.conclusion level)
-      back a is can lt = (line, here_line, can a (satisfier_at a is) lt)
+      pub back : (a : Assignment) (lower : ℕ) → a ≡ get_or made index a → CanGoBack made line.conclusion index level → level ≤ lower → lower < a.level → AtLine known at (λ l. LeavesAlmost made l.conclusion lower)
+      back a lower is can from lt = (line, here_line, can a (satisfier_at a is) lower from lt)
 
       pub no_decision : (a : Assignment) (ordinal : ℕ) → a ≡ get_or made index a → IsPartial made → 2 ≤ index → a.why ≡ Decided ordinal → level < a.level
       no_decision a ordinal is h behind why =

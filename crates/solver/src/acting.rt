@@ -65,6 +65,13 @@ fn count_conflict(task: &Task<'_>, conflicts: &mut u32) -> Result<(), Refusal>
     Ok(())
 }
 
+/// How many levels to jump back, and twice as many the next time.
+fn lengthen(stride: &mut usize) -> usize {
+    let now = *stride;
+    *stride = now.saturating_mul(2);
+    now
+}
+
 /// Resolves a conflict, jumps back, and derives what the line says that comes of it.
 fn meet_conflict(task: &Task<'_>, search: &mut Search, at: usize) -> Result<Acted, Refusal>
     requires search { Searches task.now search.old }
@@ -73,7 +80,8 @@ fn meet_conflict(task: &Task<'_>, search: &mut Search, at: usize) -> Result<Acte
     ensures only { IfErr result (MayRefuse task.now.budget) }
 {
     count_conflict(task, &mut search.conflicts)?;
-    match resolve_conflict(task, &search.partial, &mut search.known, at)? {
+    let stride = lengthen(&mut search.stride);
+    match resolve_conflict(task, &search.partial, &mut search.known, at, stride)? {
         Resolution::Refused(end) => Ok(Acted::Refused(end)),
         Resolution::Back(line, level) => {
             search.partial.back_to(level);

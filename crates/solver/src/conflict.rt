@@ -1,6 +1,6 @@
 // Conflict resolution (doc/solver.md, "Conflict Resolution").
 
-ghost use Rattle.std.specs.Prelude.{◌≡◌, IfOk, OnOk};
+ghost use Rattle.std.specs.Prelude.{◌≡◌, ◌<◌, ◌≤◌, IfOk, OnOk};
 ghost use Rattle.partial.specs.Assignments.{IsPartial};
 ghost use Rattle.partial.specs.Satisfying.{Satisfied};
 ghost use Rattle.solver.specs.Lines.{AtLine};
@@ -9,6 +9,7 @@ ghost use Rattle.solver.specs.Searching.{IsSearch, ResolvesBy};
 use crate::lines::line_from;
 use crate::task::Task;
 use derivations::{Known, ROOT, empty_is_no_fact};
+use heuristics::FAR;
 use partial::{Partial, Why};
 use std::alloc::AllocError;
 
@@ -21,6 +22,25 @@ pub(crate) enum Resolution {
     Refused(usize),
 }
 
+/// Up to how many terms a line has to do with few of the packages that are decided.
+const FEW: usize = 3;
+
+/// The level to jump back to, from the one at which a line of so many terms is almost satisfied up to
+/// that at which it is satisfied. Where they lie far apart, and the terms are few, the search jumps back
+/// by a stride alone, so that what has nothing to do with the conflict is not forgotten.
+fn level_between(least: usize, own: usize, terms: usize, stride: usize) -> usize
+    requires { least < own }
+    ensures from { least ≤ result }
+    ensures below { result < own }
+{
+    let far = own - least;
+    if terms <= FEW && far > FAR && stride >= 1 && stride <= far {
+        own - stride
+    } else {
+        least
+    }
+}
+
 /// Resolves the satisfied line at `first` with the causes of its satisfiers, until one decision less
 /// leaves a line almost satisfied. It ends since each satisfier stands before the last one.
 pub(crate) fn resolve_conflict(
@@ -28,6 +48,7 @@ pub(crate) fn resolve_conflict(
     partial: &Partial,
     known: &mut Vec<Known>,
     first: usize,
+    stride: usize,
 ) -> Result<Resolution, AllocError>
     requires search { IsSearch task.now.registry.now.packages task.now.request.now partial.now known.old.items }
     requires satisfied { AtLine known.old.items first (λ line. Satisfied partial.now line.conclusion) }
@@ -54,7 +75,8 @@ pub(crate) fn resolve_conflict(
             return Ok(Resolution::Refused(at));
         }
         if level < satisfier.level {
-            return Ok(Resolution::Back(at, level));
+            let lower = level_between(level, satisfier.level, conclusion.terms().len(), stride);
+            return Ok(Resolution::Back(at, lower));
         }
         match satisfier.why {
             Why::Decided(_) => unreachable!(),

@@ -59,6 +59,7 @@ fn decide_for(
     enter(task, &mut search.known, worklist, pkg, ordinal)?;
     match use_from(task, search, pkg, before)? {
         Acted::Neither => {
+            search.stride = 1;
             search.partial.decide(pkg, ordinal)?;
             Ok(Acted::Derived(pkg))
         }

@@ -81,7 +81,7 @@ pub(crate) fn propagate(
         }
         worklist
             .agenda
-            .look(&task.question(), &search.partial, pkg)?;
+            .look(&task.question(), &search.partial, &search.known, pkg)?;
         match use_places(
             task,
             search,

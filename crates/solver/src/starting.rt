@@ -39,6 +39,7 @@ fn begin(task: &Task<'_>) -> Result<Search, AllocError>
         partial,
         known,
         conflicts: 0,
+        stride: 1,
     })
 }
 

@@ -101,10 +101,10 @@ impl Worklist {
             Acted::Backjumped(at, pkg) => {
                 self.changed.clear();
                 self.changed.push(pkg)?;
-                self.agenda.backjump(&task.question(), partial, at)?;
+                self.agenda.backjump(&task.question(), partial, known, at)?;
                 if at >= before && self.asked.is_behind(at) {
                     self.learnt.push(at)?;
-                    self.note(task.alloc, known, at)?;
+                    self.agenda.learn(task.alloc, partial, known, at)?;
                 }
             }
             Acted::Refused(_) | Acted::Neither => {}

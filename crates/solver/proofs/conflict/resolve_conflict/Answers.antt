@@ -31,7 +31,7 @@ returns-then-index-lt2-clause-resolved c =
 pub returns-then-level-satisfier-clause-resolved : goal.returns-then-level-satisfier-clause-resolved
 returns-then-level-satisfier-clause-resolved c =
     back c.args.task.now.registry.now.packages c.args.task.now.request.now c.args.partial.now c.resolution.known.items c.resolution.at c.resolution.bound c.resolution.invariant c.index.result.now c.index.ensures c.in_ok-index.index c.in_ok-index.level c.in_ok-index.ensures.satisfier
-    c.index-made-index.result (subst (λ xs. c.index-made-index.result ≡ get_or xs c.in_ok-index.index c.index-made-index.result) c.assignments-made.ensures.same c.index-made-index.is) c.in_ok-index.ensures.back c.if-level-satisfier.true
+    c.index-made-index.result c.level_between-lower.result (subst (λ xs. c.index-made-index.result ≡ get_or xs c.in_ok-index.index c.index-made-index.result) c.assignments-made.ensures.same c.index-made-index.is) c.in_ok-index.ensures.back c.level_between-lower.ensures.from c.level_between-lower.ensures.below
 
 pub unreachable-requires : goal.unreachable-requires
 unreachable-requires c =
