@@ -1,14 +1,16 @@
 -- What is made ready for a publication.
 use Rattle.std.proofs.Common.{◌≡◌, ◌<◌, ◌+◌, ◌∙◌, ℕ, suc, List, [], ◌∷◌, ◌++◌, Bool, true, false, if◌then◌else◌, add-one, ap, drop, get_or, length, take, refl, subst, sym}
 use Rattle.std.specs.Borrow.{Bor}
-use Rattle.std.specs.List.{find}
+use Rattle.std.specs.List.{find, list_any}
 use Rattle.std.specs.Option.{option_map}
-use Rattle.std.specs.Prelude.{Option, None, Some, IfSome}
+use Rattle.std.specs.Prelude.{Option, None, Some, IfSome, slice_get}
 use Rattle.std.specs.Str.{bytes_eq}
 use Rattle.std.proofs.lemmas.Map.Made.{IfSome-find_same}
 use Rattle.std.proofs.lemmas.Slice.Eq.{bytes_eq-Decides}
 use Rattle.std.proofs.Math.Seq.{drop-cons}
 use Rattle.std.proofs.lemmas.List.{append_assoc, take_more}
+use Rattle.std.proofs.lemmas.List.Folds.{list_any_at}
+use Rattle.std.proofs.lemmas.Option.{get_or_from_slice_get, slice_get_within}
 use Rattle.std.proofs.lemmas.List.Elements.{All-append, All-cons, All-nil}
 use Rattle.versions.specs.Words.{Text}
 use Rattle.registry.specs.Publications.{PublicationList}
@@ -54,6 +56,11 @@ kept-same found name names at =
     behind : (P : Text → Type 0) (found : Option (ℕ × Bor Text)) → IfSome (option_map (λ (p : ℕ × Bor Text). p.1.now) found) P → IfSome found (λ (p : ℕ × Bor Text). P p.1.now)
     behind P None h = h
     behind P (Some kept) h = h
+
+-- a name that stands at a place is among the names
+pub stands-any : (names : List Text) (name : Text) (i : ℕ) → slice_get names i ≡ Some name → bytes_eq name name ≡ true → true ≡ list_any (bytes_eq name) names
+stands-any names name i at is =
+    sym (list_any_at (bytes_eq name) names i [] (slice_get_within names i name at) (ap (bytes_eq name) (get_or_from_slice_get names i name [] at) ∙ is))
 
 -- ---- what was made ready is taken
 

@@ -11,6 +11,7 @@ ghost use Rattle.registry.specs.Registry.{has_version, has_yank, needs_or_none, 
 ghost use Rattle.registry.specs.Step.{set_yanked, unyank_refusal, yank_of, yank_refusal};
 
 use crate::dependencies::{Dependencies, are_same};
+use crate::listed::Place;
 use releases::{Matching, Release, Releases};
 use std::alloc::{AllocError, Global};
 use std::marker::Model;
@@ -150,11 +151,21 @@ impl Publications {
         self.releases.highest_where(passes)
     }
 
-    /// The equal requirement whose matching set is kept, where there is one, and its place.
-    pub fn named(&self, need: &Need) -> Option<(usize, &Need)>
+    /// The equal requirement whose matching set is kept, where there is one, and its place. No look-up is
+    /// made where it is named at this place.
+    pub fn named_at(&self, need: &Need, place: usize) -> Option<(usize, &Need)>
         ensures { IfSome result (λ kept. kept.1.now ≡ need.now) }
     {
-        self.releases.named(need)
+        self.releases.named_at(need, place)
+    }
+
+    /// Where the last one has its need at an index; any where there is none. The next one's is mostly on
+    /// the same package, and often the same.
+    pub fn last_place(&self, index: usize) -> Place {
+        match self.needs.last() {
+            Some(needs) => needs.place(index),
+            None => Place::new(0, 0),
+        }
     }
 
     /// Keeps the matching set of a requirement from now on, and answers the requirement's place.

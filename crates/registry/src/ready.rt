@@ -77,6 +77,18 @@ fn kept_in<'a>(names: &'a IndexSet<Name>, name: &Name) -> Option<(usize, &'a Nam
     names.get_full(name)
 }
 
+/// As [`kept_in`], of a name that may stand at this place: where it does, no look-up is made.
+fn kept_near<'a>(names: &'a IndexSet<Name>, place: usize, name: &Name) -> Option<(usize, &'a Name)>
+    ensures there { is_some result ≡ list_any (bytes_eq name.now) names.now.keys }
+    ensures within { IfSome result (λ found. found.0 < length names.now.keys) }
+    ensures same { IfSome result (λ found. found.1.now ≡ name.now) }
+{
+    match names.get_index(place) {
+        Some(kept) if *kept == *name => Some((place, kept)),
+        _ => kept_in(names, name),
+    }
+}
+
 /// An equal need.
 fn copied(need: &(Name, Need)) -> Result<(Name, Need), AllocError>
     ensures { IfOk result (λ copy. copy ≡ need.now) }
@@ -85,25 +97,27 @@ fn copied(need: &(Name, Need)) -> Result<(Name, Need), AllocError>
 }
 
 /// Names a requirement on a package, and answers the equal one that the package keeps, with the name,
-/// and the requirement's place.
+/// and the requirement's place, which may be this one.
 fn kept(
     list: &mut Publications,
     name: &Name,
     need: &Need,
+    hint: usize,
 ) -> Result<((Name, Need), usize), AllocError>
     ensures publications { list.new.publications ≡ list.old.publications }
     ensures same { IfOk result (λ kept. kept.0 ≡ (name.now, need.now)) }
 {
-    let (need, place) = kept_need(list, need)?;
+    let (need, place) = kept_need(list, need, hint)?;
     Ok(((name.clone()?, need), place))
 }
 
-/// Names a requirement on a package, and answers the equal one that the package keeps, and its place.
-fn kept_need(list: &mut Publications, need: &Need) -> Result<(Need, usize), AllocError>
+/// Names a requirement on a package, and answers the equal one that the package keeps, and its place, which may be this
+/// one.
+fn kept_need(list: &mut Publications, need: &Need, hint: usize) -> Result<(Need, usize), AllocError>
     ensures publications { list.new.publications ≡ list.old.publications }
     ensures same { IfOk result (λ kept. kept.0 ≡ need.now) }
 {
-    if let Some((place, kept)) = list.named(need) {
+    if let Some((place, kept)) = list.named_at(need, hint) {
         return Ok((kept.clone()?, place));
     }
     let place = list.name_need(need)?;
@@ -118,18 +132,19 @@ fn next_place(names: &IndexSet<Name>, own: Option<usize>) -> usize {
     }
 }
 
-/// Adds a need of a package that stands at an index, and names its requirement there.
+/// Adds a need of a package that stands at an index, and names its requirement there, maybe at this place.
 fn add_known(
     list: &mut Publications,
     index: usize,
     name: &Name,
     need: &Need,
+    hint: usize,
     same: &mut Listed,
 ) -> Result<(), AllocError>
     ensures publications { list.new.publications ≡ list.old.publications }
     ensures same { OnOk result (same.new ≡ same.old ++ (name.now, need.now) ∷ []) }
 {
-    let (shared, place) = kept(list, name, need)?;
+    let (shared, place) = kept(list, name, need, hint)?;
     same.push(shared, Place::new(index, place))
 }
 
@@ -150,13 +165,25 @@ fn add_new(
     named.needs.push(copied(need)?, place)
 }
 
-/// Adds a need, and names its requirement on the package that it is on.
+/// Where the last publication of a package has its need at an index; any where there is none.
+fn hint_at(lists: &[Publications], own: Option<usize>, index: usize) -> Place {
+    match own {
+        Some(place) => match lists.get(place) {
+            Some(list) => list.last_place(index),
+            None => Place::new(0, 0),
+        },
+        None => Place::new(0, 0),
+    }
+}
+
+/// Adds a need, and names its requirement on the package that it is on. It may stand at this place.
 fn add_need(
     alloc: Global,
     names: &IndexSet<Name>,
     lists: &mut Vec<Publications>,
     need: &(Name, Need),
     next: usize,
+    hint: Place,
     named: &mut Named,
 ) -> Result<(), AllocError>
     requires paired { length names.now.keys ≡ length lists.old.items }
@@ -166,23 +193,24 @@ fn add_need(
     ensures added { OnOk result (names_in named.new.added.items ≡ names_in named.old.added.items ++ unknown_names (λ name. list_any (bytes_eq name) names.now.keys) (need.now ∷ [])) }
     ensures empty { OnOk result (AreEmpty named.old.added.items → AreEmpty named.new.added.items) }
 {
-    match kept_in(names, &need.0) {
+    match kept_near(names, hint.name(), &need.0) {
         Some((index, name)) => {
             let list = &mut lists[index];
-            add_known(list, index, name, &need.1, &mut named.needs)
+            add_known(list, index, name, &need.1, hint.need(), &mut named.needs)
         }
         None => add_new(alloc, need, next, named),
     }
 }
 
 /// Names the requirements on the packages that they are on. The names that are new come in from a
-/// place on, in order.
+/// place on, in order. The package's own place is where a look at its last publication saves look-ups.
 fn name_needs(
     alloc: Global,
     names: &IndexSet<Name>,
     lists: &mut Vec<Publications>,
     needs: &[(Name, Need)],
     next: usize,
+    own: Option<usize>,
 ) -> Result<Named, AllocError>
     requires paired { length names.now.keys ≡ length lists.old.items }
     ensures lists { lists_of lists.new.items ≡ lists_of lists.old.items }
@@ -196,7 +224,8 @@ fn name_needs(
         added: Vec::new(alloc),
     };
     for need in needs {
-        add_need(alloc, names, lists, need, next, &mut named)?;
+        let hint = hint_at(lists, own, named.needs.needs().len());
+        add_need(alloc, names, lists, need, next, hint, &mut named)?;
     }
     Ok(named)
 }
@@ -218,7 +247,7 @@ fn named_needs(
     ensures empty { IfOk result (λ named. AreEmpty named.1.items) }
 {
     let next = next_place(names, place);
-    let named = name_needs(alloc, names, lists, needs.needs(), next)?;
+    let named = name_needs(alloc, names, lists, needs.needs(), next, place)?;
     let same = needs.with_handles(alloc, named.needs)?;
     Ok((same, named.added))
 }

@@ -5,6 +5,7 @@ pub mod Served
 pub mod Told
 pub mod Lawful
 pub mod Answering
+pub mod Putting
 pub mod Session
 pub mod Batches
 pub mod Loaded

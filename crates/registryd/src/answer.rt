@@ -13,12 +13,13 @@ use crate::told::{Told, told_of, verdict_on};
 use book::Item;
 use by_name::NamedDerivation;
 use derivations::Learnt;
+use intake::Intake;
 use lines::LINE_LIMIT;
 use registry::{Command, Request};
 use solver::solve_under;
 use std::alloc::Global;
 use versions::Refusal;
-use wire::{Asked, read_request};
+use wire::Asked;
 
 /// What is answered to a line, where the ledger then stands.
 #[derive(Drop)]
@@ -31,20 +32,25 @@ pub enum Answer {
 }
 
 /// Answers a line.
-pub fn answer_line<L: Ledger>(alloc: Global, ledger: &mut L, line: &[u8]) -> Answer
+pub fn answer_line<L: Ledger>(
+    alloc: Global,
+    ledger: &mut L,
+    intake: &mut Intake,
+    line: &[u8],
+) -> Answer
     ensures { LeadsTo L.ways (IsLawful L.ways line.now ledger.old) result ledger.new }
 {
-    answer_read(alloc, ledger, read_line(alloc, line))
+    answer_read(alloc, ledger, read_line(alloc, intake, line))
 }
 
 /// Reads what a line asks. One that is too long is at fault.
-pub fn read_line(alloc: Global, line: &[u8]) -> Result<Asked, Refusal>
+pub fn read_line(alloc: Global, intake: &mut Intake, line: &[u8]) -> Result<Asked, Refusal>
     ensures { IsRead result line.now }
 {
     if line.len() > LINE_LIMIT {
         return Err(Refusal::BadLine);
     }
-    read_request(alloc, line)
+    intake.read(alloc, line)
 }
 
 /// Answers a line of which this was read.

@@ -4,12 +4,11 @@ ghost use Rattle.std.specs.Vec.Iter.{into_iter_items};
 ghost use Rattle.book.specs.Items.{packages_of};
 ghost use Rattle.pool.specs.Answering.{IsAnswerTo};
 ghost use Rattle.solver.specs.Outcomes.{MayStop};
-ghost use Rattle.lines.specs.Texts.{Puts};
 ghost use Rattle.wire.specs.Shapes.{resolve};
-ghost use Rattle.replies.specs.Replies.{Reply, replies_text, reply_text};
 ghost use Rattle.registryd.specs.Batches.{AreReplied, Leaves, MayBeAnswers, requests_of};
 ghost use Rattle.registryd.specs.Lawful.{MayAnswer};
 ghost use Rattle.registryd.specs.Outcomes.{TellsFound};
+ghost use Rattle.registryd.specs.Putting.{PutsReplies, PutsReply};
 ghost use Rattle.registryd.specs.Session.{session_ways};
 ghost use Rattle.registryd.specs.Told.{told_body};
 
@@ -108,8 +107,8 @@ impl Batch {
         outbox: &mut Outbox,
         writer: &mut W,
     ) -> io::Result<()>
-        ensures replied { (replies : List Reply) × AreReplied session_ways self.old served.old replies served.new
-            × Puts (W.contents writer.old) (W.contents writer.new) outbox.old outbox.new result (replies_text replies) }
+        ensures replied { PutsReplies (λ replies. AreReplied session_ways self.old served.old replies served.new)
+            (W.contents writer.old) (W.contents writer.new) outbox.old outbox.new result }
         ensures none { self.new ≡ [] }
     {
         if self.asked.is_empty() {
@@ -160,8 +159,8 @@ fn put_answers<W: Write>(
 ) -> io::Result<()>
     requires even { length asked.now ≡ length explains.now }
     requires answers { MayBeAnswers (packages_of served.old) asked.now (into_iter_items answers) }
-    ensures { (replies : List Reply) × AreReplied session_ways (requests_of asked.now explains.now) served.old replies served.new
-        × Puts (W.contents writer.old) (W.contents writer.new) outbox.old outbox.new result (replies_text replies) }
+    ensures { PutsReplies (λ replies. AreReplied session_ways (requests_of asked.now explains.now) served.old replies served.new)
+        (W.contents writer.old) (W.contents writer.new) outbox.old outbox.new result }
 {
     puts_add_up();
     for at in 0..asked.len() {
@@ -201,8 +200,8 @@ fn put_answer<W: Write>(
     answer: Answer,
 ) -> io::Result<()>
     requires { IsAnswerTo (packages_of served.old) asked.now answer }
-    ensures replied { (reply : Reply) × MayAnswer session_ways (resolve asked.now.0 explain asked.now.1) served.old reply served.new
-        × Puts (W.contents writer.old) (W.contents writer.new) outbox.old outbox.new result (reply_text reply) }
+    ensures replied { PutsReply (λ reply. MayAnswer session_ways (resolve asked.now.0 explain asked.now.1) served.old reply served.new)
+        (W.contents writer.old) (W.contents writer.new) outbox.old outbox.new result }
     // What is learnt publishes nothing.
     ensures packages { packages_of served.new ≡ packages_of served.old }
 {

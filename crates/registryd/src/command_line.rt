@@ -9,13 +9,20 @@ use clap::builder::ValueParser;
 use clap::{Arg, ArgAction, Command};
 use std::alloc::{AllocError, Global};
 
+// What the help of `serve` shows.
+const SERVE_EXAMPLE: &str = "Example: echo '{\"op\":\"list\"}' | registryd serve --workers 1";
+
+// What the help of `race` shows.
+const RACE_EXAMPLE: &str = "Example: registryd race first.lines second.lines";
+
 /// `registryd serve --workers N [--load FILE] [--save FILE]` or `registryd race FILE...`, without the
 /// program's name.
 pub fn program<'a>(alloc: Global) -> Result<Command<'a>, AllocError>
     ensures { IfOk result (λ c. app_of c ≡ program_app) }
 {
     let serve = serve_command(alloc)?;
-    let with_serve = Command::new(alloc, "registryd")
+    let named = Command::new(alloc, "registryd").bin_name("registryd")?;
+    let with_serve = named
         .about("A package registry that reads request lines and writes reply lines")
         .no_binary_name(true)
         .disable_help_subcommand(true)
@@ -29,7 +36,9 @@ fn serve_command<'a>(alloc: Global) -> Result<Command<'a>, AllocError>
     ensures app { IfOk result (λ c. app_of c ≡ serve_app) }
     ensures local { IfOk result (λ c. (fields_of c).has_globals ≡ false) }
 {
-    let bare = Command::new(alloc, "serve").about("Answers the request lines of standard input");
+    let bare = Command::new(alloc, "serve")
+        .about("Answers the request lines of standard input")
+        .after_help(SERVE_EXAMPLE);
     let with_workers = bare.arg(workers_option(alloc))?;
     let with_load = with_workers.arg(file_option(alloc, "load", "A journal to begin from"))?;
     with_load.arg(file_option(alloc, "save", "Where to write the journal at the end"))
@@ -41,6 +50,7 @@ fn race_command<'a>(alloc: Global) -> Result<Command<'a>, AllocError>
 {
     Command::new(alloc, "race")
         .about("Answers the request lines of files, a thread to each")
+        .after_help(RACE_EXAMPLE)
         .arg(files_argument(alloc))
 }
 

@@ -1,11 +1,10 @@
 //! Lines that were found: each is replied to, or waits to be answered with its neighbours.
 ghost use Rattle.std.specs.Prelude.{◌∷◌, ◌++◌, ℕ, List, []};
-ghost use Rattle.lines.specs.Texts.{Puts};
 ghost use Rattle.lines.specs.Unread.{IsFound};
-ghost use Rattle.replies.specs.Replies.{Reply, reply_text};
 ghost use Rattle.registryd.specs.Answering.{IsRead};
 ghost use Rattle.registryd.specs.Batches.{AreAsked, Takes};
 ghost use Rattle.registryd.specs.Lawful.{IsLawful};
+ghost use Rattle.registryd.specs.Putting.{PutsReply};
 ghost use Rattle.registryd.specs.Session.{session_ways};
 
 use crate::answer::{Answer, answer_read, read_line};
@@ -13,6 +12,7 @@ use crate::batch::Batch;
 use crate::ledger::{Ledger, learn_all};
 use crate::put::{put_listing, put_told};
 use crate::served::Served;
+use intake::Intake;
 use lines::{LineBuffer, Next, Outbox};
 use replies::puts_add_up;
 use std::alloc::Global;
@@ -24,12 +24,17 @@ use versions::Refusal;
 use wire::Asked;
 
 /// Reads what the line asks that was found.
-pub fn read_found(alloc: Global, lines: &LineBuffer, found: Next) -> Result<Asked, Refusal>
+pub fn read_found(
+    alloc: Global,
+    intake: &mut Intake,
+    lines: &LineBuffer,
+    found: Next,
+) -> Result<Asked, Refusal>
     requires { (line : List ℕ) × IsFound found lines.now line }
     ensures { (line : List ℕ) → IsFound found lines.now line → IsRead result line }
 {
     match found {
-        Next::Line => read_line(alloc, lines.line()),
+        Next::Line => read_line(alloc, intake, lines.line()),
         Next::TooLong => Err(Refusal::BadLine),
         Next::More => unreachable!(),
     }
@@ -93,8 +98,8 @@ pub fn reply_to<W: Write>(
     writer: &mut W,
     read: Result<Asked, Refusal>,
 ) -> io::Result<()>
-    ensures { (line : List ℕ) → IsRead read line → (reply : Reply) × IsLawful session_ways line served.old reply served.new
-        × Puts (W.contents writer.old) (W.contents writer.new) outbox.old outbox.new result (reply_text reply) }
+    ensures { (line : List ℕ) → IsRead read line
+        → PutsReply (λ reply. IsLawful session_ways line served.old reply served.new) (W.contents writer.old) (W.contents writer.new) outbox.old outbox.new result }
 {
     match answer_read(alloc, served, read) {
         Answer::Told(told) => put_told(outbox, writer, served.standing(), &told),

@@ -26,21 +26,34 @@ mod words;
 
 use ending::{End, ending};
 use freed::keep_what_is_freed;
+use lines::write_text;
 use obey::obey;
-use std::alloc::Alloc;
+use std::alloc::{Alloc, Global};
 use std::env::Env;
+use std::io::{IsTerminal, Write};
 use std::process::ExitCode;
 use std::{env, io};
+use words::{Words, read_words};
+
+// What a session at a terminal says before its first line.
+const WAITING: &str =
+    "registryd: waiting for request lines, such as {\"op\":\"list\"}; Ctrl-D ends them\n";
 
 fn main(rt: HostRuntime) -> ExitCode {
     let end = match begin(&rt) {
-        Ok(words) => obey(
-            &rt,
-            rt.alloc(),
-            after_name(words.as_slice()),
-            &mut rt.stdin(),
-            &mut rt.stdout(),
-        ),
+        Ok(words) => {
+            let mut input = rt.stdin();
+            if input.is_terminal() {
+                greet(rt.alloc(), after_name(words.as_slice()), &mut rt.stderr());
+            }
+            obey(
+                &rt,
+                rt.alloc(),
+                after_name(words.as_slice()),
+                &mut input,
+                &mut rt.stdout(),
+            )
+        }
         Err(e) if e.kind() == io::ErrorKind::OutOfMemory => End::Memory,
         // A word is no text.
         Err(_) => End::Words,
@@ -59,6 +72,13 @@ fn begin<R: Env + AllocGlobal>(rt: &R) -> io::Result<Vec<String>> {
 // The words of the command line, the program's name among them.
 fn words_given<R: Env + Alloc>(rt: &R) -> io::Result<Vec<String<R::A>, R::A>> {
     Ok(env::args(rt)?.collect(rt.alloc())?)
+}
+
+// Tells a person at a terminal what `serve` waits for. A line that can't be written is given up.
+fn greet<W: Write>(alloc: Global, words: &[String], writer: &mut W) {
+    if let Ok(Words::Serve { .. }) = read_words(alloc, words) {
+        let _ = write_text(writer, WAITING.as_bytes());
+    }
 }
 
 // The words after the program's name.

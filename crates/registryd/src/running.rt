@@ -10,6 +10,7 @@ use crate::answer::{Answer, answer_line};
 use crate::kept::{Kept, keep_listing};
 use crate::ledger::{Ledger, learn_all};
 use chronicle::{Mark, Seat};
+use intake::Intake;
 use lines::{count_lines, first_line};
 use std::alloc::{AllocError, Global};
 use versions::Refusal;
@@ -78,18 +79,19 @@ fn answer_lines(alloc: Global, seat: &mut Seat<'_>, file: &[u8], replies: &mut V
     ensures answered { Answered seat.old file.now replies.new.items seat.new.journal }
 {
     let mut rest = file;
+    let mut intake = Intake::new(alloc);
     'answering: while let Some((line, behind)) = first_line(rest) {
-        let kept = answer(alloc, seat, line);
+        let kept = answer(alloc, seat, &mut intake, line);
         replies.push_reserved(kept);
         rest = behind;
     }
 }
 
 /// Answers a line, and keeps the reply.
-fn answer(alloc: Global, seat: &mut Seat<'_>, line: &[u8]) -> Kept
+fn answer(alloc: Global, seat: &mut Seat<'_>, intake: &mut Intake, line: &[u8]) -> Kept
     ensures { (reply : Reply) × IsLawful seat_ways line.now seat.old reply seat.new × (kept_line result ≡ reply_text reply) }
 {
-    match answer_line(alloc, seat, line) {
+    match answer_line(alloc, seat, intake, line) {
         Answer::Told(told) => Kept::Reply(seat.standing(), told),
         Answer::Found(told, offered) => {
             let at = seat.standing();

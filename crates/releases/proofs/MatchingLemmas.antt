@@ -6,6 +6,7 @@ use Rattle.std.proofs.lemmas.List.Quantifiers.{position-Some}
 use Rattle.versions.specs.NameLaws.{same_name}
 use Rattle.std.proofs.lemmas.Bool.{cases_lt}
 use Rattle.std.proofs.lemmas.Option.{get_or_from_slice_get, slice_get-get_or, slice_get_past, slice_get_within}
+use Rattle.std.proofs.lemmas.List.Folds.{list_any_at}
 use Rattle.std.proofs.lemmas.List.{get_or-map, get_or_append_left, get_or_default, length-map, length-set}
 use Rattle.std.proofs.Math.Bool.{and-false, and-true, or-false, or-true}
 use Rattle.std.proofs.Math.Seq.{get_or-append_seam}
@@ -14,7 +15,7 @@ use Rattle.terms.specs.Sets.{has}
 use Rattle.versions.specs.Words.{Text, meets}
 use Rattle.releases.specs.declared.release.Release.{Release}
 use Rattle.releases.specs.Kept.{AreMatching, IsMatching}
-use Rattle.releases.specs.Releases.{meets_at, meets_some, versions_of}
+use Rattle.releases.specs.Releases.{is_named, meets_at, meets_some, versions_of}
 
 itself : (k : ℕ) → nat_eq k k ≡ true
 itself k = grind arith
@@ -198,3 +199,8 @@ placed-matching versions needs sets need i set m at is =
     let P : Text → Type 0 = λ t. IsMatching versions t (get_or sets i set).ordinals in
     let Q : Growing → Type 0 = λ s. IsMatching versions need s.ordinals in
     subst Q (sym is) (subst P named (m.exact i [] set within))
+
+-- a requirement that stands at a place is named
+pub placed-named : (needs : List Text) (need : Text) (i : ℕ) → slice_get needs i ≡ Some need → bytes_eq need need ≡ true → true ≡ is_named needs need
+placed-named needs need i at is =
+    sym (list_any_at (bytes_eq need) needs i [] (slice_get_within needs i need at) (ap (bytes_eq need) (get_or_from_slice_get needs i need [] at) ∙ is))

@@ -190,6 +190,19 @@ impl Releases {
         self.needs.get_full(need)
     }
 
+    /// As [`Releases::named`], of a requirement that may be named at this place. Where it is, no look-up is
+    /// made: it costs a comparison of two texts.
+    pub fn named_at(&self, need: &Need, place: usize) -> Option<(usize, &Need)>
+        ensures same { IfSome result (λ kept. kept.1.now ≡ need.now) }
+        ensures there { is_some result ≡ is_named self.now.needs need.now }
+        ensures place { IfSome result (λ kept. slice_get self.now.needs kept.0 ≡ Some need.now) }
+    {
+        match self.needs.get_index(place) {
+            Some(kept) if *kept == *need => Some((place, kept)),
+            _ => self.named(need),
+        }
+    }
+
     /// Names a requirement on the package: its matching set is kept from now on. It costs one test a
     /// release where the requirement is new, else a look-up. No answer but the speed of
     /// [`Releases::matching`] shows it, so it can be called ahead of the publication that names it.

@@ -10,4 +10,4 @@ pub returns-then-line-gt-LINE_LIMIT : goal.returns-then-line-gt-LINE_LIMIT
 returns-then-line-gt-LINE_LIMIT c = asked-long c.args.line.now c.if-line-gt-LINE_LIMIT.true
 
 pub returns : goal.returns
-returns c = subst (λ (said : Result Request Refusal). Gives asked_of c.read_request.result said) (sym (asked-short c.args.line.now c.if-line-gt-LINE_LIMIT.false)) c.read_request.ensures
+returns c = subst (λ (said : Result Request Refusal). Gives asked_of c.read.result said) (sym (asked-short c.args.line.now c.if-line-gt-LINE_LIMIT.false)) c.read.ensures

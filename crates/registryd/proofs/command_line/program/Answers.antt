@@ -16,7 +16,7 @@ demanding = on_top (λ s. record s { subcommand_required = true })
 
 pub returns : goal.returns
 returns c =
-    let about : app_of c.about.result ≡ new_app (codes "registryd") = ap app_of_fields c.about.ensures ∙ c.new.ensures.app in
+    let about : app_of c.about.result ≡ new_app (codes "registryd") = ap app_of_fields c.about.ensures ∙ ap app_of_fields c.in_ok-named.ensures.0 ∙ c.new.ensures.app in
     let first : app_of c.no_binary_name.result ≡ unnamed (new_app (codes "registryd")) = ap app_of_fields c.no_binary_name.ensures ∙ ap unnamed about in
     let second : app_of c.disable_help_subcommand.result ≡ helpless (unnamed (new_app (codes "registryd"))) = ap app_of_fields c.disable_help_subcommand.ensures ∙ ap helpless first in
     let bare : app_of c.subcommand_required.result ≡ demanding (helpless (unnamed (new_app (codes "registryd")))) = ap app_of_fields c.subcommand_required.ensures ∙ ap demanding second in

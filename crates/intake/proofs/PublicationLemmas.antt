@@ -1,0 +1,108 @@
+-- The tokens of a publish line are those of a value, whose shape is that of a publication.
+use Rattle.std.proofs.Common.{◌≡◌, ◌≤◌, ℕ, List, [], ◌∷◌, ◌++◌, map, Bool, true, Option, Some, Ok, codes, option_and_then, refl, sym, ap, ◌∙◌, arith, append-nil}
+use Rattle.std.specs.List.{list_all}
+use Rattle.std.specs.Str.{IsUtf8}
+use Rattle.std.proofs.lemmas.List.{map-append}
+use Rattle.std.proofs.lemmas.List.Folds.{list_all-append}
+use Rattle.std.proofs.lemmas.Str.{is_utf8-from_IsUtf8}
+use Rattle.json.specs.Json as json
+use Rattle.json.specs.Json.{Items, no_items, item, member, no_members}
+use Rattle.json.specs.Lex.{tokens}
+use Rattle.json.specs.Token.{Token, begin_array, end_array, string}
+use Rattle.json.specs.Tree as tree
+use Rattle.json.specs.Tree.{items_tokens, json_tokens}
+use Rattle.json.proofs.Printed.Trees.{value-json_tokens}
+use Rattle.serde_json.specs.Data as kept
+use Rattle.serde_json.specs.Data.{Data}
+use Rattle.serde_json.specs.Read.{max_depth, of_items, of_json, read}
+use Rattle.serde_json.proofs.OnLiterals.{serde_json_on_literals}
+use Rattle.versions.specs.Words.{Text, is_name, is_requirement, is_version}
+use Rattle.registry.specs.Step.{Publish}
+use Rattle.wire.specs.Requests.{request_of}
+use Rattle.wire.specs.Shapes.{command, pairs_of, shape_of}
+use Rattle.intake.specs.Publications.{AreNeeds, pair_tokens, publication_tokens}
+
+-- ---- one need more
+
+pub one_more : (ps : List (Text × Text)) (p : Text × Text) (rest : List Token)
+    → pair_tokens (ps ++ p ∷ []) rest ≡ pair_tokens ps (begin_array ∷ string p.0 ∷ string p.1 ∷ end_array ∷ rest)
+one_more [] p rest = refl
+one_more (q ∷ ps) p rest = rw (one_more ps p rest) refl
+
+parts_more : (part : Text × Text → Text) (test : Text → Bool) (ps : List (Text × Text)) (p : Text × Text) → list_all test (map part ps) ≡ true → test (part p) ≡ true
+    → list_all test (map part (ps ++ p ∷ [])) ≡ true
+parts_more part test ps p before now = rw (map-append, list_all-append, before, now) refl
+
+pub need_more : (ps : List (Text × Text)) (p : Text × Text) → AreNeeds ps → is_name p.0 ≡ true → is_requirement p.1 ≡ true → AreNeeds (ps ++ p ∷ [])
+need_more ps p before name requirement = (
+  parts_more (λ (d : Text × Text). d.0) is_name ps p before.0 name,
+  parts_more (λ (d : Text × Text). d.1) is_requirement ps p before.1 requirement,
+)
+
+-- ---- the value
+
+abbrev pairs_json : List (Text × Text) → Items
+pairs_json [] = no_items
+pairs_json (p ∷ ps) = item (json.array (item (json.string p.0) (item (json.string p.1) no_items))) (pairs_json ps)
+
+pairs_told : (ps : List (Text × Text)) (rest : List Token) → items_tokens (pairs_json ps) ++ rest ≡ pair_tokens ps (end_array ∷ rest)
+pairs_told [] rest = refl
+pairs_told (p ∷ ps) rest = rw (pairs_told ps rest) refl
+
+pairs_shallow : (ps : List (Text × Text)) → tree.items_depth (pairs_json ps) ≤ 1
+pairs_shallow [] = omega arith
+pairs_shallow (p ∷ ps) = omega (arith, pairs_shallow ps)
+
+-- what a reader makes of them
+abbrev pairs_data : List (Text × Text) → kept.Items
+pairs_data [] = kept.no_items
+pairs_data (p ∷ ps) = kept.item (kept.array (kept.item (kept.string p.0) (kept.item (kept.string p.1) kept.no_items))) (pairs_data ps)
+
+pairs_of_json : (ps : List (Text × Text)) → of_items (pairs_json ps) ≡ Some (pairs_data ps)
+pairs_of_json [] = refl
+pairs_of_json (p ∷ ps) = rw (pairs_of_json ps) refl
+
+abbrev line_json : Text → Text → List (Text × Text) → json.Json
+line_json name version needs = json.object (member (codes "op") (json.string (codes "publish")) (member (codes "name") (json.string name)
+    (member (codes "version") (json.string version) (member (codes "needs") (json.array (pairs_json needs)) no_members))))
+
+line_told : (name version : Text) (needs : List (Text × Text)) → json_tokens (line_json name version needs) ++ [] ≡ publication_tokens name version needs
+line_told name version needs = rw (append-nil (json_tokens (line_json name version needs)), pairs_told needs (Token.end_object ∷ [])) refl
+
+line_shallow : (name version : Text) (needs : List (Text × Text)) → tree.depth (line_json name version needs) ≤ max_depth
+line_shallow name version needs = omega (arith, pairs_shallow needs)
+
+-- what a reader makes of it, where the members stand in the order of their names
+abbrev line_data : Text → Text → List (Text × Text) → Data
+line_data name version needs = kept.object (kept.member (codes "name") (kept.string name) (kept.member (codes "needs") (kept.array (pairs_data needs))
+    (kept.member (codes "op") (kept.string (codes "publish")) (kept.member (codes "version") (kept.string version) kept.no_members))))
+
+line_value : (name version : Text) (needs : List (Text × Text)) → of_json (line_json name version needs) ≡ Some (line_data name version needs)
+unfolding serde_json_on_literals
+line_value name version needs = rw (pairs_of_json needs) refl
+
+abbrev whole : Option (json.Json × List Token) → Option Data
+whole found = option_and_then of_json (option_and_then (λ p. json.if_last p.0 p.1) found)
+
+line_reads : (text : List ℕ) (name version : Text) (needs : List (Text × Text)) → tokens text ≡ publication_tokens name version needs
+    → read text ≡ Some (line_data name version needs)
+line_reads text name version needs is =
+    let value = line_json name version needs in
+    ap whole (ap (json.value max_depth) (is ∙ sym (line_told name version needs)) ∙ value-json_tokens value max_depth [] (line_shallow name version needs)) ∙ line_value name version needs
+
+pairs_back : (needs : List (Text × Text)) → pairs_of (pairs_data needs) ≡ Some needs
+pairs_back [] = refl
+pairs_back (need ∷ needs) = rw (pairs_back needs) refl
+
+line_shape : (name version : Text) (needs : List (Text × Text)) → shape_of (line_data name version needs) ≡ Some (command (Publish name version needs))
+unfolding serde_json_on_literals
+line_shape name version needs = rw (pairs_back needs) refl
+
+-- ---- the line
+
+-- a line of these tokens asks for the publication, where its texts are what they are to be
+pub publication_read : (line : List ℕ) (name version : Text) (needs : List (Text × Text)) → IsUtf8 line → tokens line ≡ publication_tokens name version needs
+    → is_name name ≡ true → is_version version ≡ true → AreNeeds needs → request_of line ≡ Ok (command (Publish name version needs))
+unfolding request_of
+publication_read line name version needs utf8 told named versioned are =
+    rw (is_utf8-from_IsUtf8 line utf8, line_reads line name version needs told, line_shape name version needs, named, are.0, versioned, are.1) refl
