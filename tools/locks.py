@@ -1,0 +1,66 @@
+"""Lock lists, as docs/FORMATS.md tells of them, and what changed between two."""
+import json
+
+from check_derivation import NAME, PAIRS, formed, passes, read_version
+
+MOST_BYTES, MOST_LINES = 1_048_576, 65_535
+MEMBER = '"selected"'
+
+
+class Refused(Exception):
+    """Why a text is no lock list."""
+
+
+def judged(value):
+    """The lines of a lock as versions by package, or the lowest refusal."""
+    if not formed(value, PAIRS) or any("\ud800" <= letter <= "\udfff" for pair in value for text in pair for letter in text):
+        raise Refused("19 BadLine: it is no array of pairs of texts, a name and a version each")
+    for number, told, faults in (
+            (1, "BadName: {} is no package name", [name for name, _ in value if not NAME.fullmatch(name)]),
+            (2, "BadVersion: {} is no version", [version for _, version in value if read_version(version) is None]),
+            (4, "RepeatedDependency: {} comes twice", repeated(name for name, _ in value)),
+            (6, f"TooManyDependencies: {len(value)} lines", value[MOST_LINES:])):
+        if faults:
+            raise Refused(f"{number} {told.format(json.dumps(faults[0]))}")
+    return dict(value)
+
+
+def repeated(names):
+    seen = set()
+    return [name for name in names if name in seen or seen.add(name)]
+
+
+def read_lock(text):
+    """The versions by package of a lock list in bytes."""
+    try:
+        value = json.loads(text.decode()) if len(text) <= MOST_BYTES else None
+    except (ValueError, RecursionError):
+        value = None
+    return judged(value)
+
+
+def write_lock(versions):
+    """The lock list of some versions by package."""
+    rows = sorted(versions.items(), key=lambda row: row[0].encode())
+    return json.dumps(rows, separators=(",", ":"), ensure_ascii=False) + "\n"
+
+
+def changes(old, new):
+    """A line for each package whose version two locks don't share, by name: what came, what went, and from what to what."""
+    lines = []
+    for name in sorted({*old, *new}):
+        if name not in old:
+            lines.append(f"+ {name} {new[name]}")
+        elif name not in new:
+            lines.append(f"- {name} {old[name]}")
+        elif old[name] != new[name]:
+            lines.append(f"~ {name} {old[name]} -> {new[name]}{remark(old[name], new[name])}")
+    return lines
+
+
+def remark(old, new):
+    """What a review looks at: a step back, and a step to what `^` with the old version does not admit."""
+    one, other = read_version(old), read_version(new)
+    if other <= one:
+        return " (older)" if other < one else " (of equal precedence)"
+    return "" if passes("^", one, other) else f" (beyond ^{old})"

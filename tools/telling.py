@@ -1,0 +1,317 @@
+"""The English of a refusal, from its derivation alone.
+
+How sentences are put in order and joined is told in Dart pub's doc/solver.md, "Error Reporting": a step that is cited more
+than once has a number, two steps of a chain may share a sentence, and of two branches the one that takes more is told
+first. Each sentence speaks of the selections that meet the request. A range of versions means those that are published,
+by precedence.
+"""
+import json
+import re
+
+from check_derivation import NEVER, ROOT, Judge
+
+FAILED, NOTHING = "resolving failed", "nothing is said of {}"
+THE_REQUEST = (ROOT, frozenset({0}))
+PLAIN = re.compile(r"[~^][^ ,]*|\*")
+
+
+def listed(texts, last):
+    """Texts in a row: `a, b and c`."""
+    return texts[0] if len(texts) == 1 else f"{', '.join(texts[:-1])} {last} {texts[-1]}"
+
+
+class Versions:
+    """Names sets of a package's versions, as a registry has them."""
+
+    def __init__(self, registry):
+        self.registry, self.orders, self.admitted = registry, {}, {}
+
+    def order(self, name):
+        """The ordinals of the published versions, by precedence."""
+        if name not in self.orders:
+            held = self.registry.releases.get(name, [])
+            self.orders[name] = sorted(range(len(held)), key=lambda ordinal: held[ordinal].version)
+        return self.orders[name]
+
+    def matching(self, name, requirement):
+        if (name, requirement) not in self.admitted:
+            self.admitted[name, requirement] = self.registry.matching(name, requirement)
+        return self.admitted[name, requirement]
+
+    def text(self, name, ordinal):
+        return self.registry.releases[name][ordinal].text
+
+    def spans(self, name, ordinals):
+        """The runs of neighbours in a set, the lowest first, each by its bounds: one version, or from one to below another."""
+        found, first, order = [], None, self.order(name)
+        for place, ordinal in enumerate([*order, None]):
+            if ordinal in ordinals:
+                first = place if first is None else first
+            elif first is not None:
+                one = self.text(name, order[first])
+                low = [">=" + one] if first else []
+                high = [] if ordinal is None else ["<" + self.text(name, ordinal)]
+                found.append([one] if place == first + 1 else low + high)
+                first = None
+        return found
+
+    def every(self, name, ordinals, whole="every version of {}", most="every version of {}"):
+        """A set of versions as one speaks of each: all, all but some where that is shorter, or those that there are."""
+        published = frozenset(self.order(name))
+        inside = published & ordinals
+        if not inside:
+            return f"{name} {listed([f'#{it}' for it in sorted(ordinals)], 'or')}" if ordinals else f"no version of {name}"
+        if inside == published:
+            return whole.format(name)
+        spans, others = self.spans(name, inside), self.spans(name, published - inside)
+        if sum(map(len, others)) < sum(map(len, spans)):
+            return f"{most.format(name)} but {listed([' '.join(it) for it in others], 'and')}"
+        return f"{name} {listed([' '.join(it) for it in spans], 'or')}"
+
+    def some(self, name, ordinals):
+        """A set of versions as one speaks of any of them."""
+        return self.every(name, ordinals, "{}", "any version of {}")
+
+
+class Fact:
+    """A cause that follows from nothing else. Of two that are told together the one of the lower rank comes first."""
+    rank = 2
+
+    def __init__(self, said):
+        self.said, self.admitted = said, {}
+
+
+class Question(Fact):
+    """What the request has for the sake of the question alone."""
+    rank = 1
+
+
+class Dependency(Fact):
+    """Versions of a package, or the request, depend on a package; `within` has the versions that they leave to choose from."""
+    rank = 0
+
+    def __init__(self, subject, whose, target, requirement, within):
+        # in quotes where it could be taken for a range of versions, which is another thing
+        quoted = requirement if PLAIN.fullmatch(requirement) else f'"{requirement}"'
+        self.subject, self.whose, self.target, self.within, self.wanted = subject, whose, target, within, f"{target} {quoted}"
+        super().__init__(f"{subject} depends on {self.wanted}")
+        self.unmet = Fact(f"no version of {target} matches {quoted}")
+
+    def leads_to(self, other, steps):
+        """Whether all versions that are left here have the other dependency, and what further versions have it is not asked."""
+        if not isinstance(other, Dependency) or other.whose[0] != self.target or not self.within <= other.whose[1]:
+            return False
+        return self.within == other.whose[1] or all(self.target not in step.terms for step in steps)
+
+
+def joined(first, second, steps):
+    """What two facts say, in few words, between these steps."""
+    for one, other in ((first, second), (second, first)):
+        if isinstance(one, Dependency) and one.leads_to(other, steps):
+            return f"{one.said} which depends on {other.wanted}"
+    if isinstance(first, Dependency) and isinstance(second, Dependency) and first.whose == second.whose:
+        return f"{first.subject} depends on both {first.wanted} and {second.wanted}"
+    return " and ".join(it.said for it in sorted((first, second), key=lambda it: it.rank))
+
+
+class Step:
+    """What follows from two causes: a line of a derivation, or what a dependency means that no version meets."""
+
+    def __init__(self, terms, causes, number=None):
+        self.terms, self.causes, self.number = terms, causes, number
+        # what a requirement admits is told by its text, for as long as just that is asked for
+        self.admitted = {name: told for cause in causes for name, told in cause.admitted.items()
+                         if terms.get(name) == (False, told[0])}
+
+    def below(self):
+        """The causes that are steps."""
+        return [it for it in self.causes if isinstance(it, Step)]
+
+    def facts(self):
+        return [it for it in self.causes if isinstance(it, Fact)]
+
+
+class Derivation:
+    """A derivation that follows, as the steps that its last one rests on; each stands after those that it cites."""
+
+    def __init__(self, registry, request, rows, asked=None):
+        """A need on the package `asked`, of a name and a version, is the question itself and no need of the request."""
+        self.request = {"lock": [], "explain": True, "budget": 0, **request}
+        judge = Judge(registry, self.request)
+        judge.judge(rows)
+        self.registry, self.versions, self.asked, self.facts = registry, Versions(registry), asked, {}
+        lines = []
+        for row, terms in zip(rows, judge.conclusions):
+            causes, number = [self.cause(it, lines) for it in row["causes"]], len(lines) + 1
+            repeated = self.needless(causes)
+            lines.append(repeated if repeated and repeated.number else Step(terms, repeated.causes if repeated else causes, number))
+        self.steps = self.cut(lines)
+        self.last = self.steps[-1]
+
+    def needless(self, causes):
+        """The step that a line repeats, where that says that the request can't be met and the line only adds that it must be."""
+        for root, other in (causes, causes[::-1]):
+            if root is self.facts.get("root") and isinstance(other, Step) and other.terms == NEVER:
+                return other
+        return None
+
+    def cut(self, lines):
+        """The steps that the last line rests on, which are shared and not repeated."""
+        used, open_steps = {lines[-1]}, [lines[-1]]
+        while open_steps:
+            for it in open_steps.pop().below():
+                if it not in used:
+                    used.add(it)
+                    open_steps.append(it)
+        return [it for it in dict.fromkeys(lines) if it in used]
+
+    def cause(self, cause, lines):
+        """A cause as a step or a fact, equal ones as one."""
+        if "line" in cause:
+            return lines[cause["line"] - 1]
+        key = "root" if cause["fact"] == "root" else json.dumps(cause, sort_keys=True)
+        if key not in self.facts:
+            self.facts[key] = getattr(self, cause["fact"])(**{member: value for member, value in cause.items() if member != "fact"})
+        return self.facts[key]
+
+    def root(self):
+        return Fact("the request must be met")
+
+    def need(self, index):
+        target, requirement = self.request["needs"][index]
+        admitted = self.versions.matching(target, requirement)
+        fact = Dependency("the request", THE_REQUEST, target, requirement, admitted)
+        if self.asked and target == self.asked[0]:
+            fact = Question(" ".join(self.asked) + " is asked for")
+        return self.depended(fact, target, requirement, admitted, dict(NEVER))
+
+    def premise(self, name, need, target, versions, within):
+        versions, within = frozenset(versions), frozenset(within)
+        fact = Dependency(self.versions.every(name, versions), (name, versions), target, need, within)
+        return self.depended(fact, target, need, within, {name: (True, versions)})
+
+    def depended(self, fact, target, requirement, within, terms):
+        """A dependency. Where it leaves no version to choose from, that is told as a fact of its own, and what both mean as a step."""
+        if not within:
+            nothing = Fact(f"no version of {target} is published") if not self.registry.releases.get(target) else fact.unmet
+            return Step(terms, [fact, nothing])
+        if within & frozenset(self.versions.order(target)) == self.versions.matching(target, requirement) and isinstance(fact, Dependency):
+            fact.admitted = {target: (within, fact.wanted)}
+        return fact
+
+    def disallowed(self, name, versions):
+        published = frozenset(self.versions.order(name)) & frozenset(versions)
+        locked = " and not in the lock" if self.request["lock"] else ""
+        said = [f"{self.versions.every(name, published)} is yanked{locked}"] if published else []
+        missing = frozenset(versions) - published
+        if missing:
+            said.append(f"{self.versions.every(name, missing)} is not published")
+        return Fact(" and ".join(said) or NOTHING.format(name))
+
+    def conclusion(self, step):
+        """What a step says."""
+        terms = {name: term for name, term in step.terms.items() if name != ROOT}
+        inside = [(name, ordinals) for name, (is_in, ordinals) in terms.items() if is_in]
+        # a term that is true of no choice makes a line that says nothing
+        if step.terms.get(ROOT, NEVER[ROOT]) != NEVER[ROOT] or any(not ordinals for _, ordinals in inside):
+            return NOTHING.format(listed(list(terms), "and")) if terms else "the request must be met"
+        wanted = " or ".join(self.wanted(step, name, ordinals) for name, (is_in, ordinals) in terms.items() if not is_in)
+        if not inside:
+            return f"the request requires {wanted}" if wanted else "no selection meets the request"
+        if wanted and len(inside) == 1:
+            return f"{self.versions.every(*inside[0])} requires {wanted}"
+        named = [self.versions.some(*it) for it in inside]
+        if wanted:
+            return f"{listed(named, 'and')} together require {wanted}"
+        return [f"{named[0]} is forbidden", f"{named[0]} is incompatible with {named[-1]}",
+                f"{listed(named, 'and')} are incompatible"][min(len(named), 3) - 1]
+
+    def wanted(self, step, name, ordinals):
+        """What a step asks for of a package: by the requirement that admits just that, if one did, else by its versions."""
+        return step.admitted[name][1] if name in step.admitted else self.versions.some(name, ordinals)
+
+
+class Telling:
+    """The sentences that tell a derivation, each with its number or none; an empty one is a break before another branch."""
+
+    def __init__(self, derivation, failed=FAILED):
+        self.derivation, self.failed = derivation, failed
+        self.sentences, self.numbers, self.cited = [], {}, {}
+        for step in self.reached():
+            for it in step.below():
+                self.cited[it] = self.cited.get(it, 0) + 1
+        self.tell(derivation.last)
+
+    def reached(self):
+        """The steps of the derivation, with those that have no line of their own."""
+        found = dict.fromkeys(self.derivation.steps)
+        for step in self.derivation.steps:
+            found.update(dict.fromkeys(step.below()))
+        return found
+
+    def tell(self, last):
+        """Tells a step after what it rests on. A step hands over those that are to be told first; this needs no stack of calls."""
+        open_steps = [self.steps_of(last)]
+        while open_steps:
+            first = next(open_steps[-1], None)
+            if first is None:
+                open_steps.pop()
+            else:
+                open_steps.append(self.steps_of(first))
+
+    def steps_of(self, step):
+        return (self.of_facts, self.of_one, self.of_two)[len(step.below())](step)
+
+    def of_facts(self, step):
+        self.write(step, f"Because {joined(*step.causes, [step])}")
+        yield from ()
+
+    def of_one(self, step):
+        """A step that rests on another and a fact."""
+        (other,), (fact,) = step.below(), step.facts()
+        if other in self.numbers:
+            self.write(step, f"Because {fact.said} and {self.citing(other)}")
+        elif self.may_share(other):
+            (prior,), (before,) = other.below(), other.facts()
+            yield prior
+            self.write(step, f"And because {joined(before, fact, [prior, step])}")
+        else:
+            yield other
+            self.write(step, f"And because {fact.said}")
+
+    def of_two(self, step):
+        """A step that rests on two others."""
+        first, second = sorted(step.below(), key=lambda it: (it in self.numbers, not it.below()))
+        if first in self.numbers:
+            self.write(step, f"Because {self.citing(first)} and {self.citing(second)}")
+            return
+        if second not in self.numbers and second.below():
+            # the first branch is cited from behind the second one
+            self.cited[first] += 1
+        yield first
+        if second in self.numbers:
+            self.write(step, f"And because {self.citing(second)}")
+            return
+        if second.below():
+            self.sentences.append((None, ""))
+        yield second
+        self.write(step, f"And because {self.citing(first)}" if second.below() else "Thus")
+
+    def may_share(self, step):
+        """Whether a step may be left unsaid: it is cited once, and rests on a fact and on what is told right before."""
+        return self.cited[step] == 1 and len(step.below()) == 1 and step.below()[0] not in self.numbers
+
+    def citing(self, step):
+        return f"{self.derivation.conclusion(step)} ({self.numbers[step]})"
+
+    def write(self, step, because):
+        is_last = step is self.derivation.last
+        if self.cited.get(step, 0) > 1:
+            self.numbers[step] = len(self.numbers) + 1
+        said = self.failed if is_last else self.derivation.conclusion(step)
+        self.sentences.append((self.numbers.get(step), f"{because}, {said}."))
+
+    def lines(self):
+        """The sentences as lines, with room for the numbers where there are some."""
+        width = max((len(f"({number}) ") for number in self.numbers.values()), default=0)
+        return [(f"({number}) " if number else "").ljust(width) + said if said else "" for number, said in self.sentences]
