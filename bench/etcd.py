@@ -1,0 +1,165 @@
+#!/usr/bin/env python3
+"""How much fronts over etcd take in and answer, against a race in memory.
+
+    bench/etcd.py [--fronts 1 3 10] [--seconds 5] [--folder DIR] [--entries 49152]
+
+Starts three members of etcd on loopback, whose data lies in a folder (by itself the system's for temporary files, on a
+disk). Prints for each number of fronts how many publications are accepted a second and how long one takes, when each client
+sends one line and waits, and when it sends 64 at once; the same of resolve lines, of `--stale` fronts too; then what a race
+of as many files accepts a second, and how long a new front needs for all entries: from the cells, from a snapshot, from a
+file. Each figure is of this machine, with members, fronts and clients on it.
+"""
+import argparse
+import os
+import statistics
+import subprocess
+import sys
+import tempfile
+import threading
+import time
+
+TOP = os.path.dirname(os.path.dirname(os.path.abspath(__file__)))
+sys.path.insert(0, os.path.join(TOP, "tools", "tests"))
+import fronts
+import program
+from lines import publish_lines
+from members import Members, is_installed
+from race import race, write
+
+TOGETHER = 64
+
+
+class Bench:
+    def __init__(self, members, seconds):
+        self.members, self.seconds, self.serial = members, seconds, 0
+
+    def opened(self, count, prefix, *more):
+        """Fronts that each ask another member first, and have begun."""
+        urls, made = self.members.clients, []
+        for seat in range(1, count + 1):
+            made.append(fronts.Front(urls[seat % 3:] + urls[:seat % 3], seat, "--prefix", prefix, *more))
+            made[-1].begin()
+            made[-1].ask(program.LIST)
+        return made
+
+    def measure(self, asked, lines_of, together):
+        """Has each front asked as long as it is measured. Answers lines a second, and the milliseconds of a call: median, 99 of 100."""
+        spent, begun = [[] for _ in asked], time.perf_counter()
+        end = begun + self.seconds
+
+        def client(number, front):
+            at = 0
+            while time.perf_counter() < end:
+                start, lines = time.perf_counter(), lines_of(number, at, together)
+                replies = front.send(lines)
+                assert replies and not any('"error"' in it for it in replies), replies
+                spent[number].append(time.perf_counter() - start)
+                at += together
+        threads = [threading.Thread(target=client, args=it) for it in enumerate(asked)]
+        for thread in threads:
+            thread.start()
+        for thread in threads:
+            thread.join()
+        took, calls = time.perf_counter() - begun, sorted(it * 1000 for row in spent for it in row)
+        return len(calls) * together / took, statistics.median(calls), calls[len(calls) * 99 // 100]
+
+    def founded(self):
+        self.serial += 1
+        prefix = f"bench-{os.getpid()}-{self.serial}"
+        assert fronts.run("found", self.members.clients, "--prefix", prefix).returncode == 0
+        return prefix
+
+    def commands(self, count):
+        """Publications by so many fronts."""
+        for together in (1, TOGETHER):
+            made = self.opened(count, self.founded())
+            told = self.measure(made, lambda number, at, many: [program.publish(f"p{number}-{at // 4000}", f"1.{it}.0")
+                                                               for it in range(at, at + many)], together)
+            tell(f"{count} fronts, {together} at once: accepted", told)
+            for front in made:
+                front.end()
+
+    def resolves(self, count, *more):
+        """Resolve lines by so many fronts, of some 90 packages."""
+        prefix = self.founded()
+        filled = self.opened(1, prefix)[0]
+        lines = publish_lines(3000)
+        for at in range(0, len(lines), TOGETHER):
+            filled.send(lines[at:at + TOGETHER])
+        filled.end()
+        names = sorted({line.split('"name":"')[1].split('"')[0] for line in lines})
+        for together in (1, TOGETHER):
+            made = self.opened(count, prefix, *more)
+            told = self.measure(made, lambda number, at, many: [program.resolve(f"{names[(it * 7 + number) % len(names)]} *")
+                                                               for it in range(at, at + many)], together)
+            tell(f"{count} fronts{' --stale' if more else ''}, {together} at once: resolved", told)
+            for front in made:
+                front.end()
+
+    def catching_up(self, entries):
+        """A new front, where so many entries stand."""
+        prefix, lines = self.founded(), publish_lines(entries)
+        front = self.opened(1, prefix, "--compact-every", "0")[0]
+        for at in range(0, entries, TOGETHER):
+            front.send(lines[at:at + TOGETHER])
+        front.end()
+        with tempfile.TemporaryDirectory() as folder:
+            path = os.path.join(folder, "journal")
+            words = ["--prefix", prefix, "--compact-every", "0"]
+            timed(f"{entries} entries, from the cells", "serve", self.members.clients, *words, "--save", path)
+            timed(f"{entries} entries, from a file", "serve", self.members.clients, *words, "--load", path)
+            timed("a snapshot is kept", "compact", self.members.clients, *words, "--load", path)
+            timed(f"{entries} entries, from the snapshot", "serve", self.members.clients, *words)
+            start = time.perf_counter()
+            subprocess.run([program.PROGRAM, *program.SERVE, "--load", path], stdin=subprocess.DEVNULL, check=True)
+            print(f"the program alone loads them in {time.perf_counter() - start:.2f} s", flush=True)
+
+
+def timed(what, *words):
+    start = time.perf_counter()
+    ended = fronts.run(*words, given=program.LIST.encode())
+    assert ended.returncode == 0, ended.stderr
+    print(f"{what}: {time.perf_counter() - start:.2f} s", flush=True)
+
+
+def tell(what, told):
+    print(f"{what} {told[0]:.0f} a second, a call {told[1]:.2f} ms, 99 of 100 within {told[2]:.2f} ms", flush=True)
+
+
+def raced(count, lines=4000):
+    """What a race of so many files accepts a second."""
+    with tempfile.TemporaryDirectory() as folder:
+        paths = [os.path.join(folder, str(number)) for number in range(count)]
+        for number, path in enumerate(paths):
+            write(path, [program.publish(f"p{number}", f"1.{it}.0") for it in range(lines)])
+        spent = min(race(program.PROGRAM, paths)[0] for _ in range(3))
+    print(f"a race of {count} files: accepted {count * lines / spent:.0f} a second", flush=True)
+
+
+def main():
+    asked = argparse.ArgumentParser(description=__doc__, formatter_class=argparse.RawDescriptionHelpFormatter)
+    asked.add_argument("--fronts", type=int, nargs="+", default=[1, 3, 10])
+    asked.add_argument("--seconds", type=float, default=5.0)
+    asked.add_argument("--folder", default=tempfile.gettempdir())
+    asked.add_argument("--entries", type=int, default=49_152)
+    asked = asked.parse_args()
+    if not is_installed():
+        sys.exit("etcd is not installed: apt-get install etcd-server")
+    members = Members(3, folder=asked.folder)
+    try:
+        bench = Bench(members, asked.seconds)
+        print(f"{os.cpu_count()} processors, data in {asked.folder}")
+        for count in asked.fronts:
+            bench.commands(count)
+            raced(count)
+        for count in asked.fronts:
+            bench.resolves(count)
+            bench.resolves(count, "--stale")
+        bench.catching_up(asked.entries)
+    finally:
+        members.close()
+    return 0
+
+
+if __name__ == "__main__":
+    sys.exit(main())
