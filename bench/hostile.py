@@ -1,36 +1,72 @@
 #!/usr/bin/env python3
 """What the costliest lines cost, beside the lines that they ask about.
 
-    bench/hostile.py [--rounds 3] [--program PATH]
+    bench/hostile.py [--rounds 3] [--program PATH] [NAME ..]
 
-Prints for each workload the time in which the process loaded the lines, the best time of the reply in so many processes, and the
-ratio of the two.
+Prints for each workload the lines with the time in which the process loaded them, the bytes that are asked then and that are answered,
+the best time of that in so many processes, and two ratios of this time: to that of loading, and to the time in which publish lines
+of a usual kind are loaded that have as many bytes as the lines and what is asked have together. Times are those of a processor, so
+that what else runs beside changes little.
 """
 import argparse
 
+from hostile_lines import HOSTILE
 from ingest import PROGRAM
+from lines import publish_lines
 from resolve import Session
-from workloads import HOSTILE
+
+USUAL = 20_000  # lines
 
 
-def measured(program, lines, request):
-    """Seconds of loading the lines, and of the reply."""
+def spent_by(process):
+    """Seconds of a processor that a process of one thread has spent so far."""
+    with open(f"/proc/{process.pid}/schedstat", encoding="ascii") as told:
+        return int(told.read().split()[0]) / 1e9
+
+
+def asked_of(session, lines):
+    """Seconds of a processor until these lines are answered, and the replies."""
+    before = spent_by(session.process)
+    _, replies = session.ask(lines)
+    return spent_by(session.process) - before, replies
+
+
+def size(lines):
+    return sum(len(line) + 1 for line in lines)
+
+
+def usual(program, rounds):
+    """Seconds in which a byte of usual lines is loaded."""
+    lines, times = publish_lines(USUAL), []
+    for _ in range(rounds):
+        with Session(program) as session:
+            times.append(asked_of(session, lines)[0])
+    return min(times) / size(lines)
+
+
+def measured(program, lines, asked):
+    """Seconds of loading the lines, those until what is asked is answered, and the bytes of the answers."""
     with Session(program) as session:
-        return session.load(lines), session.resolve(request)[0]
+        loading, _ = asked_of(session, lines)
+        spent, replies = asked_of(session, asked)
+        return loading, spent, sum(map(len, replies))
 
 
 def main():
     asked = argparse.ArgumentParser(description=__doc__.split("\n\n")[0])
     asked.add_argument("--rounds", type=int, default=3)
     asked.add_argument("--program", default=PROGRAM)
+    asked.add_argument("names", nargs="*", choices=[[], *HOSTILE])
     asked = asked.parse_args()
-    print("workload        lines      loading        a reply     ratio")
-    for name, make in HOSTILE.items():
-        lines, requests = make()
-        for request in requests:
-            times = [measured(asked.program, lines, request) for _ in range(asked.rounds)]
-            load, reply = (min(column) for column in zip(*times))
-            print(f"{name:12}{len(lines):9}{load * 1000:10.1f} ms{reply * 1000:12.1f} ms{reply / load:10.2f}", flush=True)
+    a_byte = usual(asked.program, asked.rounds)
+    print("workload            lines       bytes      loading     asked  answered      replies    to loading  to bytes")
+    for name in asked.names or HOSTILE:
+        lines, requests = HOSTILE[name]()
+        times = [measured(asked.program, lines, requests) for _ in range(asked.rounds)]
+        loading, spent, answered = (min(column) for column in zip(*times))
+        both = size(lines) + size(requests)
+        print(f"{name:16}{len(lines):9}{size(lines):12}{loading * 1000:10.1f} ms{size(requests):10}{answered:10}{spent * 1000:10.1f} ms"
+              f"{spent / loading:14.2f}{spent / (both * a_byte):10.2f}", flush=True)
     return 0
 
 

@@ -142,7 +142,7 @@ class Registry:
             self.numbers.setdefault(it, len(self.numbers))
             self.releases.setdefault(it, [])
         if command["op"] == "publish":
-            new = SimpleNamespace(version=read_version(command["version"]), needs=dict(command["needs"]), yanked=False)
+            new = SimpleNamespace(text=command["version"], version=read_version(command["version"]), needs=dict(command["needs"]), yanked=False)
             self.releases[command["name"]].append(new)
         else:
             self.find(command["name"], command["version"]).yanked = command["op"] == "yank"

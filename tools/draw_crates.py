@@ -2,7 +2,7 @@
 """Draws which crate stands on which, from crates.txt, as docs/crates.svg.
 
 A crate stands below all that stand on it, as near to them as it can: by the longest way down from the program. A line
-is drawn only where no others say it already. What the program doesn't stand on is for the tests alone, and apart.
+is drawn only where no others say it already. What the program doesn't stand on is for the tests or an example, and apart.
 """
 import os
 import random
@@ -192,8 +192,8 @@ def kit_of(crates, name):
 
 
 def apart(crates, edges, names, y):
-    """The crates for the tests alone, one under the other, each with those right below it in words."""
-    said = [text(MARGIN, y, "for the tests alone", 12, "#667788", "start")]
+    """The crates beside the program, one under the other, each with those right below it in words."""
+    said = [text(MARGIN, y, "for the tests, and an example", 12, "#667788", "start")]
     for place, name in enumerate(names):
         top = y + 14 + place * (HEIGHT + 10)
         said += box(MARGIN + WIDTH / 2, top, name, kit_of(crates, name))

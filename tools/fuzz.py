@@ -5,8 +5,9 @@
     tools/fuzz.py --seed 17 --sessions 1            one session again
 
 Lines are good, or damaged in their bytes, tokens or members. The derivations that the program tells are sent back, good and
-damaged. What is answered is judged by the plain readers of `tools/tests`, which share nothing with the program. A session is
-sent twice, the second time with what the first one told, and saved; then its journal is damaged and loaded. Status 1 where
+damaged. What is answered, by one worker or by several, is judged by the plain readers of `tools/tests`, which share nothing with the program. A session is
+sent twice, the second time with what the first one told, and saved; then its journal, what was learnt in it too, is damaged and
+loaded. Status 1 where
 anything is found; each find is told with its seed and its line.
 """
 import argparse
@@ -21,6 +22,7 @@ import time
 
 sys.path.insert(0, os.path.join(os.path.dirname(os.path.abspath(__file__)), "tests"))
 import program
+import said
 from made_lines import Maker
 from plain_journal import first_fault
 from plain_session import PlainSession, Requirements
@@ -35,9 +37,9 @@ def demand(holds, told):
         raise Find(told)
 
 
-def run(lines, *words):
+def run(lines, *words, workers=1):
     """The reply lines of a session that ends well."""
-    done = program.run([*program.SERVE, *words], b"".join(line + b"\n" for line in lines))
+    done = program.run(["serve", "--workers", str(workers), *words], b"".join(line + b"\n" for line in lines))
     demand((done.returncode, done.stderr) == (0, b""), f"a session ends with {done.returncode} {done.stderr[:300]}")
     replies = done.stdout.decode().split("\n")
     demand(replies.pop() == "" and len(replies) == len(lines), f"{len(lines)} lines have {len(replies)} replies")
@@ -64,6 +66,8 @@ def told_again(maker, lines, replies):
             made.append(json.dumps(check).encode())
             made.append(maker.line({**check, "derivation": maker.other(told["derivation"])}))
             made += [json.dumps({**check, "derivation": maker.near(told["derivation"])}).encode() for _ in range(6)]
+            if maker.rng.random() < 0.01:
+                made.append(json.dumps({**check, "derivation": maker.repeated(told["derivation"])}).encode())
     return made
 
 
@@ -77,37 +81,62 @@ def judged(lines, replies):
 
 
 def journal_text(form, accepted):
-    rows = [json.dumps(it, sort_keys=True, separators=(",", ":")) for it in accepted]
-    return "".join(f"{row}\n" for row in [f"registry-journal {form}", *rows, f"end {len(rows)}"]).encode()
+    rows = list(map(journal_line, accepted))
+    return b"".join(row + b"\n" for row in [b"registry-journal %d" % form, *rows, b"end %d" % len(rows)])
 
 
 def saved_well(text, accepted):
     """What was saved has the accepted commands in their order, and else what was learnt."""
-    lines = text.decode().split("\n")
-    demand(lines[0] == "registry-journal 2" and lines[-2:] == [f"end {len(lines) - 3}", ""], f"a file is saved as {text[:300]}")
-    commands = [it for it in lines[1:-2] if not it.startswith('{"derivation"')]
-    demand(commands == [json.dumps(it, sort_keys=True, separators=(",", ":")) for it in accepted], "other commands are saved than were accepted")
+    lines = text.split(b"\n")
+    demand(lines[0] == b"registry-journal 2" and lines[-2:] == [b"end %d" % (len(lines) - 3), b""], f"a file is saved as {text[:300]}")
+    commands = [it for it in lines[1:-2] if not it.startswith(b'{"derivation"')]
+    demand(commands == list(map(journal_line, accepted)), "other commands are saved than were accepted")
+    fault = first_fault(text, Requirements())
+    demand(fault is None, f"line {fault} of what is saved is at fault:\n{text[:3000]}")
 
 
 def damaged(maker, text):
     """A journal's text with a line or some bytes changed, or as it was."""
     lines, kind = text.split(b"\n"), maker.rng.random()
     place, other = maker.rng.randrange(len(lines)), maker.rng.randrange(len(lines))
-    if kind < 0.2:
+    if kind < 0.15:
         lines[place] = maker.other_bytes(lines[place])
-    elif kind < 0.35:
+    elif kind < 0.25:
         del lines[place]
-    elif kind < 0.5:
+    elif kind < 0.35:
         lines.insert(other, lines[place])
-    elif kind < 0.6:
+    elif kind < 0.45:
         lines[place], lines[other] = lines[other], lines[place]
-    elif kind < 0.7:
+    elif kind < 0.5:
         lines.insert(place, maker.line(maker.command()))
-    elif kind < 0.8:
+    elif kind < 0.6:
         lines[place] = lines[place].replace(b",", b", ", 1) + maker.rng.choice([b"", b"\r", b" "])
+    elif kind < 0.7:
+        lines[-2:] = maker.rng.choice([lines[-2:] + text.split(b"\n"), [lines[-2].replace(b" ", b" 0"), b""], [lines[-2] + b"0", b""], [lines[-2]],
+                                       [lines[-2], b"", b""], [b"end -1", b""], [b"end 18446744073709551616", b""], [lines[-2].upper(), b""]])
     elif kind < 0.9:
+        other_learnt(maker, lines)
+    elif kind < 0.95:
         return text[:maker.rng.randrange(len(text) + 1)]
     return b"\n".join(lines)
+
+
+def other_learnt(maker, lines):
+    """Changes what was learnt: the line of it, or where that stands."""
+    learnt = [place for place, line in enumerate(lines) if line.startswith(b'{"derivation"')]
+    if not learnt:
+        return
+    place = maker.rng.choice(learnt)
+    if maker.rng.random() < 0.25:
+        lines.insert(maker.rng.randrange(1, len(lines) - 1), lines.pop(place))
+        return
+    rows = json.loads(lines[place])["derivation"]
+    changed = maker.repeated(rows) if maker.rng.random() < 0.1 else maker.near(rows)
+    lines[place] = journal_line({"derivation": changed, "op": "learn"})
+
+
+def journal_line(value):
+    return json.dumps(value, sort_keys=True, separators=(",", ":")).encode()
 
 
 def loaded(maker, path, text):
@@ -123,9 +152,10 @@ def session(seed, count, path):
     """One session and its journal; answers how many lines were judged."""
     maker = Maker(random.Random(seed))
     _, lines = first_lines(maker, count)
-    replies = run(lines)
+    workers = maker.rng.choice([1, 2, 4, 64])
+    replies = run(lines, workers=workers)
     every = [*lines, *told_again(maker, lines, replies)]
-    again = run(every, "--save", path)
+    again = run(every, "--save", path, workers=workers)
     demand(again[:len(lines)] == replies, "the same lines are answered otherwise the second time")
     plain = judged(every, again)
     with open(path, "rb") as file:
@@ -133,8 +163,10 @@ def session(seed, count, path):
     saved_well(text, plain.accepted)
     listed = run([b'{"op":"list"}'], "--load", path)
     demand(listed == [plain.registry.answer({"op": "list"}, ())], "what was saved is loaded otherwise")
-    for _ in range(4):
+    for _ in range(3):
         loaded(maker, path, damaged(maker, journal_text(maker.rng.choice([1, 2]), plain.accepted[:maker.rng.choice([3, 30, 300])])))
+    for _ in range(3):
+        loaded(maker, path, damaged(maker, text))
     return len(every)
 
 
@@ -154,6 +186,7 @@ def main(words):
     parser.add_argument("--program", default=program.PROGRAM)
     given = parser.parse_args(words)
     program.PROGRAM = given.program
+    said.is_noting = False
     began, lines, finds = time.monotonic(), 0, 0
     with multiprocessing.get_context("fork").Pool(given.jobs) as pool:
         seeds = range(given.seed, given.seed + given.sessions)

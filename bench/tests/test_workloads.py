@@ -1,6 +1,8 @@
 """That the benchmark's workloads are what they say: accepted, answered, and answered the way that they are to be."""
+import itertools
 import json
 import os
+import random
 import sys
 import tempfile
 import unittest
@@ -9,13 +11,16 @@ BENCH = os.path.dirname(os.path.dirname(os.path.abspath(__file__)))
 sys.path.insert(0, BENCH)
 sys.path.insert(0, os.path.join(os.path.dirname(BENCH), "tools", "tests"))
 
+from hostile import measured, size  # noqa: E402
+from hostile_lines import HOSTILE, MEGABYTE  # noqa: E402
 from journals import seconds  # noqa: E402
 from lines import publish_lines  # noqa: E402
 from plot import svg  # noqa: E402
 from workers import WORKERS, alone, by_workers  # noqa: E402
 from race import dealt  # noqa: E402
 from program import PROGRAM, serve  # noqa: E402
-from workloads import HOSTILE, SHARED, about_one, chain, crossed, dead_ends, lockfile, tower, towers, worn  # noqa: E402
+from workloads import (SHARED, about_one, chain, clauses, crossed, dead_ends, lockfile, partial, sat, tower,  # noqa: E402
+                       towers, worn)
 
 
 class Workloads(unittest.TestCase):
@@ -42,6 +47,28 @@ class Workloads(unittest.TestCase):
     def test_a_tower_is_refused(self):
         for reply in self.replies(tower(5)):
             self.assertIn('"refused":true', reply)
+
+    def test_conflicts_side_by_side_are_all_avoided(self):
+        (reply,) = self.replies(partial(70))
+        selected = json.loads(reply)["selected"]
+        # of each copy the package that both are needed by, foo and target, and two packages that stand for all
+        self.assertEqual(len(selected), 3 * 70 + 2)
+        self.assertEqual({version for name, version in selected if name.startswith("foo")}, {"1.0.0"})
+
+    def test_a_formula_is_decided(self):
+        rng = random.Random(1)
+        held = []
+        for reply in self.replies(sat(10)):
+            formula = clauses(10, rng)
+            held.append(any(all(any(values[variable] == value for variable, value in clause) for clause in formula)
+                            for values in itertools.product((0, 1), repeat=10)))
+            if held[-1]:
+                selected = dict(json.loads(reply)["selected"])
+                values = {int(name[-3:]): int(version[2]) for name, version in selected.items() if name.startswith("x")}
+                self.assertTrue(all(any(values.get(variable) == value for variable, value in clause) for clause in formula))
+            else:
+                self.assertIn('"refused":true', reply)
+        self.assertEqual(set(held), {True, False})
 
     def test_requests_that_share_conflicts(self):
         for make, size, answer in ((towers, 4, '"refused":true'), (chain, 5, '"refused":true'), (worn, 60, '"selected":[[')):
@@ -71,10 +98,35 @@ class Workloads(unittest.TestCase):
             for reply in self.replies((lines, requests)):
                 self.assertIn('"refused":true', reply)
 
-    def test_a_need_is_cited_in_every_line(self):
-        lines, requests = HOSTILE["cited again"](5)
-        self.assertTrue(all(1_000_000 < len(request) < 1_048_576 for request in requests))
-        self.assertEqual(self.replies((lines, requests)), ['{"follows":true,"revision":5}'])
+    def test_what_asks_for_much_is_answered_as_it_is_meant(self):
+        follows, refused = '"follows":true', '"refused":true'
+        wanted = {"all bumped": refused, "two bumped": refused, "explained": '"derivation":[', "cited need": follows, "cited needs": follows,
+                  "cited premise": follows, "cited versions": follows, "cited line": follows, "long needs": refused, "long texts": refused,
+                  "long lock": '"selected":[["a","1.0.0"]]', "long publication": '"error":6', "listing": '"packages":[', "requirements": '"ok":true',
+                  "resting": '"ok":true'}
+        self.assertEqual(set(wanted), set(HOSTILE))
+        for name, make in HOSTILE.items():
+            lines, asked = make(70)
+            replies = serve(lines + asked)
+            for line, reply in zip(lines, replies):
+                self.assertIn('"ok":true' if '"op":"publish"' in line else '"refused":true', reply, name)
+            for reply in replies[len(lines):]:
+                self.assertIn(wanted[name], reply, name)
+            if name.startswith("cited"):
+                self.assertTrue(0.9 * MEGABYTE < size(asked) < 1_048_576, name)
+
+    def test_what_is_learnt_stays_where_it_rests_on_other_versions(self):
+        lines, asked = HOSTILE["resting"](3)
+        # a request that what was learnt answers meets the conflict alone that shows that it is refused
+        again = [json.dumps({**json.loads(line), "budget": 1}) for line in lines if '"op":"resolve"' in line]
+        self.assertIn('"error":22', serve([line for line in lines if '"op":"publish"' in line] + again)[-1])
+        for reply in serve(lines + asked + again)[len(lines) + len(asked):]:
+            self.assertIn('"refused":true', reply)
+
+    def test_hostile_lines_are_measured(self):
+        loading, spent, answered = measured(PROGRAM, *HOSTILE["cited versions"](5))
+        self.assertGreater(min(loading, spent), 0)
+        self.assertEqual(answered, len(b'{"follows":true,"revision":10}\n'))
 
     def test_a_journal_has_the_lines(self):
         with tempfile.TemporaryDirectory() as folder:

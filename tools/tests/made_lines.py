@@ -2,6 +2,7 @@
 or their members. Nothing here says what a line is answered."""
 import json
 import re
+from json.encoder import encode_basestring, encode_basestring_ascii
 
 NAMES = ["a", "b", "c", "d", "e-1"]
 VERSIONS = ["1.0.0", "1.1.0", "1.2.3", "2.0.0", "2.0.0-rc.1", "0.3.1", "0.0.7", "1.0.0-alpha.1", "2.1.0+build.5"]
@@ -35,6 +36,9 @@ class Maker:
         return self.rng.choice(texts if self.rng.random() < 0.985 else other)
 
     def pairs(self, names, texts, most):
+        if self.rng.random() < 0.004:
+            # about as many as there may be
+            return [[f"n{number}", self.rng.choice(texts)] for number in range(self.rng.choice([63, 64, 65, 66, 130]))]
         named = self.rng.sample(names, min(self.rng.choice([0, 1, 1, 2, 3]), len(names), most))
         if named and self.rng.random() < 0.02:
             named.append(self.rng.choice(named))
@@ -77,6 +81,17 @@ class Maker:
         return [{"causes": [self.cause(), self.cause()], "conclusion": [term() for _ in range(self.rng.choice([0, 1, 2]))],
                  "pivot": self.rng.choice(["", *NAMES])} for _ in range(self.rng.choice([0, 1, 1, 2, 3]))]
 
+    def repeated(self, rows):
+        """A derivation with its first lines many times over: each follows as the first of its kind does, where that cites no line."""
+        count = self.rng.choice([1, 2, 10, 127, 254, 255, 256])
+        first = rows[:self.rng.randrange(1, 3)]
+        moved = json.loads(json.dumps(rows))
+        for row in moved:
+            for cause in row["causes"]:
+                if "line" in cause:
+                    cause["line"] += count * len(first)
+        return first * count + moved
+
     def near(self, rows):
         """A derivation that differs in one place, and is of its form."""
         rows = json.loads(json.dumps(rows))
@@ -117,13 +132,15 @@ class Maker:
         if key in ("versions", "within"):
             cause[key] = self.near_set(cause[key])
         elif key in ("line", "index"):
-            cause[key] = max(0, cause[key] + self.rng.choice([-1, 1]))
+            cause[key] = self.rng.choice([max(0, cause[key] - 1), cause[key] + 1, 0, 4294967295])
         elif key in ("name", "target"):
             cause[key] = self.rng.choice(NAMES)
         elif key == "need":
             cause[key] = self.rng.choice(REQUIREMENTS)
 
     def near_set(self, ordinals):
+        if self.rng.random() < 0.05:
+            return list(range(0, self.rng.choice([64, 65, 4096, 5000]), self.rng.choice([1, 63, 64])))
         return sorted(set(ordinals) ^ {self.rng.choice([0, 1, 2, 3, 4, 5, 17, 4294967295])})
 
     def check(self):
@@ -140,11 +157,15 @@ class Maker:
 
     # Lines
 
+    def plain_line(self, value):
+        """The line that says this, in whatever words."""
+        return self.written(value).encode()
+
     def line(self, value):
         """The line that says this, or one that is damaged."""
         kind = self.rng.random()
         if kind < 0.6:
-            return json.dumps(value).encode() if kind < 0.4 else self.written(value).encode()
+            return json.dumps(value).encode() if kind < 0.4 else self.plain_line(value)
         if kind < 0.8:
             return self.written(self.other(value)).encode("utf-8", "surrogatepass").replace(b"\n", b" ")
         text = json.dumps(value)
@@ -158,7 +179,7 @@ class Maker:
         if isinstance(text, Raw):
             return text
         if self.rng.random() < 0.8:
-            return json.dumps(text, ensure_ascii=self.rng.random() < 0.5)
+            return (encode_basestring_ascii if self.rng.random() < 0.5 else encode_basestring)(text)
         return '"' + "".join("\\u%04x" % ord(it) if ord(it) < 65536 and self.rng.random() < 0.3 else json.dumps(it)[1:-1] for it in text) + '"'
 
     def written(self, value):

@@ -17,6 +17,7 @@ from check_derivation import CAUSES, COMMANDS, LINE, PAIRS, RESOLVE, ROOT, forme
 LIMIT = 1_048_576
 MOST_DEPTH = 127
 MOST_NEEDS = 64
+BRACKETS = re.compile(r"[\[\]{}]")
 STRING = re.compile(r'"(?:[^"\\]|\\.)*"')
 FORMS = {form["op"]: form for form in COMMANDS} | {
     "list": {"op": "list"}, "resolve": RESOLVE, "check": {"op": "check", "needs": PAIRS, "lock": PAIRS, "derivation": [LINE]}}
@@ -59,10 +60,13 @@ def sound(value):
 
 
 def depth(text):
-    """How deep brackets nest in a text that is JSON."""
-    deep = most = 0
-    for it in STRING.sub("", text):
-        deep += (it in "[{") - (it in "]}")
+    """How deep brackets nest in a text that is JSON; no deeper than there are any that open."""
+    deep, most = 0, text.count("[") + text.count("{")
+    if most <= MOST_DEPTH:
+        return most
+    most = 0
+    for it in BRACKETS.findall(STRING.sub("", text)):
+        deep += 1 if it in "[{" else -1
         most = max(most, deep)
     return most
 
@@ -71,14 +75,35 @@ def read_json(line):
     """The value of a line, none where it is no JSON."""
     try:
         text = line.decode()
-        value = json.loads(text, parse_int=whole, parse_float=finite, parse_constant=refuse, object_pairs_hook=members)
-        sound(value)
+        # only an escape can be half of a pair of surrogates
+        hook = members if "\\u" in text else None
+        value = json.loads(text, parse_int=whole, parse_float=finite, parse_constant=refuse, object_pairs_hook=hook)
+        if hook:
+            sound(value)
         return value if depth(text) <= MOST_DEPTH else None
     except (ValueError, RecursionError, OverflowError):
         return None
 
 
 # ---- lines
+
+def made(form):
+    """A function that says of a value whether it has a form, as `formed` does, in less time."""
+    if isinstance(form, dict):
+        names, parts = set(form), [(name, made(it)) for name, it in form.items()]
+        return lambda value: isinstance(value, dict) and value.keys() == names and all(part(value[name]) for name, part in parts)
+    if isinstance(form, tuple):
+        parts = list(map(made, form))
+        return lambda value: isinstance(value, list) and len(value) == len(parts) and all(part(it) for part, it in zip(parts, value))
+    if isinstance(form, list):
+        part = made(form[0])
+        return lambda value: isinstance(value, list) and all(map(part, value))
+    if isinstance(form, str):
+        return lambda value: value == form
+    if form is str:
+        return lambda value: type(value) is str
+    return lambda value: formed(value, form)
+
 
 def read_request(line):
     """What a line asks, with what it leaves out; none where it is of no form."""
@@ -87,7 +112,7 @@ def read_request(line):
     if not isinstance(op, str) or op not in FORMS:
         return None
     asked = {**LEFT_OUT.get(op, {}), **value}
-    if not formed(asked, FORMS[op]) or not all(map(named_well, asked.get("derivation", []))):
+    if not MADE[op](asked) or not all(map(named_well, asked.get("derivation", []))):
         return None
     # whether a budget was named decides whether it may be spent
     return {**asked, "budgeted": "budget" in value}
@@ -97,12 +122,34 @@ def is_whose(name):
     return name == ROOT or NAME.fullmatch(name)
 
 
+MADE, MADE_CAUSES = ({name: made(form) for name, form in forms.items()} for forms in (FORMS, {None: "no cause", **CAUSES}))
+
+
+def kind_of(cause):
+    """The kind that a cause would be of, if it is of any."""
+    kind = "line" if "line" in cause else cause.get("fact")
+    return kind if isinstance(kind, str) and kind in CAUSES else None
+
+
 def named_well(row):
     """Whether the causes of a derivation's line are of a form, and its names are such."""
-    whose = [row["pivot"], *(name for name, _, _ in row["conclusion"]), *(it["target"] for it in row["causes"] if "target" in it and formed(it, CAUSES["premise"]))]
-    names = [it["name"] for it in row["causes"] if isinstance(it.get("name"), str)]
-    return (all(any(formed(cause, form) for form in CAUSES.values()) for cause in row["causes"]) and all(map(is_whose, whose))
-            and all(map(NAME.fullmatch, names)))
+    if not all(MADE_CAUSES[kind_of(cause)](cause) for cause in row["causes"]):
+        return False
+    whose = [row["pivot"], *(name for name, _, _ in row["conclusion"]), *(it["target"] for it in row["causes"] if "target" in it)]
+    return all(map(is_whose, whose)) and all(NAME.fullmatch(it["name"]) for it in row["causes"] if "name" in it)
+
+
+class FormedJudge(check_derivation.Judge):
+    """Judges a derivation whose form was judged before."""
+
+    def cause(self, cause):
+        return getattr(self, kind_of(cause))(**{member: value for member, value in cause.items() if member != "fact"})
+
+    def judge(self, rows):
+        check_derivation.demand(rows, "there is no derivation")
+        for row in rows:
+            self.conclude(row)
+        check_derivation.demand(self.conclusions[-1] in ({}, check_derivation.NEVER), "the last line does not say that the request can't be met")
 
 
 @lru_cache(maxsize=None)
@@ -183,12 +230,12 @@ class PlainSession:
                  (4, any(len({name for name, _ in pairs}) < len(pairs) for pairs in (needs, lock))), (6, len(needs) > MOST_NEEDS)]
         return next((number for number, applies in tests if applies), None)
 
-    def judge(self, asked):
-        return check_derivation.Judge(self.judged, {"op": "resolve", "needs": asked["needs"], "lock": asked["lock"], "explain": True, "budget": 0})
+    def judge(self, asked, kind=check_derivation.Judge):
+        return kind(self.judged, {"op": "resolve", "needs": asked["needs"], "lock": asked["lock"], "explain": True, "budget": 0})
 
     def checked(self, asked, reply):
         try:
-            self.judge(asked).judge(asked["derivation"])
+            self.judge(asked, FormedJudge).judge(asked["derivation"])
             follows = "true"
         except check_derivation.Fault:
             follows = "false"

@@ -1,8 +1,12 @@
 """The program under test, and short ways to talk to it."""
 import json
 import os
+import resource
+import signal
 import subprocess
 import tempfile
+
+import said
 
 TOP = os.path.dirname(os.path.dirname(os.path.dirname(os.path.abspath(__file__))))
 PROGRAM = os.path.join(TOP, "crates", "registryd", "out", "registryd")
@@ -57,7 +61,18 @@ def run(words, given=b"", **more):
             file.write(given)
             file.seek(0)
             more["stdin"] = file
-        return subprocess.run([PROGRAM, *words], stderr=subprocess.PIPE, timeout=100, **more)
+        done = subprocess.run([PROGRAM, *words], stderr=subprocess.PIPE, timeout=100, **more)
+    if done.returncode == 0 and done.stdout is not None:
+        said.note_run(words, given, done.stdout, more.get("cwd", ""))
+    return done
+
+
+def up_to(most):
+    """Lets a program write files of at most so many bytes: what goes beyond that is cut off, and then writes fail."""
+    def limit():
+        signal.signal(signal.SIGXFSZ, signal.SIG_IGN)
+        resource.setrlimit(resource.RLIMIT_FSIZE, (most, most))
+    return limit
 
 
 def serve(lines, **more):

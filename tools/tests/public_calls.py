@@ -7,8 +7,8 @@ from program import TOP
 
 # These answer a refusal and take no memory.
 TAKES_NONE = {"registry::Registry::check", "derivations::Store::check", "book::Replica::check", "book::Replica::judge"}
-# What the probes stand on, and what is tried through the calls of the solver.
-NO_PART = {"rows", "heuristics"}
+# What the probes stand on, what is tried through the calls of the solver, and what is tried through the lines of the program.
+NO_PART = {"rows", "heuristics", "intake"}
 TAKES_MEMORY = re.compile(r"-> (?:io::)?Result<")
 
 

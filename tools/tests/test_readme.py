@@ -9,7 +9,7 @@ from program import PROGRAM, TOP
 
 
 # how many lines README has at most
-MOST_LINES = 80
+MOST_LINES = 110
 PAGES = ["README.md", *(os.path.join("docs", page) for page in sorted(os.listdir(os.path.join(TOP, "docs"))) if page.endswith(".md"))]
 
 
@@ -37,7 +37,7 @@ class Readme(unittest.TestCase):
     def test_each_file_that_is_typed_can_be_run(self):
         words = [line.split()[0] for name in ("README.md", "docs/BENCHMARKS.md") for block in blocks(name) for line in block]
         files = {word for word in words if re.fullmatch(r"[a-z./_]+", word) and "/" in word}
-        self.assertLessEqual({"./registryd", "bench/resolve.py", "tools/check_derivation.py"}, files)
+        self.assertLessEqual({"./registryd", "bench/resolve.py", "tools/check_derivation.py", "tools/why"}, files)
         files.add("./test")
         self.assertEqual([file for file in sorted(files) if not os.access(os.path.join(TOP, file), os.X_OK)], [])
 
@@ -82,14 +82,10 @@ class Readme(unittest.TestCase):
                 typed = ["./registryd serve --workers 1 --load journal --save saved < /dev/null", "cat saved"]
                 self.assertEqual(answers(folder, typed), (["registry-journal 2", *block[1:]], 0))
 
-    def test_the_refusal_that_is_explained(self):
-        typed, explanation = blocks()[4:6]
+    def test_the_refusal_that_is_told(self):
+        typed, told = blocks()[4:6]
         with tempfile.TemporaryDirectory() as folder:
-            self.assertEqual(answers(folder, typed), (["request 3: the refusal at revision 2 follows"], 0))
-            (reply,), status = answers(folder, ["tail -n 1 told.lines"])
-            self.assertEqual(status, 0)
-            for line in explanation:
-                self.assertIn(line.replace('"', r'\"'), reply)
+            self.assertEqual(answers(folder, typed), (told, 0))
 
     def test_the_race(self):
         at = next(at for at, block in enumerate(FORMATS) if "./registryd race" in block[-1])

@@ -6,12 +6,14 @@ call, the rows before it set things up, and those behind it show what the call l
 import json
 import os
 import subprocess
-import tempfile
 import unittest
 
+import generated_rows_chronicle
+import generated_rows_store
+from preloaded import REFUSE_MEMORY, built
 from program import TOP
 from public_calls import that_take_memory
-from row_tables import program, tables_in
+from row_tables import BEGIN, program, tables_in
 
 ROWS = os.path.join(TOP, "rows", "refused")
 SHORT = {"refused": 18}
@@ -65,11 +67,7 @@ def tables_of(file):
 class RefusedCalls(unittest.TestCase):
     @classmethod
     def setUpClass(cls):
-        folder = tempfile.TemporaryDirectory()
-        cls.addClassCleanup(folder.cleanup)
-        cls.library = os.path.join(folder.name, "refuse.so")
-        source = os.path.join(TOP, "tools", "refuse_memory", "refuse.c")
-        subprocess.run(["cc", "-O1", "-shared", "-fPIC", "-o", cls.library, source], check=True)
+        cls.library = built(cls, REFUSE_MEMORY)
 
     def refuse_each(self, session, table):
         """Refuses each request of the table's call in turn; answers how many answered want of memory."""
@@ -86,6 +84,22 @@ class RefusedCalls(unittest.TestCase):
             self.assertTrue(told.came, (table.title, number))
             short += self.judge(table, at, told, ample, before, number)
         return short
+
+    def refuse_last(self, made, count, step):
+        """Refuses one in so many of the last requests of a long row: what is met there is answered as ever, after one more try."""
+        (title, (row,)), = made
+        session, asked = Session(program("high"), self.library), {name: value for name, value in row.items() if name != "gives"}
+        rows = [json.loads(BEGIN), asked]
+        ample = session.run(rows)
+        self.assertEqual(ample.answers, [None, row["gives"]], title)
+        tried_again = 0
+        for number in range(ample.requests - count + 1, ample.requests + 1, step):
+            told = session.run(rows, number)
+            self.assertTrue(told.came, (title, number))
+            # what is refused where a step is answered, and not where it is made, is the whole row's answer
+            self.assertIn(told.answers, (ample.answers, [None, SHORT]), (title, number))
+            tried_again += told.answers == ample.answers
+        self.assertGreater(tried_again, 0, title)
 
     def judge(self, table, at, told, ample, before, number):
         """Whether the call, which was refused this request, answered want of memory; fails where it may not leave this."""
@@ -107,6 +121,12 @@ class RefusedCalls(unittest.TestCase):
         named = {name for file in sorted(os.listdir(ROWS)) for table in tables_of(file)
                   for name in table.title.split(", ")}
         self.assertEqual(named, that_take_memory())
+
+    def test_the_last_requests_of_a_row_that_ends_behind_a_segment(self):
+        self.refuse_last(generated_rows_chronicle.a_row_that_ends_behind_a_segment(), 150, 3)
+
+    def test_the_last_requests_of_a_seat_whose_store_was_full(self):
+        self.refuse_last(generated_rows_store.a_seat_stores_at_most_4096(), 300, 300)
 
     def test_each_request_of_each_call(self):
         count = refused = 0

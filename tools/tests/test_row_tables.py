@@ -7,6 +7,7 @@ import unittest
 
 import generated_rows
 # these add their tables to those of `generated_rows`
+import generated_rows_chronicle  # noqa: F401
 import generated_rows_pool  # noqa: F401
 import generated_rows_registry  # noqa: F401
 import generated_rows_search  # noqa: F401

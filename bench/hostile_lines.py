@@ -1,0 +1,160 @@
+"""Lines of which each asks for as much as it can, and the registries for that, the same for the same sizes.
+
+Each workload is a list of publish lines, and a list of lines that are asked then, all of them answered in the same way.
+"""
+import json
+
+from workloads import MOST_NEEDS, publish, resolve
+
+VERSIONS = 4096  # the most of a package
+MEGABYTE = 1_040_000  # bytes, some less than a line may have
+ZED = ["zed", "*"]  # a need that can't be met
+REFUTED = {"causes": [{"fact": "need", "index": 0}, {"fact": "root"}], "conclusion": [], "pivot": ""}  # where it stands first
+NONE = ",".join([">=1.0.0"] * 31 + [">=9.0.0"])  # as many comparators as there may be, which no version 1 passes
+
+
+def compact(value):
+    return json.dumps(value, separators=(",", ":"))
+
+
+def check(needs, rows):
+    return compact({"op": "check", "needs": needs, "derivation": rows})
+
+
+def as_often_as_fits(row, used=0):
+    """A line of a derivation as often as a line of a megabyte has room for, of which so much is used."""
+    return [row] * ((MEGABYTE - used) // (len(compact(row)) + 1))
+
+
+def versions_of(name, count):
+    return [publish(name, (1, version, 0), []) for version in range(count)]
+
+
+# ---- what each version says anew
+
+def bumped(bumps, versions):
+    """A package of so many versions with 64 dependencies each, and so many of them with another requirement than in the version
+    before, in turn, the one on `q` always. A request for it and for the versions of `q` that none of them admits, which is refused
+    for as many reasons as there are versions."""
+    names = ["t%02d" % number for number in range(MOST_NEEDS - 1)]
+    lines = [publish(name, (1, 0, 0), []) for name in names] + [publish("q", (major, 0, 0), []) for major in (1, 2)]
+    last = [0] * len(names)
+    for version in range(versions):
+        for step in range(bumps - 1):
+            last[(version * (bumps - 1) + step) % len(names)] = version
+        needs = [[name, ">=0.%d.%d" % (at, number)] for number, (name, at) in enumerate(zip(names, last))]
+        lines.append(publish("a", (1, version, 0), needs + [["q", ">=2.0.0, <3.%d.0" % version]]))
+    return lines, [resolve([["a", "*"], ["q", "^1"]])]
+
+
+def all_bumped(versions=VERSIONS):
+    return bumped(MOST_NEEDS, versions)
+
+
+def two_bumped(versions=VERSIONS):
+    return bumped(2, versions)
+
+
+def explained(versions=1024):
+    """A package of which each version needs `q` in words of its own, and a request that none of them meets, to be explained: by
+    a line for each version, which names those that are left."""
+    lines = [publish("q", (major, 0, 0), []) for major in (1, 2)]
+    lines += [publish("a", (1, version, 0), [["q", ">=2.0.0, <3.%d.0" % version]]) for version in range(versions)]
+    return lines, [compact({"op": "resolve", "needs": [["a", "*"], ["q", "^1"]], "explain": True})]
+
+
+# ---- derivations of a megabyte that follow
+
+def cited_need(versions=VERSIONS):
+    """All lines cite the request's one need."""
+    return versions_of("a", versions), [check([["a", NONE]], as_often_as_fits(REFUTED))]
+
+
+def cited_needs(versions=VERSIONS, packages=11):
+    """The lines cite one of several needs each."""
+    names = ["n%02d" % number for number in range(packages)]
+    rows = as_often_as_fits({**REFUTED, "causes": [{"fact": "need", "index": 10}, {"fact": "root"}]})
+    rows = [{**row, "causes": [{"fact": "need", "index": number % packages}, {"fact": "root"}]} for number, row in enumerate(rows)]
+    return [line for name in names for line in versions_of(name, versions)], [check([[name, NONE] for name in names], rows)]
+
+
+def cited_premise(versions=VERSIONS):
+    """All lines but the last cite one short premise twice: a version of `a` needs one of `b` that is not there."""
+    lines = versions_of("b", versions) + [publish("a", (1, version, 0), [["b", "^2"]]) for version in range(versions)]
+    premise = {"fact": "premise", "name": "a", "need": "^2", "target": "b", "versions": [0], "within": []}
+    row = {"causes": [premise, premise], "conclusion": [["a", True, [0]]], "pivot": "a"}
+    return lines, [check([ZED], as_often_as_fits(row, 200) + [REFUTED])]
+
+
+def cited_versions(versions=VERSIONS):
+    """The same with premises of all versions of both packages."""
+    every = list(range(versions))
+    lines = versions_of("b", versions) + [publish("a", (1, version, 0), [["b", "^1"]]) for version in range(versions)]
+    premise = {"fact": "premise", "name": "a", "need": "^1", "target": "b", "versions": every, "within": every}
+    row = {"causes": [premise, premise], "conclusion": [["b", False, every], ["a", True, every]], "pivot": "a"}
+    return lines, [check([ZED], as_often_as_fits(row, 200) + [REFUTED])]
+
+
+def cited_line(ordinals=30_000):
+    """A line that names many versions far from each other, which all lines behind it cite."""
+    lines = [publish("a", (1, 0, 0), [])]
+    far = [64 * number for number in range(1, ordinals + 1)]
+    first = {"causes": [{"fact": "disallowed", "name": "a", "versions": far}, {"fact": "root"}], "conclusion": [["a", True, far]], "pivot": ""}
+    row = {"causes": [{"line": 1}, {"fact": "need", "index": 1}], "conclusion": [["", True, [0]]], "pivot": "a"}
+    return lines, [check([ZED, ["a", "^2"]], [first, *as_often_as_fits(row, len(compact(first)) + 200), REFUTED])]
+
+
+# ---- other long lines
+
+def long_needs(versions=VERSIONS, packages=11):
+    """Needs of as many comparators as there may be, which no version meets."""
+    names = ["n%02d" % number for number in range(packages)]
+    return [line for name in names for line in versions_of(name, versions)], [resolve([[name, NONE] for name in names])]
+
+
+def long_texts(versions=VERSIONS):
+    """Versions that differ in the last letters of a long pre-release, and a need that none of them meets."""
+    before = "1.0.0-" + "a" * 240 + "."
+    lines = [compact({"op": "publish", "name": "a", "version": before + str(version), "needs": []}) for version in range(versions)]
+    return lines, [resolve([["a", ">=" + before + "99999"]])]
+
+
+def long_lock(names=38_000):
+    """As long a lock as fits a line."""
+    lock = [["%x" % (0xa0000 + number), "1.0.0"] for number in range(names)]
+    return [publish("a", (1, 0, 0), [])], [compact({"op": "resolve", "needs": [["a", "*"]], "lock": lock})]
+
+
+def long_publication(needs=60_000):
+    """As many dependencies as fit a line, which are too many."""
+    return [publish("a", (1, 0, 0), [])], [publish("b", (1, 0, 0), [["b%d" % number, "^1"] for number in range(needs)])]
+
+
+def listing(versions=VERSIONS, packages=12):
+    """All that a session may have is listed."""
+    return [line for number in range(packages) for line in versions_of("n%02d" % number, versions)], ['{"op":"list"}']
+
+
+# ---- publications beside what was said of a package
+
+def requirements(count=6_000, versions=500):
+    """So many requirements on `t`, and then versions of it, each of which is tested against all."""
+    lines = [publish("u%d" % (number // VERSIONS), (1, number % VERSIONS, 0), [["t", ">=0.%d.0" % number]]) for number in range(count)]
+    return lines, versions_of("t", versions)
+
+
+def resting(count=200, versions=100):
+    """So many packages of which it is learnt that they can't be had, each time from 120 requirements on `q`; the requests for them are
+    sent with the lines. Then versions of `q` that end nothing of it."""
+    lines = [publish("q", (major, 0, 0), []) for major in (1, 2)]
+    lines += [publish("a", (1, version, 0), [["q", ">=2.0.0, <3.%d.0" % version]]) for version in range(120)]
+    lines += [publish("one", (1, 0, 0), [["q", "^1"]])]
+    names = ["r%04d" % number for number in range(count)]
+    lines += [publish(name, (1, 0, 0), [["a", "*"], ["one", "*"]]) for name in names]
+    return lines + [resolve([[name, "*"]]) for name in names], [publish("q", (0, version, 0), []) for version in range(versions)]
+
+
+HOSTILE = {"all bumped": all_bumped, "two bumped": two_bumped, "explained": explained, "cited need": cited_need, "cited needs": cited_needs,
+           "cited premise": cited_premise, "cited versions": cited_versions, "cited line": cited_line, "long needs": long_needs,
+           "long texts": long_texts, "long lock": long_lock, "long publication": long_publication, "listing": listing,
+           "requirements": requirements, "resting": resting}

@@ -1,0 +1,197 @@
+/* Calls of clients/c that a careless caller makes. The word is the program. It prints the first line that failed. */
+#include "registryd.h"
+
+#include <pthread.h>
+#include <stdio.h>
+#include <stdlib.h>
+#include <string.h>
+#include <unistd.h>
+
+#define WANT(that) do { if (!(that)) { printf("line %d: %s\n", __LINE__, #that); exit(1); } } while (0)
+
+static const char *program;
+static const char list[] = "{\"op\":\"list\"}\n";
+static const char listed[] = "{\"packages\":[],\"revision\":0}\n";
+
+static registryd_session opened(const char *load, const char *save)
+{
+    registryd_session session = 0;
+    WANT(registryd_open(program, 1, load, save, &session) == REGISTRYD_OK);
+    WANT(session != 0);
+    return session;
+}
+
+static void fed(registryd_session session, const char *text)
+{
+    WANT(registryd_feed(session, text, strlen(text)) == REGISTRYD_OK);
+}
+
+static void told(registryd_session session, const char *wanted)
+{
+    char text[512];
+    size_t length = 7, left = 7;
+    WANT(registryd_take(session, text, sizeof text, &length, &left) == REGISTRYD_OK);
+    WANT(left == 0 && length == strlen(wanted) && !memcmp(text, wanted, length));
+}
+
+static void wrong_arguments(void)
+{
+    registryd_session session = opened(NULL, NULL), none = 5;
+    char text[8];
+    size_t length, left;
+    WANT(registryd_open(NULL, 1, NULL, NULL, &none) == REGISTRYD_MISUSE);
+    WANT(registryd_open(program, 0, NULL, NULL, &none) == REGISTRYD_MISUSE);
+    WANT(registryd_open(program, 65, NULL, NULL, &none) == REGISTRYD_MISUSE);
+    WANT(registryd_open(program, 1, NULL, NULL, NULL) == REGISTRYD_MISUSE);
+    WANT(registryd_open("no/such/program", 1, NULL, NULL, &none) == REGISTRYD_START);
+    WANT(none == 5);
+    WANT(registryd_feed(session, NULL, 1) == REGISTRYD_MISUSE);
+    WANT(registryd_feed(session, list, SIZE_MAX) == REGISTRYD_MISUSE);
+    WANT(registryd_feed(session, NULL, 0) == REGISTRYD_OK);
+    WANT(registryd_take(session, NULL, 1, &length, &left) == REGISTRYD_MISUSE);
+    WANT(registryd_take(session, text, SIZE_MAX, &length, &left) == REGISTRYD_MISUSE);
+    WANT(registryd_take(session, text, 1, NULL, &left) == REGISTRYD_MISUSE);
+    WANT(registryd_take(session, text, 1, &length, NULL) == REGISTRYD_MISUSE);
+    /* All that was refused has done nothing. */
+    fed(session, list);
+    WANT(registryd_take(session, NULL, 0, &length, &left) == REGISTRYD_OK && length == 0 && left == strlen(listed));
+    WANT(registryd_take(session, text, 1, &length, &left) == REGISTRYD_OK && length == 1 && text[0] == '{');
+    told(session, listed + 1);
+    told(session, "");
+    WANT(registryd_close(session) == REGISTRYD_OK);
+}
+
+static void wrong_sessions(void)
+{
+    registryd_session first = opened(NULL, NULL);
+    size_t length, left;
+    char text[8];
+    WANT(registryd_close(first) == REGISTRYD_OK);
+    WANT(registryd_close(first) == REGISTRYD_MISUSE);
+    /* A number is not given twice, so an old one doesn't reach a new session. */
+    registryd_session second = opened(NULL, NULL);
+    WANT(first != second);
+    const registryd_session wrong[] = {0, 1, first, second + 1, second + 64, UINT64_MAX};
+    for (size_t i = 0; i < sizeof wrong / sizeof *wrong; i++) {
+        WANT(registryd_feed(wrong[i], list, 1) == REGISTRYD_MISUSE);
+        WANT(registryd_take(wrong[i], text, 1, &length, &left) == REGISTRYD_MISUSE);
+        WANT(registryd_save(wrong[i]) == REGISTRYD_MISUSE);
+        WANT(registryd_close(wrong[i]) == REGISTRYD_MISUSE);
+    }
+    WANT(registryd_close(second) == REGISTRYD_OK);
+}
+
+static void too_many_sessions(void)
+{
+    registryd_session all[REGISTRYD_SESSIONS], more = 5;
+    for (int i = 0; i < REGISTRYD_SESSIONS; i++)
+        all[i] = opened(NULL, NULL);
+    WANT(registryd_open(program, 1, NULL, NULL, &more) == REGISTRYD_MEMORY && more == 5);
+    for (int i = 0; i < REGISTRYD_SESSIONS; i++)
+        WANT(registryd_close(all[i]) == REGISTRYD_OK);
+}
+
+/* Lines that come byte by byte, and a last one without its line feed, which is answered at the end. */
+static void pieces(void)
+{
+    registryd_session session = opened(NULL, NULL);
+    for (const char *at = list; *at; at++)
+        WANT(registryd_feed(session, at, 1) == REGISTRYD_OK);
+    told(session, listed);
+    WANT(registryd_feed(session, list, strlen(list) - 1) == REGISTRYD_OK);
+    told(session, "");
+    WANT(registryd_save(session) == REGISTRYD_OK);
+    told(session, listed);
+    WANT(registryd_feed(session, list, strlen(list)) == REGISTRYD_MISUSE);
+    WANT(registryd_save(session) == REGISTRYD_OK);
+    WANT(registryd_close(session) == REGISTRYD_OK);
+}
+
+/* More than any channel holds, in both directions, before anything is taken. */
+static void much(void)
+{
+    registryd_session session = opened(NULL, NULL);
+    const size_t count = 40000, each = strlen(listed);
+    char *text = malloc(count * each + 1);
+    size_t length, left;
+    WANT(text);
+    for (size_t i = 0; i < count; i++)
+        fed(session, list);
+    WANT(registryd_take(session, text, count * each + 1, &length, &left) == REGISTRYD_OK);
+    WANT(length == count * each && left == 0);
+    for (size_t i = 0; i < count; i++)
+        WANT(!memcmp(text + i * each, listed, each));
+    free(text);
+    WANT(registryd_close(session) == REGISTRYD_OK);
+}
+
+static const char publish[] = "{\"op\":\"publish\",\"name\":\"a\",\"version\":\"1.0.0\",\"needs\":[]}\n";
+static const char published[] = "{\"ok\":true,\"revision\":1}\n";
+
+static void journals(void)
+{
+    size_t length, left;
+    char text[8];
+    /* One that is closed unsaved writes nothing. */
+    registryd_session session = opened(NULL, "a.journal");
+    fed(session, publish);
+    told(session, published);
+    WANT(registryd_close(session) == REGISTRYD_OK);
+    WANT(access("a.journal", F_OK) != 0);
+    session = opened(NULL, "a.journal");
+    fed(session, publish);
+    WANT(registryd_save(session) == REGISTRYD_OK);
+    told(session, published);
+    WANT(registryd_close(session) == REGISTRYD_OK);
+    session = opened("a.journal", NULL);
+    fed(session, list);
+    told(session, "{\"packages\":[[\"a\",[[\"1.0.0\",false]]]],\"revision\":1}\n");
+    WANT(registryd_save(session) == REGISTRYD_OK);
+    WANT(registryd_close(session) == REGISTRYD_OK);
+    /* A journal that can't be had: the session ends at once, and is not saved. */
+    session = opened("no/such.journal", "b.journal");
+    WANT(registryd_save(session) == REGISTRYD_ENDED);
+    WANT(registryd_take(session, text, sizeof text, &length, &left) == REGISTRYD_OK && length == 0);
+    WANT(registryd_close(session) == REGISTRYD_OK);
+    WANT(access("b.journal", F_OK) != 0);
+    session = opened("no/such.journal", NULL);
+    int answer = REGISTRYD_OK;
+    while (answer == REGISTRYD_OK)
+        answer = registryd_feed(session, list, strlen(list));
+    WANT(answer == REGISTRYD_ENDED);
+    WANT(registryd_close(session) == REGISTRYD_OK);
+}
+
+static void *session_of_its_own(void *nothing)
+{
+    for (int i = 0; i < 4; i++) {
+        registryd_session session = opened(NULL, NULL);
+        fed(session, list);
+        told(session, listed);
+        WANT(registryd_close(session) == REGISTRYD_OK);
+    }
+    return nothing;
+}
+
+static void threads(void)
+{
+    pthread_t all[8];
+    for (int i = 0; i < 8; i++)
+        WANT(!pthread_create(&all[i], NULL, session_of_its_own, NULL));
+    for (int i = 0; i < 8; i++)
+        WANT(!pthread_join(all[i], NULL));
+}
+
+int main(int count, char **words)
+{
+    WANT(count == 2);
+    program = words[1];
+    wrong_arguments();
+    wrong_sessions();
+    too_many_sessions();
+    pieces();
+    much();
+    journals();
+    threads();
+    return 0;
+}

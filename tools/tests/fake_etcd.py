@@ -1,0 +1,135 @@
+"""A gate before etcd's JSON gateway, which may lose what is asked or what is answered; and a small etcd to stand behind it
+where none is installed. The small one has what the fronts use, as etcd's documents tell it, and no more."""
+import json
+import threading
+from base64 import b64decode, b64encode
+from http.server import BaseHTTPRequestHandler, ThreadingHTTPServer
+
+
+class Drop(Exception):
+    """Raised by a gate's hook: the connection is closed, and nothing is answered."""
+
+
+class Gate(ThreadingHTTPServer):
+    """A server on loopback over something that answers. Its hook is called before and after each call that it passes on."""
+    daemon_threads = True
+
+    def __init__(self, behind, hook=lambda moment, path, asked: None):
+        super().__init__(("127.0.0.1", 0), Handler)
+        self.behind, self.hook = behind, hook
+        threading.Thread(target=self.serve_forever, args=(0.05,), daemon=True).start()
+
+    @property
+    def url(self):
+        return f"http://127.0.0.1:{self.server_address[1]}"
+
+    def handle_error(self, request, client_address):
+        """A connection that ended early is nothing to tell."""
+
+    def close(self):
+        self.shutdown()
+        self.server_close()
+
+
+class Handler(BaseHTTPRequestHandler):
+    protocol_version = "HTTP/1.1"
+    disable_nagle_algorithm = True
+
+    def do_POST(self):
+        asked = json.loads(self.rfile.read(int(self.headers["Content-Length"])))
+        try:
+            self.server.hook("before", self.path, asked)
+            if self.path == "/v3/watch":
+                return self.pass_on(self.server.behind.watch(asked["create_request"]))
+            status, told = self.server.behind.answer(self.path, asked)
+            self.server.hook("after", self.path, asked)
+        except Drop:
+            self.close_connection = True
+            return None
+        data = json.dumps(told).encode()
+        self.send_response(status)
+        self.send_header("Content-Length", str(len(data)))
+        self.end_headers()
+        self.wfile.write(data)
+        return None
+
+    def pass_on(self, results):
+        self.send_response(200)
+        self.send_header("Transfer-Encoding", "chunked")
+        self.end_headers()
+        for result in results:
+            data = json.dumps({"result": result}).encode() + b"\n"
+            self.wfile.write(b"%x\r\n%s\r\n" % (len(data), data))
+        self.close_connection = True
+
+    def log_message(self, *words):
+        """Nothing is logged."""
+
+
+class SmallEtcd:
+    """Keys with their revisions, in memory."""
+
+    def __init__(self):
+        self.revision = 1
+        self.kept = {}  # by key: its creation's revision, its last one, how often it was written, its value
+        self.events = []
+        self.changed = threading.Condition(threading.RLock())
+
+    def answer(self, path, asked):
+        calls = {"/v3/kv/range": self.range, "/v3/kv/put": lambda it: self.write([("request_put", it)])[0],
+                 "/v3/kv/txn": self.transact, "/v3/kv/compaction": lambda it: {}}
+        with self.changed:
+            return 200, {"header": {"revision": str(self.revision)}, **calls[path](asked)}
+
+    def told(self, key):
+        created, changed, version, value = self.kept[key]
+        return {"key": b64encode(key).decode(), "create_revision": str(created), "mod_revision": str(changed),
+                "version": str(version), "value": b64encode(value).decode()}
+
+    def within(self, asked):
+        """The keys of a range, in order."""
+        first = b64decode(asked["key"])
+        end = b64decode(asked["range_end"]) if "range_end" in asked else first + b"\0"
+        return sorted(key for key in self.kept if first <= key < end)
+
+    def range(self, asked):
+        found = self.within(asked)
+        limit = int(asked.get("limit", 0)) or len(found)
+        told = {"kvs": [self.told(key) for key in found[:limit]], "count": str(len(found)), "more": len(found) > limit}
+        return {name: value for name, value in told.items() if value}  # what is empty or false is left out
+
+    def transact(self, asked):
+        if all(map(self.holds, asked["compare"])):
+            return {"succeeded": True, "responses": self.write([next(iter(it.items())) for it in asked["success"]]),
+                    "header": {"revision": str(self.revision)}}
+        return {"responses": [{"response_range": self.range(it["request_range"])} for it in asked.get("failure", [])]}
+
+    def holds(self, compared):
+        created, changed, _, _ = self.kept.get(b64decode(compared["key"]), (0, 0, 0, b""))
+        found, wanted = {"CREATE": (created, compared.get("create_revision")), "MOD": (changed, compared.get("mod_revision"))}[compared["target"]]
+        return {"EQUAL": found == int(wanted), "GREATER": found > int(wanted)}[compared["result"]]
+
+    def write(self, writes):
+        """Puts and deletes, all at one revision."""
+        self.revision += 1
+        for kind, asked in writes:
+            for key in [b64decode(asked["key"])] if kind == "request_put" else self.within(asked):
+                if kind == "request_put":
+                    created, _, version, _ = self.kept.get(key, (self.revision, 0, 0, b""))
+                    self.kept[key] = created, self.revision, version + 1, b64decode(asked["value"])
+                    self.events.append((key, {"kv": self.told(key)}))
+                else:
+                    del self.kept[key]
+                    self.events.append((key, {"type": "DELETE", "kv": {"key": b64encode(key).decode()}}))
+        self.changed.notify_all()
+        return [{} for _ in writes]
+
+    def watch(self, asked):
+        first, end = b64decode(asked["key"]), b64decode(asked["range_end"])
+        seen = len(self.events)
+        yield {"created": True}
+        while True:
+            with self.changed:
+                self.changed.wait_for(lambda: len(self.events) > seen)
+                news, seen = self.events[seen:], len(self.events)
+            yield {"events": [event for key, event in news if first <= key < end]}

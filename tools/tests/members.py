@@ -1,0 +1,166 @@
+"""Members of etcd on this machine, which may be killed, held up and cut off from each other."""
+import json
+import os
+import shutil
+import signal
+import socket
+import subprocess
+import tempfile
+import time
+import urllib.error
+import urllib.request
+
+from fake_etcd import Drop
+
+BRIDGE, NET = "reg-etcd", "10.77.0"
+MEMORY = "/dev/shm"
+
+
+def is_installed():
+    return shutil.which("etcd") is not None
+
+
+def may_divide():
+    """Whether this machine lets us make namespaces of the network."""
+    done = subprocess.run(["ip", "netns", "add", BRIDGE], capture_output=True) if shutil.which("ip") else None
+    return bool(done) and done.returncode == 0 and subprocess.run(["ip", "netns", "del", BRIDGE], capture_output=True).returncode == 0
+
+
+def free_port():
+    with socket.socket() as taken:
+        taken.bind(("127.0.0.1", 0))
+        return taken.getsockname()[1]
+
+
+def ip(*words):
+    subprocess.run(["ip", *words], check=True, capture_output=True)
+
+
+class Members:
+    """So many members, on loopback, or each in a namespace of its own behind one bridge."""
+
+    def __init__(self, count, divided=False, folder=MEMORY):
+        # in memory where that may be: what is tested loses processes, not the machine, and others may use the disk
+        self.folder = tempfile.mkdtemp(prefix="etcd-members-", dir=folder if os.path.isdir(folder) else None)
+        self.divided, self.children, self.ports = divided, [None] * count, {}
+        self.hosts = [f"{NET}.{number + 1}" if divided else "127.0.0.1" for number in range(count)]
+        if divided:
+            self.divide()
+        self.clients, self.peers = ([f"http://{host}:{2379 if divided else free_port()}" for host in self.hosts] for _ in range(2))
+        if divided:
+            self.peers = [url.replace("2379", "2380") for url in self.clients]
+        for number in range(count):
+            self.start(number)
+        self.wait()
+
+    def divide(self):
+        ip("link", "add", BRIDGE, "type", "bridge")
+        ip("addr", "add", f"{NET}.254/24", "dev", BRIDGE)
+        ip("link", "set", BRIDGE, "up")
+        for number, host in enumerate(self.hosts):
+            name = f"{BRIDGE}{number}"
+            ip("netns", "add", name)
+            ip("link", "add", name, "type", "veth", "peer", "name", "eth0", "netns", name)
+            ip("link", "set", name, "master", BRIDGE, "up")
+            ip("-n", name, "addr", "add", f"{host}/24", "dev", "eth0")
+            ip("-n", name, "link", "set", "eth0", "up")
+            ip("-n", name, "link", "set", "lo", "up")
+
+    def start(self, number):
+        name, client, peer = f"m{number}", self.clients[number], self.peers[number]
+        words = ["etcd", "--name", name, "--data-dir", os.path.join(self.folder, name), "--listen-client-urls", client,
+                 "--advertise-client-urls", client, "--listen-peer-urls", peer, "--initial-advertise-peer-urls", peer,
+                 "--initial-cluster", ",".join(f"m{n}={url}" for n, url in enumerate(self.peers)),
+                 "--log-level", "error"]
+        within = ["ip", "netns", "exec", f"{BRIDGE}{number}"] if self.divided else []
+        self.children[number] = subprocess.Popen([*within, *words], stdout=subprocess.DEVNULL, stderr=subprocess.DEVNULL)
+
+    def wait(self):
+        """Returns when each member answers."""
+        for url in self.clients:
+            self.until_healthy(url)
+
+    @staticmethod
+    def until_healthy(url):
+        for _ in range(600):
+            try:
+                with urllib.request.urlopen(url + "/health", timeout=1) as told:
+                    if json.loads(told.read())["health"] == "true":
+                        return
+            except (OSError, ValueError):
+                pass
+            time.sleep(0.05)
+        raise AssertionError(f"no member at {url}")
+
+    def kill(self, number, seconds):
+        """Kills a member, and begins it again after a while."""
+        self.children[number].kill()
+        self.children[number].wait()
+        time.sleep(seconds)
+        self.start(number)
+        self.until_healthy(self.clients[number])
+
+    def pause(self, number, seconds):
+        pause(self.children[number], seconds)
+
+    def cut_off(self, number, seconds):
+        """For a while a member hears nothing from anyone, and nobody from it."""
+        ip("link", "set", f"{BRIDGE}{number}", "down")
+        time.sleep(seconds)
+        ip("link", "set", f"{BRIDGE}{number}", "up")
+        self.until_healthy(self.clients[number])
+
+    def part(self, number, seconds):
+        """For a while a member and the others do not hear each other; whoever asks it reaches it."""
+        for change in ("add", "del"):
+            for other, host in enumerate(self.hosts):
+                if other != number:
+                    ip("-n", f"{BRIDGE}{number}", "route", change, "blackhole", f"{host}/32")
+            if change == "add":
+                time.sleep(seconds)
+        self.until_healthy(self.clients[number])
+
+    def close(self):
+        for child in self.children:
+            child.kill()
+            child.wait()
+        if self.divided:
+            for number in range(len(self.hosts)):
+                ip("netns", "del", f"{BRIDGE}{number}")
+            ip("link", "del", BRIDGE)
+        shutil.rmtree(self.folder)
+
+
+def pause(child, seconds):
+    """Holds a process up for a while."""
+    child.send_signal(signal.SIGSTOP)
+    time.sleep(seconds)
+    child.send_signal(signal.SIGCONT)
+
+
+class Member:
+    """A member behind a gate: what a gate passes on to it."""
+
+    def __init__(self, url):
+        self.url = url
+
+    def ask(self, path, asked, timeout):
+        data = json.dumps(asked).encode()
+        return urllib.request.urlopen(urllib.request.Request(self.url + path, data), timeout=timeout)
+
+    def answer(self, path, asked):
+        try:
+            with self.ask(path, asked, 5) as told:
+                return 200, json.loads(told.read())
+        except urllib.error.HTTPError as refused:
+            return refused.code, json.loads(refused.read())
+        except (OSError, ValueError) as lost:
+            raise Drop from lost
+
+    def watch(self, asked):
+        try:
+            with self.ask("/v3/watch", {"create_request": asked}, None) as told:
+                for line in told:
+                    yield json.loads(line)["result"]
+        except (OSError, ValueError, KeyError):
+            return

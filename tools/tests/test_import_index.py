@@ -1,0 +1,344 @@
+"""The tool that makes lines of indexes. Each sample's lines and counts are worked by hand from what the pages of crates.io's
+index, of Cargo and of Debian say; what the sample workspace selects is what Cargo 1.95.0 wrote into its Cargo.lock."""
+import json
+import os
+import subprocess
+import sys
+import tempfile
+import tomllib
+import unittest
+from pathlib import Path
+
+from program import LIST, TOP, publish, resolve, serve, yank
+from test_readme import answers, blocks
+
+sys.path.insert(0, os.path.join(TOP, "tools"))
+from index_readers import BEYOND, NOTHING, comparator, joined
+
+TOOL = os.path.join(TOP, "tools", "import_index")
+DATA = Path(TOP, "tools", "tests", "data")
+CRATES_IO, CARGO, DEBIAN = (str(DATA / name) for name in ("crates-io", "cargo", "debian.txt"))
+
+# fog 0.3.1 is a cut line, io 1.2.0 asks ">0.1 <0.4" without a comma, pad-left 1.0.0 needs pad-left ^0.9, maker 1.2.0+second
+# equals 1.2.0+first, and pad_left is pad-left's name but for `_`
+FOG = [publish("fog", "0.3.0", ["q ^0.1, >=0.1.1"]), publish("fog", "0.3.2", ["pad-left ^1", "q ^0.1"])]
+IO = [publish("io", "1.0.0"), publish("io", "1.1.0", ["fog ^0.3", "maker ~1.2"])]
+MAKER = [publish("maker", "1.2.0+first"), publish("maker", "1.3.0-beta.1"), publish("maker", "1.2.3")]
+PAD = [publish("pad-left", "1.0.1")]
+Q = [publish("q", "0.1.0"), publish("q", "0.1.1"), publish("q", "0.1.2"), yank("q", "0.1.2"), publish("q", "0.2.0", ["io ^1"])]
+SOLITARY = [publish("solitary", "2.0.0", ["gone ^5"])]
+REACHED = [
+    "left out: crates named as another one but for `-`, `_` and capitals: 1 (first: pad_left, as pad-left)",
+    "left out: dev dependencies: 1 (first: io 1.1.0 needs tester)",
+    'left out: lines that are of no known form: 1 (first: fog: {"name":"fog","vers":"0.3.1","deps":)',
+    "left out: optional dependencies: 1 (first: io 1.1.0 needs helper)",
+    'left out: versions that need another version of their own crate: 1 (first: pad-left 1.0.0 needs pad-left "^0.9")',
+    'left out: versions that need what is refused as a name or a requirement: 1 (first: io 1.2.0 needs fog ">0.1 <0.4")',
+    "left out: versions whose precedence another one has: 1 (first: maker 1.2.0+second)",
+    'told otherwise: crates needed by several requirements, all of which have to be met: 1 (first: fog 0.3.0 needs q "^0.1, >=0.1.1")',
+    "told otherwise: versions of crates with capitals in their names, in small letters: 2 (first: Pad-Left)"]
+ALONE = ["left out: dependencies from another registry: 1 (first: solitary 2.0.0 needs away)",
+         'left out: dependencies of a version on itself: 1 (first: solitary 2.0.0 needs solitary "^2")',
+         'missing: requirements on crates that are not there: 1 (first: solitary 2.0.0 needs gone "^5")']
+PACKAGED = [publish("big", "0.3.60", ["none ^9.1"]), publish("fog", "1.4.2", ["q ^0.3.2", "pad-left >=1.5, <3"]),
+            publish("pad-left", "1.5.0"), publish("pad-left", "2.0.0", ["big <0.4", "sha-1 ^0.9", "io ~1.2, =1.2.3"]),
+            publish("q", "0.3.7"), publish("really", "0.4.1", ["big >=0.3.5", "q =0.3.7"]),
+            publish("sha-1", "0.9.8", ["fog ^1", "q ^0.2"])]
+PACKAGED_COUNTS = [
+    "left out: alternatives after the first: 2 (first: sha-1 0.9.8 needs librust-either-1-dev | librust-fog-1-dev)",
+    "left out: dependencies on packages that are no crates: 1 (first: fog 1.4.2 needs libfog3-dev (>= 3))",
+    "left out: packages of features, with what they need: 1 (first: librust-fog+net-dev)",
+    'missing: requirements on crates that are not there: 2 (first: big 0.3.60 needs none "^9.1")',
+    'missing: requirements that no version there meets: 1 (first: sha-1 0.9.8 needs q "^0.2")',
+    'told otherwise: crates needed by several requirements, all of which have to be met: 1 (first: pad-left 2.0.0 needs io "~1.2, =1.2.3")',
+    "told otherwise: pre-releases, which Debian provides by their numbers alone: 1 (first: pad-left 2.0.0~rc.1)"]
+
+
+def made(*words):
+    """What the tool writes: its lines, what it counts, and its status."""
+    done = subprocess.run([TOOL, *map(str, words)], stdout=subprocess.PIPE, stderr=subprocess.PIPE, text=True, timeout=300)
+    return done.stdout.splitlines(), done.stderr.splitlines(), done.returncode
+
+
+def written(versions, crates, yanked=0):
+    return f"written: {versions} versions of {crates} crates, {yanked} of them yanked"
+
+
+def fill(top, files):
+    """Writes texts into a folder, by their paths there."""
+    for name, text in files.items():
+        Path(top, name).parent.mkdir(parents=True, exist_ok=True)
+        Path(top, name).write_text(text)
+    return top
+
+
+def entry(name, version, *needs, yanked=False):
+    """A line of crates.io's index; needs are texts `name requirement`."""
+    deps = [{"name": it.split(" ", 1)[0], "req": it.split(" ", 1)[1], "kind": "normal", "optional": False} for it in needs]
+    return json.dumps({"name": name, "vers": version, "deps": deps, "cksum": "", "features": {}, "yanked": yanked}) + "\n"
+
+
+class Imported(unittest.TestCase):
+    def assert_lines(self, lines, wanted):
+        self.assertEqual([json.loads(it) for it in lines], [json.loads(it) for it in wanted])
+
+
+class CratesIo(Imported):
+    def test_the_sample_gives_the_lines_and_counts_worked_by_hand(self):
+        lines, told, status = made("crates-io", CRATES_IO)
+        self.assert_lines(lines, [*FOG, *IO, *MAKER, *PAD, *Q, *SOLITARY])
+        self.assertEqual((told, status), ([written(13, 6, 1), *sorted(REACHED + ALONE)], 0))
+
+    def test_only_what_is_reached_is_written_and_asked_for(self):
+        lines, told, status = made("crates-io", CRATES_IO, "--from", "io@^1", "Pad_Left", "--ask")
+        asked = json.dumps({**json.loads(resolve("io ^1", "pad-left *")), "explain": True})
+        self.assert_lines(lines, [*FOG, *IO, *MAKER, *PAD, *Q, asked])
+        self.assertEqual((told, status), ([written(12, 5, 1), *REACHED], 0))
+
+    def test_serve_accepts_every_line(self):
+        lines, _, _ = made("crates-io", CRATES_IO)
+        replies = [json.loads(it) for it in serve([*lines, LIST])]
+        self.assertEqual([it["revision"] for it in replies[:-1] if it["ok"]], list(range(1, 15)))
+        versions = dict(replies[-1]["packages"])
+        self.assertEqual(versions["q"], [["0.1.0", False], ["0.1.1", False], ["0.1.2", True], ["0.2.0", False]])
+
+    def test_only_the_newest_are_written_the_yanked_ones_last(self):
+        lines, told, _ = made("crates-io", CRATES_IO, "--from", "q", "maker", "--newest", "2")
+        self.assert_lines(lines, [*FOG, *IO, *MAKER[1:], *PAD, Q[1], Q[4]])
+        self.assertIn("left out: versions below the 2 newest ones of their crate: 3 (first: maker 1.2.0+first)", told)
+        self.assertEqual(told[0], written(9, 5))
+
+    def test_what_cargo_keeps_of_an_index_gives_the_same(self):
+        # the form of a file: a byte 3, the number 2 in four bytes, a mark of the index, then each version and its line
+        with tempfile.TemporaryDirectory() as top:
+            for path in [it for it in Path(CRATES_IO).rglob("*") if it.is_file() and it.name not in ("config.json", "pad_left")]:
+                rows = [it for it in path.read_bytes().splitlines() if it.endswith(b"}")]
+                kept = b"".join(b"%s\0%s\0" % (json.loads(it)["vers"].encode(), it) for it in rows)
+                place = Path(top, ".cache", path.relative_to(CRATES_IO))
+                place.parent.mkdir(parents=True, exist_ok=True)
+                place.write_bytes(b"\x03\x02\0\0\0" + b"9a36937bc2c91ed769\0" + kept)
+            lines, told, status = made("crates-io", top)
+        self.assert_lines(lines, [*FOG, *IO, *MAKER, *PAD, *Q, *SOLITARY])
+        self.assertEqual((told[0], status), (written(13, 6, 1), 0))
+
+    def test_an_empty_requirement_is_none(self):
+        with tempfile.TemporaryDirectory() as top:
+            lines, told, _ = made("crates-io", fill(top, {"1/a": entry("a", "1.0.0", "b ") + entry("a", "1.0.1", "b  *")}))
+        self.assert_lines(lines, [publish("a", "1.0.1", ["b *"])])
+        self.assertIn('left out: versions that need what is refused as a name or a requirement: 1 (first: a 1.0.0 needs b "")', told)
+
+    def test_what_is_past_a_limit_is_left_out(self):
+        many = [f"n{number} ^1" for number in range(65)]
+        files = {"3/l/low": entry("low", "1.0.0", *many) + entry("low", "1.0.1", *many[1:]),
+                 "2/up": "".join(entry("up", f"0.0.{number}") for number in range(4097, 0, -1))}
+        with tempfile.TemporaryDirectory() as top:
+            lines, told, _ = made("crates-io", fill(top, files))
+        self.assert_lines(lines, [publish("low", "1.0.1", many[1:]), *(publish("up", f"0.0.{number}") for number in range(4097, 1, -1))])
+        self.assertEqual(told[:3], [written(4097, 2),
+                                    "left out: versions below the 4096 newest ones of their crate: 1 (first: up 0.0.1)",
+                                    "left out: versions with more than 64 dependencies: 1 (first: low 1.0.0)"])
+
+    def test_of_more_than_a_session_takes_the_newest_are_written(self):
+        # a yanked version takes two lines: of 3,511 versions that are all yanked but one, 7 crates have 7 times 7,021 lines
+        files = {f"3/c/c{letter}0": "".join(entry(f"c{letter}0", f"0.0.{number}", yanked=True) for number in range(3599))
+                 + entry(f"c{letter}0", "0.1.0") for letter in "abcdefg"}
+        with tempfile.TemporaryDirectory() as top:
+            lines, told, status = made("crates-io", fill(top, files))
+        self.assertEqual((len(lines), status), (49147, 0))
+        self.assert_lines(lines[:2] + lines[7020:7022], [publish("ca0", "0.0.89"), yank("ca0", "0.0.89"), publish("ca0", "0.1.0"),
+                                                         publish("cb0", "0.0.89")])
+        self.assertEqual(told, [written(7 * 3511, 7, 7 * 3510), "left out: versions below the 3511 newest ones of their crate: 623 "
+                                "(first: ca0 0.0.0)"])
+
+    def test_of_more_names_than_a_session_takes_the_newest_are_written(self):
+        # each version names 64 crates more; beside its own there are 65,534 names left: 1,023 times 64
+        rows = [entry("row", f"1.0.{number}", *(f"n{number}-{place} *" for place in range(64))) for number in range(1025)]
+        with tempfile.TemporaryDirectory() as top:
+            lines, told, status = made("crates-io", fill(top, {"3/r/row": "".join(rows)}))
+        self.assertEqual([json.loads(it)["version"] for it in lines], [f"1.0.{number}" for number in range(2, 1025)])
+        self.assertEqual((told[0], status), (written(1023, 1), 0))
+
+    def test_where_the_newest_alone_are_too_many_nothing_is_written(self):
+        crates = [f"{letter}{number}" for letter in "abcdefghij" for number in range(100, 203)]  # 1,030 that name 64 each
+        with tempfile.TemporaryDirectory() as top:
+            fill(top, {f"{name[:2]}/{name[2:]}/{name}": entry(name, "1.0.0", *(f"{name}-{place} *" for place in range(64))) for name in crates})
+            lines, told, status = made("crates-io", top)
+        self.assertEqual((lines, len(told), status), ([], 1, 1))
+        self.assertIn("are more than the 49152 lines and 65535 names of one session: name the crates to begin with by --from", told[0])
+
+
+class Cargo(Imported):
+    def test_the_sample_workspace_selects_what_cargo_locked(self):
+        locked = tomllib.loads(Path(CARGO, "Cargo.lock").read_text())["package"]
+        wanted = sorted([it["name"].lower(), it["version"]] for it in locked)
+        lines, told, status = made("cargo", CARGO, "--index", CRATES_IO, "--ask")
+        own = [publish("app", "0.3.0", ["lib =0.1.0", "io 1", "fog 0.3"])], [publish("lib", "0.1.0", ["pad-left 1", "maker >=1.2, <1.3"])]
+        asked = json.loads(lines.pop())
+        self.assert_lines(lines, [*own[0], *FOG, *IO, *own[1], *MAKER, *PAD, *Q])
+        self.assertEqual(asked, {"op": "resolve", "needs": [["app", "=0.3.0"], ["lib", "=0.1.0"]], "lock": wanted, "explain": True})
+        for lock in (wanted, []):
+            reply = json.loads(serve([*lines, json.dumps({**asked, "lock": lock})])[-1])
+            self.assertEqual(reply, {"revision": 15, "selected": wanted})
+        self.assertEqual((told[0], status), (written(14, 7, 1), 0))
+
+    def test_without_an_index_a_locked_crate_needs_what_was_taken_for_it(self):
+        lines, told, status = made("cargo", CARGO)
+        self.assert_lines(lines, [publish("app", "0.3.0", ["lib =0.1.0", "io 1", "fog 0.3"]),
+                                  publish("fog", "0.3.2", ["pad-left =1.0.1", "q =0.1.1"]),
+                                  publish("io", "1.1.0", ["fog =0.3.2", "maker =1.2.3"]),
+                                  publish("lib", "0.1.0", ["pad-left 1", "maker >=1.2, <1.3"]),
+                                  publish("maker", "1.2.3"), publish("pad-left", "1.0.1"), publish("q", "0.1.1")])
+        self.assertEqual((told, status), ([written(7, 7), "told otherwise: versions that Cargo.lock alone has, as needing what was "
+                                           "taken for them: 5 (first: fog 0.3.2)"], 0))
+
+    def test_a_lock_with_two_versions_of_a_crate(self):
+        lock = """
+            version = 3
+            [[package]]
+            name = "mine"
+            version = "1.0.0"
+            dependencies = ["syn 1.0.9", "two"]
+            [[package]]
+            name = "syn"
+            version = "1.0.9"
+            source = "registry+https://example.org/index"
+            [[package]]
+            name = "syn"
+            version = "1.0.10"
+            source = "registry+https://example.org/index"
+            [[package]]
+            name = "two"
+            version = "0.1.0"
+            source = "registry+https://example.org/index"
+            dependencies = ["syn 1.0.10 (registry+https://example.org/index)"]
+            """
+        with tempfile.TemporaryDirectory() as top:
+            lines, told, status = made("cargo", fill(top, {"Cargo.lock": lock}), "--ask")
+        asked = {"op": "resolve", "needs": [["mine", "=1.0.0"]], "lock": [["mine", "1.0.0"], ["syn", "1.0.10"], ["two", "0.1.0"]], "explain": True}
+        self.assert_lines(lines, [publish("mine", "1.0.0", ["syn =1.0.9", "two =0.1.0"]), publish("syn", "1.0.9"), publish("syn", "1.0.10"),
+                                  publish("two", "0.1.0", ["syn =1.0.10"]), json.dumps(asked)])
+        self.assertIn("left out: lower versions of a crate that Cargo.lock has several times: 1 (first: syn 1.0.9, 1.0.10)", told)
+        self.assertTrue(json.loads(serve(lines)[-1])["refused"])
+
+    def test_each_form_of_a_dependency(self):
+        root = """
+            [package]
+            name = "root"
+            [workspace]
+            members = ["in/*"]
+            exclude = ["in/out"]
+            [workspace.dependencies]
+            shared = { version = "2", features = ["x"] }
+            beside = { path = "in/beside" }
+            [dependencies]
+            plain = "1.2"
+            renamed = { package = "Long_Name", version = "~3" }
+            chosen = { version = "1", optional = true }
+            shared.workspace = true
+            [target.'cfg(unix)'.build-dependencies]
+            shared = { workspace = true }
+            far = { git = "https://example.org/far" }
+            [dev-dependencies]
+            tests = "*"
+            """
+        inner = """
+            [package]
+            name = "inner"
+            version = "0.1.0-pre"
+            [dependencies]
+            beside.workspace = true
+            shared = { workspace = true, optional = true }
+            away = { path = "../../../away" }
+            """
+        files = {"Cargo.toml": root, "in/inner/Cargo.toml": inner, "in/beside/Cargo.toml": '[package]\nname = "beside"\nversion = "4.0.0"\n',
+                 "in/out/Cargo.toml": '[package]\nname = "out"\nversion = "1.0.0"\n', "bad/Cargo.toml": "[package\n",
+                 "vendor/plain/Cargo.toml": '[package]\nname = "plain"\nversion = "1.2.5"\n[dependencies]\nshared = "=2.0.0"\n',
+                 "target/CACHEDIR.TAG": "", "target/far/Cargo.toml": '[package]\nname = "far"\nversion = "9.0.0"\n'}
+        with tempfile.TemporaryDirectory() as top:
+            lines, told, status = made("cargo", fill(top, files), "--ask")
+        self.assert_lines(lines, [publish("beside", "4.0.0"), publish("inner", "0.1.0-pre", ["beside =4.0.0", "away *"]),
+                                  publish("plain", "1.2.5", ["shared =2.0.0"]),
+                                  publish("root", "0.0.0", ["plain 1.2", "long_name ~3", "shared 2", "far *"]),
+                                  json.dumps({**json.loads(resolve("beside =4.0.0", "inner =0.1.0-pre", "root =0.0.0")), "explain": True})])
+        self.assertEqual([it.partition(" (")[0] for it in told], [
+            written(4, 4), "left out: dev dependencies: 1", "left out: manifests that can't be read: 1", "left out: optional dependencies: 2",
+            "missing: requirements on crates that are not there: 5",
+            "told otherwise: dependencies without a version, of git or on a path outside, as on any version: 2"])
+        self.assertEqual(status, 0)
+
+
+class Debian(Imported):
+    def test_the_sample_gives_the_lines_and_counts_worked_by_hand(self):
+        lines, told, status = made("debian", DEBIAN)
+        self.assert_lines(lines, PACKAGED)
+        self.assertEqual((told, status), ([written(7, 6), *PACKAGED_COUNTS], 0))
+
+    def test_a_refusal_of_it(self):
+        lines, _, _ = made("debian", DEBIAN, "--from", "sha_1", "--ask")
+        reply = json.loads(serve(lines)[-1])
+        self.assertEqual(reply["explanation"][0], '1. never (the request), because sha-1 {0.9.8} needs q "^0.2" in {} '
+                                                  'and the request needs sha-1 "*" in {0.9.8}')
+
+    def test_an_interval_as_a_requirement(self):
+        for low, high, wanted in [((1, 0, 0), (2, 0, 0), "^1"), ((1, 2, 0), (2, 0, 0), "^1.2"), ((1, 2, 3), (2, 0, 0), "^1.2.3"),
+                                  ((0, 0, 0), (1, 0, 0), "^0"), ((0, 2, 0), (0, 3, 0), "^0.2"), ((0, 2, 9), (0, 3, 0), "^0.2.9"),
+                                  ((0, 0, 0), (0, 1, 0), "^0.0"), ((0, 0, 3), (0, 0, 4), "^0.0.3"), ((1, 2, 0), (1, 3, 0), "~1.2"),
+                                  ((1, 2, 3), (1, 3, 0), "~1.2.3"), ((1, 2, 3), (1, 2, 4), "=1.2.3"), ((0, 2, 0), (1, 0, 0), ">=0.2, <1"),
+                                  ((0, 0, 0), (0, 0, 1), "^0.0.0"), ((1, 0, 0), (3, 0, 0), ">=1, <3"), (NOTHING, (0, 61, 0), "<0.61"),
+                                  ((1, 10, 0), BEYOND, ">=1.10"), ((20, 0, 0), BEYOND, ">=20"), (NOTHING, BEYOND, "*")]:
+            self.assertEqual(comparator((low, high)), wanted)
+
+    def test_alternatives_that_leave_nothing_out_are_one(self):
+        one, two, three, four = [((number, 0, 0), (number + 1, 0, 0)) for number in (1, 2, 3, 4)]
+        for parts, wanted in [([two, one], ((1, 0, 0), (3, 0, 0))), ([one, three], None), ([four, two, three], ((2, 0, 0), (5, 0, 0))),
+                              ([one, (NOTHING, BEYOND)], (NOTHING, BEYOND)), ([one], one)]:
+            self.assertEqual(joined(parts), wanted)
+
+    def test_a_machine_without_apt_or_without_its_index_is_told_so(self):
+        with tempfile.TemporaryDirectory() as folder:
+            Path(folder, "python3").symlink_to(sys.executable)
+            bare = {**os.environ, "PATH": folder}
+            done = subprocess.run([sys.executable, TOOL, "debian"], env=bare, stdout=subprocess.PIPE, stderr=subprocess.PIPE, text=True)
+            self.assertIn("import_index: apt-cache can't be asked", done.stderr)
+            Path(folder, "apt-cache").write_text("#!/bin/sh\necho Package: fog\n")
+            os.chmod(Path(folder, "apt-cache"), 0o755)
+            again = subprocess.run([sys.executable, TOOL, "debian"], env=bare, stdout=subprocess.PIPE, stderr=subprocess.PIPE, text=True)
+            self.assertIn("`apt-get update` fetches the index", again.stderr)
+        self.assertEqual([done.returncode, again.returncode, done.stdout + again.stdout], [1, 1, ""])
+
+
+class Words(unittest.TestCase):
+    def test_what_the_page_has_typed_prints_what_it_says(self):
+        typed, told = blocks("docs/IMPORTING.md")[:2]
+        with tempfile.TemporaryDirectory() as folder:
+            self.assertEqual(answers(folder, ["exec 2> counts", *typed]), (told, 0))
+
+    def test_what_can_not_be_done_is_told_with_its_status(self):
+        with tempfile.TemporaryDirectory() as bare:
+            for words, status, told in [(["crates-io", bare], 1, "has no file at the place"), (["cargo", bare], 1, "neither a Cargo.toml"),
+                                        (["crates-io", CRATES_IO, "--from", "zed"], 1, "there is no crate zed in the index"),
+                                        (["debian", DEBIAN, "--from", "padleft"], 1, "there is no crate padleft in the index; there is pad-left"),
+                                        (["crates-io", CRATES_IO, "--from", "io@new"], 1, '"new" is no requirement'),
+                                        (["crates-io", CRATES_IO, "--ask"], 1, "name it by --from"),
+                                        (["debian", os.path.join(bare, "none")], 1, "No such file"),
+                                        (["crates-io", CRATES_IO, "--newest", "0"], 2, "--newest is from 1 to 4096"),
+                                        (["npm", bare], 2, "invalid choice"), ([], 2, "required")]:
+                lines, said, ended = made(*words)
+                self.assertEqual((lines, ended), ([], status), words)
+                self.assertIn(told, said[-1])
+
+    def test_help_shows_an_example_of_each(self):
+        for words in ([], ["crates-io"], ["cargo"], ["debian"]):
+            lines, told, status = made(*words, "--help")
+            self.assertEqual((told, status), ([], 0))
+            self.assertIn("    tools/import_index debian --from reqwest --ask | ./registryd serve --workers 1 | tail -n 1", lines)
+
+    def test_a_reader_that_has_enough_ends_it(self):
+        with tempfile.TemporaryDirectory() as top:
+            fill(top, {"2/up": "".join(entry("up", f"0.0.{number}") for number in range(4000))})
+            done = subprocess.run(f"{TOOL} crates-io {top} | head -n 1", shell=True, stdout=subprocess.PIPE, stderr=subprocess.PIPE, text=True)
+        self.assertEqual((done.stdout.count("\n"), done.stderr), (1, ""))
+
+
+if __name__ == "__main__":
+    unittest.main()

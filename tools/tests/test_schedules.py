@@ -1,0 +1,114 @@
+"""A hundred races of generated files on one processor, on two and on four, with random pauses, each judged by its printed journal.
+`tools/race_many.py` runs more."""
+import json
+import os
+import sys
+import tempfile
+import unittest
+
+import plain_race
+from program import LIST, TOP, publish, resolve, run, yank
+
+sys.path.insert(0, os.path.join(TOP, "tools"))
+import race_many
+
+# Two files that ask for the same, in other orders; what is learnt of the requests takes places too.
+RIVALS = [
+    [publish("foo", "2.0.0", ["bar ^1.0.0"]), publish("bar", "1.0.0", ["foo ^1.0.0"]), publish("foo", "1.0.0"), resolve("foo >=1.0.0"), LIST],
+    [publish("bar", "1.0.0", ["foo ^1.0.0"]), publish("a", "1.0.0"), yank("a", "1.0.0"), resolve("a *", explain=True), resolve("foo >=1.0.0")],
+]
+
+
+def told_of(lines, changed):
+    """What was printed with one of its lines changed, or left out."""
+    for place, line in enumerate(lines):
+        other = changed(line)
+        if other != line:
+            yield "".join(f"{it}\n" for it in [*lines[:place], *([other] if other else []), *lines[place + 1:]])
+
+
+class Schedules(unittest.TestCase):
+    def test_a_hundred_races(self):
+        with tempfile.TemporaryDirectory() as folder:
+            pausing, lines, entries = race_many.library(folder), 0, 0
+            for seed in range(100):
+                asked, entered, find = race_many.tried(seed, pausing)
+                self.assertIsNone(find)
+                lines, entries = lines + asked, entries + entered
+        self.assertGreater(min(lines, entries), 1000)
+        print(f"({lines} lines, {entries} entries) ", end="")
+
+
+class Judging(unittest.TestCase):
+    """What a race may not print is told as wrong."""
+
+    def setUp(self):
+        with tempfile.TemporaryDirectory() as folder:
+            paths = [os.path.join(folder, str(number)) for number in range(len(RIVALS))]
+            for path, lines in zip(paths, RIVALS):
+                with open(path, "w", encoding="ascii") as out:
+                    out.writelines(line + "\n" for line in lines)
+            done = run(["race", *paths])
+        self.assertEqual((done.returncode, done.stderr), (0, b""))
+        self.files, self.printed = [[line.encode() for line in lines] for lines in RIVALS], done.stdout.decode()
+        self.assertGreater(plain_race.judge(self.files, self.printed), 5)
+
+    def refuse(self, printed):
+        with self.assertRaises(plain_race.RaceFault, msg=printed):
+            plain_race.judge(self.files, printed)
+
+    def test_a_line_that_is_missing(self):
+        for printed in told_of(self.printed.split("\n")[:-1], lambda line: ""):
+            self.refuse(printed)
+
+    def test_another_place_or_revision_of_one_reply(self):
+        def changed(member):
+            def raised(line):
+                told = json.loads(line) if line.startswith('{"') else {}
+                return json.dumps({**told, member: told[member] + 1}, sort_keys=True, separators=(",", ":")) if "seat" in told else line
+            return raised
+        for member in ("place", "revision", "seat"):
+            for printed in told_of(self.printed.split("\n")[:-1], changed(member)):
+                # behind what was learnt the same is answered
+                if member == "place":
+                    self.refuse_or_judge_again(printed)
+                else:
+                    self.refuse(printed)
+
+    def refuse_or_judge_again(self, printed):
+        """Most replies are wrong at another place; those that are not name one at which the same was seen."""
+        try:
+            plain_race.judge(self.files, printed)
+        except plain_race.RaceFault:
+            return
+        learnt = [number for number, line in enumerate(self.journal(printed), 1) if line.startswith('{"derivation"')]
+        moved = [json.loads(line)["place"] for line, before in zip(printed.split("\n"), self.printed.split("\n")) if line != before]
+        self.assertTrue(set(moved) <= set(learnt), printed)
+
+    def journal(self, printed):
+        lines = printed.split("\n")
+        return lines[lines.index(plain_race.FIRST) + 1:-2]
+
+    def test_two_entries_that_change_places(self):
+        lines = self.printed.split("\n")
+        first = lines.index(plain_race.FIRST) + 1
+        for at in range(first, len(lines) - 3):
+            self.refuse("\n".join([*lines[:at], lines[at + 1], lines[at], *lines[at + 2:]]))
+
+    def test_an_entry_that_comes_twice(self):
+        lines = self.printed.split("\n")
+        first = lines.index(plain_race.FIRST) + 1
+        for at in range(first, len(lines) - 2):
+            self.refuse("\n".join([*lines[:at], lines[at], *lines[at:-2], f"end {len(lines) - first - 1}", ""]))
+
+    def test_an_accepted_command_that_is_told_as_want_of_memory(self):
+        def short(line):
+            told = json.loads(line) if '"ok"' in line else {}
+            wrong = {"error": 18, "name": "NoMemory", "place": told.get("place"), "revision": told.get("revision"), "seat": told.get("seat")}
+            return json.dumps(wrong, separators=(",", ":")) if told else line
+        for printed in told_of(self.printed.split("\n")[:-1], short):
+            self.refuse(printed)
+
+
+if __name__ == "__main__":
+    unittest.main()

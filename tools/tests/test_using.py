@@ -1,0 +1,38 @@
+"""docs/USING.md names calls that there are, and shows the example as it stands."""
+import os
+import unittest
+
+from program import TOP
+from test_map import LINK, declares, read
+from test_readme import blocks
+
+PAGE = "docs/USING.md"
+EXAMPLE = os.path.join(TOP, "crates", "team")
+
+
+def plain(lines):
+    """Lines of code without the space before them."""
+    return [line.strip() for line in lines if line.strip()]
+
+
+class Using(unittest.TestCase):
+    def test_each_call_is_there(self):
+        links = [link for link in LINK.findall(read(os.path.join(TOP, PAGE))) if link[1].startswith("../crates/")]
+        self.assertGreater(len(links), 50)
+        for name, target in links:
+            with self.subTest(name=name):
+                path = os.path.normpath(os.path.join(TOP, "docs", target))
+                self.assertTrue(os.path.exists(path), target)
+                self.assertTrue(name == os.path.basename(path) or declares(read(path), path, name), f"{target} has no {name}")
+
+    def test_the_example_is_shown_as_it_stands(self):
+        code = plain(read(os.path.join(EXAMPLE, "src", "main.rt")).splitlines())
+        *shown, printed = blocks(PAGE)
+        self.assertEqual([*printed, ""], read(os.path.join(EXAMPLE, "stdout")).split("\n"))
+        for block in shown:
+            wanted = plain(block)
+            self.assertTrue(any(code[at:at + len(wanted)] == wanted for at in range(len(code))), block)
+
+
+if __name__ == "__main__":
+    unittest.main()

@@ -1,0 +1,522 @@
+"""The English of refusals: worked examples word by word, and random ones that a reader of English judges sentence by
+sentence; the pictures; and the command line.
+
+The first two examples are those of Dart pub's doc/solver.md, "Linear Error Reporting" and "Branching Error Reporting".
+"""
+import json
+import os
+import random
+import re
+import subprocess
+import sys
+import tempfile
+import unittest
+from xml.etree import ElementTree
+
+from program import PROGRAM, TOP, publish, resolve, run, serve, yank
+from refuter import Known, Refuter
+from test_check_derivation import CHAIN, EITHER, WORKED, tangle
+from test_readme import answers, page
+
+sys.path.insert(0, os.path.join(TOP, "tools"))
+sys.path.append(os.path.join(TOP, "bench"))
+import check_derivation
+import drawing
+import generated_lines
+import hostile_lines
+import workloads
+from read_english import Reader, Unread
+from telling import Derivation, Telling, Versions
+
+TOOL = os.path.join(TOP, "tools", "why")
+
+
+def line(conclusion, *causes, pivot):
+    """A line of a derivation: a cause is a fact, or the number of a line."""
+    return {"causes": [{"line": it} if isinstance(it, int) else it for it in causes], "conclusion": conclusion, "pivot": pivot}
+
+
+def premise(name, versions, target, need, within):
+    return {"fact": "premise", "name": name, "versions": versions, "target": target, "need": need, "within": within}
+
+
+def need(index):
+    return {"fact": "need", "index": index}
+
+
+def disallowed(name, versions):
+    return {"fact": "disallowed", "name": name, "versions": versions}
+
+
+REQUEST, MET = ["", True, [0]], {"fact": "root"}
+
+BRANCHING = ([publish("foo", "1.0.0", ["a ^1.0.0", "b ^1.0.0"]), publish("foo", "1.1.0", ["x ^1.0.0", "y ^1.0.0"]),
+              publish("a", "1.0.0", ["b ^2.0.0"]), publish("b", "1.0.0"), publish("b", "2.0.0"),
+              publish("x", "1.0.0", ["y ^2.0.0"]), publish("y", "1.0.0"), publish("y", "2.0.0")],
+             resolve("foo ^1.0.0"),
+             [line([["foo", True, [0]], ["b", False, [1]]], premise("foo", [0], "a", "^1.0.0", [0]), premise("a", [0], "b", "^2.0.0", [1]), pivot="a"),
+              line([["foo", True, [0]]], 1, premise("foo", [0], "b", "^1.0.0", [0]), pivot="b"),
+              line([["foo", True, [1]], ["y", False, [1]]], premise("foo", [1], "x", "^1.0.0", [0]), premise("x", [0], "y", "^2.0.0", [1]), pivot="x"),
+              line([["foo", True, [1]]], 3, premise("foo", [1], "y", "^1.0.0", [0]), pivot="y"),
+              line([["foo", True, [0, 1]]], 2, 4, pivot="foo"),
+              line([REQUEST], 5, need(0), pivot="foo")])
+RANGES = [publish("a", it, ["b ^2"]) for it in ("1.0.0", "2.0.0", "1.2.0", "1.1.0", "1.5.0+x", "2.0.0-rc.1")]
+# what is published, what is asked, the derivation, and its English
+TOLD = {
+    "linear": (CHAIN[0], CHAIN[1], json.loads(CHAIN[2]), """
+Because every version of foo depends on bar ^2.0.0 which depends on baz ^3.0.0, every version of foo requires baz ^3.0.0.
+And because the request depends on both baz ^1.0.0 and foo ^1.0.0, resolving failed.
+"""),
+    "branching": (*BRANCHING, """
+    Because foo 1.0.0 depends on a ^1.0.0 which depends on b ^2.0.0, foo 1.0.0 requires b ^2.0.0.
+(1) And because foo 1.0.0 depends on b ^1.0.0, foo 1.0.0 is forbidden.
+
+    Because foo 1.1.0 depends on x ^1.0.0 which depends on y ^2.0.0, foo 1.1.0 requires y ^2.0.0.
+    And because foo 1.1.0 depends on y ^1.0.0, foo 1.1.0 is forbidden.
+    And because foo 1.0.0 is forbidden (1), foo is forbidden.
+    And because the request depends on foo ^1.0.0, resolving failed.
+"""),
+    "nothing matches": ([publish("foo", "1.0.0", ["bar ^2"]), publish("foo", "1.1.0", ["bar ^2"]), publish("bar", "1.0.0")], resolve("foo *"),
+                        [line([REQUEST], premise("foo", [0, 1], "bar", "^2", []), need(0), pivot="foo")], """
+Because every version of foo depends on bar ^2 and no version of bar matches ^2, foo is forbidden.
+And because the request depends on foo *, resolving failed.
+"""),
+    "a step that is cited twice": (EITHER[0], EITHER[1], json.loads(EITHER[2]), """
+(1) Because every version of s depends on t ^2.0.0 and the request depends on t ^1.0.0, s is forbidden.
+(2) And because foo 1.1.0 depends on s ">=1.0.0", foo 1.1.0 is forbidden.
+
+    Because foo 1.0.0 depends on s ^1.0.0 and s is forbidden (1), foo 1.0.0 is forbidden.
+    And because the request depends on foo ^1.0.0, the request requires foo 1.1.0.
+    And because foo 1.1.0 is forbidden (2), resolving failed.
+"""),
+    "unknown": ([], resolve("zed *"), [line([], need(0), MET, pivot="")], """
+Because the request depends on zed * and no version of zed is published, resolving failed.
+"""),
+    "yanked": ([publish("a", "1.0.0"), publish("a", "2.0.0"), yank("a", "1.0.0")], resolve("a ^1", lock=["a 1.1.0"]),
+               [line([REQUEST], disallowed("a", [0, 7]), need(0), pivot="a")], """
+Because the request depends on a ^1 and a 1.0.0 is yanked and not in the lock and a #7 is not published, resolving failed.
+"""),
+    # neighbours are ranges, by precedence and not in order of publication; a branch of one sentence comes last
+    "ranges": ([*RANGES, publish("a", "1.6.0", ["c ^1"]), publish("b", "1.0.0"), publish("b", "2.0.0", ["c 1.0.0"]), publish("c", "2.0.0")],
+               resolve("a >=1.1.0, <2.0.0"),
+               [line([["a", True, [2, 3, 4]]], premise("a", [2, 3, 4], "b", "^2", [1]), premise("b", [1], "c", "1.0.0", []), pivot="b"),
+                line([REQUEST, ["a", False, [6]]], 1, need(0), pivot="a"),
+                line([REQUEST], 2, premise("a", [6], "c", "^1", []), pivot="a")], """
+Because b 2.0.0 depends on c "1.0.0" and no version of c matches "1.0.0", b 2.0.0 is forbidden.
+And because a >=1.1.0 <1.6.0 depends on b ^2 and the request depends on a ">=1.1.0, <2.0.0", the request requires a 1.6.0.
+Because a 1.6.0 depends on c ^1 and no version of c matches ^1, a 1.6.0 is forbidden.
+Thus, resolving failed.
+"""),
+    # two lines that say nothing, or only that the request must be met, and an ordinal that is not published
+    "what says nothing": ([publish("a", "1.0.0", ["b ^1"]), publish("b", "1.0.0"), yank("a", "1.0.0")], resolve("a ^1"),
+                          [line([["a", True, []]], disallowed("a", [5]), premise("a", [0], "b", "^1", [0]), pivot="b"),
+                           line([REQUEST, ["a", False, [0]]], 1, need(0), pivot="a"),
+                           line([REQUEST], 2, disallowed("a", [0]), pivot="a"),
+                           line([], 3, MET, pivot="")], """
+Because every version of a depends on b ^1 and a #5 is not published, nothing is said of a.
+And because the request depends on a ^1 and every version of a is yanked, resolving failed.
+"""),
+}
+# sets of ordinals of RANGES, by precedence 0, 3, 2, 4, 5, 1, in words
+SETS = """
+0 | a 1.0.0
+0 3 | a <1.2.0
+0 3 2 | a <1.5.0+x
+3 2 | a >=1.1.0 <1.5.0+x
+4 | a 1.5.0+x
+5 1 | a >=2.0.0-rc.1
+4 5 1 | a >=1.5.0+x
+0 3 4 5 1 | every version of a but 1.2.0
+0 2 4 1 | every version of a but 1.1.0 and 2.0.0-rc.1
+0 1 | a 1.0.0 or 2.0.0
+0 2 5 | a 1.0.0, 1.2.0 or 2.0.0-rc.1
+0 3 5 1 | a <1.2.0 or >=2.0.0-rc.1
+0 1 2 3 4 5 | every version of a
+0 9 | a 1.0.0
+9 | a #9
+6 8 | a #6 or #8
+"""
+
+
+def registry_of(commands):
+    registry = check_derivation.Registry()
+    for it in commands:
+        if not registry.obey(it, {"ok": True}):
+            raise ValueError(it)
+    return registry
+
+
+def asked(request):
+    """A request as the reader wants it."""
+    return json.loads(request) if isinstance(request, str) else request
+
+
+class Worked(unittest.TestCase):
+    def test_word_by_word(self):
+        for name, (lines, request, rows, english) in TOLD.items():
+            registry = registry_of(map(json.loads, lines))
+            told = Telling(Derivation(registry, asked(request), rows))
+            self.assertEqual(told.lines(), english[1:-1].split("\n"), name)
+            Reader(registry, asked(request)).read(told.sentences)
+
+    def test_the_program_s_own(self):
+        # the request is met, or its refusal is told: what the program derives may be another derivation
+        for name, (lines, request, _) in {**WORKED, "branching": BRANCHING}.items():
+            reply = json.loads(serve([*lines, json.dumps({**json.loads(request), "explain": True})])[-1])
+            told = Telling(Derivation(registry_of(map(json.loads, lines)), asked(request), reply["derivation"]))
+            if name == "branching":
+                self.assertEqual(told.lines(), TOLD[name][3][1:-1].split("\n"))
+            Reader(registry_of(map(json.loads, lines)), asked(request)).read(told.sentences)
+
+    def test_sets_of_versions(self):
+        versions = Versions(registry_of(map(json.loads, RANGES)))
+        for row in SETS.strip().split("\n"):
+            ordinals, words = row.split(" | ")
+            self.assertEqual(versions.every("a", frozenset(map(int, ordinals.split()))), words)
+        self.assertEqual(versions.some("a", frozenset(range(6))), "a")
+        self.assertEqual(versions.some("a", frozenset([0, 1, 3, 4, 5])), "any version of a but 1.2.0")
+
+    def test_the_reader_reads(self):
+        # what is no fact, does not follow, cites nothing, or can't be read
+        lines, request, rows, _ = TOLD["branching"]
+        registry = registry_of(map(json.loads, lines))
+        good = Telling(Derivation(registry, asked(request), rows)).sentences
+        changes = [("^2.0.0, foo 1.0.0 requires", "^1.0.0, foo 1.0.0 requires"), ("foo 1.0.0 requires b ^2.0.0", "foo 1.0.0 requires b ^1.0.0"),
+                   ("foo 1.0.0 requires b", "every version of foo requires b"), ("(1), foo", "(2), foo"), ("And because", "Because"),
+                   ("is forbidden (1), foo is forbidden", "is forbidden (1), foo 1.0.0 is incompatible"), ("the request depends", "foo depends"),
+                   ("foo 1.0.0 is forbidden (1)", "foo 1.1.0 is forbidden (1)"), ("^1.0.0, resolving failed", "^1.0.0, b is forbidden and so on")]
+        for old, new in changes:
+            changed, count = [], 0
+            for number, said in good:
+                count += old in said
+                changed.append((number, said.replace(old, new, 1)))
+            self.assertGreater(count, 0, old)
+            with self.assertRaises(Unread, msg=new):
+                Reader(registry, asked(request)).read(changed)
+
+
+def meanings(derivation, reader):
+    """What the steps of a derivation forbid, the request aside, as the reader of English has it."""
+    found = []
+    for step in [*derivation.steps, *(it for step in derivation.steps for it in step.below())]:
+        terms = {}
+        for name, (inside, ordinals) in step.terms.items():
+            if name:
+                terms[name] = reader.choices(name) & ordinals if inside else reader.choices(name) - ordinals
+        found.append(reader.normal(terms))
+    return found
+
+
+class Generated(unittest.TestCase):
+    def told(self, commands, request, rows, place):
+        """A refusal is told: each sentence follows and says what a step says, all packages are named, all numbers are cited."""
+        registry = registry_of(commands)
+        derivation = Derivation(registry, request, rows)
+        told = Telling(derivation)
+        reader = Reader(registry, request)
+        steps = meanings(derivation, reader)
+        for said in reader.read(told.sentences):
+            self.assertIn(said, steps, place)
+        english = "\n".join(told.lines())
+        named = {name for step in derivation.steps for name in step.terms if name}
+        named |= {row[member] for row in cut(rows) for row in row["causes"] for member in ("name", "target") if member in row}
+        self.assertLessEqual(named, set(re.findall("[a-z][a-z0-9_-]*", english)), place)
+        self.assertTrue(english.endswith(" resolving failed."), place)
+        numbers = [number for number, _ in told.sentences if number]
+        self.assertEqual(set(map(int, re.findall(r"\((\d+)\)[ ,]", re.sub(r"(?m)^\(\d+\)", "", english)))), set(numbers), place)
+        self.assertLessEqual(len(told.sentences), 2 * len(derivation.steps) + 2, place)
+        return derivation
+
+    def test_derivations_of_another_hand(self):
+        count = lines = 0
+        for seed in range(400):
+            rng = random.Random(seed)
+            commands, request = tangle(rng)
+            rows = Refuter(Known(commands), request, rng).derivation()
+            if rows:
+                count, lines = count + 1, lines + len(rows)
+                derivation = self.told(commands, request, rows, seed)
+                ElementTree.fromstring(drawing.draw_derivation(derivation, "a <title> & more"))
+        self.assertGreater(count, 100)
+        self.assertGreater(lines, 500)
+
+    def refusals(self, lines, requests):
+        """What the program refuses of these requests after these lines."""
+        replies = serve([*lines, *(json.dumps({**it, "explain": True}) for it in requests)])[len(lines):]
+        for request, reply in zip(requests, map(json.loads, replies)):
+            if "derivation" in reply:
+                yield request, reply["derivation"]
+
+    def test_random_sessions(self):
+        count = 0
+        for seed in range(2000, 2060):
+            rng = random.Random(seed)
+            commands, _ = tangle(rng)
+            for request, rows in self.refusals([json.dumps(it) for it in commands], [tangle(rng)[1] for _ in range(8)]):
+                self.told(commands, request, rows, seed)
+                count += 1
+        self.assertGreater(count, 100)
+
+    def test_workloads(self):
+        most = 0
+        for lines, requests in (workloads.tower(2), workloads.towers(4), workloads.chain(8), hostile_lines.two_bumped(12), workloads.about_one(3),
+                                self.of_lines(generated_lines.budgets_in_other_words), self.of_lines(generated_lines.needs_past_the_64th_of_a_request)):
+            commands = [json.loads(it) for it in lines]
+            for request, rows in self.refusals(lines, [json.loads(it) for it in requests[:6]]):
+                self.told(commands, request, rows, request["needs"])
+                most = max(most, len(rows))
+        self.assertGreater(most, 40)
+
+    def of_lines(self, table):
+        """The commands and the requests of a table of lines."""
+        commands, requests = [], []
+        for row, reply in table():
+            value = json.loads(row)
+            if reply.startswith('{"ok"'):
+                commands.append(row.decode())
+            elif value["op"] == "resolve" and "refused" in reply:
+                requests.append(json.dumps({"op": "resolve", "needs": value["needs"]}))
+        return commands, requests
+
+
+def cut(rows):
+    """The lines that the last one rests on."""
+    kept = {len(rows)}
+    for number in range(len(rows), 0, -1):
+        if number in kept:
+            kept |= {it["line"] for it in rows[number - 1]["causes"] if "line" in it}
+    return [row for number, row in enumerate(rows, 1) if number in kept]
+
+
+SVG = "{http://www.w3.org/2000/svg}"
+
+
+def drawn(picture):
+    """The texts, with their places, of a picture, and how far it goes."""
+    top = ElementTree.fromstring(picture)
+    texts = [(it.text, float(it.get("x")), float(it.get("y"))) for it in top.iter(SVG + "text")]
+    return top, texts, (float(top.get("width")), float(top.get("height")))
+
+
+def upright(top):
+    """The upright pieces of the lines, each by how far right it is and from where to where it goes."""
+    for path in top.iter(SVG + "path"):
+        if path.get("fill") == "none":
+            points = [tuple(map(float, it.split())) for it in path.get("d")[1:].split(" L")]
+            yield from ((x, min(y, lower), max(y, lower)) for (x, y), (right, lower) in zip(points, points[1:]) if x == right)
+
+
+class Pictures(unittest.TestCase):
+    def refusal(self, storeys):
+        """The derivation of a refusal by the program, of a registry that it takes many lines for."""
+        lines, requests = workloads.tower(storeys)
+        reply = json.loads(serve([*lines, json.dumps({**json.loads(requests[0]), "explain": True})])[-1])
+        return Derivation(registry_of(map(json.loads, lines)), json.loads(requests[0]), reply["derivation"])
+
+    def test_derivations(self):
+        for derivation in (self.refusal(3), self.refusal(25)):
+            steps = {it.number: it for it in derivation.steps}
+            top, texts, (wide, high) = drawn(drawing.draw_derivation(derivation, "what was asked"))
+            boxes = [[float(it.get(side)) for side in ("x", "y", "width", "height")] for it in top.iter(SVG + "rect") if it.get("rx")]
+            self.assertEqual([int(it) for it, _, _ in texts if it.isdigit()], list(steps))
+            self.assertEqual(len(boxes), len(steps))
+            # the boxes stand one below another, and hold their texts
+            self.assertTrue(all(y + tall <= lower for (_, y, _, tall), (_, lower, _, _) in zip(boxes, boxes[1:])))
+            self.assertTrue(all(x + across <= wide and y + tall <= high for x, y, across, tall in boxes))
+            for (x, top_of_it, across, tall), step in zip(boxes, steps.values()):
+                inside = [(said, at) for said, at, y in texts if top_of_it < y < top_of_it + tall]
+                self.assertTrue(all(at + len(said) * 6 <= x + across for said, at in inside if not said.isdigit()), inside)
+                said = " ".join(said for said, _ in inside)
+                self.assertIn("resolving failed" if step is derivation.last else derivation.conclusion(step), said)
+                for cause in step.causes:
+                    self.assertIn(f"line {cause.number}" if cause in step.below() and cause.number else "depends on", said)
+            # an arrow for each citation, and no two lines on one another
+            cited = sum(it.number is not None for step in steps.values() for it in step.below())
+            self.assertEqual(sum(it.get("fill") != "none" for it in top.iter(SVG + "path")), cited)
+            pieces = sorted(upright(top))
+            self.assertFalse([(one, other) for one, other in zip(pieces, pieces[1:]) if one[0] == other[0] and other[1] < one[2]])
+        self.assertGreater(len(steps), 180)
+
+    def dots(self, lines, request):
+        """Of the picture of a selection: what each dot tells, with the names that its line and its column lead to."""
+        *_, reply = serve([*lines, request])
+        selected, registry = dict(json.loads(reply)["selected"]), registry_of(map(json.loads, lines))
+        top, texts, _ = drawn(drawing.draw_selection(registry, asked(request), selected, "what was asked"))
+        labels = {f"{name} {version}": name for name, version in selected.items()} | {"the request": ""}
+        nodes = [(labels[said], x + 9, y - 4) for said, x, y in texts if said in labels]
+        self.assertEqual(sorted(name for name, _, _ in nodes), sorted(labels.values()))
+        found = []
+        for it in top.iter(SVG + "circle"):
+            told = it.find(SVG + "title")
+            if told is not None:
+                x, y = float(it.get("cx")), float(it.get("cy"))
+                row = [name for name, _, high in nodes if high <= y < high + drawing.STAIR]
+                column = [name for name, right, _ in nodes if abs(right - x) < 2]
+                found.append((told.text, *row, *column))
+        needs = {"": asked(request)["needs"], **{name: registry.find(name, version).needs.items() for name, version in selected.items()}}
+        named = {name: said for said, name in labels.items()}
+        wanted = [(f"{named[name]} needs {target} {need}", name, target) for name, row in needs.items() for target, need in row]
+        self.assertEqual(sorted(found), sorted(wanted))
+        return selected
+
+    def test_selections(self):
+        lines, requests = workloads.lockfile(90)
+        self.assertGreaterEqual(len(self.dots(lines, requests[0])), 60)
+
+    def test_packages_that_need_each_other(self):
+        lines = [publish("a", "1.0.0", ["b *"]), publish("b", "1.0.0", ["c *", "d *"]), publish("c", "1.0.0", ["a *", "b *"]), publish("d", "1.0.0", ["d-2 *"]),
+                 publish("d-2", "1.0.0")]
+        self.dots(lines, resolve("a *", "c *"))
+
+
+ASKED = [publish("app", "1.0.0", ["log ^1"]), publish("app", "1.1.0", ["log ^2"]), publish("tiny", "1.0.0"),
+         *(publish("log", it) for it in ("1.0.0", "2.0.0", "2.1.0", "2.2.0")), yank("log", "2.2.0")]
+# needs and a lock, a version, and what is said of it
+NOT = [(["app *"], [], "log 1.0.0", "log 1.0.0 can be selected; log 2.1.0 was, which is higher\na selection with it changes besides:\n  ~ app 1.1.0 -> 1.0.0 (older)"),
+       (["app *"], [], "log 2.0.0", "log 2.0.0 can be selected; log 2.1.0 was, which is higher\na selection with it changes nothing else"),
+       (["app *"], [], "app 1.0.0", "app 1.0.0 can be selected; app 1.1.0 was, which is higher\na selection with it changes besides:\n  ~ log 2.1.0 -> 1.0.0 (older)"),
+       (["app *"], ["log 2.0.0"], "log 2.1.0", "log 2.1.0 can be selected; log 2.0.0 was, which the lock names\na selection with it changes nothing else"),
+       (["app *"], ["app 1.0.0"], "log 2.1.0", "log 2.1.0 can be selected; log 1.0.0 was, which is lower\na selection with it changes besides:\n  ~ app 1.0.0 -> 1.1.0"),
+       (["app *"], [], "tiny 1.0.0", "tiny 1.0.0 can be selected; no version of tiny was selected, since nothing that was selected needs one\n"
+                                     "a selection with it changes nothing else"),
+       (["app *"], [], "log 3.0.0", "log 3.0.0 is not published"), (["app *"], [], "zed 3.0.0", "zed 3.0.0 is not published"),
+       (["app *"], [], "app 1.1.0+x", "app 1.1.0 is what was selected"),
+       (["log ^2"], [], "log 1.0.0", "log 1.0.0 can't be selected: the request depends on log ^2"),
+       (["app *"], [], "log 2.2.0", "app *: log 2.2.0 can't be selected\n"
+                                    "  Because log 2.2.0 is asked for and log 2.2.0 is yanked, log 2.2.0 can't be selected."),
+       (["app ^2"], [], "log 2.1.0", "app ^2: refused at revision 8\n  Because the request depends on app ^2 and no version of app matches ^2, resolving failed.")]
+
+
+class Typed(unittest.TestCase):
+    def setUp(self):
+        folder = tempfile.TemporaryDirectory()
+        self.addCleanup(folder.cleanup)
+        self.folder = folder.name
+
+    def file(self, name, lines):
+        path = os.path.join(self.folder, name)
+        with open(path, "w", encoding="utf-8") as out:
+            out.write("".join(line + "\n" for line in lines))
+        return path
+
+    def why(self, *words):
+        done = subprocess.run([TOOL, "--program", PROGRAM, *words], stdout=subprocess.PIPE, stderr=subprocess.PIPE, text=True, timeout=100)
+        return done.returncode, done.stdout, done.stderr
+
+    def journal(self, lines, name="journal"):
+        path = os.path.join(self.folder, name)
+        self.assertEqual(run(["serve", "--workers", "1", "--save", path], "".join(it + "\n" for it in lines).encode()).returncode, 0)
+        return path
+
+    def session(self, lines, name="session"):
+        return self.file(f"{name}.asked", lines), self.file(f"{name}.told", serve(lines))
+
+    def english(self, name, title):
+        return "\n".join([title, *("  " + it if it else "" for it in TOLD[name][3][1:-1].split("\n"))]) + "\n"
+
+    def test_a_session(self):
+        picture = os.path.join(self.folder, "why.svg")
+        explained = [*BRANCHING[0], json.dumps({**json.loads(BRANCHING[1]), "explain": True}), resolve("b *"), resolve("zed *")]
+        said = (self.english("branching", "request 9, foo ^1.0.0: refused at revision 8")
+                + "\n" + self.english("unknown", "request 11, zed *: refused at revision 8"))
+        # a refusal that was not asked to be explained is asked for
+        for lines in (explained, [*BRANCHING[0], BRANCHING[1], *explained[9:]]):
+            files = self.session(lines)
+            self.assertEqual(self.why(*files), (0, said, ""))
+            self.assertEqual(self.why(*files, "--request", "9", "--picture", picture), (0, said.split("\n\nrequest")[0] + "\n", ""))
+            with open(picture, encoding="utf-8") as file:
+                self.assertEqual([said for said, _, _ in drawn(file.read())[1] if said.isdigit()], list("123456"))
+        turns = [line for pair in zip(explained, serve(explained)) for line in pair]
+        self.assertEqual(self.why(self.file("turns", turns)), (0, said, ""))
+        self.assertEqual(self.why(*files, "--request", "10"), (0, "request 10, b *: selected at revision 8\n  b 2.0.0\n", ""))
+        self.assertEqual(self.why(*files, "--request", "10", "--not", "b", "1.0.0"),
+                         (0, "b 1.0.0 can be selected; b 2.0.0 was, which is higher\na selection with it changes nothing else\n", ""))
+
+    def test_a_journal_and_needs(self):
+        journal = self.journal(BRANCHING[0])
+        self.assertEqual(self.why("--load", journal, "foo ^1.0.0"), (0, self.english("branching", "foo ^1.0.0: refused at revision 8"), ""))
+        self.assertEqual(self.why("--load", journal, "b *", "--lock", self.file("lock", ['[["b","1.0.0"]]'])),
+                         (0, "b *: selected at revision 8\n  b 1.0.0\n", ""))
+
+    def test_a_race(self):
+        # one file asks before what it asks for can be there, the other once it is: each is told of its own revision
+        request = json.dumps({**json.loads(resolve("a ^1")), "explain": True})
+        files = [self.file("one", [request]), self.file("two", [publish("a", "2.0.0"), request])]
+        done = run(["race", *files]).stdout.decode().splitlines()
+        journal = self.file("journal", done[3:])
+        nothing = "Because the request depends on a ^1 and no version of a matches ^1, resolving failed.\n"
+        self.assertEqual(self.why("--journal", journal, files[1], self.file("told", done[1:3])),
+                         (0, "request 2, a ^1: refused at revision 1\n  " + nothing, ""))
+        revision = json.loads(done[0])["revision"]
+        self.assertEqual(self.why("--journal", journal, files[0], self.file("told", done[:1])),
+                         (0, f"request 1, a ^1: refused at revision {revision}\n  " + (nothing if revision else nothing.replace("matches ^1", "is published")), ""))
+
+    def test_not_this_version(self):
+        journal = self.journal(ASKED)
+        for needs, lock, version, said in NOT:
+            locked = ["--lock", self.file("lock", [json.dumps([it.split(" ") for it in lock])])] if lock else []
+            self.assertEqual(self.why("--load", journal, *needs, *locked, "--not", *version.split(" ")), (0, said + "\n", ""))
+        status, said, _ = self.why("--load", journal, "app ^1.1", "--not", "log", "1.0.0")
+        failed = "log 1.0.0 can't be selected"
+        title, *english = said.splitlines()
+        self.assertEqual((status, title), (0, f"app ^1.1: {failed}"))
+        self.assertTrue(english[-1].endswith(f", {failed}."))
+        Reader(registry_of(map(json.loads, ASKED)), {"needs": [["app", "^1.1"]]}, failed).read([(None, it.strip()) for it in english])
+
+    def test_what_can_t_be_told(self):
+        lines, request, rows, _ = TOLD["linear"]
+        files = self.session([*lines, json.dumps({**json.loads(request), "explain": True})])
+        with open(files[1], encoding="utf-8") as file:
+            replies = file.read().splitlines()
+        broken = json.loads(replies[-1])
+        broken["derivation"][0]["pivot"] = "baz"
+        journal = self.journal(lines)
+        with open(journal, encoding="utf-8") as file:
+            cut_short = self.file("cut", file.read().splitlines()[:-2])
+        many = [f"p{number} *" for number in range(64)]
+        bad = [((files[0], self.file("broken", [*replies[:-1], json.dumps(broken)])), "does not follow: line 1:"),
+               ((files[0], self.file("fewer", replies[:-1])), "5 request lines and 4 replies"),
+               ((files[0], self.file("other", [*replies[:-1], '{"refused":true,"revision":9}'])), "reply 5 is not of revision 4"),
+               ((files[0], os.path.join(self.folder, "nowhere")), "No such file"), ((*files, "--request", "2"), "request 2 is no request"),
+               (self.session(lines, "short"), "no request"), (("--load", cut_short, "foo *"), "a cut journal"),
+               (("--load", journal, "foo *", "--lock", journal), "19 BadLine"), (("--load", journal, "foo *", "foo *"), "RepeatedDependency"),
+               (("--load", self.journal([publish(f"p{number}", "1.0.0") for number in range(65)], "many"), *many, "--not", "p64", "1.0.0"), "64 needs"),
+               (("--load", self.journal([publish("p", "1.0.0-" + "x" * 250), publish("p", "2.0.0")], "long"), "p >=1.0.0-a", "--not", "p", "1.0.0-" + "x" * 250),
+                "too long to be asked for"),
+               ((files[0], self.file("unselected", [*replies[:-1], '{"revision":4,"selected":5}'])), "no request is refused"),
+               ((files[0], self.file("unselected", [*replies[:-1], '{"revision":4,"selected":5}']), "--request", "5"), "no selection of the right form"),
+               ((files[0], self.file("unclosed", [*replies[:-1], '{"revision":4,"selected":[["foo","1.0.0"]]}']), "--request", "5", "--picture",
+                 os.path.join(self.folder, "x.svg")), "lacks what it needs"),
+               (("--load", journal, "p1 *", "--not", "zed", "1.0.0", "--picture", os.path.join(self.folder, "x.svg")), "nothing to draw")]
+        for words, told in bad:
+            status, _, fault = self.why(*words)
+            self.assertEqual((status, fault.count("\n"), fault[:11]), (1, 1, "tools/why: "), fault)
+            self.assertIn(told, fault)
+
+    def test_words(self):
+        journal = self.journal([])
+        for words in ([], ["--load", journal], ["--load", journal, "app"], ["--load", journal, "app nonsense"], ["--load", journal, "A *"],
+                      ["a", "b", "c"], ["a", "b", "--lock", "c"], ["--load", journal, "app *", "--request", "1"], ["a", "b", "--none"],
+                      ["--load", journal, "app *", "--journal", journal], ["a", "b", "--not", "app"], ["a", "b", "--not", "app", "1"], ["a", "--request", "x"]):
+            status, said, fault = self.why(*words)
+            self.assertEqual((status, said), (2, ""), words)
+            self.assertIn("usage: tools/why", fault)
+        status, said, _ = self.why("--help")
+        self.assertEqual(status, 0)
+        self.assertIn("tools/why --load app.journal 'app ^1'", said)
+
+    def test_the_page(self):
+        # what docs/WHY.md tells to type prints what it says, and its pictures are those that are drawn
+        shown = [re.sub("(?m)^    ", "", block.strip("\n")).split("\n")
+                 for block in re.findall(r"(?:^    .*\n|^\n(?=    ))+", page("docs/WHY.md"), re.M)]
+        self.assertEqual(len(shown), 6)
+        for typed, told in zip(shown[::2], shown[1::2]):
+            typed = [it.replace("tools/why", "tools/why --program ./registryd").replace("docs/", "") for it in typed]
+            self.assertEqual(answers(self.folder, typed), (told, 0))
+        for picture in ("why.svg", "selection.svg"):
+            with open(os.path.join(self.folder, picture), encoding="utf-8") as new, open(os.path.join(TOP, "docs", picture), encoding="utf-8") as old:
+                self.assertEqual(new.read(), old.read(), f"docs/{picture}")
+
+
+if __name__ == "__main__":
+    unittest.main()
