@@ -1,1 +1,2 @@
 mod PublicationLemmas
+mod WrittenLemmas

@@ -1,9 +1,11 @@
-//! Request lines, read one after another by one [`Intake`], each as `wire` reads it. A publish line in its usual form takes
-//! one pass over its tokens, and its names and requirements are judged where they come for the first time.
+//! Lines, read one after another by one [`Intake`]: request lines, each as `wire` reads it, and the publish lines of a
+//! journal's file. A publish line in its usual form takes one pass, and its names and requirements are judged where they
+//! come for the first time.
 #![tactic(auto)]
 
 mod known;
 mod publication;
 mod reading;
+mod written;
 
 pub use reading::Intake;
