@@ -12,9 +12,11 @@ use Rattle.std.proofs.Math.Bool.{and-false, and-true, or-false, or-true}
 use Rattle.std.proofs.Math.Seq.{get_or-append_seam}
 use Rattle.terms.specs.Growing.{Growing}
 use Rattle.terms.specs.Sets.{has}
+use Rattle.versions.specs.Bounds.{IsBounded}
 use Rattle.versions.specs.Words.{Text, meets}
+use Rattle.versions.specs.declared.bounds.Bounds.{Bounds}
 use Rattle.releases.specs.declared.release.Release.{Release}
-use Rattle.releases.specs.Kept.{AreMatching, IsMatching}
+use Rattle.releases.specs.Kept.{AreBounds, AreMatching, IsKept, IsMatching}
 use Rattle.releases.specs.Releases.{is_named, meets_at, meets_some, versions_of}
 
 itself : (k : ℕ) → nat_eq k k ≡ true
@@ -177,6 +179,55 @@ module _ (versions : List Text) (version : Text) (needs : List Text) (sets : Lis
       m.left i need d (omega arith) lt' k
       ∙ sym (meets_at-push versions version (get_or needs i need) k ∙ ap (λ b. meets_at versions (get_or needs i need) k || (nat_eq (length versions) k && b)) unmet'
       ∙ ap (λ b. meets_at versions (get_or needs i need) k || b) (and-false (nat_eq (length versions) k)) ∙ or-false (meets_at versions (get_or needs i need) k)))
+
+-- ---- bounds
+
+-- a requirement by its place has the bounds at this place
+pub bounds-at : (needs : List Text) (bounds : List Bounds) (i : ℕ) (need : Text) (of : Bounds) → AreBounds needs bounds → i < length needs → need ≡ get_or needs i need → IsBounded need (get_or bounds i of)
+bounds-at needs bounds i need of all lt at = let P : Text → Type 0 = λ t. IsBounded t (get_or bounds i of) in subst P (sym at) (all.exact i need of lt)
+
+-- what holds of each pair holds with one pair more
+pairs-push : {X Y : Type 0} (P : X → Y → Type 0) (xs : List X) (ys : List Y) (x : X) (y : Y) → length ys ≡ length xs
+    → ((i : ℕ) (d : X) (e : Y) → i < length xs → P (get_or xs i d) (get_or ys i e)) → P x y
+    → (i : ℕ) (d : X) (e : Y) → i < length (xs ++ x ∷ []) → P (get_or (xs ++ x ∷ []) i d) (get_or (ys ++ y ∷ []) i e)
+pairs-push {X = X} {Y = Y} P xs ys x y paired all one i d e lt = elim (cases_lt i (length xs)) [
+  | inl older ↦
+      let Q : X → Type 0 = λ a. P a (get_or (ys ++ y ∷ []) i e) in
+      subst Q (sym (get_or_append_left xs (x ∷ []) d i older))
+      (subst (P (get_or xs i d)) (sym (get_or_append_left ys (y ∷ []) e i (omega (arith, paired, older)))) (all i d e older))
+  | inr from ↦
+      let is : i ≡ length xs = omega (arith, lt, length-append xs (x ∷ [])) in
+      let first : get_or (xs ++ x ∷ []) i d ≡ x = ap (λ k. get_or (xs ++ x ∷ []) k d) is ∙ get_or-append_seam xs x [] d in
+      let second : get_or (ys ++ y ∷ []) i e ≡ y = ap (λ k. get_or (ys ++ y ∷ []) k e) (is ∙ sym paired) ∙ get_or-append_seam ys y [] e in
+      let Q : X → Type 0 = λ a. P a (get_or (ys ++ y ∷ []) i e) in
+      subst Q (sym first) (subst (P x) (sym second) one)
+]
+
+paired-push : {X Y : Type 0} (xs : List X) (ys : List Y) (x : X) (y : Y) → length ys ≡ length xs → length (ys ++ y ∷ []) ≡ length (xs ++ x ∷ [])
+paired-push xs ys x y paired = omega (arith, paired, length-append xs (x ∷ []), length-append ys (y ∷ []))
+
+-- one requirement more, with its set and its bounds
+IsKept-push : (releases : List Release) (rising : List ℕ) (needs : List Text) (sets : List Growing) (bounds : List Bounds) (need : Text) (set : Growing) (of : Bounds)
+    → IsKept releases rising needs sets bounds → IsMatching (versions_of releases) need set.ordinals → IsBounded need of
+    → IsKept releases rising (needs ++ need ∷ []) (sets ++ set ∷ []) (bounds ++ of ∷ [])
+IsKept-push releases rising needs sets bounds need set of kept exact bounded = record {
+  few = kept.few;
+  in_order = kept.in_order;
+  matching = record {
+    paired = paired-push needs sets need set kept.matching.paired;
+    exact = pairs-push (λ (n : Text) (s : Growing). IsMatching (versions_of releases) n s.ordinals) needs sets need set kept.matching.paired kept.matching.exact exact;
+  };
+  bounded = record {
+    paired = paired-push needs bounds need of kept.bounded.paired;
+    exact = pairs-push IsBounded needs bounds need of kept.bounded.paired kept.bounded.exact bounded;
+  };
+}
+
+pub IsKept-named : (releases : List Release) (rising : List ℕ) (needs needs' : List Text) (sets sets' : List Growing) (bounds bounds' : List Bounds) (need : Text) (set : Growing) (of : Bounds)
+    → IsKept releases rising needs sets bounds → IsMatching (versions_of releases) need set.ordinals → IsBounded need of
+    → needs' ≡ needs ++ need ∷ [] → sets' ≡ sets ++ set ∷ [] → bounds' ≡ bounds ++ of ∷ [] → IsKept releases rising needs' sets' bounds'
+IsKept-named releases rising needs needs' sets sets' bounds bounds' need set of kept exact bounded en es eb =
+    rw (en, es, eb) (IsKept-push releases rising needs sets bounds need set of kept exact bounded)
 
 -- ---- a look-up
 

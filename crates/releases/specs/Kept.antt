@@ -2,7 +2,9 @@
 use Rattle.std.specs.Prelude.{◌≡◌, ◌<◌, ◌≤◌, ◌^◌, ℕ, min, List, [], ◌∷◌, length, slice_index_or}
 use Rattle.terms.specs.Growing.{Growing}
 use Rattle.terms.specs.Sets.{has}
+use Rattle.versions.specs.Bounds.{IsBounded}
 use Rattle.versions.specs.Words.{Text}
+use Rattle.versions.specs.declared.bounds.Bounds.{Bounds}
 use Rattle.releases.specs.declared.release.Release.{Release}
 use Rattle.releases.specs.Releases.{meets_at, versions_of}
 use Rattle.releases.specs.Rising.{IsRising}
@@ -25,14 +27,20 @@ pub record AreMatching (versions : List Text) (needs : List Text) (sets : List G
   pub paired : length sets ≡ length needs
   pub exact : (i : ℕ) (need : Text) (set : Growing) → i < length needs → IsMatching versions (slice_index_or needs i need) (slice_index_or sets i set).ordinals
 
+-- each requirement has its bounds
+pub record AreBounds (needs : List Text) (bounds : List Bounds) : Type 0 where
+  pub paired : length bounds ≡ length needs
+  pub exact : (i : ℕ) (need : Text) (of : Bounds) → i < length needs → IsBounded (slice_index_or needs i need) (slice_index_or bounds i of)
+
 -- the least room of all sets, at most this
 abbrev pub least_room : ℕ → List Growing → ℕ
 least_room room [] = room
 least_room room (set ∷ rest) = min set.room (least_room room rest)
 
 -- what is kept beside the releases is what they ask for
-pub record IsKept (releases : List Release) (rising : List ℕ) (needs : List Text) (sets : List Growing) : Type 0 where
+pub record IsKept (releases : List Release) (rising : List ℕ) (needs : List Text) (sets : List Growing) (bounds : List Bounds) : Type 0 where
   -- each ordinal is a number of 32 bits
   pub few : length releases ≤ 2 ^ 32
   pub in_order : IsRising (versions_of releases) rising
   pub matching : AreMatching (versions_of releases) needs sets
+  pub bounded : AreBounds needs bounds

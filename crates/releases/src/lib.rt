@@ -9,9 +9,10 @@
 //!
 //! The dear step is the test whether a version meets a requirement. It is made once for each
 //! release and each requirement that is named on the package, at the later of publication and
-//! naming; so a publication costs one test a named requirement, and naming one test a release. A
-//! named requirement takes its text's place in a table, and one word for each 64 ordinals that
-//! have one in its set.
+//! naming; so a publication costs one test a named requirement, and naming one test a release. At a
+//! publication it is mostly a few comparisons of numbers, which are kept for each requirement side by
+//! side. A named requirement takes its text's place in a table, 64 bytes for these numbers, and one
+//! word for each 64 ordinals that have one in its set.
 #![tactic(auto)]
 
 mod matching;

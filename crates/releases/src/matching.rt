@@ -3,14 +3,14 @@
 ghost use Rattle.std.specs.Prelude.{◌≡◌, ◌<◌, ◌≤◌, ◌^◌, ◌∷◌, ◌++◌, [], ℕ, length, slice_index_or, IfOk, IsOk, OnOk};
 ghost use Rattle.terms.specs.Growing.{Growing};
 ghost use Rattle.terms.specs.Sets.{has, IsAscending};
-ghost use Rattle.releases.specs.Kept.{AreMatching, IsMatching};
+ghost use Rattle.releases.specs.Kept.{AreBounds, AreMatching, IsMatching};
 ghost use Rattle.releases.specs.Releases.{versions_of};
 ghost use Rattle.releases.specs.Matching.{ordinals_of};
 
 use crate::release::Release;
 use std::alloc::{AllocError, Global};
 use terms::{GrowingSet, VSet};
-use versions::{Need, Published};
+use versions::{Bounds, Need, Published};
 
 /// The ordinals of the releases that meet a requirement: the set that is kept, or one that was
 /// computed for once.
@@ -74,21 +74,23 @@ pub(crate) fn make_room(sets: &mut [GrowingSet]) -> Result<(), AllocError>
 }
 
 /// Puts the ordinal of a version that is published into each matching set whose requirement it
-/// meets: one test a requirement. Takes no memory.
+/// meets: one test a requirement, by its bounds. Takes no memory.
 pub(crate) fn keep_up(
     releases: &[Release],
     needs: &[Need],
+    bounds: &[Bounds],
     sets: &mut [GrowingSet],
     version: &Published,
 )
     requires matching { AreMatching (versions_of releases.now) needs.now sets.old }
+    requires bounds { AreBounds needs.now bounds.now }
     requires few { length releases.now < 2 ^ 32 }
     requires room { (i : ℕ) (d : Growing) → i < length sets.old → 0 < (slice_index_or sets.old i d).room }
     ensures { AreMatching (versions_of releases.now ++ version.now ∷ []) needs.now sets.new }
 {
     let ordinal = releases.len() as u32;
     for (i, set) in sets.iter_mut().enumerate() {
-        if needs[i].admits(version) {
+        if bounds[i].admit(&needs[i], version) {
             set.insert(ordinal).unwrap();
         }
     }

@@ -16,7 +16,7 @@ use std::alloc::{AllocError, Global};
 use std::marker::Model;
 use terms::{GrowingSet, VSet};
 use versions::{
-    Need, Published, equal_precedence_is_an_equivalence, precedence_is_a_total_preorder,
+    Bounds, Need, Published, equal_precedence_is_an_equivalence, precedence_is_a_total_preorder,
 };
 
 /// The releases of a package, in order of publication: the first has the ordinal 0. No two of them
@@ -30,6 +30,7 @@ pub struct Releases {
     rising: Vec<u32>,
     needs: IndexSet<Need>,
     sets: Vec<GrowingSet>,
+    bounds: Vec<Bounds>,
     alloc: Global,
 }
 
@@ -45,7 +46,7 @@ impl Model for Releases {
       room = least_room (min (vec_capacity r.releases - vec_len r.releases) (vec_capacity r.rising - vec_len r.rising)) r.sets.items;
     } };
 
-    ghost invariant = { λ r. IsKept r.releases.items r.rising.items r.needs.keys r.sets.items };
+    ghost invariant = { λ r. IsKept r.releases.items r.rising.items r.needs.keys r.sets.items r.bounds.items };
 }
 
 impl Releases {
@@ -59,6 +60,7 @@ impl Releases {
             rising: Vec::new(alloc),
             needs: IndexSet::new(alloc),
             sets: Vec::new(alloc),
+            bounds: Vec::new(alloc),
             alloc,
         }
     }
@@ -168,6 +170,7 @@ impl Releases {
         keep_up(
             &self.releases,
             self.needs.as_slice(),
+            &self.bounds,
             &mut self.sets,
             &version,
         );
@@ -217,12 +220,15 @@ impl Releases {
         if let Some(place) = self.needs.get_index_of(need) {
             return Ok(place);
         }
-        let set = computed(self.alloc, &self.releases, need)?;
         self.sets.reserve(1)?;
+        self.bounds.reserve(1)?;
+        let bounds = Bounds::of(need);
+        let set = computed(self.alloc, &self.releases, need)?;
         let named = need.clone()?;
         let place = self.needs.len();
         self.needs.insert(named)?;
         self.sets.push(set).unwrap();
+        self.bounds.push(bounds).unwrap();
         Ok(place)
     }
 

@@ -5,3 +5,4 @@ pub mod PrecedenceLemmas
 pub mod ReadingLemmas
 pub mod VersionTextLemmas
 pub mod WorkedRows
+pub mod BoundLemmas

@@ -1,4 +1,5 @@
 -- The definitions that contracts cite.
+pub mod Bounds
 pub mod NameLaws
 pub mod OnLiterals
 pub mod PreReleases

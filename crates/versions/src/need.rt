@@ -129,7 +129,7 @@ impl Need {
     }
 
     /// What was read from the text.
-    fn parsed(&self) -> &VersionReq
+    pub(crate) fn parsed(&self) -> &VersionReq
         ensures { req_of self.now ≡ Ok (map comparator_view result.now.comparators.items) }
     {
         &self.kept.parsed

@@ -5,8 +5,11 @@ use Rattle.std.specs.Str.{bytes_eq}
 use Rattle.std.proofs.lemmas.List.Quantifiers.{position-Some}
 use Rattle.std.proofs.lemmas.Option.{slice_get-get_or}
 use Rattle.std.proofs.Math.Seq.{get_or-append_seam}
+use Rattle.terms.specs.Growing.{Growing}
 use Rattle.versions.specs.NameLaws.{same_name}
 use Rattle.versions.specs.Words.{Text}
+use Rattle.versions.specs.declared.bounds.Bounds.{Bounds}
+use Rattle.releases.proofs.MatchingLemmas.{IsKept-named}
 use Rattle.releases.proofs.releases.Releases.name_need.Goals as goal
 
 -- the requirement stands at the place that a look-up tells
@@ -15,12 +18,18 @@ known needs need i at =
     let p = position-Some (bytes_eq need) needs i [] at in
     slice_get-get_or needs i [] p.0 ∙ ap (λ (t : Text). Some t) (sym (same_name need (get_or needs i []) p.1))
 
--- one that is new comes last
+-- one that is new is added
+grown : (needs after : List Text) (need copy : Text) → copy ≡ need → list_any (bytes_eq need) needs ≡ false
+    → after ≡ (if list_any (bytes_eq copy) needs then needs else needs ++ copy ∷ []) → after ≡ needs ++ need ∷ []
+grown needs after need copy same new is =
+    is ∙ ap (λ (t : Text). if list_any (bytes_eq t) needs then needs else needs ++ t ∷ []) same ∙ ap (λ b. if b then needs else needs ++ need ∷ []) new
+
+-- as the last
 last : (needs after : List Text) (need copy : Text) (n : ℕ) → copy ≡ need → n ≡ length needs → list_any (bytes_eq need) needs ≡ false
     → after ≡ (if list_any (bytes_eq copy) needs then needs else needs ++ copy ∷ []) → slice_get after n ≡ Some need
 last needs after need copy n same end new is =
     ap (λ (l : List Text). slice_get l n)
-    (is ∙ ap (λ (t : Text). if list_any (bytes_eq t) needs then needs else needs ++ t ∷ []) same ∙ ap (λ b. if b then needs else needs ++ need ∷ []) new)
+    (grown needs after need copy same new is)
     ∙ slice_get-get_or (needs ++ need ∷ []) n [] (omega (arith, length-append needs (need ∷ []), end))
     ∙ ap (λ (t : Text). Some t) (ap (λ i. get_or (needs ++ need ∷ []) i []) end ∙ get_or-append_seam needs need [] [])
 
@@ -30,3 +39,14 @@ returns-in-Some-clause-place c = rw (← c.self.view_is) (known c.self.inside.ne
 pub returns-clause-place : goal.returns-clause-place
 returns-clause-place c =
     last c.self.inside.needs.keys _ c.args.need.now c.in_ok-named.named c.len-place.result c.in_ok-named.ensures.cases c.len-place.ensures.len (sym c.in_default.ensures.found) c.in_ok-insert.ensures.keys
+
+pub invariant_of-self-2 : goal.invariant_of-self-2
+invariant_of-self-2 c =
+    let exact = rw c.deref.ensures.value at c.in_ok-set.ensures in
+    let set_in = rw c.unwrap.ensures at c.push.ensures.items in
+    let sets : c.push.new.self.items ≡ c.self.inside.sets.items ++ c.in_ok-set.set ∷ [] = set_in ∙ ap (λ (l : List Growing). l ++ c.in_ok-set.set ∷ []) c.in_ok-reserve.ensures.items in
+    let bounds_in = rw c.unwrap-2.ensures at c.push-2.ensures.items in
+    let bounds : c.push-2.new.self.items ≡ c.self.inside.bounds.items ++ c.of-bounds.result ∷ [] = bounds_in ∙ ap (λ (l : List Bounds). l ++ c.of-bounds.result ∷ []) c.in_ok-reserve-2.ensures.items in
+    let needs = grown c.self.inside.needs.keys _ c.args.need.now c.in_ok-named.named c.in_ok-named.ensures.cases (sym c.in_default.ensures.found) c.in_ok-insert.ensures.keys in
+    IsKept-named c.self.inside.releases.items c.self.inside.rising.items c.self.inside.needs.keys _ c.self.inside.sets.items _ c.self.inside.bounds.items _ c.args.need.now c.in_ok-set.set c.of-bounds.result
+    c.self.invariant exact c.of-bounds.ensures needs sets bounds

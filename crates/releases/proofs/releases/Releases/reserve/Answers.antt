@@ -25,6 +25,7 @@ invariant_of-self-2 c =
       few = c.self.invariant.few;
       in_order = c.self.invariant.in_order;
       matching = AreMatching-same _ _ c.self.inside.sets.items c.make_room.new.sets c.self.invariant.matching length_same same;
+      bounded = c.self.invariant.bounded;
     })
 
 pub returns-clause-ok : goal.returns-clause-ok
