@@ -31,6 +31,13 @@ found-fails Has test slots index number at whole found has walked none place =
     let fails = Walked-end index.links (chain_of number) at (FailsAt test slots number) walked none under.at under.link under.is (ap chain_of under.number_is) under.number_is in
     true≢false (sym t ∙ sym (ap (passes_at test) e) ∙ ap (λ k. passes_at test (slice_get slots k)) (sym under.place_is) ∙ fails)))
 
+-- none that stands under the number passes at the end
+pub under-fails : (test : List Line → Bool) (slots : Slots) (links : List Link) (number at : ℕ) → Walked links (chain_of number) at (FailsAt test slots number) → HasNone links at
+    → (place : ℕ) (lines : List Line) → IsMemberAt slots place lines → IsUnder links number place → test lines ≡ false
+under-fails test slots links number at walked none place lines e under =
+    let fails = Walked-end links (chain_of number) at (FailsAt test slots number) walked none under.at under.link under.is (ap chain_of under.number_is) under.number_is in
+    sym (ap (passes_at test) e) ∙ ap (λ k. passes_at test (slice_get slots k)) (sym under.place_is) ∙ fails
+
 -- none concludes the terms, where none under their key does
 pub concluded-none : (slots : Slots) (index : Indexed) (terms : Terms) (number at : ℕ) → number ≡ key_of terms → index.whole ≡ true → AreFound HasKey index slots
     → Walked index.links (chain_of number) at (FailsAt (concludes terms) slots number) → HasNone index.links at → list_any (concludes terms) (kept slots) ≡ false

@@ -20,3 +20,5 @@ pub mod Resting
 pub mod Chained
 pub mod Thinning
 pub mod Finding
+pub mod Moving
+pub mod Wanting

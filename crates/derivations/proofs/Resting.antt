@@ -1,6 +1,6 @@
 -- Which members rest on a package, and what a publication drops.
 use Rattle.std.proofs.Common.{◌≡◌, ◌∙◌, ◌-◌, inl, inr, ℕ, ◌&&◌, ◌||◌, Bool, true, true≢false, false, not, List, [], ◌∷◌, ◌++◌, length, get_or, refl, sym, ap, nat_eq}
-use Rattle.std.proofs.lemmas.Bool.{cases_Bool, and_left, and_right, or_from, or_parts}
+use Rattle.std.proofs.lemmas.Bool.{cases_Bool, and_left, and_parts, and_right, eqb-true, or_from, or_parts}
 use Rattle.std.proofs.lemmas.List.Elements.{All-head, All-tail, filter_agree}
 use Rattle.std.proofs.lemmas.List.Folds.{list_any-append}
 use Rattle.std.specs.Prelude.{All, None, Option, Some, cond, filter}
@@ -10,6 +10,7 @@ use Rattle.registry.specs.Registry.{Packages, Publication, meets_at, package_at,
 use Rattle.derivations.specs.Learning.{target_of, targets_of}
 use Rattle.derivations.specs.Slots.{is_met}
 use Rattle.derivations.specs.Stored.{cause_is_on, is_on, last_meets, published}
+use Rattle.derivations.specs.Wants.{CauseRests, Rests}
 use Rattle.derivations.specs.declared.facts.Cause.{Cause}
 use Rattle.derivations.specs.declared.facts.Cause.TheVariants as cause
 use Rattle.derivations.specs.declared.line.Line.{Line}
@@ -37,12 +38,32 @@ apart_on p test (line ∷ rest) e =
     (or_from (cause_is_on p test line.causes.0) (cause_is_on p test line.causes.1) (cause_apart p test line.causes.0 both.0) (cause_apart p test line.causes.1 both.1))
     (apart_on p test rest all.1)
 
--- a member that is met rests on the package
-pub met-rests : (p : ℕ) (version : Text) (lines : List Line) → is_met p version lines ≡ true → has (targets_of lines) p ≡ true
-met-rests p version lines t = elim (cases_Bool (has (targets_of lines) p)) [
-  | inl rests ↦ rests
-  | inr apart ↦ absurd (true≢false (sym t ∙ apart_on p (λ need. meets need version) lines apart))
-]
+-- ---- what lines rest on
+
+cause_met : (p : ℕ) (version : Text) (c : Cause) → cause_is_on p (λ need. meets need version) c ≡ true → (need : Text) × CauseRests c p need × (meets need version ≡ true)
+cause_met p version (cause.Line n) e = absurd (true≢false (sym e))
+cause_met p version (cause.Premise premise) e =
+    let parts = and_parts (nat_eq premise.target p) (meets premise.need version) e in
+    (premise.need, (eqb-true premise.target p parts.0, refl), parts.1)
+cause_met p version (cause.Need i) e = absurd (true≢false (sym e))
+cause_met p version (cause.NotAllowed q versions) e = absurd (true≢false (sym e))
+cause_met p version cause.Root e = absurd (true≢false (sym e))
+
+-- lines that are met rest on a requirement on the package that the version meets
+pub met-rests : (p : ℕ) (version : Text) (lines : List Line) → is_met p version lines ≡ true → (need : Text) × Rests lines p need × (meets need version ≡ true)
+met-rests p version [] e = absurd (true≢false (sym e))
+met-rests p version (line ∷ rest) e =
+    let test : Cause → Bool = cause_is_on p (λ need. meets need version) in
+    elim (cases_Bool (test line.causes.0)) [
+      | inl one ↦ let m = cause_met p version line.causes.0 one in (m.0, inl m.1, m.2)
+      | inr not_one ↦ elim (cases_Bool (test line.causes.1)) [
+        | inl two ↦ let m = cause_met p version line.causes.1 two in (m.0, inr (inl m.1), m.2)
+        | inr not_two ↦
+            let left : is_met p version rest ≡ true = sym (ap (λ b. (b || test line.causes.1) || is_met p version rest) not_one ∙ ap (λ b. b || is_met p version rest) not_two) ∙ e in
+            let m = met-rests p version rest left in
+            (m.0, inr (inr m.1), m.2)
+      ]
+    ]
 
 -- ---- tests that agree
 

@@ -1,10 +1,10 @@
 -- Members of places: who is among them, and who goes.
-use Rattle.std.proofs.Common.{◌≡◌, ◌∙◌, ◌<◌, ◌≤◌, ◌+◌, ◌⊎◌, inl, inr, ℕ, zero, suc, ◌||◌, Bool, true, false, true≢false, not, List, [], ◌∷◌, ◌++◌, length, set, refl, sym, ap, subst, arith}
+use Rattle.std.proofs.Common.{◌≡◌, ◌∙◌, ◌<◌, ◌≤◌, ◌+◌, inl, inr, ℕ, zero, suc, ◌||◌, Bool, true, false, true≢false, not, List, [], ◌∷◌, ◌++◌, length, set, refl, sym, ap, subst, arith}
 use Rattle.std.proofs.lemmas.Bool.{cases_lt, or_from, or_left, or_right}
 use Rattle.std.proofs.lemmas.Option.{slice_get_past}
 use Rattle.std.specs.Prelude.{Contains, None, Option, Some, filter, is_some, slice_get}
 use Rattle.std.specs.List.{list_any}
-use Rattle.derivations.specs.Slots.{AreFewer, IsDroppedAt, IsMemberAt, Slots, kept, passes_at, passes_in}
+use Rattle.derivations.specs.Slots.{AreFewer, AreThinned, IsDroppedAt, IsMemberAt, IsThinnedAt, Slots, kept, passes_at, passes_in}
 use Rattle.derivations.specs.declared.line.Line.{Line}
 
 -- ---- a test of the members
@@ -53,16 +53,6 @@ kept_push (Some first ∷ rest) lines = ap (λ (l : List (List Line)). first ∷
 
 -- ---- members that go
 
--- a place whose member, if it passes the test, may have gone
-abbrev pub IsThinnedAt : (List Line → Bool) → Option (List Line) → Option (List Line) → Type 0
-IsThinnedAt test old new = (new ≡ old) ⊎ ((new ≡ None) × (passes_in test old ≡ true))
-
-abbrev pub AreThinned : (List Line → Bool) → Slots → Slots → Type 0
-AreThinned test [] [] = Unit {0}
-AreThinned test [] (new ∷ news) = ⊥
-AreThinned test (old ∷ olds) [] = ⊥
-AreThinned test (old ∷ olds) (new ∷ news) = IsThinnedAt test old new × AreThinned test olds news
-
 pub AreThinned-same : (test : List Line → Bool) (slots : Slots) → AreThinned test slots slots
 AreThinned-same test [] = tt
 AreThinned-same test (slot ∷ rest) = (inl refl, AreThinned-same test rest)
@@ -84,6 +74,24 @@ AreThinned-next test old mid new place thinned dropped = elim dropped [
   | inl same ↦ subst (λ l. AreThinned test old l) (sym same) thinned
   | inr gone ↦ subst (λ l. AreThinned test old l) (sym gone.1) (AreThinned-set test old mid place thinned gone.0)
 ]
+
+-- twice
+pub AreThinned-join : (test : List Line → Bool) (old mid new : Slots) → AreThinned test old mid → AreThinned test mid new → AreThinned test old new
+AreThinned-join test [] [] [] first then = tt
+AreThinned-join test [] [] (other ∷ news) first then = absurd then
+AreThinned-join test [] (slot ∷ mids) new first then = absurd first
+AreThinned-join test (slot ∷ olds) [] new first then = absurd first
+AreThinned-join test (slot ∷ olds) (half ∷ mids) [] first then = absurd then
+AreThinned-join test (slot ∷ olds) (half ∷ mids) (other ∷ news) first then = (
+  elim then.0 [
+    | inl same ↦ subst (λ (o : Option (List Line)). IsThinnedAt test slot o) (sym same) first.0
+    | inr gone ↦ elim first.0 [
+      | inl before ↦ inr (gone.0, ap (passes_in test) (sym before) ∙ gone.1)
+      | inr earlier ↦ inr (gone.0, earlier.1)
+    ]
+  ],
+  AreThinned-join test olds mids news first.1 then.1,
+)
 
 -- each stands where it stood
 pub AreFewer-thinned : (test : List Line → Bool) (old new : Slots) → AreThinned test old new → AreFewer old new

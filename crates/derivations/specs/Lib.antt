@@ -11,3 +11,5 @@ pub mod Stored
 pub mod Keys
 pub mod Indexes
 pub mod Slots
+pub mod Pairing
+pub mod Wants

@@ -1,11 +1,9 @@
 -- The places of a store, of which some are empty.
-use Rattle.std.specs.Prelude.{◌≡◌, ◌<◌, ◌⊎◌, ℕ, Bool, true, false, not, List, [], ◌∷◌, Option, None, Some, filter, length, slice_get, slice_set}
+use Rattle.std.specs.Prelude.{◌≡◌, ◌<◌, ◌⊎◌, ℕ, Bool, true, false, not, List, [], ◌∷◌, Option, None, Some, filter, slice_get, slice_set}
 use Rattle.versions.specs.Words.{Text, meets}
-use Rattle.terms.specs.Sets.{has}
 use Rattle.derivations.specs.Facts.{Terms}
 use Rattle.derivations.specs.Indexes.{Indexed, IsUnder}
 use Rattle.derivations.specs.Keys.{key_of}
-use Rattle.derivations.specs.Learning.{targets_of}
 use Rattle.derivations.specs.Stored.{conclusion_of, is_on, same_terms}
 use Rattle.derivations.specs.declared.line.Line.{Line}
 
@@ -49,15 +47,21 @@ unmet p version members = filter (λ lines. not (is_met p version lines)) member
 abbrev pub IsDroppedAt : (List Line → Bool) → ℕ → Slots → Slots → Type 0
 IsDroppedAt test place old new = (new ≡ old) ⊎ ((passes_at test (slice_get old place) ≡ true) × (new ≡ slice_set old place None))
 
+-- a place whose member, if it passes the test, may have gone
+abbrev pub IsThinnedAt : (List Line → Bool) → Option (List Line) → Option (List Line) → Type 0
+IsThinnedAt test old new = (new ≡ old) ⊎ ((new ≡ None) × (passes_in test old ≡ true))
+
+abbrev pub AreThinned : (List Line → Bool) → Slots → Slots → Type 0
+AreThinned test [] [] = Unit {0}
+AreThinned test [] (new ∷ news) = ⊥
+AreThinned test (old ∷ olds) [] = ⊥
+AreThinned test (old ∷ olds) (new ∷ news) = IsThinnedAt test old new × AreThinned test olds news
+
 -- ---- where members are found
 
 -- a member is found under the key of its conclusion
 abbrev pub HasKey : List Line → ℕ → Type 0
 HasKey lines number = key_of (conclusion_of lines) ≡ number
-
--- and under each package that it rests on
-abbrev pub RestsOn : List Line → ℕ → Type 0
-RestsOn lines number = has (targets_of lines) number ≡ true
 
 -- each member is found under each of its numbers
 abbrev pub AreFound : (List Line → ℕ → Type 0) → Indexed → Slots → Type 0
@@ -70,9 +74,3 @@ AreFoundBelow Has first index slots = index.whole ≡ true → (place : ℕ) (li
 -- members may be gone, and each other stands where it stood
 abbrev pub AreFewer : Slots → Slots → Type 0
 AreFewer old new = (place : ℕ) (lines : List Line) → IsMemberAt new place lines → IsMemberAt old place lines
-
--- so many members stand in the places, and are found under their keys and under what they rest on
-pub record IsStore (count : ℕ) (slots : Slots) (keys resting : Indexed) : Type 0 where
-  pub counted : count ≡ length (kept slots)
-  pub keyed : AreFound HasKey keys slots
-  pub rested : AreFound RestsOn resting slots

@@ -11,6 +11,8 @@ ghost use Rattle.terms.specs.declared.term.Term.TheVariants.{In};
 use crate::derivation::Derivation;
 use crate::facts::Cause;
 use crate::line::{Line, is_root_alone};
+use crate::pairing::paired;
+use crate::runs::count_at;
 use crate::taking::{Step, lines_copied, lines_taken};
 use std::alloc::{AllocError, Global};
 use terms::{Incompat, Pkg};
@@ -62,14 +64,6 @@ fn cites(line: &Known) -> (usize, usize, Pkg)
     }
 }
 
-/// How many lines a line takes, where that was counted.
-fn weight(weights: &[usize], place: usize) -> usize {
-    match weights.get(place) {
-        Some(weight) => *weight,
-        None => 0,
-    }
-}
-
 /// How many lines each line takes with those that it rests on, of which one that is cited twice
 /// counts twice. Facts take none.
 fn weights_of(alloc: Global, known: &[Known]) -> Result<Vec<usize>, AllocError> {
@@ -77,8 +71,8 @@ fn weights_of(alloc: Global, known: &[Known]) -> Result<Vec<usize>, AllocError> 
     'count: for line in known {
         let taken = match line.reason {
             Reason::Fact(_) => 0,
-            Reason::Resolved(i, j, _) => weight(&weights, i)
-                .saturating_add(weight(&weights, j))
+            Reason::Resolved(i, j, _) => count_at(&weights, i)
+                .saturating_add(count_at(&weights, j))
                 .saturating_add(1),
         };
         weights.push(taken)?;
@@ -98,7 +92,7 @@ fn open_cause(known: &[Known], weights: &[usize], numbers: &[usize], at: usize) 
     ensures ready { IfNone result (IsReady known.now numbers.now at) }
 {
     let (i, j, _) = cites(&known[at]);
-    if weight(weights, i) < weight(weights, j) && is_open(&known[j], numbers[j]) {
+    if count_at(weights, i) < count_at(weights, j) && is_open(&known[j], numbers[j]) {
         return Some(j);
     }
     if is_open(&known[i], numbers[i]) {
@@ -337,8 +331,9 @@ fn last_step(known: &[Known], end: usize) -> usize
 
 /// The derivation of a refusal, cut from the lines of a search: those that the one at `end` rests
 /// on, each written once, from facts. Where the end only resolves with the root's fact a line that may
-/// end a derivation, the derivation ends with that line. What they say is moved and not copied. Linear
-/// in the lines of the search.
+/// end a derivation, the derivation ends with that line. Long runs of lines on one pivot are put
+/// together pairwise. What they say is moved and not copied. Linear in the lines of the search, but
+/// for the versions that the lines name which are put together anew.
 pub fn cut(alloc: Global, known: Vec<Known>, end: usize) -> Result<Derivation, AllocError>
     requires ordered { AreOrdered known.items }
     requires end { EndsAt known.items end }
@@ -348,7 +343,8 @@ pub fn cut(alloc: Global, known: Vec<Known>, end: usize) -> Result<Derivation, A
     ensures cited { IfOk result AreCited }
 {
     let place = last_step(&known, end);
-    let steps = steps_of(alloc, &known, place)?;
-    let lines = lines_taken(alloc, known, steps)?;
-    Ok(Derivation::new(lines))
+    let (lines, at) = paired(alloc, known, place)?;
+    let steps = steps_of(alloc, &lines, at)?;
+    let taken = lines_taken(alloc, lines, steps)?;
+    Ok(Derivation::new(taken))
 }

@@ -14,7 +14,7 @@ use std::alloc::{AllocError, Global};
 use terms::{Incompat, Pkg, resolve};
 
 /// Whether one of the two has a term on the pivot.
-fn is_on(one: &Incompat, two: &Incompat, pivot: Pkg) -> bool
+pub fn is_on(one: &Incompat, two: &Incompat, pivot: Pkg) -> bool
     ensures { result ≡ (has_term one.now pivot || has_term two.now pivot) }
 {
     one.has_term(pivot) || two.has_term(pivot)

@@ -85,6 +85,14 @@ impl Index {
         self.links.clear();
     }
 
+    /// Counts as not whole from now on, until it is begun anew.
+    pub(crate) fn lose(&mut self)
+        ensures lost { self.new.whole ≡ false }
+        ensures kept { self.new.links ≡ self.old.links }
+    {
+        self.whole = false;
+    }
+
     /// Makes room for so many more places.
     pub(crate) fn reserve(&mut self, more: usize) -> Result<(), AllocError>
         ensures { self.new ≡ self.old }

@@ -7,7 +7,7 @@ use terms::{Incompat, Term, VSet};
 
 /// A number stirred into a key.
 #[tactic(auto, unfolding(crate::specs::Keys::stirred))]
-fn stirred(key: u64, number: u32) -> u64
+pub fn stirred(key: u64, number: u32) -> u64
     ensures { result ≡ stirred key number }
 {
     key.wrapping_mul(1_099_511_628_211)

@@ -17,10 +17,13 @@ mod learnt;
 mod line;
 mod members;
 mod offering;
+mod pairing;
+mod runs;
 mod slots;
 mod standing;
 mod store;
 mod taking;
+mod wants;
 
 pub use causes::{ROOT, need_incompat};
 pub use cutting::{Known, Reason, cut, lines_of};

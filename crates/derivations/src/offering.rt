@@ -12,29 +12,61 @@ use crate::learnt::{LINE_LIMIT, Learnt};
 use crate::line::Line;
 use std::alloc::{AllocError, Global};
 
-/// Whether the line at a place rests on premises alone, if there is one.
-fn is_marked(marks: &[bool], place: usize) -> bool {
-    marks.get(place).copied() == Some(true)
+/// The most lines that all offers of one search have together.
+const OFFERED_LIMIT: usize = 8_192;
+
+/// How many lines one more offer may have behind so many lines of others: as many as are left, but for
+/// those that are kept for the last one.
+fn room_behind(taken: usize, is_last: bool) -> usize {
+    if is_last {
+        return LINE_LIMIT;
+    }
+    OFFERED_LIMIT
+        .saturating_sub(LINE_LIMIT)
+        .saturating_sub(taken)
+        .min(LINE_LIMIT)
 }
 
-/// Whether a line with this reason rests on premises alone, given which of the lines before it do.
-fn rests_on_premises(marks: &[bool], reason: &Reason) -> bool {
+/// How many lines the line at a place takes at least, by what was counted: endlessly many where it was
+/// not.
+fn least_at(least: &[usize], place: usize) -> usize {
+    match least.get(place) {
+        Some(count) => *count,
+        None => usize::MAX,
+    }
+}
+
+/// How many lines a line with this reason takes at least, given how many those before it do: endlessly
+/// many where it rests on more than premises.
+fn least_by(least: &[usize], reason: &Reason) -> usize {
     match reason {
-        Reason::Fact(Cause::Premise(_)) => true,
-        Reason::Fact(_) => false,
-        Reason::Resolved(i, j, _) => is_marked(marks, *i) && is_marked(marks, *j),
+        Reason::Fact(Cause::Premise(_)) => 0,
+        Reason::Fact(_) => usize::MAX,
+        Reason::Resolved(i, j, _) => least_at(least, *i)
+            .max(least_at(least, *j))
+            .saturating_add(1),
     }
 }
 
-/// Beside each line, whether it rests on premises alone: the others need not be cut. Nothing but the
-/// cost of a search's offers, and which are left out, rests on the marks.
-fn marks_of(alloc: Global, known: &[Known]) -> Result<Vec<bool>, AllocError> {
-    let mut marks = Vec::with_capacity(alloc, known.len())?;
-    for line in known {
-        let mark = rests_on_premises(&marks, &line.reason);
-        marks.push(mark)?;
+/// Counts how many lines each line takes at least, up to the one at a place. Nothing but the cost of a
+/// search's offers, and which are left out, rests on the counts.
+fn count_up_to(least: &mut Vec<usize>, known: &[Known], place: usize) -> Result<(), AllocError> {
+    for at in least.len()..place.saturating_add(1) {
+        let Some(line) = known.get(at) else {
+            return Ok(());
+        };
+        let count = least_by(least, &line.reason);
+        least.push(count)?;
     }
-    Ok(marks)
+    Ok(())
+}
+
+/// Corrects the count at a place by what a walk found, so that the lines behind it, which are counted
+/// later, take as many at least.
+fn correct(least: &mut Vec<usize>, place: usize, count: usize) {
+    if place < least.len() {
+        least[place] = count;
+    }
 }
 
 /// Whether the line at the place, if there is one, follows from others.
@@ -80,14 +112,15 @@ fn learnable(alloc: Global, lines: Vec<Line>) -> Result<Option<Learnt>, AllocErr
 }
 
 /// What may be learnt of the line at a place: nothing of a fact, nor of one that rests on more than
-/// premises or on too many lines, nor where there is no line. The zeros, one for each line of the
-/// search, are handed back.
+/// premises or on more lines than there is room for, nor where there is no line. The zeros, one for
+/// each line of the search, are handed back.
 fn offer(
     alloc: Global,
     known: &[Known],
-    marks: &[bool],
+    least: &mut Vec<usize>,
     zeros: Vec<usize>,
     place: usize,
+    room: usize,
 ) -> Result<(Option<Learnt>, Vec<usize>), AllocError>
     requires ordered { AreOrdered known.now }
     requires lawful { AreLawfulSomewhere known.now }
@@ -95,22 +128,39 @@ fn offer(
     ensures shows { IfOk result (λ made. IfSome made.0 (ShowsLine known.now place)) }
     ensures clear { IfOk result (λ made. AreClear known.now made.1.items) }
 {
-    if !is_marked(marks, place) || !is_resolved_at(known, place) {
+    count_up_to(least, known, place)?;
+    if least_at(least, place) > room || !is_resolved_at(known, place) {
         return Ok((None, zeros));
     }
-    let (found, cleared) = few_lines_of(alloc, known, zeros, place, LINE_LIMIT)?;
+    let (found, cleared) = few_lines_of(alloc, known, zeros, place, room)?;
     match found {
-        None => Ok((None, cleared)),
-        Some(lines) => Ok((learnable(alloc, lines)?, cleared)),
+        None => {
+            correct(least, place, room.saturating_add(1));
+            Ok((None, cleared))
+        }
+        Some(lines) => {
+            correct(least, place, lines.len());
+            Ok((learnable(alloc, lines)?, cleared))
+        }
+    }
+}
+
+/// How many lines it has, where something is offered.
+fn count_lines(found: &Option<Learnt>) -> usize {
+    match found {
+        None => 0,
+        Some(learnt) => learnt.lines().len(),
     }
 }
 
 /// What may be learnt of the lines at these places, each with its whole derivation: of those that
-/// rest on premises alone, by no more than [`LINE_LIMIT`](crate::LINE_LIMIT) lines. Places that hold a
-/// fact, or nothing, are passed over.
+/// rest on premises alone, by no more than [`LINE_LIMIT`](crate::LINE_LIMIT) lines, and by no more than
+/// 8,192 lines all together. Those that come first are offered first; for the last one there is always
+/// room. Places that hold a fact, or nothing, are passed over.
 ///
 /// What a search's lines say is taken on its word, which a caller proves: they are cut and looked
-/// over, and not judged again. Linear in the lines of the search and in the limit for each place.
+/// over, and not judged again. Linear in the lines of the search and in the limit for each place. Places
+/// that ascend cost least: what rests on a line that takes too many lines is then told at a look.
 pub fn offers(alloc: Global, known: &[Known], places: &[usize]) -> Result<Vec<Learnt>, AllocError>
     requires ordered { AreOrdered known.now }
     requires lawful { AreLawfulSomewhere known.now }
@@ -120,12 +170,15 @@ pub fn offers(alloc: Global, known: &[Known], places: &[usize]) -> Result<Vec<Le
     if places.is_empty() {
         return Ok(Vec::new(alloc));
     }
-    let marks = marks_of(alloc, known)?;
+    let mut least = Vec::with_capacity(alloc, known.len())?;
     let mut numbers = zeros(alloc, known.len())?;
     let mut offered = Vec::new(alloc);
+    let mut taken: usize = 0;
     for at in 0..places.len() {
-        let (found, cleared) = offer(alloc, known, &marks, numbers, places[at])?;
+        let room = room_behind(taken, at + 1 == places.len());
+        let (found, cleared) = offer(alloc, known, &mut least, numbers, places[at], room)?;
         numbers = cleared;
+        taken = taken.saturating_add(count_lines(&found));
         if let Some(learnt) = found {
             offered.push(learnt)?;
         }

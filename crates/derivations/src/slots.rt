@@ -1,13 +1,12 @@
 // The places of a store: who is found there, and who goes.
 
-ghost use Rattle.std.specs.Prelude.{◌≡◌, ℕ, true, false, length, slice_get, IfSome};
+ghost use Rattle.std.specs.Prelude.{◌≡◌, ℕ, List, true, false, length, slice_get, IfSome};
 ghost use Rattle.std.specs.List.{list_any};
-ghost use Rattle.terms.specs.Sets.{has};
 ghost use Rattle.derivations.specs.Indexes.{Extends, IsUnder};
 ghost use Rattle.derivations.specs.Keys.{key_of};
-ghost use Rattle.derivations.specs.Learning.{targets_of};
-ghost use Rattle.derivations.specs.Slots.{concludes, is_met, kept, passes_at, passes_in, unmet, AreFewer, AreFound, HasKey, IsDroppedAt, IsMemberAt, RestsOn};
+ghost use Rattle.derivations.specs.Slots.{concludes, is_met, kept, passes_at, passes_in, unmet, AreFewer, AreFound, AreThinned, HasKey, IsDroppedAt, IsMemberAt};
 ghost use Rattle.derivations.specs.Stored.{conclusion_of, has_conclusion};
+ghost use Rattle.derivations.specs.declared.line.Line.{Line};
 
 use crate::index::{Index, Link};
 use crate::keys::key_of;
@@ -126,51 +125,52 @@ fn drop_at(
     count - 1
 }
 
-/// The same for the place of a link, if it stands under the package.
+/// The same for the place of a link, if it stands under the number.
 fn drop_under(
     slots: &mut [Option<Learnt>],
     count: usize,
     link: Link,
+    number: u64,
     pkg: Pkg,
     version: &Published,
 ) -> usize
     requires { count ≡ length (kept slots.old) }
     ensures dropped { IsDroppedAt (is_met pkg version.now) link.place slots.old slots.new }
-    ensures gone { link.number ≡ pkg → passes_at (is_met pkg version.now) (slice_get slots.new link.place) ≡ false }
+    ensures gone { link.number ≡ number → passes_at (is_met pkg version.now) (slice_get slots.new link.place) ≡ false }
     ensures count { result ≡ length (kept slots.new) }
 {
-    if link.number != u64::from(pkg) {
+    if link.number != number {
         return count;
     }
     drop_at(slots, count, link.place as usize, pkg, version)
 }
 
-/// Lets each member go that is met: those are asked that rest on the package.
-fn drop_found(
+/// Lets each member go that is met and stands under the number.
+pub fn drop_numbered(
     slots: &mut [Option<Learnt>],
     count: usize,
-    resting: &Index,
+    members: &Index,
+    number: u64,
     pkg: Pkg,
     version: &Published,
 ) -> usize
     requires count { count ≡ length (kept slots.old) }
-    requires whole { resting.now.whole ≡ true }
-    requires found { AreFound RestsOn resting.now slots.old }
-    ensures kept { kept slots.new ≡ unmet pkg version.now (kept slots.old) }
+    requires whole { members.now.whole ≡ true }
+    ensures thinned { AreThinned (is_met pkg version.now) slots.old slots.new }
+    ensures gone { (place : ℕ) (lines : List Line) → IsMemberAt slots.new place lines → IsUnder members.now.links number place → is_met pkg version.now lines ≡ false }
     ensures count { result ≡ length (kept slots.new) }
-    ensures fewer { AreFewer slots.old slots.new }
 {
     let mut left = count;
-    let mut at = resting.first(u64::from(pkg));
-    'walk: while let Some(link) = resting.link(at) {
-        left = drop_under(slots, left, link, pkg, version);
+    let mut at = members.first(number);
+    'walk: while let Some(link) = members.link(at) {
+        left = drop_under(slots, left, link, number, pkg, version);
         at = link.before;
     }
     left
 }
 
 /// Lets each member go that is met: each is asked.
-fn drop_any(slots: &mut [Option<Learnt>], count: usize, pkg: Pkg, version: &Published) -> usize
+pub fn drop_any(slots: &mut [Option<Learnt>], count: usize, pkg: Pkg, version: &Published) -> usize
     requires { count ≡ length (kept slots.old) }
     ensures kept { kept slots.new ≡ unmet pkg version.now (kept slots.old) }
     ensures count { result ≡ length (kept slots.new) }
@@ -183,28 +183,6 @@ fn drop_any(slots: &mut [Option<Learnt>], count: usize, pkg: Pkg, version: &Publ
     left
 }
 
-/// Lets each member go that has a premise with this target whose requirement the version meets. It is
-/// told how many members there are, and answers how many are left.
-pub fn drop_met(
-    slots: &mut [Option<Learnt>],
-    count: usize,
-    resting: &Index,
-    pkg: Pkg,
-    version: &Published,
-) -> usize
-    requires count { count ≡ length (kept slots.old) }
-    requires found { AreFound RestsOn resting.now slots.old }
-    ensures kept { kept slots.new ≡ unmet pkg version.now (kept slots.old) }
-    ensures count { result ≡ length (kept slots.new) }
-    ensures fewer { AreFewer slots.old slots.new }
-{
-    if resting.is_whole() {
-        drop_found(slots, count, resting, pkg, version)
-    } else {
-        drop_any(slots, count, pkg, version)
-    }
-}
-
 // ---- what members are found under
 
 /// Adds a place under the key of what its member concludes.
@@ -214,17 +192,6 @@ pub fn add_key(keys: &mut Index, place: usize, learnt: &Learnt)
     ensures there { keys.new.whole ≡ true → IsUnder keys.new.links (key_of (conclusion_of learnt.now)) place }
 {
     keys.add(learnt.key(), place);
-}
-
-/// Adds a place under each package that its member rests on.
-pub fn add_targets(resting: &mut Index, place: usize, learnt: &Learnt)
-    ensures whole { resting.new.whole ≡ true → resting.old.whole ≡ true }
-    ensures kept { Extends resting.old.links resting.new.links }
-    ensures there { resting.new.whole ≡ true → (q : ℕ) → has (targets_of learnt.now) q ≡ true → IsUnder resting.new.links q place }
-{
-    for target in learnt.rests_on().iter() {
-        resting.add(u64::from(target), place);
-    }
 }
 
 /// Adds a place under each package that its member's conclusion names. No contract speaks of it: a
@@ -252,26 +219,6 @@ pub fn add_keys(keys: &mut Index, slots: &[Option<Learnt>])
 {
     for place in 0..slots.len() {
         add_slot_key(keys, place, &slots[place]);
-    }
-}
-
-/// Adds the place of a slot under each package that its member rests on.
-fn add_slot_targets(resting: &mut Index, place: usize, slot: &Option<Learnt>)
-    ensures whole { resting.new.whole ≡ true → resting.old.whole ≡ true }
-    ensures kept { Extends resting.old.links resting.new.links }
-    ensures there { resting.new.whole ≡ true → IfSome slot.now (λ lines. (q : ℕ) → has (targets_of lines) q ≡ true → IsUnder resting.new.links q place) }
-{
-    if let Some(member) = slot {
-        add_targets(resting, place, member);
-    }
-}
-
-/// Adds the places of all members under what they rest on.
-pub fn add_all_targets(resting: &mut Index, slots: &[Option<Learnt>])
-    ensures { AreFound RestsOn resting.new slots.now }
-{
-    for place in 0..slots.len() {
-        add_slot_targets(resting, place, &slots[place]);
     }
 }
 

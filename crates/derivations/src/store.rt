@@ -14,10 +14,8 @@ use crate::index::Index;
 use crate::laws::{commands_keep, learning_keeps};
 use crate::learnt::{LINE_LIMIT, Learnt};
 use crate::members::{Members, members_in};
-use crate::slots::{
-    add_all_names, add_all_targets, add_key, add_keys, add_names, add_targets, drop_met,
-    has_concluded, member_at,
-};
+use crate::slots::{add_all_names, add_key, add_keys, add_names, has_concluded, member_at};
+use crate::wants::{Wants, add_all_rests, add_rests};
 use registry::{Command, Registry, matching_is_what_meets};
 use std::alloc::{AllocError, Global};
 use std::marker::Model;
@@ -30,8 +28,8 @@ pub const STORE_LIMIT: usize = 4_096;
 /// So many places may be empty, and as many as there are members.
 const MOST_EMPTY: usize = 256;
 
-/// The most packages that lines rest on.
-const MOST_TARGETS: usize = 2 * LINE_LIMIT;
+/// The most requirements that lines rest on.
+const MOST_RESTS: usize = 2 * LINE_LIMIT;
 
 /// The most packages that a conclusion names.
 const MOST_NAMES: usize = 4 * LINE_LIMIT;
@@ -39,7 +37,7 @@ const MOST_NAMES: usize = 4 * LINE_LIMIT;
 /// What was learnt, in order of learning.
 ///
 /// A member stands in its place until it goes, and leaves the place empty; from time to time the empty
-/// places go too. Members are found by what they conclude, by the packages that they rest on, and by
+/// places go too. Members are found by what they conclude, by the requirements that they rest on, and by
 /// the packages that their conclusions name, each in an index.
 #[derive(Drop)]
 pub struct Store {
@@ -47,20 +45,21 @@ pub struct Store {
     // how many of them are members
     count: usize,
     keys: Index,
-    resting: Index,
+    wants: Wants,
     naming: Index,
 }
 
 impl Model for Store {
     ghost use Rattle.std.specs.Prelude.{◌-◌, vec_capacity, vec_len};
-    ghost use Rattle.derivations.specs.Slots.{kept, IsStore};
+    ghost use Rattle.derivations.specs.Slots.{kept};
     ghost use Rattle.derivations.specs.Stored.{Stored};
+    ghost use Rattle.derivations.specs.Wants.{IsStore};
 
     ghost Value = { Stored };
 
     ghost view = { λ s. record { members = kept s.slots.items; room = vec_capacity s.slots - vec_len s.slots } };
 
-    ghost invariant = { λ s. IsStore s.count s.slots.items s.keys s.resting };
+    ghost invariant = { λ s. IsStore s.count s.slots.items s.keys s.wants };
 }
 
 impl Store {
@@ -72,7 +71,7 @@ impl Store {
             slots: Vec::new(alloc),
             count: 0,
             keys: Index::new(alloc),
-            resting: Index::new(alloc),
+            wants: Wants::new(alloc),
             naming: Index::new(alloc),
         }
     }
@@ -139,7 +138,7 @@ impl Store {
         self.slots.reserve(1)?;
         self.begin_indexes()?;
         self.keys.reserve(1)?;
-        self.resting.reserve(MOST_TARGETS)?;
+        self.wants.reserve(MOST_RESTS)?;
         self.naming.reserve(MOST_NAMES)?;
         Ok(())
     }
@@ -152,9 +151,9 @@ impl Store {
             self.keys.begin()?;
             add_keys(&mut self.keys, &self.slots);
         }
-        if !self.resting.is_whole() {
-            self.resting.begin()?;
-            add_all_targets(&mut self.resting, &self.slots);
+        if !self.wants.is_whole() {
+            self.wants.begin()?;
+            add_all_rests(&mut self.wants, &self.slots);
         }
         if !self.naming.is_whole() {
             self.naming.begin()?;
@@ -198,7 +197,7 @@ impl Store {
     {
         let place = self.slots.len();
         add_key(&mut self.keys, place, &learnt);
-        add_targets(&mut self.resting, place, &learnt);
+        add_rests(&mut self.wants, place, &learnt);
         add_names(&mut self.naming, place, &learnt);
         self.slots.push(Some(learnt))?;
         self.count += 1;
@@ -207,7 +206,8 @@ impl Store {
 
     /// Drops what an accepted publication of a package may have ended: each member that has a premise
     /// with this target whose requirement the package's last version meets. The registry has that
-    /// version already. Takes no memory, and asks those members alone that rest on the package.
+    /// version already. Takes no memory. Each requirement on the package is tested once, and those
+    /// members alone are asked that rest on one which is met.
     pub fn published(&mut self, registry: &Registry, pkg: Pkg)
         ensures { self.new.members ≡ published registry.now.packages pkg self.old.members }
     {
@@ -245,7 +245,9 @@ impl Store {
     fn drop_met(&mut self, pkg: Pkg, version: &Published)
         ensures { self.new.members ≡ unmet pkg version.now self.old.members }
     {
-        self.count = drop_met(&mut self.slots, self.count, &self.resting, pkg, version);
+        self.count = self
+            .wants
+            .drop_met(&mut self.slots, self.count, pkg, version);
     }
 
     /// Lets the empty places go where they are many.
@@ -264,10 +266,10 @@ impl Store {
     {
         self.slots.retain(|slot| slot.is_some());
         self.keys.clear();
-        self.resting.clear();
+        self.wants.clear();
         self.naming.clear();
         add_keys(&mut self.keys, &self.slots);
-        add_all_targets(&mut self.resting, &self.slots);
+        add_all_rests(&mut self.wants, &self.slots);
         add_all_names(&mut self.naming, &self.slots);
     }
 }

@@ -1,7 +1,6 @@
 use Rattle.std.proofs.Common.{◌≡◌, ◌<◌, ℕ, false, length}
 use Rattle.std.specs.Prelude.{slice_get}
-use Rattle.derivations.specs.Slots.{is_met, kept, passes_at}
-use Rattle.derivations.proofs.Thinning.{AreThinned}
+use Rattle.derivations.specs.Slots.{AreThinned, is_met, kept, passes_at}
 use Rattle.derivations.proofs.slots.drop_any.Given as goal
 
 abbrev pub invariant-loop-place : goal.invariant-loop-place

@@ -1,8 +1,9 @@
 use Rattle.std.proofs.Common.{◌≡◌, ◌∙◌, ap, length, rules, subst, sym}
 use Rattle.std.proofs.lemmas.Fn.{filter_same}
 use Rattle.std.specs.Prelude.{filter, is_some}
-use Rattle.derivations.specs.Slots.{AreFound, HasKey, RestsOn, Slots, kept}
+use Rattle.derivations.specs.Slots.{AreFound, HasKey, Slots, kept}
 use Rattle.derivations.specs.Stored.{Stored}
+use Rattle.derivations.specs.Wants.{AreHeld}
 use Rattle.derivations.proofs.Thinning.{kept_some}
 use Rattle.derivations.proofs.store.Store.tidy.Goals as goal
 
@@ -12,7 +13,7 @@ invariant_of-self c =
     record {
       counted = c.self.invariant.counted ∙ sym (ap (λ (l : Slots). length (kept l)) left ∙ ap length (kept_some c.self.inside.slots.items));
       keyed = subst (λ (l : Slots). AreFound HasKey c.add_keys.new.keys l) c.deref.ensures.value c.add_keys.ensures;
-      rested = subst (λ (l : Slots). AreFound RestsOn c.add_all_targets.new.resting l) c.deref-2.ensures.value c.add_all_targets.ensures;
+      held = subst (λ (l : Slots). AreHeld c.add_all_rests.new.wants l) c.deref-2.ensures.value c.add_all_rests.ensures;
     }
 
 pub returns : goal.returns
