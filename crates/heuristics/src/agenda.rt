@@ -1,12 +1,12 @@
 // Which lines are looked at, and which package is decided.
 
 use crate::late::Late;
+use crate::lines::Lines;
 use crate::occurrences::Occurrences;
 use crate::question::{Question, ROOM};
 use crate::queue::Queue;
 use crate::spent::Spent;
 use crate::watches::{Situation, Watches};
-use derivations::Known;
 use partial::Partial;
 use std::alloc::{AllocError, Global};
 use terms::{Incompat, Pkg, Term};
@@ -87,71 +87,59 @@ impl Agenda {
         self.occurrences.enters_alike(question, pkg)
     }
 
-    /// Notes the line at a place that a conflict led to: a long one is watched, a short one noted with
-    /// each package that it names.
+    /// Notes the line at a place, which concludes this and which a conflict led to: a long one is watched,
+    /// a short one noted with each package that it names.
     pub fn learn(
         &mut self,
         alloc: Global,
         partial: &Partial,
-        known: &[Known],
+        conclusion: &Incompat,
         at: usize,
     ) -> Result<(), AllocError> {
-        let Some(line) = known.get(at) else {
-            return Ok(());
-        };
-        let terms = line.conclusion.terms();
+        let terms = conclusion.terms();
         if terms.len() <= 2 {
-            return self.occurrences.note(alloc, &line.conclusion, at);
+            return self.occurrences.note(alloc, conclusion, at);
         }
-        let now = Situation {
-            alloc,
-            partial,
-            known,
-        };
-        self.watches.note(now, terms, at)
+        self.watches.note(Situation { alloc, partial }, terms, at)
     }
 
     /// Looks at a package of which something was settled: puts it into the queue, if it is to be
     /// decided, and gathers the lines from which something may follow now.
-    pub fn look(
+    pub fn look<L: Lines>(
         &mut self,
         question: &Question<'_>,
         partial: &Partial,
-        known: &[Known],
+        lines: &L,
         pkg: Pkg,
     ) -> Result<(), AllocError> {
         self.ripe.clear();
         self.spend(partial.level())?;
-        self.late.settle(partial, known)?;
+        self.late.settle(partial, lines)?;
         self.queue
             .offer(question, &mut self.occurrences, partial, pkg)?;
         if let Some(said) = partial.said(pkg) {
             self.occurrences
                 .gather(partial, pkg, said, &mut self.spent, &mut self.ripe)?;
-            self.gather_watched(question.alloc, partial, known, pkg, said)?;
+            self.gather_watched(question.alloc, partial, lines, pkg, said)?;
         }
         self.late.hand_out(&mut self.ripe, partial.level())
     }
 
     /// Gathers the lines from which something may follow, of those that are watched from a package.
-    fn gather_watched(
+    fn gather_watched<L: Lines>(
         &mut self,
         alloc: Global,
         partial: &Partial,
-        known: &[Known],
+        lines: &L,
         pkg: Pkg,
         said: &Term,
     ) -> Result<(), AllocError> {
         if !self.watches.has(pkg) {
             return Ok(());
         }
-        let now = Situation {
-            alloc,
-            partial,
-            known,
-        };
+        let now = Situation { alloc, partial };
         self.watches
-            .gather(now, pkg, said, &self.spent, &mut self.ripe)?;
+            .gather(now, lines, pkg, said, &self.spent, &mut self.ripe)?;
         // All are used newest first, wherever they stood.
         self.ripe.sort_unstable();
         Ok(())
@@ -159,9 +147,7 @@ impl Agenda {
 
     /// Puts the lines by that were used at this level.
     fn spend(&mut self, level: usize) -> Result<(), AllocError> {
-        for at in self.used.as_slice() {
-            self.spent.add(*at, level)?;
-        }
+        self.spent.add_all(&self.used, level)?;
         self.used.clear();
         Ok(())
     }
@@ -176,12 +162,12 @@ impl Agenda {
     }
 
     /// Takes back what was noted above the level to which the search has jumped back, where it used the
-    /// line at a place.
+    /// line at a place, which concludes this.
     pub fn backjump(
         &mut self,
         question: &Question<'_>,
         partial: &Partial,
-        known: &[Known],
+        conclusion: &Incompat,
         at: usize,
     ) -> Result<(), AllocError> {
         let level = partial.level();
@@ -191,6 +177,6 @@ impl Agenda {
         self.occurrences.backjump(&mut self.spent, level);
         self.spent.add(at, level)?;
         self.late.backjump(level)?;
-        self.late.note(partial, known, at, level)
+        self.late.note(partial, conclusion, at, level)
     }
 }

@@ -6,6 +6,7 @@
 // next one of its package; where none is left, it gives up. What it decides is validated by the walk.
 
 use crate::alike::depend_alike;
+use crate::numbers::{index_of, set_number};
 use crate::obstacle::Obstacle;
 use crate::order::Order;
 use crate::question::{Question, ROOM, locked_version};
@@ -13,6 +14,7 @@ use indexmap::IndexMap;
 use registry::Matching;
 use std::alloc::AllocError;
 use terms::{Pkg, Term, VSet};
+use versions::{Name, Need};
 use walk::Asker;
 
 /// How many versions may be looked at, for each package of the registry, before it gives up.
@@ -32,8 +34,7 @@ struct Needed {
 /// What is left of the packages that are needed, and what is decided of them.
 #[derive(Drop)]
 struct Greedy {
-    /// By number of the package, up to the highest that is needed: one more than the index of what is
-    /// known of it, or 0.
+    /// Where it stands what is known of a package.
     numbers: Vec<usize>,
     needed: Vec<Needed>,
     /// Packages in the order of decisions; some of it is out of date.
@@ -103,35 +104,28 @@ impl Greedy {
 
     /// What is known of a package, if it is needed.
     fn get(&self, pkg: Pkg) -> Option<&Needed> {
-        let number = *self.numbers.as_slice().get(pkg as usize)?;
-        self.needed.as_slice().get(number.checked_sub(1)?)
+        self.needed.as_slice().get(index_of(&self.numbers, pkg)?)
     }
 
     /// As `get`, to write there.
     fn get_mut(&mut self, pkg: Pkg) -> Option<&mut Needed> {
-        let number = *self.numbers.as_slice().get(pkg as usize)?;
-        self.needed.as_mut_slice().get_mut(number.checked_sub(1)?)
+        let index = index_of(&self.numbers, pkg)?;
+        self.needed.as_mut_slice().get_mut(index)
     }
 
     /// Adds a package that was not needed before.
     fn add(&mut self, question: &Question<'_>, pkg: Pkg, left: Term) -> Result<(), AllocError> {
         let alike = depend_alike(question, pkg);
-        if alike {
-            self.alike.push(pkg)?;
-        }
-        for _ in self.numbers.len()..pkg as usize + 1 {
-            self.numbers.push(0)?;
-        }
         self.needed.push(Needed {
             pkg,
             left,
             decided: None,
             alike,
         })?;
-        if let Some(number) = self.numbers.as_mut_slice().get_mut(pkg as usize) {
-            *number = self.needed.len();
+        if alike {
+            self.alike.push(pkg)?;
         }
-        Ok(())
+        set_number(&mut self.numbers, pkg, self.needed.len())
     }
 
     /// What the obstacle leaves of a package beside a requirement.
@@ -176,15 +170,25 @@ impl Greedy {
         Ok(true)
     }
 
+    /// Notes what a need of the request leaves. Answers whether some version meets it beside the others.
+    fn meet_need(
+        &mut self,
+        question: &Question<'_>,
+        name: &Name,
+        need: &Need,
+    ) -> Result<bool, AllocError> {
+        let Some(pkg) = question.registry.number(name) else {
+            return Ok(false);
+        };
+        let matching = question.registry.matching_set(pkg, need)?;
+        self.meet(question, pkg, &matching)
+    }
+
     /// Notes what the request's needs leave, up to the first that nothing meets.
     fn meet_needs(&mut self, question: &Question<'_>) -> Result<bool, AllocError> {
         self.beside.clear();
         for (name, need) in question.request.needs() {
-            let Some(pkg) = question.registry.number(name) else {
-                return Ok(false);
-            };
-            let matching = question.registry.matching_set(pkg, need)?;
-            if !self.meet(question, pkg, &matching)? {
+            if !self.meet_need(question, name, need)? {
                 return Ok(false);
             }
         }
@@ -213,14 +217,12 @@ impl Greedy {
 
     /// Keeps what is left of a package, and puts it into the order.
     fn keep(&mut self, question: &Question<'_>, pkg: Pkg, left: Term) -> Result<(), AllocError> {
-        self.order.add(count_of(&left), pkg)?;
+        let count = count_of(&left);
         match self.get_mut(pkg) {
-            None => self.add(question, pkg, left),
-            Some(needed) => {
-                needed.left = left;
-                Ok(())
-            }
+            None => self.add(question, pkg, left)?,
+            Some(needed) => needed.left = left,
         }
+        self.order.add(count, pkg)
     }
 
     /// Keeps what was noted.
@@ -364,28 +366,26 @@ impl Greedy {
         }
         Ok(decided)
     }
-}
 
-/// A greedy search that has come to its end, if none of its steps failed.
-fn finished(
-    question: &Question<'_>,
-    obstacle: Option<Obstacle>,
-) -> Result<Option<Greedy>, AllocError> {
-    let mut greedy = Greedy::new(question, obstacle)?;
-    if !greedy.decide_all(question)? {
-        return Ok(None);
+    /// As `decide_all`, and once more with no obstacle where it was minded in vain.
+    fn decide_minding(&mut self, question: &Question<'_>) -> Result<bool, AllocError> {
+        if !self.decide_all(question)? {
+            return Ok(false);
+        }
+        if self.is_misled() {
+            // The obstacle's package is not needed, so it must not bind another one.
+            *self = Greedy::new(question, None)?;
+            return self.decide_all(question);
+        }
+        Ok(true)
     }
-    Ok(Some(greedy))
-}
 
-/// What a greedy search decided, if it came to its end.
-fn decisions_of(
-    question: &Question<'_>,
-    found: &Option<Greedy>,
-) -> Result<Option<IndexMap<Pkg, u32>>, AllocError> {
-    match found {
-        None => Ok(None),
-        Some(greedy) => Ok(Some(greedy.decisions(question)?)),
+    /// Decisions on all packages that are needed, if each could be met.
+    fn find(&mut self, question: &Question<'_>) -> Result<Option<IndexMap<Pkg, u32>>, AllocError> {
+        if !self.decide_minding(question)? {
+            return Ok(None);
+        }
+        Ok(Some(self.decisions(question)?))
     }
 }
 
@@ -394,10 +394,6 @@ pub fn decide_greedily(
     question: &Question<'_>,
     obstacle: Option<Obstacle>,
 ) -> Result<Option<IndexMap<Pkg, u32>>, AllocError> {
-    let mut found = finished(question, obstacle)?;
-    if matches!(&found, Some(greedy) if greedy.is_misled()) {
-        // The obstacle's package is not needed, so it must not bind another one.
-        found = finished(question, None)?;
-    }
-    decisions_of(question, &found)
+    let mut greedy = Greedy::new(question, obstacle)?;
+    greedy.find(question)
 }

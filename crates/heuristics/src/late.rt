@@ -3,7 +3,7 @@
 // Where a search jumps back to a level between, the line of the conflict derives there, though it could
 // have at a lower one. Once a later jump takes that back, the line derives again at once.
 
-use derivations::Known;
+use crate::lines::Lines;
 use partial::Partial;
 use std::alloc::{AllocError, Global};
 use terms::{Incompat, Pkg, Relation, Term, relation};
@@ -66,25 +66,19 @@ impl Late {
         }
     }
 
-    /// Notes the line at a place, by which something was derived at this level, if it could have been at
-    /// a lower one.
+    /// Notes the line at a place, which concludes this and by which something was derived at this level, if
+    /// it could have been at a lower one.
     pub fn note(
         &mut self,
         partial: &Partial,
-        known: &[Known],
+        conclusion: &Incompat,
         at: usize,
         level: usize,
     ) -> Result<(), AllocError> {
-        if level <= FAR {
-            return Ok(());
+        if level > FAR && is_late(partial, conclusion, level) {
+            self.order.push((at, level))?;
         }
-        match known.get(at) {
-            Some(line) if is_late(partial, &line.conclusion, level) => {
-                self.order.push((at, level))?;
-                Ok(())
-            }
-            Some(_) | None => Ok(()),
-        }
+        Ok(())
     }
 
     /// Takes back what was noted above a level.
@@ -111,13 +105,15 @@ impl Late {
     }
 
     /// Notes that the lines that were handed out were used, unless one of them was in a conflict.
-    pub fn settle(&mut self, partial: &Partial, known: &[Known]) -> Result<(), AllocError> {
+    pub fn settle<L: Lines>(&mut self, partial: &Partial, lines: &L) -> Result<(), AllocError> {
         let Some(level) = self.handed_out.take() else {
             return Ok(());
         };
         for index in 0..self.again.len() {
             if let Some(at) = self.again.as_slice().get(index).copied() {
-                self.note(partial, known, at, level)?;
+                if let Some(conclusion) = lines.conclusion(at) {
+                    self.note(partial, conclusion, at, level)?;
+                }
             }
         }
         self.again.clear();

@@ -7,11 +7,13 @@
 //! | File | What it does | Section |
 //! |---|---|---|
 //! | `question.rt` | what is asked of which registry | |
+//! | `lines.rt` | what the lines of a search conclude | |
 //! | `agenda.rt` | which lines are looked at, and which package is decided | Unit Propagation, Decision Making |
 //! | `occurrences.rt` | occurrence lists: the lines that name a package | Unit Propagation |
 //! | `watches.rt` | learnt lines of three terms or more, each looked at from two packages | Unit Propagation |
 //! | `late.rt` | lines that derived later than they could have | Unit Propagation |
 //! | `kept.rt` | what is kept of a package that lines name | Unit Propagation, Decision Making |
+//! | `numbers.rt` | where it stands what is known of a package | |
 //! | `spent.rt` | the lines that are not looked at until the search jumps back | Unit Propagation |
 //! | `queue.rt` | the packages that are to be decided | Decision Making |
 //! | `order.rt` | the order of decisions | Decision Making |
@@ -28,6 +30,8 @@ mod covered;
 mod greedy;
 mod kept;
 mod late;
+mod lines;
+mod numbers;
 mod obstacle;
 mod occurrences;
 mod order;
@@ -40,6 +44,7 @@ mod watches;
 pub use agenda::Agenda;
 pub use greedy::decide_greedily;
 pub use late::FAR;
+pub use lines::Lines;
 pub use obstacle::{Obstacle, obstacle_at};
 pub use question::{Question, ROOM, locked_version};
 pub use sharing::{Place, Sharing};

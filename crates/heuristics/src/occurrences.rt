@@ -3,6 +3,7 @@
 use crate::alike::several_depend_alike;
 use crate::covered::Covered;
 use crate::kept::Kept;
+use crate::numbers::{index_of, set_number};
 use crate::question::{Question, ROOM};
 use crate::spent::Spent;
 use partial::Partial;
@@ -42,8 +43,8 @@ struct Saying {
 /// no list of its own. The number of an occurrence is one more than its index in both.
 #[derive(Drop)]
 pub(crate) struct Occurrences {
-    /// By number of the package, up to the highest that a line names: one more than the index of what
-    /// is kept of it, or 0. So a look costs two steps, and few packages take little memory.
+    /// Where it stands what is kept of a package. So a look costs two steps, and few packages take little
+    /// memory.
     numbers: Vec<usize>,
     kept: Vec<Kept>,
     occurrences: Vec<Occurrence>,
@@ -78,26 +79,19 @@ impl Occurrences {
 
     /// What is kept of a package, if a line names it.
     fn get(&self, pkg: Pkg) -> Option<&Kept> {
-        let number = *self.numbers.as_slice().get(pkg as usize)?;
-        self.kept.as_slice().get(number.checked_sub(1)?)
+        self.kept.as_slice().get(index_of(&self.numbers, pkg)?)
     }
 
     /// As `get`, to write there.
     fn get_mut(&mut self, pkg: Pkg) -> Option<&mut Kept> {
-        let number = *self.numbers.as_slice().get(pkg as usize)?;
-        self.kept.as_mut_slice().get_mut(number.checked_sub(1)?)
+        let index = index_of(&self.numbers, pkg)?;
+        self.kept.as_mut_slice().get_mut(index)
     }
 
     /// Begins to keep something of a package that has none.
     fn add(&mut self, pkg: Pkg, kept: Kept) -> Result<(), AllocError> {
-        for _ in self.numbers.len()..pkg as usize + 1 {
-            self.numbers.push(0)?;
-        }
         self.kept.push(kept)?;
-        if let Some(number) = self.numbers.as_mut_slice().get_mut(pkg as usize) {
-            *number = self.kept.len();
-        }
-        Ok(())
+        set_number(&mut self.numbers, pkg, self.kept.len())
     }
 
     /// The number of the next occurrence.

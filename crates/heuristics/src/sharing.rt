@@ -90,8 +90,8 @@ impl Sharing {
 
     /// Whether the dependencies of a package are listed, which they are from now on if they are many.
     pub fn lists(&mut self, question: &Question<'_>, pkg: Pkg) -> Result<bool, AllocError> {
-        if let Some(many) = self.has_many.get(&pkg) {
-            return Ok(*many);
+        if let Some(many) = self.has_many.get(&pkg).copied() {
+            return Ok(many);
         }
         let many = has_many(question, pkg);
         self.has_many.insert(pkg, many)?;

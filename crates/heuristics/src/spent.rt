@@ -47,6 +47,14 @@ impl Spent {
         Ok(())
     }
 
+    /// As `add`, of the lines at these places.
+    pub fn add_all(&mut self, places: &[usize], level: usize) -> Result<(), AllocError> {
+        for at in places {
+            self.add(*at, level)?;
+        }
+        Ok(())
+    }
+
     /// How many of what was noted stands at or below a level.
     fn kept(&self, level: usize) -> usize
         ensures { result ≤ length self.now.order.items }

@@ -6,19 +6,18 @@
 // satisfied then either. So a change of a package costs a look at the lines that watch it, not at all
 // that name it: Moskewicz et al., "Chaff: engineering an efficient SAT solver", 2001.
 
+use crate::lines::Lines;
 use crate::spent::Spent;
-use derivations::Known;
 use partial::Partial;
 use std::alloc::{AllocError, Global};
 use std::mem;
-use terms::{Pkg, Relation, Term, relation};
+use terms::{Incompat, Pkg, Relation, Term, relation};
 
-/// What is settled, and the lines.
+/// What is settled.
 #[derive(Clone, Copy)]
 pub(crate) struct Situation<'a> {
     pub alloc: Global,
     pub partial: &'a Partial,
-    pub known: &'a [Known],
 }
 
 /// A line that is watched from a package.
@@ -148,6 +147,21 @@ fn is_due(spent: &Spent, said: &Term, watch: &Watch) -> bool {
     }
 }
 
+/// What a line concludes, if it is to be looked at.
+#[inline(always)]
+fn due<'a, L: Lines>(
+    lines: &'a L,
+    spent: &Spent,
+    said: &Term,
+    watch: &Watch,
+) -> Option<&'a Incompat> {
+    if is_due(spent, said, watch) {
+        lines.conclusion(watch.at)
+    } else {
+        None
+    }
+}
+
 impl Watches {
     pub fn new(alloc: Global) -> Watches {
         Watches {
@@ -168,8 +182,8 @@ impl Watches {
         for _ in self.lists.len()..pkg as usize + 1 {
             self.lists.push(Vec::new(alloc))?;
         }
-        let own = entry.1.copy(alloc)?;
         if let Some(list) = self.lists.as_mut_slice().get_mut(pkg as usize) {
+            let own = entry.1.copy(alloc)?;
             list.push(Watch { at, number, own })?;
         }
         Ok(())
@@ -204,21 +218,19 @@ impl Watches {
         }
     }
 
-    /// Looks at a line from a package of which the watched term is satisfied.
+    /// Looks at the line at a place, which has these terms, from a package of which the watched term is
+    /// satisfied.
     fn see(
         &mut self,
         now: Situation<'_>,
+        terms: &[(Pkg, Term)],
         pkg: Pkg,
         at: usize,
         number: usize,
     ) -> Result<Seen, AllocError> {
-        let Some(line) = now.known.get(at) else {
-            return Ok(Seen::Idle);
-        };
         let Some(pair) = self.pairs.as_slice().get(number).copied() else {
             return Ok(Seen::Idle);
         };
-        let terms = line.conclusion.terms();
         let (own, other) = pair.from(terms, pkg);
         if terms
             .get(other)
@@ -262,9 +274,10 @@ impl Watches {
 
     /// Gathers the places of the lines that are not spent and from which something may follow, since a
     /// watched term on a package is satisfied by what is said of it.
-    pub fn gather(
+    pub fn gather<L: Lines>(
         &mut self,
         now: Situation<'_>,
+        lines: &L,
         pkg: Pkg,
         said: &Term,
         spent: &Spent,
@@ -275,8 +288,8 @@ impl Watches {
         for index in 0..list.len() {
             let mut stays = true;
             if let Some(watch) = list.as_slice().get(index) {
-                if is_due(spent, said, watch) {
-                    match self.see(now, pkg, watch.at, watch.number)? {
+                if let Some(conclusion) = due(lines, spent, said, watch) {
+                    match self.see(now, conclusion.terms(), pkg, watch.at, watch.number)? {
                         Seen::Idle => {}
                         Seen::Ripe => ripe.push(watch.at)?,
                         Seen::Moved => stays = false,

@@ -50,36 +50,31 @@ fn is_new(task: &Task<'_>, known: &[Known], place: usize) -> bool {
     place < known.len() && !task.store.has(&known[place].conclusion)
 }
 
-/// Whether a line at one of these places says what the one at a place does.
-fn is_said(known: &[Known], places: &[usize], at: usize) -> bool {
-    for place in places {
-        if *place < known.len()
-            && at < known.len()
-            && known[*place].conclusion.is_same(&known[at].conclusion)
-        {
-            return true;
+/// The place of the line from which a refusal follows, where it says what the store doesn't.
+fn new_source(task: &Task<'_>, known: &[Known], end: Option<usize>) -> Option<usize> {
+    let source = source_of(known, end?);
+    if is_new(task, known, source) {
+        Some(source)
+    } else {
+        None
+    }
+}
+
+/// Whether the line at a place says what the source of a refusal does, if there is one.
+fn says_source(known: &[Known], source: Option<usize>, place: usize) -> bool {
+    match source {
+        None => false,
+        Some(source) => {
+            source < known.len()
+                && place < known.len()
+                && known[source].conclusion.is_same(&known[place].conclusion)
         }
     }
-    false
 }
 
-/// The place of the line from which a refusal follows, where it says what neither the store does nor a
-/// line at one of these places.
-fn new_source(
-    task: &Task<'_>,
-    known: &[Known],
-    places: &[usize],
-    end: Option<usize>,
-) -> Option<usize> {
-    let source = source_of(known, end?);
-    if is_said(known, places, source) || !is_new(task, known, source) {
-        return None;
-    }
-    Some(source)
-}
-
-/// Those of the places at which a line says what the store doesn't, and that from which a refusal
-/// follows; none where the store is full. The others it would refuse.
+/// Those of the places at which a line says what the store doesn't, and last of all that from which a
+/// refusal follows: for the last one there is always room. None where the store is full. The others it
+/// would refuse.
 fn new_places(
     task: &Task<'_>,
     known: &[Known],
@@ -90,13 +85,14 @@ fn new_places(
     if (places.is_empty() && end.is_none()) || task.store.len() >= STORE_LIMIT {
         return Ok(wanted);
     }
+    let source = new_source(task, known, end);
     for place in places {
-        if is_new(task, known, *place) {
+        if is_new(task, known, *place) && !says_source(known, source, *place) {
             wanted.push(*place)?;
         }
     }
-    if let Some(source) = new_source(task, known, places, end) {
-        wanted.push(source)?;
+    if let Some(place) = source {
+        wanted.push(place)?;
     }
     Ok(wanted)
 }

@@ -81,7 +81,7 @@ pub(crate) fn propagate(
         }
         worklist
             .agenda
-            .look(&task.question(), &search.partial, &search.known, pkg)?;
+            .look(&task.question(), &search.partial, search, pkg)?;
         match use_places(
             task,
             search,

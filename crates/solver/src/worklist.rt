@@ -12,7 +12,7 @@ use derivations::Known;
 use heuristics::{Agenda, ROOM, Sharing};
 use partial::Partial;
 use std::alloc::{AllocError, Global};
-use terms::Pkg;
+use terms::{Incompat, Pkg};
 
 /// The packages that changed, and what chooses among the lines and the packages.
 #[derive(Drop)]
@@ -101,13 +101,30 @@ impl Worklist {
             Acted::Backjumped(at, pkg) => {
                 self.changed.clear();
                 self.changed.push(pkg)?;
-                self.agenda.backjump(&task.question(), partial, known, at)?;
-                if at >= before && self.asked.is_behind(at) {
-                    self.learnt.push(at)?;
-                    self.agenda.learn(task.alloc, partial, known, at)?;
+                if let Some(line) = known.get(at) {
+                    self.jump_back(task, partial, &line.conclusion, before, at)?;
                 }
             }
             Acted::Refused(_) | Acted::Neither => {}
+        }
+        Ok(())
+    }
+
+    /// Notes that the search jumped back, where before there were so many lines, by the line at a place,
+    /// which concludes this.
+    fn jump_back(
+        &mut self,
+        task: &Task<'_>,
+        partial: &Partial,
+        conclusion: &Incompat,
+        before: usize,
+        at: usize,
+    ) -> Result<(), AllocError> {
+        self.agenda
+            .backjump(&task.question(), partial, conclusion, at)?;
+        if at >= before && self.asked.is_behind(at) {
+            self.learnt.push(at)?;
+            self.agenda.learn(task.alloc, partial, conclusion, at)?;
         }
         Ok(())
     }
