@@ -4,6 +4,7 @@ pub mod GivenValues
 pub mod KeptLemmas
 pub mod LawfulLemmas
 pub mod OutcomeLemmas
+pub mod PutLemmas
 pub mod RaceLemmas
 pub mod RacingLemmas
 pub mod ServeLemmas

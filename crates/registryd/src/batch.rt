@@ -13,7 +13,7 @@ ghost use Rattle.registryd.specs.Session.{session_ways};
 ghost use Rattle.registryd.specs.Told.{told_body};
 
 use crate::ledger::{Ledger, learn_all};
-use crate::put::put_told;
+use crate::put::{put_or_send, put_told};
 use crate::served::Served;
 use crate::told::{Told, told_of};
 use book::journals_grow;
@@ -86,7 +86,7 @@ impl Batch {
         if self.asked.len() < BATCH_LIMIT {
             return Ok(());
         }
-        self.reply(rt, alloc, served, outbox, writer)
+        self.reply(rt, alloc, served, outbox, writer, false)
     }
 
     /// Has a request wait behind the others.
@@ -98,7 +98,8 @@ impl Batch {
         self.explains.push_reserved(explain);
     }
 
-    /// Replies to the requests, in order. Then none waits.
+    /// Replies to the requests, in order. Then none waits. Where no line waits behind them either, all replies are
+    /// written before it is learnt what the last answer offers: what a client waits for is the answer alone.
     pub fn reply<H: Threads + Wait + Sync, W: Write>(
         &mut self,
         rt: &H,
@@ -106,6 +107,7 @@ impl Batch {
         served: &mut Served,
         outbox: &mut Outbox,
         writer: &mut W,
+        none_behind: bool,
     ) -> io::Result<()>
         ensures replied { PutsReplies (λ replies. AreReplied session_ways self.old served.old replies served.new)
             (W.contents writer.old) (W.contents writer.new) outbox.old outbox.new result }
@@ -123,6 +125,7 @@ impl Batch {
             self.asked.as_slice(),
             self.explains.as_slice(),
             answers.into_iter(),
+            none_behind,
         );
         self.asked.clear();
         self.explains.clear();
@@ -147,6 +150,11 @@ fn answers_to<H: Threads + Wait + Sync>(
     }
 }
 
+/// Whether the reply at a place of so many is the last before a read that could wait.
+fn is_last(none_behind: bool, at: usize, count: usize) -> bool {
+    none_behind && at.saturating_add(1) == count
+}
+
 /// Puts the replies to requests that were answered so. What an answer offers is learnt once its reply is put.
 fn put_answers<W: Write>(
     alloc: Global,
@@ -156,6 +164,7 @@ fn put_answers<W: Write>(
     asked: &[Asked],
     explains: &[bool],
     mut answers: IntoIter<Answer>,
+    none_behind: bool,
 ) -> io::Result<()>
     requires even { length asked.now ≡ length explains.now }
     requires answers { MayBeAnswers (packages_of served.old) asked.now (into_iter_items answers) }
@@ -165,6 +174,7 @@ fn put_answers<W: Write>(
     puts_add_up();
     for at in 0..asked.len() {
         let answer = next_answer(&mut answers);
+        let at_once = is_last(none_behind, at, asked.len());
         put_answer(
             alloc,
             served,
@@ -173,6 +183,7 @@ fn put_answers<W: Write>(
             &asked[at],
             explains[at],
             answer,
+            at_once,
         )?;
     }
     Ok(())
@@ -198,6 +209,7 @@ fn put_answer<W: Write>(
     asked: &Asked,
     explain: bool,
     answer: Answer,
+    at_once: bool,
 ) -> io::Result<()>
     requires { IsAnswerTo (packages_of served.old) asked.now answer }
     ensures replied { PutsReply (λ reply. MayAnswer session_ways (resolve asked.now.0 explain asked.now.1) served.old reply served.new)
@@ -208,7 +220,7 @@ fn put_answer<W: Write>(
     journals_grow();
     match told_to(alloc, served.registry(), asked, explain, answer) {
         Ok((told, offered)) => {
-            let put = put_told(outbox, writer, served.standing(), &told);
+            let put = put_or_send(outbox, writer, served.standing(), &told, at_once);
             learn_all(served, offered);
             put
         }

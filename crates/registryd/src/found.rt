@@ -85,7 +85,7 @@ fn reply_behind<H: Threads + Wait + Sync, W: Write>(
         → Takes (W.contents writer.old) (W.contents writer.new) outbox.old outbox.new result (waiting ++ line ∷ []) served.old served.new batch.new }
 {
     puts_add_up();
-    batch.reply(rt, alloc, served, outbox, writer)?;
+    batch.reply(rt, alloc, served, outbox, writer, false)?;
     reply_to(alloc, served, outbox, writer, read)
 }
 

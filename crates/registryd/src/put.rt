@@ -35,6 +35,39 @@ pub fn put_told<W: Write>(
     }
 }
 
+/// As [`put_told`], and writes it at once with all that waits.
+pub fn send_told<W: Write>(
+    outbox: &mut Outbox,
+    writer: &mut W,
+    at: Standing,
+    told: &Told,
+) -> io::Result<()>
+    ensures { Puts (W.contents writer.old) (W.contents writer.new) outbox.old outbox.new result
+        (reply_text (reply_from at (told_body told.now))) }
+{
+    match put_told(outbox, writer, at, told) {
+        Ok(()) => outbox.send(writer),
+        Err(e) => Err(e),
+    }
+}
+
+/// As [`send_told`] where it is to be written at once, else as [`put_told`].
+pub fn put_or_send<W: Write>(
+    outbox: &mut Outbox,
+    writer: &mut W,
+    at: Standing,
+    told: &Told,
+    at_once: bool,
+) -> io::Result<()>
+    ensures { Puts (W.contents writer.old) (W.contents writer.new) outbox.old outbox.new result
+        (reply_text (reply_from at (told_body told.now))) }
+{
+    if at_once {
+        return send_told(outbox, writer, at, told);
+    }
+    put_told(outbox, writer, at, told)
+}
+
 /// Puts the line that lists what is published, or that no memory is there for it.
 pub fn put_listing<W: Write>(
     alloc: Global,

@@ -32,23 +32,12 @@ pub struct Run<'a> {
     pub mark: Result<Mark<'a>, Refusal>,
 }
 
-impl<'a> Job<'a> {
-    /// Makes the room.
-    pub fn new(alloc: Global, seat: Seat<'a>, file: Vec<u8>) -> Result<Job<'a>, AllocError>
-        ensures seat { IfOk result (λ job. job.seat ≡ seat.entry) }
-        ensures file { IfOk result (λ job. job.file.items ≡ file.items) }
-        ensures empty { IfOk result (λ job. job.replies.items ≡ []) }
-        ensures room { IfOk result (λ job. length (lines_of job.file.items) ≤ vec_capacity job.replies) }
-    {
-        let lines = count_lines(file.as_slice());
-        let replies = Vec::with_capacity(alloc, lines)?;
-        Ok(Job {
-            seat,
-            file,
-            replies,
-            alloc,
-        })
-    }
+/// Makes room for a reply to each line of a file.
+pub fn room_for(alloc: Global, file: &[u8]) -> Result<Vec<Kept>, AllocError>
+    ensures empty { IfOk result (λ replies. replies.items ≡ []) }
+    ensures room { IfOk result (λ replies. length (lines_of file.now) ≤ vec_capacity replies) }
+{
+    Vec::with_capacity(alloc, count_lines(file))
 }
 
 /// Answers the lines of a file, in order, with the seat.

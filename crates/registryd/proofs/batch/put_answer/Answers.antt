@@ -14,7 +14,7 @@ pub returns-in-Ok-clause-replied : goal.returns-in-Ok-clause-replied
 returns-in-Ok-clause-replied g c =
     let asked = c.args.asked.now in
     let tells = rw c.registry.ensures at c.in-Ok.ensures.told in
-    (_, found_reply session_ways asked.0 c.args.explain asked.1 _ _ (told_body c.in-Ok.told) refl tells _ c.learn_all.ensures, rw c.standing.ensures at c.put_told-put.ensures)
+    (_, found_reply session_ways asked.0 c.args.explain asked.1 _ _ (told_body c.in-Ok.told) refl tells _ c.learn_all.ensures, rw c.standing.ensures at c.put_or_send-put.ensures)
 
 pub returns-in-Ok-clause-packages : goal.returns-in-Ok-clause-packages
 returns-in-Ok-clause-packages g c = learning_keeps c.journals_grow.ensures.replay _ _ c.learn_all.ensures
