@@ -8,8 +8,8 @@ use crate::derivation::{NamedCause, NamedDerivation, NamedLine, NamedPremise, Na
 use derivations::{Cause, Derivation, Line, Premise, ROOT};
 use registry::{Registry, names_have_their_numbers};
 use std::alloc::{AllocError, Global};
-use terms::{Pkg, Term};
-use versions::Name;
+use terms::{Pkg, Term, VSet};
+use versions::{Name, Need};
 
 /// The name of a package.
 fn package_name(registry: &Registry, pkg: Pkg) -> Result<Name, AllocError>
@@ -44,9 +44,25 @@ fn named_terms(
 {
     let mut named = Vec::with_capacity(alloc, terms.len())?;
     for entry in terms {
-        named.push((name_of(registry, entry.0)?, entry.1.copy(alloc)?))?;
+        let name = name_of(registry, entry.0)?;
+        let term = entry.1.copy(alloc)?;
+        named.push((name, term))?;
     }
     Ok(NamedTerms::new(named))
+}
+
+/// The sets of a premise and its requirement, which are the same by number and by name.
+pub(crate) fn copied(
+    alloc: Global,
+    versions: &VSet,
+    need: &Need,
+    within: &VSet,
+) -> Result<(VSet, Need, VSet), AllocError>
+    ensures { IfOk result (λ copy. copy ≡ (versions.now, need.now, within.now)) }
+{
+    let need = need.clone()?;
+    let versions = versions.copy(alloc)?;
+    Ok((versions, need, within.copy(alloc)?))
 }
 
 fn named_premise(
@@ -58,12 +74,20 @@ fn named_premise(
     requires target { HasName registry.now.packages premise.now.target }
     ensures { IfOk result (λ named. numbered_premise registry.now.packages named ≡ Some premise.now) }
 {
+    let package = package_name(registry, premise.package)?;
+    let target = name_of(registry, premise.target)?;
+    let (versions, need, within) = copied(
+        alloc,
+        &premise.versions,
+        &premise.need,
+        &premise.within,
+    )?;
     Ok(NamedPremise {
-        package: package_name(registry, premise.package)?,
-        versions: premise.versions.copy(alloc)?,
-        target: name_of(registry, premise.target)?,
-        need: premise.need.clone()?,
-        within: premise.within.copy(alloc)?,
+        package,
+        versions,
+        target,
+        need,
+        within,
     })
 }
 
@@ -104,10 +128,14 @@ fn named_line(alloc: Global, registry: &Registry, line: &Line) -> Result<NamedLi
     ensures same { IfOk result (λ named. numbered_line registry.now.packages named ≡ Some line.now) }
     ensures lawful { IsIncompat line.now.conclusion }
 {
+    let terms = line.conclusion.terms();
+    let pivot = name_of(registry, line.pivot)?;
+    let conclusion = named_terms(alloc, registry, terms)?;
+    let causes = named_causes(alloc, registry, &line.causes)?;
     Ok(NamedLine {
-        conclusion: named_terms(alloc, registry, line.conclusion.terms())?,
-        causes: named_causes(alloc, registry, &line.causes)?,
-        pivot: name_of(registry, line.pivot)?,
+        conclusion,
+        causes,
+        pivot,
     })
 }
 
@@ -135,7 +163,8 @@ pub fn named_lines(
 {
     let mut named = Vec::with_capacity(alloc, lines.len())?;
     for line in lines {
-        named.push(named_line(alloc, registry, line)?)?;
+        let told = named_line(alloc, registry, line)?;
+        named.push(told)?;
     }
     Ok(NamedDerivation::new(named))
 }

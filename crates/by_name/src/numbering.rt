@@ -4,6 +4,7 @@ ghost use Rattle.terms.specs.Incompats.{IsIncompat};
 ghost use Rattle.by_name.specs.Named.{number_in, numbered_cause, numbered_line, numbered_premise, numbered_terms, FindsOne, IsNumbered};
 
 use crate::derivation::{NamedCause, NamedDerivation, NamedLine, NamedPremise};
+use crate::naming::copied;
 use derivations::{Cause, Derivation, Line, Premise, ROOT};
 use registry::Registry;
 use std::alloc::{AllocError, Global};
@@ -33,7 +34,8 @@ fn numbered_terms(
         let Some(pkg) = number_in(registry, &entry.0) else {
             return Ok(None);
         };
-        numbered.push((pkg, entry.1.copy(alloc)?))?;
+        let term = entry.1.copy(alloc)?;
+        numbered.push((pkg, term))?;
     }
     Ok(Some(numbered))
 }
@@ -65,12 +67,18 @@ fn numbered_premise(
     let Some(target) = number_in(registry, &premise.target) else {
         return Ok(None);
     };
+    let (versions, need, within) = copied(
+        alloc,
+        &premise.versions,
+        &premise.need,
+        &premise.within,
+    )?;
     Ok(Some(Premise {
         package,
-        versions: premise.versions.copy(alloc)?,
+        versions,
         target,
-        need: premise.need.clone()?,
-        within: premise.within.copy(alloc)?,
+        need,
+        within,
     }))
 }
 
@@ -121,13 +129,13 @@ fn numbered_line(
 ) -> Result<Option<Line>, AllocError>
     ensures { IfOk result (FindsOne (λ numbered. (numbered_line registry.now.packages line.now ≡ Some numbered) × IsIncompat numbered.conclusion)) }
 {
+    let Some(pivot) = number_in(registry, &line.pivot) else {
+        return Ok(None);
+    };
     let Some(conclusion) = numbered_conclusion(alloc, registry, line.conclusion.terms())? else {
         return Ok(None);
     };
     let Some(causes) = numbered_causes(alloc, registry, &line.causes)? else {
-        return Ok(None);
-    };
-    let Some(pivot) = number_in(registry, &line.pivot) else {
         return Ok(None);
     };
     Ok(Some(Line {

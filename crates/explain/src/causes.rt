@@ -1,12 +1,14 @@
 //! Why a line stands: two causes, each an earlier line or a fact.
 ghost use Rattle.std.specs.Prelude.{◌≡◌, ◌++◌, string_bytes, Some, OnOk};
-ghost use Rattle.registry.specs.Registry.{number_of};
+ghost use Rattle.registry.specs.Registry.{matching, number_of};
+ghost use Rattle.explain.specs.Choices.{set_text};
 ghost use Rattle.explain.specs.Explanations.{cause_text, matching_text, need_text, needs_text, premise_text};
 
 use crate::choices::{name_of, put_choice, put_number, put_set};
 use derivations::{Cause, Premise};
 use registry::{Registry, Request};
 use std::alloc::{AllocError, Global};
+use terms::Pkg;
 use versions::{Name, Need};
 
 /// Puts that what is named is needed with this requirement, up to the set that it leaves.
@@ -32,7 +34,7 @@ fn put_premise(
 {
     put_choice(alloc, text, registry, premise.package, &premise.versions)?;
     put_needs(text, name_of(registry, premise.target), &premise.need)?;
-    Ok(put_set(alloc, text, registry, premise.target, &premise.within)?)
+    put_set(alloc, text, registry, premise.target, &premise.within)
 }
 
 /// Puts the published versions of the package of this name that meet a requirement.
@@ -48,11 +50,23 @@ fn put_matching(
 {
     match registry.number(name) {
         None => Ok(text.push_str("{}")?),
-        Some(pkg) => {
-            let matching = registry.matching_copy(pkg, need)?;
-            Ok(put_set(alloc, text, registry, pkg, &matching)?)
-        }
+        Some(pkg) => put_met(alloc, text, registry, pkg, need),
     }
+}
+
+/// Puts the published versions of a package that meet a requirement.
+fn put_met(
+    alloc: Global,
+    text: &mut String,
+    registry: &Registry,
+    pkg: Pkg,
+    need: &Need,
+) -> Result<(), AllocError>
+    ensures { OnOk result (string_bytes text.new
+        ≡ string_bytes text.old ++ set_text registry.now.packages pkg (matching registry.now.packages pkg need.now)) }
+{
+    let matching = registry.matching_copy(pkg, need)?;
+    put_set(alloc, text, registry, pkg, &matching)
 }
 
 /// Puts a need of the request.
@@ -67,7 +81,7 @@ fn put_need(
 {
     text.push_str("the request")?;
     put_needs(text, need.0.text(), &need.1)?;
-    Ok(put_matching(alloc, text, registry, &need.0, &need.1)?)
+    put_matching(alloc, text, registry, &need.0, &need.1)
 }
 
 /// Puts a cause.
@@ -84,13 +98,13 @@ pub fn put_cause(
     match cause {
         Cause::Line(number) => {
             text.push_str("line ")?;
-            Ok(put_number(text, *number)?)
+            put_number(text, *number)
         }
-        Cause::Premise(premise) => Ok(put_premise(alloc, text, registry, premise)?),
+        Cause::Premise(premise) => put_premise(alloc, text, registry, premise),
         Cause::Need(index) => match request.needs().get(*index) {
             // A derivation of the request names no other need.
             None => Ok(()),
-            Some(need) => Ok(put_need(alloc, text, registry, need)?),
+            Some(need) => put_need(alloc, text, registry, need),
         },
         Cause::NotAllowed(pkg, versions) => {
             put_choice(alloc, text, registry, *pkg, versions)?;

@@ -50,7 +50,7 @@ fn put_version(
         return Ok(text.push_str(facts.version.text())?);
     }
     text.push_str("#")?;
-    Ok(put_number(text, ordinal as usize)?)
+    put_number(text, ordinal as usize)
 }
 
 /// Puts a version after what stands before it in its set.
@@ -65,7 +65,7 @@ fn put_next(
         ≡ string_bytes text.old ++ (separator later ++ version_text registry.now.packages pkg ordinal)) }
 {
     text.push_str(separator(later))?;
-    Ok(put_version(text, registry, pkg, ordinal)?)
+    put_version(text, registry, pkg, ordinal)
 }
 
 /// Puts versions of a package, with a comma and a space between.
@@ -124,5 +124,5 @@ pub fn put_choice(
         return Ok(());
     }
     text.push_str(" ")?;
-    Ok(put_set(alloc, text, registry, pkg, set)?)
+    put_set(alloc, text, registry, pkg, set)
 }

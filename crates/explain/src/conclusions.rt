@@ -39,7 +39,7 @@ fn put_next(
         ≡ string_bytes text.old ++ (separator later ++ term_text registry.now.packages entry.now.0 entry.now.1)) }
 {
     text.push_str(separator(later))?;
-    Ok(put_term(alloc, text, registry, entry.0, &entry.1)?)
+    put_term(alloc, text, registry, entry.0, &entry.1)
 }
 
 /// Puts terms in their order, with a comma and a space between.

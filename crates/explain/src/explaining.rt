@@ -51,7 +51,8 @@ fn numbered_lines(
 {
     let mut texts = Vec::with_capacity(alloc, lines.len() + 1)?;
     for (place, line) in lines.iter().enumerate() {
-        texts.push(line_text(alloc, registry, request, place + 1, line)?)?;
+        let text = line_text(alloc, registry, request, place + 1, line)?;
+        texts.push(text)?;
     }
     Ok(texts)
 }

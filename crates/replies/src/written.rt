@@ -1,13 +1,13 @@
 //! Derivations by name as JSON.
-ghost use Rattle.std.specs.Prelude.{◌≡◌, IfOk, map, string_bytes};
-ghost use Rattle.serde_json.specs.Data.{array, boolean, item, no_items, string};
-ghost use Rattle.serde_json.specs.View.{view};
+ghost use Rattle.std.specs.Prelude.{◌≡◌, IfOk, OnOk, codes, map, string_bytes};
+ghost use Rattle.serde_json.specs.Data.{array, boolean, item, no_items, no_members, object, put as with_member, string};
+ghost use Rattle.serde_json.specs.View.{members_view, view};
 ghost use Rattle.serde_json.specs.Written.{compact_text};
-ghost use Rattle.replies.specs.NamedJson.{cause_json, derivation_json, line_json, name_json, ordinals_json, premise_json, term_json, terms_json};
+ghost use Rattle.replies.specs.NamedJson.{cause_json, derivation_json, line_json, name_json, number_json, ordinals_json, term_json, terms_json};
 ghost use Rattle.replies.specs.Replies.{texts_json};
 
 use by_name::{NamedCause, NamedDerivation, NamedLine, NamedPremise};
-use serde_json::{Value, json};
+use serde_json::{Map, Value, json, put};
 use std::alloc::{AllocError, Global};
 use terms::{Term, VSet};
 use versions::Name;
@@ -75,53 +75,179 @@ fn terms_json(alloc: Global, terms: &[(Option<Name>, Term)]) -> Result<Value, Al
     Ok(Value::from(values))
 }
 
-fn premise_json(alloc: Global, premise: &NamedPremise) -> Result<Value, AllocError>
-    ensures { IfOk result (λ v. view v ≡ premise_json premise.now) }
+// The members of an object are put into a map that is lent, so that one function alone has to drop it where memory is
+// refused.
+
+/// Puts a member that is a text.
+fn put_text(
+    alloc: Global,
+    members: &mut Map<String, Value>,
+    key: &str,
+    text: &str,
+) -> Result<(), AllocError>
+    ensures { OnOk result (members_view members.new.entries ≡ with_member key.now (string text.now) (members_view members.old.entries)) }
 {
-    json!(in alloc; {
-        "fact": "premise",
-        "name": premise.package.text(),
-        "need": premise.need.text(),
-        "target": name_json(alloc, &premise.target)?,
-        "versions": ordinals_json(alloc, &premise.versions)?,
-        "within": ordinals_json(alloc, &premise.within)?
-    })
+    put(members, alloc, key, text_json(alloc, text)?)?;
+    Ok(())
 }
 
-fn barred_json(alloc: Global, name: &Name, versions: &VSet) -> Result<Value, AllocError>
-    ensures { IfOk result (λ v. view v ≡ cause_json (NamedCause.NotAllowed name.now versions.now)) }
+/// Puts a member that is a number.
+fn put_number(
+    alloc: Global,
+    members: &mut Map<String, Value>,
+    key: &str,
+    number: usize,
+) -> Result<(), AllocError>
+    ensures { OnOk result (members_view members.new.entries ≡ with_member key.now (number_json number) (members_view members.old.entries)) }
 {
-    let text = name.text();
-    let versions = ordinals_json(alloc, versions)?;
-    json!(in alloc; {"fact": "disallowed", "name": text, "versions": versions})
+    put(members, alloc, key, Value::from(number))?;
+    Ok(())
+}
+
+/// Puts a member that is a name, or none.
+fn put_name(
+    alloc: Global,
+    members: &mut Map<String, Value>,
+    key: &str,
+    name: &Option<Name>,
+) -> Result<(), AllocError>
+    ensures { OnOk result (members_view members.new.entries ≡ with_member key.now (name_json name.now) (members_view members.old.entries)) }
+{
+    put(members, alloc, key, name_json(alloc, name)?)?;
+    Ok(())
+}
+
+/// Puts a member that is a set.
+fn put_set(
+    alloc: Global,
+    members: &mut Map<String, Value>,
+    key: &str,
+    set: &VSet,
+) -> Result<(), AllocError>
+    ensures { OnOk result (members_view members.new.entries ≡ with_member key.now (ordinals_json set.now) (members_view members.old.entries)) }
+{
+    put(members, alloc, key, ordinals_json(alloc, set)?)?;
+    Ok(())
+}
+
+/// Puts the members of a premise.
+fn put_premise(
+    alloc: Global,
+    members: &mut Map<String, Value>,
+    premise: &NamedPremise,
+) -> Result<(), AllocError>
+    ensures { OnOk result (members_view members.new.entries ≡
+        with_member (codes "within") (ordinals_json premise.now.within)
+        (with_member (codes "versions") (ordinals_json premise.now.versions)
+        (with_member (codes "target") (name_json premise.now.target)
+        (with_member (codes "need") (string premise.now.need)
+        (with_member (codes "name") (string premise.now.package)
+        (with_member (codes "fact") (string (codes "premise")) (members_view members.old.entries))))))) }
+{
+    put_text(alloc, members, "fact", "premise")?;
+    put_text(alloc, members, "name", premise.package.text())?;
+    put_text(alloc, members, "need", premise.need.text())?;
+    put_name(alloc, members, "target", &premise.target)?;
+    put_set(alloc, members, "versions", &premise.versions)?;
+    put_set(alloc, members, "within", &premise.within)?;
+    Ok(())
+}
+
+/// Puts the members of a package at versions that are not allowed.
+fn put_barred(
+    alloc: Global,
+    members: &mut Map<String, Value>,
+    name: &Name,
+    versions: &VSet,
+) -> Result<(), AllocError>
+    ensures { OnOk result (members_view members.new.entries ≡
+        with_member (codes "versions") (ordinals_json versions.now)
+        (with_member (codes "name") (string name.now)
+        (with_member (codes "fact") (string (codes "disallowed")) (members_view members.old.entries)))) }
+{
+    put_text(alloc, members, "fact", "disallowed")?;
+    put_text(alloc, members, "name", name.text())?;
+    put_set(alloc, members, "versions", versions)?;
+    Ok(())
+}
+
+/// Puts the members of a cause.
+fn put_cause(
+    alloc: Global,
+    members: &mut Map<String, Value>,
+    cause: &NamedCause,
+) -> Result<(), AllocError>
+    ensures { members_view members.old.entries ≡ no_members → OnOk result (object (members_view members.new.entries) ≡ cause_json cause.now) }
+{
+    match cause {
+        NamedCause::Line(number) => {
+            put_number(alloc, members, "line", *number)?;
+            Ok(())
+        }
+        NamedCause::Premise(premise) => {
+            put_premise(alloc, members, premise)?;
+            Ok(())
+        }
+        NamedCause::Need(index) => {
+            let index = *index;
+            put_text(alloc, members, "fact", "need")?;
+            put_number(alloc, members, "index", index)?;
+            Ok(())
+        }
+        NamedCause::NotAllowed(name, versions) => {
+            put_barred(alloc, members, name, versions)?;
+            Ok(())
+        }
+        NamedCause::Root => {
+            put_text(alloc, members, "fact", "root")?;
+            Ok(())
+        }
+    }
 }
 
 fn cause_json(alloc: Global, cause: &NamedCause) -> Result<Value, AllocError>
     ensures { IfOk result (λ v. view v ≡ cause_json cause.now) }
 {
-    match cause {
-        NamedCause::Line(number) => {
-            let number = *number;
-            json!(in alloc; {"line": number})
-        }
-        NamedCause::Premise(premise) => premise_json(alloc, premise),
-        NamedCause::Need(index) => {
-            let index = *index;
-            json!(in alloc; {"fact": "need", "index": index})
-        }
-        NamedCause::NotAllowed(name, versions) => barred_json(alloc, name, versions),
-        NamedCause::Root => json!(in alloc; {"fact": "root"}),
-    }
+    let mut members = Map::new(alloc);
+    put_cause(alloc, &mut members, cause)?;
+    Ok(Value::Object(members))
+}
+
+/// The two causes of a line.
+fn causes_json(alloc: Global, causes: &(NamedCause, NamedCause)) -> Result<Value, AllocError>
+    ensures { IfOk result (λ v. view v ≡ array (item (cause_json causes.now.0) (item (cause_json causes.now.1) no_items))) }
+{
+    json!(in alloc; [cause_json(alloc, &causes.0)?, cause_json(alloc, &causes.1)?])
+}
+
+/// Puts the members of a line.
+fn put_line(
+    alloc: Global,
+    members: &mut Map<String, Value>,
+    line: &NamedLine,
+) -> Result<(), AllocError>
+    ensures { OnOk result (members_view members.new.entries ≡
+        with_member (codes "pivot") (name_json line.now.pivot)
+        (with_member (codes "conclusion") (terms_json line.now.conclusion)
+        (with_member (codes "causes") (array (item (cause_json line.now.causes.0) (item (cause_json line.now.causes.1) no_items))) (members_view members.old.entries)))) }
+{
+    put(members, alloc, "causes", causes_json(alloc, &line.causes)?)?;
+    put(
+        members,
+        alloc,
+        "conclusion",
+        terms_json(alloc, line.conclusion.terms())?,
+    )?;
+    put_name(alloc, members, "pivot", &line.pivot)?;
+    Ok(())
 }
 
 fn line_json(alloc: Global, line: &NamedLine) -> Result<Value, AllocError>
     ensures { IfOk result (λ v. view v ≡ line_json line.now) }
 {
-    json!(in alloc; {
-        "causes": [cause_json(alloc, &line.causes.0)?, cause_json(alloc, &line.causes.1)?],
-        "conclusion": terms_json(alloc, line.conclusion.terms())?,
-        "pivot": name_json(alloc, &line.pivot)?
-    })
+    let mut members = Map::new(alloc);
+    put_line(alloc, &mut members, line)?;
+    Ok(Value::Object(members))
 }
 
 /// A derivation as JSON.

@@ -1,8 +1,9 @@
 -- The walk: what it keeps, that it ends in a selection that meets the request, and that an obstacle stands in the way of each.
-use Rattle.std.proofs.Common.{◌≡◌, ◌<◌, ◌≤◌, ◌+◌, ◌∙◌, ℕ, sym, ap, subst, arith, true, false, true≢false, List, [], ◌∷◌, ◌++◌, length, inl, inr, nat_eq}
-use Rattle.std.proofs.lemmas.Bool.{cases_eq}
+use Rattle.std.proofs.Common.{◌≡◌, ◌<◌, ◌≤◌, ◌+◌, ◌∙◌, ℕ, sym, ap, subst, arith, Bool, true, false, true≢false, List, [], ◌∷◌, ◌++◌, length, inl, inr, nat_eq}
+use Rattle.std.proofs.lemmas.Bool.{cases_eq, OnFalse_at, OnFalse_from, OnTrue_at, OnTrue_from}
 use Rattle.std.proofs.lemmas.Option.{none-some, same_Some, slice_get_within}
-use Rattle.std.specs.Prelude.{None, Some, slice_get}
+use Rattle.std.specs.Prelude.{Err, IfOk, None, Ok, Result, Some, slice_get}
+use Rattle.std.specs.Bool.{OnFalse, OnTrue}
 use Rattle.std.specs.List.{IsDistinct}
 use Rattle.std.specs.Map.{keys_of}
 use Rattle.versions.specs.Words.{Text}
@@ -11,7 +12,7 @@ use Rattle.registry.specs.Requests.{Wanted, is_allowed}
 use Rattle.registry.specs.Selections.{Choices, IsMet, IsReached, Meets, along, needed}
 use Rattle.registry.specs.Laws.{AllowedIsPublished}
 use Rattle.walk.specs.Choosing.{Follows, IsUnmet, choice_of}
-use Rattle.walk.specs.Walks.{AreMet, ComeFrom, Grows, IsChecked, IsChosen, IsMetAt, IsSelected, IsUnmetAt, IsWalk, NoneFollows}
+use Rattle.walk.specs.Walks.{AreMet, ComeFrom, ComesAs, Grows, IsChecked, IsChosen, IsMetAt, IsSelected, IsUnmetAt, IsWalk, NoneFollows}
 use Rattle.walk.proofs.Lists.{choice-entry, choice-left, choice-push_cases, contains_at, get-before, get-contains, get-left}
 
 -- ---- what stays as the list grows
@@ -71,6 +72,33 @@ module _ (packages : Packages) (needs : List (Text × Text)) (index : ℕ) (name
     at = at;
     unmet = λ other k numbered chosen. absurd (none-some other (sym none ∙ numbered));
   }
+
+-- ---- what is answered of a need whose package has this number
+
+module _ (packages : Packages) (needs : List (Text × Text)) (index : ℕ) (name need : Text) (at : slice_get needs index ≡ Some (name, need)) (target : ℕ)
+    (numbered : number_of packages name ≡ Some target) where
+  -- what comes as the package comes from the needs
+  pub line_comes : (old new : Choices) → ComesAs target old new → ComeFrom packages needs old new
+  line_comes old new comes p k h = elim (comes p k h) [
+    | inl before ↦ inl before
+    | inr same ↦ inr (record { name = name; need = need; among = get-contains needs index (name, need) at; numbered = numbered ∙ ap Some same })
+  ]
+
+  -- where a version of it passed, the need is met
+  pub line_passed : {E : Type 0} (new : Choices) (Passes : ℕ → Type 0) (r : Result Bool E) → IfOk r (λ met. OnTrue met ((k : ℕ) × (new target ≡ Some k) × Passes k))
+      → ((k : ℕ) → Passes k → meets_at packages target k need ≡ true) → IfOk r (λ met. OnTrue met (IsMetAt packages new needs index))
+  line_passed new Passes (Ok met) passed meeting = OnTrue_from met (IsMetAt packages new needs index) (λ t.
+      let one = OnTrue_at t passed in
+      line_met packages needs index name need at target one.0 new numbered one.1 (meeting one.0 one.2))
+  line_passed new Passes (Err e) passed meeting = tt
+
+  -- where what is chosen failed, it is not
+  pub line_failed : {E : Type 0} (chooses : Choices) (Fails : ℕ → Type 0) (r : Result Bool E) → IfOk r (λ met. OnFalse met ((k : ℕ) → chooses target ≡ Some k → Fails k))
+      → ((k : ℕ) → Fails k → meets_at packages target k need ≡ false) → IfOk r (λ met. OnFalse met (IsUnmetAt packages chooses needs index))
+  line_failed chooses Fails (Ok met) failed lacking = OnFalse_from met (IsUnmetAt packages chooses needs index) (λ f.
+      let each = OnFalse_at f failed in
+      line_unmet packages needs index name need at target chooses numbered (λ k chosen. lacking k (each k chosen)))
+  line_failed chooses Fails (Err e) failed lacking = tt
 
 -- what one need adds after the others comes from the needs
 pub come_more : (packages : Packages) (needs : List (Text × Text)) (old found new : Choices) → ComeFrom packages needs old found → ComeFrom packages needs found new → ComeFrom packages needs old new

@@ -1,6 +1,6 @@
 // The walk.
 
-ghost use Rattle.std.specs.Prelude.{◌≡◌, ◌<◌, ℕ, true, false, length, nat_eq, slice_get, Some, IfNone, IfOk, IfSome, OnOk};
+ghost use Rattle.std.specs.Prelude.{◌≡◌, ◌<◌, ℕ, [], true, false, length, nat_eq, slice_get, Some, IfNone, IfOk, IfSome, OnOk};
 ghost use Rattle.std.specs.Bool.{OnFalse, OnTrue};
 ghost use Rattle.std.specs.List.{IsDistinct};
 ghost use Rattle.std.specs.Map.{keys_of};
@@ -79,7 +79,7 @@ fn follow_need<C: Chooser>(
         return Ok(false);
     };
     let meets_need = |ordinal| meets(registry, target, ordinal, &line.1);
-    Ok(follow_to(chooser, target, meets_need, found)?)
+    follow_to(chooser, target, meets_need, found)
 }
 
 /// Follows the dependency of a version at an index, as [`follow_at`].
@@ -101,7 +101,7 @@ fn follow_dependency<C: Chooser>(
 {
     let (target, matching) = registry.dependency(pkg, ordinal, index)?;
     let meets_need = |ordinal| matching.has(ordinal);
-    Ok(follow_to(chooser, target, meets_need, found)?)
+    follow_to(chooser, target, meets_need, found)
 }
 
 /// Adds the chosen version of the package that is asked for at an index, unless the package is found
@@ -123,10 +123,10 @@ fn follow_at<C: Chooser>(
     ensures unmet { IfOk result (λ met. OnFalse met (IsUnmetAt registry.now.packages (C.chooses chooser.now) (asked_by registry.now.packages request.now asker) index)) }
 {
     match asker {
-        Asker::Request => Ok(follow_need(registry, request, chooser, index, found)?),
-        Asker::Version(pkg, ordinal) => Ok(follow_dependency(
-            registry, chooser, pkg, ordinal, index, found,
-        )?),
+        Asker::Request => follow_need(registry, request, chooser, index, found),
+        Asker::Version(pkg, ordinal) => {
+            follow_dependency(registry, chooser, pkg, ordinal, index, found)
+        }
     }
 }
 
@@ -169,23 +169,37 @@ pub fn reach<C: Chooser>(
     ensures { IfOk result (ReachesBy registry.now.packages request.now (C.chooses chooser.now)) }
 {
     let mut found = IndexMap::with_capacity(alloc, ROOM)?;
-    if let Some(index) = follow_all(registry, request, chooser, Asker::Request, &mut found)? {
+    reach_into(alloc, registry, request, chooser, &mut found)
+}
+
+/// As [`reach`]; what is found goes into an empty map.
+fn reach_into<C: Chooser>(
+    alloc: Global,
+    registry: &Registry,
+    request: &Request,
+    chooser: &C,
+    found: &mut IndexMap<Pkg, u32>,
+) -> Result<Reached, AllocError>
+    requires { found.old.entries ≡ [] }
+    ensures { IfOk result (ReachesBy registry.now.packages request.now (C.chooses chooser.now)) }
+{
+    if let Some(index) = follow_all(registry, request, chooser, Asker::Request, found)? {
         return Ok(Reached::Unmet(Asker::Request, index));
     }
     let mut next = 0;
     'walk: while next < found.len() {
-        let (pkg, ordinal) = entry_at(&found, next);
+        let (pkg, ordinal) = entry_at(found, next);
         if !registry.allowed(request, pkg, ordinal) {
             return Ok(Reached::NotAllowed(pkg, ordinal));
         }
         let asker = Asker::Version(pkg, ordinal);
-        if let Some(index) = follow_all(registry, request, chooser, asker, &mut found)? {
+        if let Some(index) = follow_all(registry, request, chooser, asker, found)? {
             return Ok(Reached::Unmet(asker, index));
         }
         next += 1;
     }
     allowed_is_published();
-    Ok(Reached::Selection(entries_of(alloc, &found)?))
+    Ok(Reached::Selection(entries_of(alloc, found)?))
 }
 
 /// The package that was found at a place, with its version's ordinal.

@@ -12,5 +12,5 @@ pub loop-line-preserved : goal.loop-line-preserved
 loop-line-preserved c =
     let packages = c.args.registry.now.packages in
     let here = slice_get_read c.args.lines.now _ c.loop-line.line-index _ refl c.loop-line-test.true c.line-item.is in
-    let more = lines_more packages c.loop-line.named.items (take c.loop-line.line-index c.args.lines.now) c.in_ok-named_line.field-0 c.line-item.result c.loop-line.invariant c.in_ok-named_line.ensures.same c.in_ok-named_line.ensures.lawful in
+    let more = lines_more packages c.loop-line.named.items (take c.loop-line.line-index c.args.lines.now) c.in_ok-told.told c.line-item.result c.loop-line.invariant c.in_ok-told.ensures.same c.in_ok-told.ensures.lawful in
     rw (take_one c.args.lines.now c.loop-line.line-index c.line-item.result here, c.in_ok-push.ensures.items) more

@@ -18,6 +18,6 @@ loop-entry-preserved c =
     let here = slice_get_read c.args.terms.now _ c.loop-entry.entry-index _ refl c.loop-entry-test.true c.entry-item.is in
     let before = take c.loop-entry.entry-index c.args.terms.now in
     ap (λ (terms : List (Option Text × Term)). numbered_terms packages terms) c.in_ok-push.ensures.items
-    ∙ terms_more packages c.loop-entry.named.items before (c.in_ok-name_of.field-0, c.in_ok-copy.field-0) c.entry-item.result.0 c.loop-entry.invariant c.in_ok-name_of.ensures
-    ∙ ap (λ (t : Term). Some (before ++ (c.entry-item.result.0, t) ∷ [])) c.in_ok-copy.ensures.same
+    ∙ terms_more packages c.loop-entry.named.items before (c.in_ok-name.name, c.in_ok-term.term) c.entry-item.result.0 c.loop-entry.invariant c.in_ok-name.ensures
+    ∙ ap (λ (t : Term). Some (before ++ (c.entry-item.result.0, t) ∷ [])) c.in_ok-term.ensures.same
     ∙ ap (λ (terms : Terms). Some terms) (sym (take_one c.args.terms.now c.loop-entry.entry-index c.entry-item.result here))

@@ -20,5 +20,5 @@ loop-entry-preserved c =
     let number : number_in packages c.entry-item.result.0 ≡ Some c.in-Some.pkg = cc in
     ap (λ (terms : List (Option Text × Term)). numbered_terms packages terms) (take_one c.args.terms.now c.loop-entry.entry-index c.entry-item.result here)
     ∙ terms_more packages (take c.loop-entry.entry-index c.args.terms.now) c.loop-entry.numbered.items c.entry-item.result c.in-Some.pkg c.loop-entry.invariant number
-    ∙ ap (λ (t : Term). Some (c.loop-entry.numbered.items ++ (c.in-Some.pkg, t) ∷ [])) (sym {A = Term} c.in_ok-copy.ensures.same)
+    ∙ ap (λ (t : Term). Some (c.loop-entry.numbered.items ++ (c.in-Some.pkg, t) ∷ [])) (sym {A = Term} c.in_ok-term.ensures.same)
     ∙ ap (λ (terms : Terms). Some terms) (sym c.in_ok-push.ensures.items)

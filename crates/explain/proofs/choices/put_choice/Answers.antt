@@ -1,4 +1,5 @@
 use Rattle.std.proofs.Common.{◌∙◌, append_assoc, rules, sym}
+use Rattle.std.proofs.lemmas.Result.{IfOk-equal}
 use Rattle.explain.proofs.ChoiceTexts.{name-alone, name-and-set}
 use Rattle.explain.proofs.choices.put_choice.Goals as goal
 
@@ -8,4 +9,5 @@ returns-then-is_request c =
 
 pub returns : goal.returns
 returns c =
-    rw (name-and-set c.args.registry.now.packages c.args.pkg c.args.set.now (sym c.is_request.ensures ∙ c.if-is_request.false)) (search (rules, append_assoc))
+    IfOk-equal c.put_set.result _ _ _ c.put_set.ensures
+    (rw (name-and-set c.args.registry.now.packages c.args.pkg c.args.set.now (sym c.is_request.ensures ∙ c.if-is_request.false)) (search (rules, append_assoc)))

@@ -1,4 +1,5 @@
 use Rattle.std.proofs.Common.{append_assoc, rules}
+use Rattle.std.proofs.lemmas.Result.{IfOk-equal}
 use Rattle.explain.proofs.ListedTexts.{unpublished_text}
 use Rattle.explain.proofs.choices.put_version.Goals as goal
 
@@ -6,4 +7,4 @@ use Rattle.explain.proofs.choices.put_version.Goals as goal
 pub returns : goal.returns
 returns c =
     let none = unpublished_text c.args.registry.now.packages c.args.pkg c.args.ordinal c.in_default.ensures.none in
-    rw none (search (rules, append_assoc))
+    IfOk-equal c.put_number.result _ _ _ c.put_number.ensures (rw none (search (rules, append_assoc)))

@@ -1,4 +1,5 @@
-use Rattle.std.proofs.Common.{arith}
+use Rattle.std.proofs.Common.{None, arith}
+use Rattle.std.proofs.lemmas.List.{replicate_more}
 use Rattle.std.specs.Prelude.{IfSome}
 use Rattle.pool.specs.Answering.{IsAnswerTo}
 use Rattle.pool.proofs.Filling.{free_empty, zip_empty}
@@ -10,3 +11,9 @@ returns-clause-slots g c =
 
 pub returns-clause-free : goal.returns-clause-free
 returns-clause-free g c = free_empty c.loop-one.slots.items c.loop-one._one-index _ c.loop-one.invariant.empty (omega arith)
+
+pub loop-one-preserved : goal.loop-one-preserved
+loop-one-preserved g c = record {
+  empty = rw (c.push_reserved.ensures.items, c.loop-one.invariant.empty) (replicate_more c.loop-one._one-index None);
+  room = let r = c.loop-one.invariant.room in let m = c.push_reserved.ensures.capacity in omega arith;
+}

@@ -1,8 +1,18 @@
-use Rattle.std.proofs.Common.{◌≡◌, ◌∙◌, [], ◌∷◌, nat_eq, rules}
-use Rattle.std.specs.Prelude.{None}
+use Rattle.std.proofs.Common.{◌≡◌, ◌∙◌, ◌++◌, [], ◌∷◌, ℕ, List, inl, inr, nat_eq, rules, subst, sym}
+use Rattle.std.specs.Prelude.{None, Some}
 use Rattle.indexmap.proofs.CallerLemmas.{insert_entry-new}
-use Rattle.walk.specs.Choosing.{choice_of}
+use Rattle.walk.specs.Choosing.{choice_of, Follows}
+use Rattle.walk.specs.Walks.{ComesAs}
+use Rattle.walk.proofs.Lists.{choice-push_cases}
+use Rattle.walk.proofs.Steps.{follows_push}
 use Rattle.walk.proofs.walking.follow_to.Goals as goal
+
+-- what comes is the package that is added
+comes_pushed : (old : List (ℕ × ℕ)) (q v : ℕ) → ComesAs q (choice_of old) (choice_of (old ++ (q, v) ∷ []))
+comes_pushed old q v p k h = elim (choice-push_cases old q v p k h) [
+  | inl before ↦ inl before
+  | inr same ↦ inr same.0
+]
 
 pub returns-clause-grown : goal.returns-clause-grown
 returns-clause-grown g c =
@@ -10,3 +20,21 @@ returns-clause-grown g c =
     let ordinal = c.in-Some-choose.ordinal in
     let new : choice_of c.args.found.now.entries target ≡ None = search rules in
     ((target, ordinal) ∷ [], c.in_ok-insert.ensures.entries ∙ insert_entry-new nat_eq c.args.found.now target ordinal new)
+
+pub returns-clause-follows : goal.returns-clause-follows
+returns-clause-follows g c =
+    let target = c.args.target in
+    let ordinal = c.in-Some-choose.ordinal in
+    let chooses = g.C.Chooser.chooses c.args.chooser.now in
+    let new : choice_of c.args.found.now.entries target ≡ None = search rules in
+    subst (λ (l : List (ℕ × ℕ)). Follows chooses (choice_of l)) (sym (c.in_ok-insert.ensures.entries ∙ insert_entry-new nat_eq c.args.found.now target ordinal new))
+    (follows_push chooses c.args.found.now.entries target ordinal c.requires.follows (sym c.choose.ensures ∙ c.in-Some-choose.is))
+
+pub returns-clause-comes : goal.returns-clause-comes
+returns-clause-comes g c =
+    let target = c.args.target in
+    let ordinal = c.in-Some-choose.ordinal in
+    let old = c.args.found.now.entries in
+    let new : choice_of old target ≡ None = search rules in
+    subst (λ (l : List (ℕ × ℕ)). ComesAs target (choice_of old) (choice_of l)) (sym (c.in_ok-insert.ensures.entries ∙ insert_entry-new nat_eq c.args.found.now target ordinal new))
+    (comes_pushed old target ordinal)

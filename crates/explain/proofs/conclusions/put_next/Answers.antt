@@ -1,0 +1,6 @@
+use Rattle.std.proofs.Common.{append_assoc, rules}
+use Rattle.std.proofs.lemmas.Result.{IfOk-equal}
+use Rattle.explain.proofs.conclusions.put_next.Goals as goal
+
+pub returns : goal.returns
+returns c = IfOk-equal c.put_term.result _ _ _ c.put_term.ensures (search (rules, append_assoc))
