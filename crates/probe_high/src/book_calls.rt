@@ -3,9 +3,9 @@
 ghost use Rattle.std.specs.Prelude.{◌≡◌, None};
 ghost use Rattle.book.specs.Items.{refusal};
 
-use crate::item_texts::{ItemText, item_at};
+use crate::item_texts::{item_at, put_item};
 use book::{Item, Replica};
-use rows::{Answer, Unread, all_stand, count, member, shown};
+use rows::{Answer, AnswerText, Unread, all_stand, count, member, shown};
 use serde_json::Value;
 use std::alloc::Global;
 
@@ -32,13 +32,21 @@ fn about_item(
     match name {
         "check" => check(replica, item),
         "judge" => judge(replica, row, item),
-        "shared" => shown(alloc, &ItemText(&replica.shared(item)?)),
+        "shared" => shared(alloc, replica, item),
         "reserve" => reserve(replica, item),
         "apply" => apply(replica, item),
         "enter" => enter(replica, item),
         "replay" => replay(replica, item),
         _ => Err(Unread::Row),
     }
+}
+
+/// The item as it is carried out.
+fn shared(alloc: Global, replica: &Replica, item: &Item) -> Result<Answer, Unread> {
+    let mine = replica.shared(item)?;
+    let mut text = AnswerText::new(alloc);
+    put_item(&mut text, &mine);
+    text.answer()
 }
 
 /// The revision, and how many are stored. After every call that may change them each has to stand; where

@@ -5,7 +5,7 @@ use crate::texts::{Bytes, text_of, written};
 use book::{Item, Replica};
 use journals::{LoadFault, all_have_names, load_journal, save_journal};
 use registry::Registry;
-use rows::{Answer, Unread, as_told, at};
+use rows::{Answer, AnswerText, Unread, at};
 use serde_json::Value;
 use std::alloc::Global;
 use versions::Refusal;
@@ -29,12 +29,40 @@ fn lent<'i>(alloc: Global, items: &'i [Item]) -> Result<Vec<&'i Item>, Unread> {
 /// commands alone; or they are saved again, once they were replayed.
 fn loaded(alloc: Global, name: &str, row: &Value) -> Result<Answer, Unread> {
     let text = at::<Bytes>(alloc, row, "text")?;
-    match load_journal(alloc, &mut Pieces::new(row, text.as_slice(), &[])?) {
+    loaded_of(
+        alloc,
+        name,
+        row,
+        &mut Pieces::new(row, text.as_slice(), &[])?,
+    )
+}
+
+fn loaded_of(
+    alloc: Global,
+    name: &str,
+    row: &Value,
+    reader: &mut Pieces<'_>,
+) -> Result<Answer, Unread> {
+    match load_journal(alloc, reader) {
         Ok(items) => items_told(alloc, name, row, &items),
-        Err(LoadFault::Line(line)) => Ok(Answer::Text(format!(in alloc; "{{\"line\":{line}}}")?)),
-        Err(LoadFault::Memory) => Err(Unread::Refused(Refusal::NoMemory)),
-        Err(LoadFault::Input) => Ok(Answer::Word("input")),
+        Err(fault) => fault_told(alloc, fault),
     }
+}
+
+fn fault_told(alloc: Global, fault: LoadFault) -> Result<Answer, Unread> {
+    match fault {
+        LoadFault::Line(line) => line_told(alloc, line),
+        LoadFault::Memory => Err(Unread::Refused(Refusal::NoMemory)),
+        LoadFault::Input => Ok(Answer::Word("input")),
+    }
+}
+
+fn line_told(alloc: Global, line: usize) -> Result<Answer, Unread> {
+    let mut text = AnswerText::new(alloc);
+    text.put("{\"line\":");
+    text.put_plain(line);
+    text.put("}");
+    text.answer()
 }
 
 fn items_told(alloc: Global, name: &str, row: &Value, items: &[Item]) -> Result<Answer, Unread> {
@@ -96,8 +124,13 @@ fn saved_again(alloc: Global, registry: &Registry, items: &[Item]) -> Result<Ans
 
 fn saved_told(alloc: Global, learnt: usize, saved: &[u8]) -> Result<Answer, Unread> {
     let saved = text_of(saved)?;
-    let saved = as_told(&saved);
-    Ok(Answer::Text(format!(in alloc; "{{\"learnt\":{learnt},\"saved\":{saved}}}")?))
+    let mut text = AnswerText::new(alloc);
+    text.put("{\"learnt\":");
+    text.put_plain(learnt);
+    text.put(",\"saved\":");
+    text.put_quoted(saved);
+    text.put("}");
+    text.answer()
 }
 
 fn commands_of<'i>(alloc: Global, items: &'i [Item]) -> Result<Vec<&'i Item>, Unread> {

@@ -3,7 +3,7 @@
 use crate::fakes::{Narrow, Pieces};
 use crate::texts::{Bytes, both_told, end_of, failure, told};
 use lines::{LineBuffer, Next, Outbox, count_lines, first_line, write_text, write_texts};
-use rows::{Answer, Given, Unread, at, given, items, member, text, text_at};
+use rows::{Answer, AnswerText, Given, Unread, at, both, given, items, member, text, text_at};
 use serde_json::Value;
 use std::alloc::Global;
 use std::io;
@@ -36,8 +36,7 @@ fn first(alloc: Global, row: &Value) -> Result<Answer, Unread> {
 /// A reader gives the text of a row, and `then` once it is renewed. The steps are taken in turn; each one's answer is
 /// told: a line as its text, `null` where none has ended, and of a read whether anything came.
 fn read(alloc: Global, row: &Value) -> Result<Answer, Unread> {
-    let text = at::<Bytes>(alloc, row, "text")?;
-    let then = at::<Bytes>(alloc, row, "then")?;
+    let (text, then) = both::<Bytes, Bytes>(alloc, row, "text", "then")?;
     taken(
         alloc,
         row,
@@ -93,9 +92,15 @@ fn take(
 fn found_told(alloc: Global, lines: &LineBuffer, found: Next) -> Result<Answer, Unread> {
     match found {
         Next::Line => told(alloc, lines.line()),
-        Next::TooLong => Ok(Answer::Text(format!(in alloc; "{{\"too_long\":true}}")?)),
+        Next::TooLong => too_long(alloc),
         Next::More => Ok(Answer::None),
     }
+}
+
+fn too_long(alloc: Global) -> Result<Answer, Unread> {
+    let mut text = AnswerText::new(alloc);
+    text.put("{\"too_long\":true}");
+    text.answer()
 }
 
 /// Reads once, if no line has ended; else the next line is the answer.
@@ -115,7 +120,11 @@ fn read_on(
 }
 
 fn failed(alloc: Global, word: &str) -> Result<Answer, Unread> {
-    Ok(Answer::Text(format!(in alloc; "{{\"failed\":\"{word}\"}}")?))
+    let mut text = AnswerText::new(alloc);
+    text.put("{\"failed\":");
+    text.put_quoted(word);
+    text.put("}");
+    text.answer()
 }
 
 /// All lines up to the reader's end.

@@ -1,17 +1,14 @@
 //! Calls that answer many requests.
 
 use crate::order::InOrder;
-use crate::outcomes::budget_at;
+use crate::outcomes::{budget_at, put_outcome};
 use derivations::Store;
 use pool::{Asked, answer_all, answer_all_with, answer_lent};
 use registry::Registry;
-use rows::{
-    Answer, List, Shows, Unread, as_told, items, member, request_at, shown, size_at, whole_at,
-};
+use rows::{Answer, AnswerText, Shows, Unread, items, member, request_at, size_at, whole_at};
 use serde_json::Value;
 use solver::Outcome;
 use std::alloc::Global;
-use std::fmt;
 use std::sync::Wait;
 use std::thread::Threads;
 
@@ -23,12 +20,10 @@ pub fn pool_call<R: Threads + Wait + Sync>(
     name: &str,
     row: &Value,
 ) -> Result<Answer, Unread> {
-    let workers = size_at(row, "workers")?;
-    let requests = requests_at(alloc, row)?;
     match name {
-        "answer_all" => all_answered(rt, alloc, registry, requests, workers),
-        "answer_lent" => lent_answered(rt, alloc, registry, &requests, workers),
-        "answer_all_with" => in_order(rt, alloc, registry, requests, workers, row),
+        "answer_all" => all_answered(rt, alloc, registry, row),
+        "answer_lent" => lent_answered(rt, alloc, registry, row),
+        "answer_all_with" => in_order(rt, alloc, registry, row),
         _ => Err(Unread::Row),
     }
 }
@@ -37,13 +32,14 @@ fn all_answered<R: Threads + Wait + Sync>(
     rt: &R,
     alloc: Global,
     registry: &Registry,
-    requests: Vec<Asked>,
-    workers: usize,
+    row: &Value,
 ) -> Result<Answer, Unread> {
+    let workers = size_at(row, "workers")?;
+    let requests = requests_at(alloc, row)?;
     let store = Store::new(alloc);
     answers_told(
         alloc,
-        answer_all(rt, alloc, registry, &store, requests, workers)?,
+        &answer_all(rt, alloc, registry, &store, requests, workers)?,
     )
 }
 
@@ -51,13 +47,14 @@ fn lent_answered<R: Threads + Wait + Sync>(
     rt: &R,
     alloc: Global,
     registry: &Registry,
-    requests: &[Asked],
-    workers: usize,
+    row: &Value,
 ) -> Result<Answer, Unread> {
+    let workers = size_at(row, "workers")?;
+    let requests = requests_at(alloc, row)?;
     let store = Store::new(alloc);
     answers_told(
         alloc,
-        answer_lent(rt, alloc, registry, &store, requests, workers)?,
+        &answer_lent(rt, alloc, registry, &store, &requests, workers)?,
     )
 }
 
@@ -67,21 +64,17 @@ fn in_order<R: Threads + Wait + Sync>(
     rt: &R,
     alloc: Global,
     registry: &Registry,
-    requests: Vec<Asked>,
-    workers: usize,
     row: &Value,
 ) -> Result<Answer, Unread> {
+    let workers = size_at(row, "workers")?;
+    let requests = requests_at(alloc, row)?;
     let order = order_at(row)?;
     let store = Store::new(alloc);
     let answers = answer_all_with(rt, alloc, registry, &store, requests, workers, &order)?;
-    told_in_order(alloc, order.is_kept(), answers)
+    told_in_order(alloc, order.is_kept(), &answers)
 }
 
-fn told_in_order(
-    alloc: Global,
-    is_kept: bool,
-    answers: Vec<pool::Answer>,
-) -> Result<Answer, Unread> {
+fn told_in_order(alloc: Global, is_kept: bool, answers: &[pool::Answer]) -> Result<Answer, Unread> {
     if is_kept {
         answers_told(alloc, answers)
     } else {
@@ -89,8 +82,30 @@ fn told_in_order(
     }
 }
 
-fn answers_told(alloc: Global, answers: Vec<pool::Answer>) -> Result<Answer, Unread> {
-    shown(alloc, &AnswersText(&answers))
+/// The answers in order, each `{"selected":[["a","1.0.0"]]}`, `{"derivation":[..]}` or `{"refused":22}`.
+fn answers_told(alloc: Global, answers: &[pool::Answer]) -> Result<Answer, Unread> {
+    let mut is_first = true;
+    let mut text = AnswerText::new(alloc);
+    text.put("[");
+    for answer in answers {
+        text.put_between(is_first);
+        put_answer(&mut text, answer);
+        is_first = false;
+    }
+    text.put("]");
+    text.answer()
+}
+
+fn put_answer(text: &mut AnswerText, answer: &pool::Answer) {
+    match answer {
+        Ok(outcome) => put_lawful(text, outcome),
+        Err(refusal) => Answer::Refused(*refusal).show(text),
+    }
+}
+
+fn put_lawful(text: &mut AnswerText, outcome: &Outcome) {
+    put_outcome(text, outcome);
+    text.put("}");
 }
 
 fn order_at(row: &Value) -> Result<InOrder, Unread> {
@@ -109,36 +124,4 @@ fn requests_at(alloc: Global, row: &Value) -> Result<Vec<Asked>, Unread> {
 fn asked(alloc: Global, one: &Value) -> Result<Asked, Unread> {
     let budget = budget_at(one)?;
     Ok((request_at(alloc, one)?, budget))
-}
-
-// ---- texts
-
-/// The answers in order, each `{"selected":[["a","1.0.0"]]}`, `{"derivation":[..]}` or `{"refused":22}`.
-#[derive(Clone, Copy)]
-struct AnswersText<'a>(&'a [pool::Answer]);
-
-impl Shows for AnswersText<'_> {
-    fn show<W: fmt::Write>(&self, f: &mut fmt::Formatter<W>) -> fmt::Result {
-        let mut before = "";
-        f.write_str("[")?;
-        for answer in self.0 {
-            f.write_str(before)?;
-            write_answer(f, answer)?;
-            before = ",";
-        }
-        f.write_str("]")
-    }
-}
-
-fn write_answer<W: fmt::Write>(f: &mut fmt::Formatter<W>, answer: &pool::Answer) -> fmt::Result {
-    match answer {
-        Ok(Outcome::Selection(list, _)) => write!(f, "{{\"selected\":{}}}", as_told(list)),
-        Ok(Outcome::Refused(derivation, _)) => {
-            let lines = List {
-                items: derivation.lines(),
-            };
-            write!(f, "{{\"derivation\":{}}}", as_told(&lines))
-        }
-        Err(refusal) => write!(f, "{{\"refused\":{}}}", refusal.number()),
-    }
 }

@@ -3,19 +3,19 @@
 
 ghost use Rattle.std.specs.Prelude.{◌≡◌, IfOk};
 
-use crate::item_texts::ItemText;
+use crate::item_texts::put_item;
 use crate::outcomes::{budget_at, offered};
 use chronicle::{Entry, Mark, Seat, Stamp};
 use derivations::Learnt;
 use registry::Request;
 use rows::{
-    Answer, Shows, Unread, as_told, at, command_of, count, learnt_at, request_at, shown, text_at,
+    Answer, AnswerText, Shows, Unread, both, command_of, count, learnt_at, request_at, shown,
+    text_at, three,
 };
 use serde_json::Value;
 use solver::Outcome;
 use std::alloc::Global;
-use std::fmt;
-use versions::{Name, Need, Published, Refusal};
+use versions::Refusal;
 
 pub fn seat_step<'a>(
     alloc: Global,
@@ -46,34 +46,34 @@ fn about(alloc: Global, name: &str, seat: &Seat<'_>) -> Result<Answer, Unread> {
         "revision" => Ok(Answer::Number(seat.revision() as usize)),
         "number" => Ok(Answer::Number(seat.number() as usize)),
         "registry" => Ok(Answer::Number(seat.registry().revision() as usize)),
-        "journal" => shown(alloc, &JournalText(seat.journal())),
+        "journal" => journal_told(alloc, seat.journal()),
         "stored" => shown(alloc, seat.store()),
         _ => Err(Unread::Row),
     }
 }
 
 /// Of each entry the number of the seat that made it, its serial, and its item.
-#[derive(Clone, Copy)]
-struct JournalText<'a>(&'a [&'a Entry]);
-
-impl Shows for JournalText<'_> {
-    fn show<W: fmt::Write>(&self, f: &mut fmt::Formatter<W>) -> fmt::Result {
-        let mut before = "";
-        f.write_str("[")?;
-        for entry in self.0 {
-            f.write_str(before)?;
-            write_entry(f, *entry)?;
-            before = ",";
-        }
-        f.write_str("]")
+fn journal_told(alloc: Global, journal: &[&Entry]) -> Result<Answer, Unread> {
+    let mut is_first = true;
+    let mut text = AnswerText::new(alloc);
+    text.put("[");
+    for entry in journal {
+        text.put_between(is_first);
+        put_entry(&mut text, *entry);
+        is_first = false;
     }
+    text.put("]");
+    text.answer()
 }
 
-fn write_entry<W: fmt::Write>(f: &mut fmt::Formatter<W>, entry: &Entry) -> fmt::Result {
-    let seat = entry.seat;
-    let serial = entry.serial;
-    let item = ItemText(&entry.item);
-    write!(f, "[{seat},{serial},{}]", as_told(&item))
+fn put_entry(text: &mut AnswerText, entry: &Entry) {
+    text.put("[");
+    text.put_plain(entry.seat);
+    text.put(",");
+    text.put_plain(entry.serial);
+    text.put(",");
+    put_item(text, &entry.item);
+    text.put("]");
 }
 
 // ---- marking, meeting and entering
@@ -178,9 +178,7 @@ fn entered(alloc: Global, name: &str, given: &Value, seat: &mut Seat<'_>) -> Res
 fn published(alloc: Global, given: &Value, seat: &mut Seat<'_>) -> Result<Stamp, Unread>
     ensures { seat.new.row ≡ seat.old.row }
 {
-    let name = at::<Name>(alloc, given, "name")?;
-    let version = at::<Published>(alloc, given, "version")?;
-    let needs = at::<Vec<(Name, Need)>>(alloc, given, "needs")?;
+    let (name, version, needs) = three(alloc, given, "name", "version", "needs")?;
     Ok(seat.publish(name, version, needs)?)
 }
 
@@ -188,8 +186,7 @@ fn published(alloc: Global, given: &Value, seat: &mut Seat<'_>) -> Result<Stamp,
 fn yanked(alloc: Global, kind: &str, given: &Value, seat: &mut Seat<'_>) -> Result<Stamp, Unread>
     ensures { seat.new.row ≡ seat.old.row }
 {
-    let name = at::<Name>(alloc, given, "name")?;
-    let version = at::<Published>(alloc, given, "version")?;
+    let (name, version) = both(alloc, given, "name", "version")?;
     match kind {
         "yank" => Ok(seat.yank(name, version)?),
         _ => Ok(seat.unyank(name, version)?),
@@ -239,7 +236,7 @@ fn outcome_told(
     if learns {
         learnt_told(alloc, stamp, outcome, seat)
     } else {
-        shown(alloc, &ResolvedText { stamp, outcome })
+        resolved_told(alloc, stamp, outcome)
     }
 }
 
@@ -252,8 +249,7 @@ fn learnt_told(
     ensures { seat.new.row ≡ seat.old.row }
 {
     learn_all(alloc, offered(outcome), seat)?;
-    let stored = count(seat.store());
-    shown(alloc, &(ResolvedText { stamp, outcome }, stored))
+    stored_told(alloc, stamp, outcome, count(seat.store()))
 }
 
 fn learn_all(alloc: Global, offered: &[Learnt], seat: &mut Seat<'_>) -> Result<(), Unread>
@@ -301,21 +297,37 @@ fn resolved(
     }
 }
 
-/// `{"at":[1,1],"selected":[["a","1.0.0"]]}`, where nothing was selected with null.
-#[derive(Clone, Copy)]
-struct ResolvedText<'a> {
-    stamp: Stamp,
-    outcome: &'a Outcome,
+fn resolved_told(alloc: Global, stamp: Stamp, outcome: &Outcome) -> Result<Answer, Unread> {
+    let mut text = AnswerText::new(alloc);
+    put_resolved(&mut text, stamp, outcome);
+    text.answer()
 }
 
-impl Shows for ResolvedText<'_> {
-    fn show<W: fmt::Write>(&self, f: &mut fmt::Formatter<W>) -> fmt::Result {
-        let place = self.stamp.place;
-        let revision = self.stamp.revision;
-        write!(f, "{{\"at\":[{place},{revision}],\"selected\":")?;
-        match self.outcome {
-            Outcome::Selection(items, _) => write!(f, "{}}}", as_told(items)),
-            Outcome::Refused(_, _) => f.write_str("null}"),
-        }
+fn stored_told(
+    alloc: Global,
+    stamp: Stamp,
+    outcome: &Outcome,
+    stored: usize,
+) -> Result<Answer, Unread> {
+    let mut text = AnswerText::new(alloc);
+    text.put("[");
+    put_resolved(&mut text, stamp, outcome);
+    text.put(",");
+    text.put_plain(stored);
+    text.put("]");
+    text.answer()
+}
+
+/// `{"at":[1,1],"selected":[["a","1.0.0"]]}`, where nothing was selected with null.
+fn put_resolved(text: &mut AnswerText, stamp: Stamp, outcome: &Outcome) {
+    text.put("{\"at\":[");
+    text.put_plain(stamp.place);
+    text.put(",");
+    text.put_plain(stamp.revision);
+    text.put("],\"selected\":");
+    match outcome {
+        Outcome::Selection(items, _) => items.show(text),
+        Outcome::Refused(_, _) => text.put("null"),
     }
+    text.put("}");
 }

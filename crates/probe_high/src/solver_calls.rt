@@ -1,14 +1,13 @@
 //! Calls of the solver.
 
-use crate::outcomes::{budget_at, offered};
-use derivations::{Cause, Derivation, Learnt, Line, Store, check};
+use crate::outcomes::{budget_at, offered, put_outcome};
+use derivations::{Cause, Derivation, Learnt, Store, check};
 use registry::{Registry, Request};
-use rows::{Answer, List, Shows, Unread, as_told, given, request_at, shown, size_at};
+use rows::{Answer, AnswerText, Shows, Unread, given, request_at, shown, size_at};
 use serde_json::Value;
 use solver::{Outcome, solve_under};
 use std::alloc::{AllocError, Global};
-use std::fmt;
-use versions::{Name, Published, Refusal};
+use versions::Refusal;
 
 /// Each call tells something of what the request of a row is answered.
 pub fn solver_call(
@@ -51,9 +50,9 @@ fn told(
     row: &Value,
 ) -> Result<Answer, Unread> {
     match name {
-        "solve" => shown(alloc, &OutcomeText(outcome)),
+        "solve" => outcome_told(alloc, outcome),
         "judge" => judged(alloc, registry, request, outcome),
-        "offered" => conclusions(alloc, offered(outcome)),
+        "offered" => shown(alloc, &offered(outcome)),
         "counts" => given(alloc, counts(alloc, offered(outcome))?),
         "cited_beyond" => cited_beyond(alloc, offered(outcome), row),
         _ => Err(Unread::Row),
@@ -69,16 +68,24 @@ fn judged(
 ) -> Result<Answer, Unread> {
     let stand = all_stand(registry, offered(outcome));
     match outcome {
-        Outcome::Selection(list, _) => selected(alloc, list, stand),
+        Outcome::Selection(list, _) => judged_told(alloc, "{\"selected\":", list, stand),
         Outcome::Refused(derivation, _) => refused(alloc, registry, request, derivation, stand),
     }
 }
 
-fn selected(alloc: Global, list: &[(Name, Published)], stand: bool) -> Result<Answer, Unread> {
-    let listed = List { items: list };
-    let listed = as_told(&listed);
-    let text = format!(in alloc; "{{\"selected\":{listed},\"offers_stand\":{stand}}}")?;
-    Ok(Answer::Text(text))
+fn judged_told<T: Shows>(
+    alloc: Global,
+    kind: &str,
+    told: &T,
+    stand: bool,
+) -> Result<Answer, Unread> {
+    let mut text = AnswerText::new(alloc);
+    text.put(kind);
+    told.show(&mut text);
+    text.put(",\"offers_stand\":");
+    text.put_plain(stand);
+    text.put("}");
+    text.answer()
 }
 
 fn refused(
@@ -88,9 +95,8 @@ fn refused(
     derivation: &Derivation,
     stand: bool,
 ) -> Result<Answer, Unread> {
-    let shown = check(alloc, registry, request, derivation)?;
-    let text = format!(in alloc; "{{\"derived\":{shown},\"offers_stand\":{stand}}}")?;
-    Ok(Answer::Text(text))
+    let derived = check(alloc, registry, request, derivation)?;
+    judged_told(alloc, "{\"derived\":", &derived, stand)
 }
 
 fn all_stand(registry: &Registry, offered: &[Learnt]) -> bool {
@@ -155,40 +161,21 @@ fn count_as_cited(alloc: Global, learnt: &Learnt) -> Result<usize, AllocError> {
 // ---- texts
 
 /// `{"selected":[["a","1.0.0"]],"offered":[..]}` or `{"derivation":[..],"offered":[..]}`.
-#[derive(Clone, Copy)]
-struct OutcomeText<'a>(&'a Outcome);
-
-impl Shows for OutcomeText<'_> {
-    fn show<W: fmt::Write>(&self, f: &mut fmt::Formatter<W>) -> fmt::Result {
-        match self.0 {
-            Outcome::Selection(list, _) => write!(f, "{{\"selected\":{}", as_told(list))?,
-            Outcome::Refused(derivation, _) => {
-                f.write_str("{\"derivation\":")?;
-                write_lines(f, derivation.lines())?;
-            }
-        }
-        f.write_str(",\"offered\":[")?;
-        write_offers(f, offered(self.0))?;
-        f.write_str("]}")
-    }
-}
-
-fn write_lines<W: fmt::Write>(f: &mut fmt::Formatter<W>, items: &[Line]) -> fmt::Result {
-    List { items }.show(f)
+fn outcome_told(alloc: Global, outcome: &Outcome) -> Result<Answer, Unread> {
+    let mut text = AnswerText::new(alloc);
+    put_outcome(&mut text, outcome);
+    text.put(",\"offered\":[");
+    put_offers(&mut text, offered(outcome));
+    text.put("]}");
+    text.answer()
 }
 
 /// The lines of each that is offered.
-fn write_offers<W: fmt::Write>(f: &mut fmt::Formatter<W>, offered: &[Learnt]) -> fmt::Result {
-    let mut before = "";
+fn put_offers(text: &mut AnswerText, offered: &[Learnt]) {
+    let mut is_first = true;
     for learnt in offered {
-        f.write_str(before)?;
-        write_lines(f, learnt.lines())?;
-        before = ",";
+        text.put_between(is_first);
+        learnt.lines().show(text);
+        is_first = false;
     }
-    Ok(())
-}
-
-/// What each that is offered says.
-fn conclusions(alloc: Global, items: &[Learnt]) -> Result<Answer, Unread> {
-    shown(alloc, &List { items })
 }

@@ -1,7 +1,7 @@
 //! Texts of rows and of answers.
 
 use crate::fakes::Narrow;
-use rows::{Answer, Given, Unread, as_told, items, shown, text, whole};
+use rows::{Answer, AnswerText, Given, Unread, items, shown, text, whole};
 use serde_json::Value;
 use std::alloc::Global;
 use std::io;
@@ -72,8 +72,13 @@ pub fn told(alloc: Global, bytes: &[u8]) -> Result<Answer, Unread> {
 /// Two texts as an answer.
 pub fn both_told(alloc: Global, first: &[u8], second: &[u8]) -> Result<Answer, Unread> {
     let (first, second) = (text_of(first)?, text_of(second)?);
-    let (first, second) = (as_told(&first), as_told(&second));
-    Ok(Answer::Text(format!(in alloc; "[{first},{second}]")?))
+    let mut text = AnswerText::new(alloc);
+    text.put("[");
+    text.put_quoted(first);
+    text.put(",");
+    text.put_quoted(second);
+    text.put("]");
+    text.answer()
 }
 
 /// How a call of a writer or a reader ended. Want of memory is the whole row's answer.
@@ -97,7 +102,12 @@ pub fn failure(kind: ErrorKind) -> Result<&'static str, Unread> {
 /// What a writer took, and how the call ended.
 pub fn written(alloc: Global, writer: &Narrow, outcome: &io::Result<()>) -> Result<Answer, Unread> {
     let end = end_of(outcome)?;
-    let text = text_of(writer.text())?;
-    let text = as_told(&text);
-    Ok(Answer::Text(format!(in alloc; "{{\"end\":\"{end}\",\"written\":{text}}}")?))
+    let taken = text_of(writer.text())?;
+    let mut text = AnswerText::new(alloc);
+    text.put("{\"end\":");
+    text.put_quoted(end);
+    text.put(",\"written\":");
+    text.put_quoted(taken);
+    text.put("}");
+    text.answer()
 }

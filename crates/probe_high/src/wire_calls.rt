@@ -4,7 +4,7 @@ use crate::texts::Bytes;
 use by_name::NamedDerivation;
 use registry::Request;
 use replies::derivation_text;
-use rows::{Answer, Unread, as_told, at, given, shown, text_at};
+use rows::{Answer, AnswerText, Shows, Unread, at, given, shown, text_at};
 use serde_json::Value;
 use std::alloc::Global;
 use wire::{Asked, read_learn, read_lock, read_request};
@@ -55,13 +55,20 @@ fn resolve_told(
     explain: bool,
     budget: Option<u32>,
 ) -> Result<Answer, Unread> {
-    let needs = request.needs().len();
-    let lock = request.lock().len();
-    let budget = as_told(&budget);
-    let text = format!(in alloc;
-        "{{\"resolve\":[{needs},{lock}],\"explain\":{explain},\"budget\":{budget}}}"
-    )?;
-    Ok(Answer::Text(text))
+    let mut text = AnswerText::new(alloc);
+    text.put("{\"resolve\":");
+    sizes_of(request).show(&mut text);
+    text.put(",\"explain\":");
+    text.put_plain(explain);
+    text.put(",\"budget\":");
+    budget.show(&mut text);
+    text.put("}");
+    text.answer()
+}
+
+/// How many needs a request has, and how many lines its lock.
+fn sizes_of(request: &Request) -> (usize, usize) {
+    (request.needs().len(), request.lock().len())
 }
 
 fn check_told(
@@ -69,10 +76,13 @@ fn check_told(
     request: &Request,
     derivation: &NamedDerivation,
 ) -> Result<Answer, Unread> {
-    let needs = request.needs().len();
-    let lock = request.lock().len();
-    let lines = derivation.lines().len();
-    Ok(Answer::Text(format!(in alloc; "{{\"check\":[{needs},{lock}],\"lines\":{lines}}}")?))
+    let mut text = AnswerText::new(alloc);
+    text.put("{\"check\":");
+    sizes_of(request).show(&mut text);
+    text.put(",\"lines\":");
+    text.put_plain(derivation.lines().len());
+    text.put("}");
+    text.answer()
 }
 
 /// The derivation of a learn line, by names.

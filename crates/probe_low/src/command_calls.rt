@@ -1,7 +1,7 @@
 //! Calls of commands, by themselves and of the registry of a session, and of lists of dependencies.
 
 use registry::{Command, Dependencies, Registry};
-use rows::{Answer, List, Unread, apply, as_told, command_at, dependencies_at, given};
+use rows::{Answer, AnswerText, Shows, Unread, apply, at, command_at, given};
 use serde_json::Value;
 use std::alloc::Global;
 
@@ -39,7 +39,7 @@ fn about(
 }
 
 pub fn dependencies_call(alloc: Global, name: &str, row: &Value) -> Result<Answer, Unread> {
-    of_dependencies(alloc, name, &dependencies_at(alloc, row)?)
+    of_dependencies(alloc, name, &at(alloc, row, "needs")?)
 }
 
 fn of_dependencies(
@@ -56,9 +56,11 @@ fn of_dependencies(
 
 /// Whether a list repeats a name, and its needs.
 fn listed(alloc: Global, dependencies: &Dependencies) -> Result<Answer, Unread> {
-    let repeats = dependencies.repeats_name();
-    let items = dependencies.needs();
-    let needs = List { items };
-    let needs = as_told(&needs);
-    Ok(Answer::Text(format!(in alloc; "{{\"repeats\":{repeats},\"needs\":{needs}}}")?))
+    let mut text = AnswerText::new(alloc);
+    text.put("{\"repeats\":");
+    text.put_plain(dependencies.repeats_name());
+    text.put(",\"needs\":");
+    dependencies.needs().show(&mut text);
+    text.put("}");
+    text.answer()
 }

@@ -2,7 +2,7 @@
 
 use derivations::{Cause, Derivation, Line, Premise, need_incompat};
 use registry::Registry;
-use rows::{Answer, List, Unread, at, derivation_check, given, shown};
+use rows::{Answer, Unread, at, both, derivation_check, given, shown};
 use serde_json::Value;
 use std::alloc::Global;
 use versions::{Name, Need};
@@ -19,13 +19,17 @@ pub fn derivation_call(
         "copy_line" => line_copied(alloc, row),
         "copy_cause" => cause_copied(alloc, row),
         "need_says" => need_says(alloc, registry, row),
-        _ => about_premise(
-            alloc,
-            registry,
-            name,
-            &at::<Premise>(alloc, row, "premise")?,
-        ),
+        _ => premise_call(alloc, registry, name, row),
     }
+}
+
+fn premise_call(
+    alloc: Global,
+    registry: &Registry,
+    name: &str,
+    row: &Value,
+) -> Result<Answer, Unread> {
+    about_premise(alloc, registry, name, &at(alloc, row, "premise")?)
 }
 
 fn copied(alloc: Global, row: &Value) -> Result<Answer, Unread> {
@@ -34,12 +38,7 @@ fn copied(alloc: Global, row: &Value) -> Result<Answer, Unread> {
 
 fn copy_told(alloc: Global, derivation: &Derivation) -> Result<Answer, Unread> {
     let copy = derivation.copy(alloc)?;
-    shown(
-        alloc,
-        &List {
-            items: copy.lines(),
-        },
-    )
+    shown(alloc, &copy.lines())
 }
 
 fn line_copied(alloc: Global, row: &Value) -> Result<Answer, Unread> {
@@ -69,7 +68,6 @@ fn about_premise(
 }
 
 fn need_says(alloc: Global, registry: &Registry, row: &Value) -> Result<Answer, Unread> {
-    let name = at::<Name>(alloc, row, "name")?;
-    let need = at::<Need>(alloc, row, "need")?;
+    let (name, need) = both::<Name, Need>(alloc, row, "name", "need")?;
     given(alloc, need_incompat(alloc, registry, &name, &need)?)
 }

@@ -1,6 +1,6 @@
 //! Calls of incompatibilities.
 
-use rows::{Answer, Unread, at, given, shown, whole_at};
+use rows::{Answer, Unread, at, both, given, shown, whole_at};
 use serde_json::Value;
 use std::alloc::Global;
 use terms::{Incompat, Term, resolve};
@@ -29,8 +29,7 @@ fn pair(alloc: Global, row: &Value) -> Result<Answer, Unread> {
     if pkg == other {
         return Ok(Answer::Skipped);
     }
-    let first = at::<Term>(alloc, row, "a")?;
-    let second = at::<Term>(alloc, row, "b")?;
+    let (first, second) = both::<Term, Term>(alloc, row, "a", "b")?;
     given(alloc, Incompat::pair(alloc, pkg, first, other, second)?)
 }
 

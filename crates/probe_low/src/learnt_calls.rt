@@ -2,7 +2,7 @@
 
 use derivations::Learnt;
 use registry::Registry;
-use rows::{Answer, List, Unread, learnt_at, shown};
+use rows::{Answer, Unread, learnt_at, shown};
 use serde_json::Value;
 use std::alloc::Global;
 
@@ -38,12 +38,7 @@ fn about_copy(
     learnt: &Learnt,
 ) -> Result<Answer, Unread> {
     match name {
-        "copy" => shown(
-            alloc,
-            &List {
-                items: learnt.lines(),
-            },
-        ),
+        "copy" => shown(alloc, &learnt.lines()),
         _ => Ok(Answer::Bool(learnt.stands(registry))),
     }
 }

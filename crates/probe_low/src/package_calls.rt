@@ -2,10 +2,9 @@
 
 use crate::releases_calls::is_kept;
 use registry::{Facts, Matching, Registry, ordinals_are_below_the_count};
-use rows::{Answer, List, Shows, Unread, as_told, at, given, shown, size_at, whole_at};
+use rows::{Answer, AnswerText, Shows, Unread, at, given, shown, size_at, whole_at};
 use serde_json::Value;
 use std::alloc::Global;
-use std::fmt;
 use terms::VSet;
 use versions::{Need, Published};
 
@@ -43,8 +42,7 @@ fn highest(alloc: Global, registry: &Registry, pkg: u32, row: &Value) -> Result<
 }
 
 fn repeats(alloc: Global, registry: &Registry, pkg: u32) -> Result<Answer, Unread> {
-    let items = registry.repeats(pkg);
-    shown(alloc, &List { items })
+    shown(alloc, &registry.repeats(pkg))
 }
 
 /// The name of a package, by the call that requires one or the call that answers none.
@@ -76,12 +74,15 @@ fn facts_at(alloc: Global, registry: &Registry, pkg: u32, ordinal: u32) -> Resul
 
 /// The text of a version, whether it is yanked, and what it depends on.
 fn facts_told(alloc: Global, facts: Facts<'_>) -> Result<Answer, Unread> {
-    let version = facts.version.text();
-    let yanked = facts.yanked;
-    let items = facts.needs;
-    let needs = List { items };
-    let needs = as_told(&needs);
-    Ok(Answer::Text(format!(in alloc; "[{version:?},{yanked},{needs}]")?))
+    let mut text = AnswerText::new(alloc);
+    text.put("[");
+    facts.version.show(&mut text);
+    text.put(",");
+    text.put_plain(facts.yanked);
+    text.put(",");
+    facts.needs.show(&mut text);
+    text.put("]");
+    text.answer()
 }
 
 /// The highest of the versions whose ordinals are below a number.
@@ -102,11 +103,7 @@ fn matching_set(
     row: &Value,
 ) -> Result<Answer, Unread> {
     let need = at::<Need>(alloc, row, "need")?;
-    let told = MatchingText {
-        set: &registry.matching_set(pkg, &need)?,
-        below: whole_at(row, "below")?,
-    };
-    shown(alloc, &told)
+    kept_told(alloc, &registry.matching_set(pkg, &need)?, row)
 }
 
 /// The package that a dependency names, and the matching set as a call by its requirement tells it.
@@ -140,29 +137,43 @@ fn depends(
         return Ok(Answer::Skipped);
     }
     let (target, set) = registry.dependency(pkg, ordinal, index)?;
-    shown(alloc, &(target, MatchingText { set: &set, below }))
+    target_told(alloc, target, &set, below)
+}
+
+fn target_told(
+    alloc: Global,
+    target: u32,
+    set: &Matching<'_>,
+    below: u32,
+) -> Result<Answer, Unread> {
+    let mut text = AnswerText::new(alloc);
+    text.put("[");
+    text.put_plain(target);
+    text.put(",");
+    put_matching(&mut text, set, below);
+    text.put("]");
+    text.answer()
+}
+
+fn kept_told(alloc: Global, set: &Matching<'_>, row: &Value) -> Result<Answer, Unread> {
+    let below = whole_at(row, "below")?;
+    let mut text = AnswerText::new(alloc);
+    put_matching(&mut text, set, below);
+    text.answer()
 }
 
 /// Whether a matching set is kept, and which of the ordinals below a number are in it.
-#[derive(Clone, Copy)]
-struct MatchingText<'a> {
-    set: &'a Matching<'a>,
-    below: u32,
-}
-
-impl Shows for MatchingText<'_> {
-    fn show<W: fmt::Write>(&self, f: &mut fmt::Formatter<W>) -> fmt::Result {
-        let mut is_first = true;
-        write!(f, "{{\"kept\":{},\"has\":[", is_kept(self.set))?;
-        for ordinal in 0..self.below {
-            if self.set.has(ordinal) {
-                if !is_first {
-                    f.write_str(",")?;
-                }
-                ordinal.show(f)?;
-                is_first = false;
-            }
+fn put_matching(text: &mut AnswerText, set: &Matching<'_>, below: u32) {
+    let mut is_first = true;
+    text.put("{\"kept\":");
+    text.put_plain(is_kept(set));
+    text.put(",\"has\":[");
+    for ordinal in 0..below {
+        if set.has(ordinal) {
+            text.put_between(is_first);
+            text.put_plain(ordinal);
+            is_first = false;
         }
-        f.write_str("]}")
     }
+    text.put("]}");
 }

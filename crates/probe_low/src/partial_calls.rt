@@ -4,11 +4,10 @@ ghost use Rattle.std.specs.Prelude.{◌≡◌, ℕ, Option, Some, true, false, �
 ghost use Rattle.terms.specs.Terms.{true_of};
 ghost use Rattle.partial.specs.Assignments.{is_decided, says, IsOpenTo};
 
-use partial::{Assignment, Partial, Standing, Why};
-use rows::{Answer, Shows, Unread, as_told, at, given, shown, size_at, whole_at};
+use partial::{Assignment, Partial, Settled, Standing, Why};
+use rows::{Answer, AnswerText, Shows, Unread, at, given, shown, size_at, whole_at};
 use serde_json::Value;
 use std::alloc::Global;
-use std::fmt;
 use terms::{Incompat, Pkg, Relation, Term, VSet, relation};
 
 pub fn partial_call(
@@ -40,7 +39,7 @@ fn about(alloc: Global, partial: &Partial, name: &str, row: &Value) -> Result<An
     match name {
         "level" => Ok(Answer::Number(partial.level())),
         "undecided" => given(alloc, partial.undecided()?),
-        "assignments" => shown(alloc, &Listed(partial.assignments())),
+        "assignments" => assignments_told(alloc, partial.assignments()),
         "decision" => Ok(Answer::choice(partial.decision(whole_at(row, "pkg")?))),
         "said" => shown(alloc, &partial.said(whole_at(row, "pkg")?)),
         "settled" => settled(alloc, partial, row),
@@ -117,9 +116,17 @@ fn on_terms(
 fn relation_to(alloc: Global, partial: &Partial, incompat: &Incompat) -> Result<Answer, Unread> {
     match partial.relation(incompat) {
         Standing::Satisfied => Ok(Answer::Word("satisfied")),
-        Standing::Almost(pkg) => Ok(Answer::Text(format!(in alloc; "{{\"almost\":{pkg}}}")?)),
+        Standing::Almost(pkg) => almost(alloc, pkg),
         Standing::Other => Ok(Answer::Word("other")),
     }
+}
+
+fn almost(alloc: Global, pkg: Pkg) -> Result<Answer, Unread> {
+    let mut text = AnswerText::new(alloc);
+    text.put("{\"almost\":");
+    text.put_plain(pkg);
+    text.put("}");
+    text.answer()
 }
 
 fn satisfier(partial: &Partial, incompat: &Incompat) -> Result<Answer, Unread> {
@@ -138,35 +145,50 @@ fn satisfier(partial: &Partial, incompat: &Incompat) -> Result<Answer, Unread> {
 /// What is said together with the decision.
 fn settled(alloc: Global, partial: &Partial, row: &Value) -> Result<Answer, Unread> {
     match partial.settled(whole_at(row, "pkg")?) {
-        Some(settled) => {
-            let (said, decision) = (as_told(settled.said), as_told(&settled.decision));
-            Ok(Answer::Text(format!(in alloc; "{{\"said\":{said},\"decision\":{decision}}}")?))
-        }
+        Some(settled) => settled_told(alloc, settled),
         None => Ok(Answer::None),
     }
 }
 
-/// Assignments as `[pkg,term,level,why]`, where a decision has no cause.
-#[derive(Clone, Copy)]
-struct Listed<'a>(&'a [Assignment]);
+/// Each as `[pkg,term,level,cause]`, where a decision has no cause.
+fn assignments_told(alloc: Global, assignments: &[Assignment]) -> Result<Answer, Unread> {
+    let mut is_first = true;
+    let mut text = AnswerText::new(alloc);
+    text.put("[");
+    for made in assignments {
+        text.put_between(is_first);
+        put_assignment(&mut text, made);
+        is_first = false;
+    }
+    text.put("]");
+    text.answer()
+}
 
-impl Shows for Listed<'_> {
-    fn show<W: fmt::Write>(&self, f: &mut fmt::Formatter<W>) -> fmt::Result {
-        let mut before = "";
-        f.write_str("[")?;
-        for made in self.0 {
-            let (pkg, term, level) = (made.pkg, as_told(&made.term), made.level);
-            write!(f, "{before}[{pkg},{term},{level},")?;
-            write_why(f, made.why)?;
-            before = ",";
-        }
-        f.write_str("]")
+fn put_assignment(text: &mut AnswerText, made: &Assignment) {
+    text.put("[");
+    text.put_plain(made.pkg);
+    text.put(",");
+    made.term.show(text);
+    text.put(",");
+    text.put_plain(made.level);
+    text.put(",");
+    cause_of(made.why).show(text);
+    text.put("]");
+}
+
+fn cause_of(why: Why) -> Option<usize> {
+    match why {
+        Why::Derived(cause) => Some(cause),
+        Why::Decided(_) => None,
     }
 }
 
-fn write_why<W: fmt::Write>(f: &mut fmt::Formatter<W>, why: Why) -> fmt::Result {
-    match why {
-        Why::Derived(cause) => write!(f, "{cause}]"),
-        Why::Decided(_) => f.write_str("null]"),
-    }
+fn settled_told(alloc: Global, settled: Settled<'_>) -> Result<Answer, Unread> {
+    let mut text = AnswerText::new(alloc);
+    text.put("{\"said\":");
+    settled.said.show(&mut text);
+    text.put(",\"decision\":");
+    settled.decision.show(&mut text);
+    text.put("}");
+    text.answer()
 }

@@ -1,6 +1,6 @@
 //! Calls of refusals.
 
-use rows::{Answer, Unread, refusal, size_at};
+use rows::{Answer, Unread, refusal, shown, size_at};
 use serde_json::Value;
 use std::alloc::Global;
 
@@ -10,6 +10,5 @@ pub fn refusal_call(alloc: Global, name: &str, row: &Value) -> Result<Answer, Un
         return Err(Unread::Row);
     }
     let refusal = refusal(size_at(row, "k")?)?;
-    let (number, name) = (refusal.number(), refusal.name());
-    Ok(Answer::Text(format!(in alloc; "[{number},{name:?}]")?))
+    shown(alloc, &(u32::from(refusal.number()), refusal.name()))
 }

@@ -1,10 +1,9 @@
 //! Calls of the releases of one package, which a session's rows change.
 
 use releases::{Matching, Release, Releases};
-use rows::{Answer, Shows, Unread, at, given, shown, whole, whole_at};
+use rows::{Answer, AnswerText, Shows, Unread, at, given, shown, whole, whole_at};
 use serde_json::Value;
 use std::alloc::{AllocError, Global};
-use std::fmt;
 use terms::VSet;
 use versions::{Need, Published};
 
@@ -54,7 +53,7 @@ fn yank(releases: &mut Releases, ordinal: u32, is_yank: bool) -> Result<Answer, 
 fn about(alloc: Global, releases: &Releases, name: &str, row: &Value) -> Result<Answer, Unread> {
     match name {
         "len" => Ok(Answer::Number(releases.len())),
-        "list" => shown(alloc, &Listed(releases.as_slice())),
+        "list" => listed(alloc, releases.as_slice()),
         "rising" => given(alloc, releases.rising().to_vec(alloc)?),
         "find" => Ok(Answer::choice(releases.find(&at::<Published>(alloc, row, "version")?))),
         "highest" | "highest_where" => Ok(highest(releases, name, &at::<VSet>(alloc, row, "set")?)),
@@ -127,18 +126,15 @@ fn those_below(alloc: Global, matching: &Matching<'_>, below: u32) -> Result<Vec
 }
 
 /// The texts of the versions, each with whether it is yanked.
-#[derive(Clone, Copy)]
-struct Listed<'a>(&'a [Release]);
-
-impl Shows for Listed<'_> {
-    fn show<W: fmt::Write>(&self, f: &mut fmt::Formatter<W>) -> fmt::Result {
-        let mut before = "";
-        f.write_str("[")?;
-        for release in self.0 {
-            f.write_str(before)?;
-            (release.version.text(), release.yanked).show(f)?;
-            before = ",";
-        }
-        f.write_str("]")
+fn listed(alloc: Global, releases: &[Release]) -> Result<Answer, Unread> {
+    let mut is_first = true;
+    let mut text = AnswerText::new(alloc);
+    text.put("[");
+    for release in releases {
+        text.put_between(is_first);
+        (release.version.text(), release.yanked).show(&mut text);
+        is_first = false;
     }
+    text.put("]");
+    text.answer()
 }

@@ -1,7 +1,7 @@
 //! Calls of requests.
 
 use registry::{Registry, Request};
-use rows::{Answer, List, Unread, at, given, request_at, shown, whole_at};
+use rows::{Answer, Unread, at, both, given, request_at, shown, whole_at};
 use serde_json::Value;
 use std::alloc::Global;
 use versions::{Name, Published};
@@ -24,8 +24,8 @@ fn about(
 ) -> Result<Answer, Unread> {
     match name {
         "new" => Ok(Answer::Word("made")),
-        "needs" => needs(alloc, request),
-        "lock" => lock(alloc, request),
+        "needs" => shown(alloc, &request.needs()),
+        "lock" => shown(alloc, &request.lock()),
         "need_on" => each_of(alloc, row, request, false),
         "locked" => each_of(alloc, row, request, true),
         "is_locked" => of_version(alloc, row, request, true),
@@ -33,16 +33,6 @@ fn about(
         "allowed" => allowed(registry, row, request),
         _ => Err(Unread::Row),
     }
-}
-
-fn needs(alloc: Global, request: &Request) -> Result<Answer, Unread> {
-    let items = request.needs();
-    shown(alloc, &List { items })
-}
-
-fn lock(alloc: Global, request: &Request) -> Result<Answer, Unread> {
-    let items = request.lock();
-    shown(alloc, &List { items })
 }
 
 /// The requirement on each of the names, or the version that the lock names of it, or null.
@@ -71,8 +61,7 @@ fn of_version(
     request: &Request,
     locked: bool,
 ) -> Result<Answer, Unread> {
-    let name = at::<Name>(alloc, row, "name")?;
-    let version = at::<Published>(alloc, row, "version")?;
+    let (name, version) = both::<Name, Published>(alloc, row, "name", "version")?;
     if locked {
         Ok(Answer::Bool(request.is_locked(&name, &version)))
     } else {

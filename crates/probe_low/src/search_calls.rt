@@ -5,7 +5,7 @@ ghost use Rattle.std.specs.Bool.{OnTrue};
 ghost use Rattle.derivations.specs.Known.{AreOrdered, EndsAt, IsBefore, IsResolved, IsResolvedAt};
 
 use derivations::{Derivation, Known, Learnt, Line, Reason, cut, lines_of};
-use rows::{Answer, List, Unread, at, given, shown, size_at};
+use rows::{Answer, Unread, at, given, shown, size_at};
 use serde_json::Value;
 use std::alloc::Global;
 
@@ -81,8 +81,7 @@ fn cut_at(alloc: Global, row: &Value, place: usize) -> Result<Answer, Unread> {
 }
 
 fn cut_told(alloc: Global, derivation: &Derivation) -> Result<Answer, Unread> {
-    let items = derivation.lines();
-    shown(alloc, &List { items })
+    shown(alloc, &derivation.lines())
 }
 
 /// The lines that show the line at a place, or how many of them are learnt.

@@ -1,6 +1,6 @@
 //! Calls of names, versions and requirements, which are read from texts.
 
-use rows::{Answer, Given, Shows, Unread, at, given, items, member, shown};
+use rows::{Answer, AnswerText, Given, Shows, Unread, at, both, given, items, member, shown};
 use serde_json::Value;
 use std::alloc::Global;
 use std::cmp::Ordering;
@@ -59,17 +59,18 @@ pub fn version_call(alloc: Global, name: &str, row: &Value) -> Result<Answer, Un
 
 /// A sign for each of the others: how the version stands to it in precedence.
 fn orders(alloc: Global, row: &Value) -> Result<Answer, Unread> {
-    let version = at::<Published>(alloc, row, "text")?;
-    let others = at::<Vec<Published>>(alloc, row, "others")?;
+    let (version, others) = both::<Published, Vec<Published>>(alloc, row, "text", "others")?;
     signs_told(alloc, &version, &others)
 }
 
 fn signs_told(alloc: Global, version: &Published, others: &[Published]) -> Result<Answer, Unread> {
-    let mut signs = String::new(alloc);
+    let mut text = AnswerText::new(alloc);
+    text.put("\"");
     for other in others {
-        signs.push_str(sign_of(order(version, other)))?;
+        text.put(sign_of(order(version, other)));
     }
-    shown(alloc, &signs.as_str())
+    text.put("\"");
+    text.answer()
 }
 
 fn sign_of(ordering: Ordering) -> &'static str {
@@ -96,20 +97,23 @@ pub fn need_call(alloc: Global, name: &str, row: &Value) -> Result<Answer, Unrea
 }
 
 fn admits(alloc: Global, row: &Value) -> Result<Answer, Unread> {
-    let need = at::<Need>(alloc, row, "need")?;
-    Ok(Answer::Bool(need.admits(&at(alloc, row, "version")?)))
+    let (need, version) = both::<Need, Published>(alloc, row, "need", "version")?;
+    Ok(Answer::Bool(need.admits(&version)))
 }
 
 /// As `admits`, of copies of both, once what they were made of is gone.
 fn copies_admit(alloc: Global, row: &Value) -> Result<Answer, Unread> {
-    let need = at::<Need>(alloc, row, "need")?.copy()?;
-    let version = at::<Published>(alloc, row, "version")?.copy()?;
+    let (need, version) = copies_at(alloc, row)?;
     Ok(Answer::Bool(need.admits(&version)))
+}
+
+fn copies_at(alloc: Global, row: &Value) -> Result<(Need, Published), Unread> {
+    let (need, version) = both::<Need, Published>(alloc, row, "need", "version")?;
+    Ok((need.copy()?, version.copy()?))
 }
 
 /// Whether two requirements are equal, and whether they are unequal.
 fn is_same(alloc: Global, row: &Value) -> Result<Answer, Unread> {
-    let first = at::<Need>(alloc, row, "a")?;
-    let second = at::<Need>(alloc, row, "b")?;
+    let (first, second) = both::<Need, Need>(alloc, row, "a", "b")?;
     shown(alloc, &(first == second, first != second))
 }

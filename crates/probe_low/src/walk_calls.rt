@@ -4,12 +4,11 @@ ghost use Rattle.std.specs.Ordering.{nat_cmp};
 ghost use Rattle.std.specs.BTreeMap.{get};
 
 use registry::{Pkg, Registry, Request};
-use rows::{Answer, Shows, Unread, as_told, items, member, request_at, shown, whole, whole_at};
+use rows::{Answer, AnswerText, Shows, Unread, items, member, request_at, whole, whole_at};
 use serde_json::Value;
 use std::alloc::Global;
 use std::collections::BTreeMap;
-use std::fmt;
-use versions::{Name, Published};
+use versions::{Name, Need, Published};
 use walk::{
     Asker, Chooser, Preferred, Reached, preferred_version, reach, reach_preferred, sort_by_name,
 };
@@ -120,14 +119,17 @@ fn reach_by_itself(
     }
 }
 
-fn selected<'a>(
-    alloc: Global,
-    registry: &'a Registry,
-    list: &'a [(Pkg, u32)],
-) -> Result<Answer, Unread> {
-    let listed = SelectedText { registry, list };
-    let listed = as_told(&listed);
-    Ok(Answer::Text(format!(in alloc; "{{\"selected\":{listed}}}")?))
+fn selected(alloc: Global, registry: &Registry, list: &[(Pkg, u32)]) -> Result<Answer, Unread> {
+    let mut is_first = true;
+    let mut text = AnswerText::new(alloc);
+    text.put("{\"selected\":[");
+    for (pkg, ordinal) in list {
+        text.put_between(is_first);
+        version_of(registry, *pkg, *ordinal).show(&mut text);
+        is_first = false;
+    }
+    text.put("]}");
+    text.answer()
 }
 
 fn not_allowed(
@@ -136,9 +138,11 @@ fn not_allowed(
     pkg: Pkg,
     ordinal: u32,
 ) -> Result<Answer, Unread> {
-    let version = version_of(registry, pkg, ordinal);
-    let version = as_told(&version);
-    Ok(Answer::Text(format!(in alloc; "{{\"not_allowed\":{version}}}")?))
+    let mut text = AnswerText::new(alloc);
+    text.put("{\"not_allowed\":");
+    version_of(registry, pkg, ordinal).show(&mut text);
+    text.put("}");
+    text.answer()
 }
 
 fn unmet(
@@ -148,45 +152,31 @@ fn unmet(
     asker: Asker,
     index: usize,
 ) -> Result<Answer, Unread> {
-    let Some(need) = asker.needs(registry, request).get(index) else {
-        return Ok(Answer::Word("nothing"));
-    };
-    let (who, need) = (AskerText { registry, asker }, as_told(need));
-    let who = as_told(&who);
-    Ok(Answer::Text(format!(in alloc; "{{\"asks\":{who},\"for\":{need}}}")?))
-}
-
-#[derive(Clone, Copy)]
-struct AskerText<'a> {
-    registry: &'a Registry,
-    asker: Asker,
-}
-
-impl Shows for AskerText<'_> {
-    fn show<W: fmt::Write>(&self, f: &mut fmt::Formatter<W>) -> fmt::Result {
-        match self.asker {
-            Asker::Request => f.write_str("\"request\""),
-            Asker::Version(pkg, ordinal) => version_of(self.registry, pkg, ordinal).show(f),
-        }
+    match asker.needs(registry, request).get(index) {
+        Some(need) => asked(alloc, registry, asker, need),
+        None => Ok(Answer::Word("nothing")),
     }
 }
 
-#[derive(Clone, Copy)]
-struct SelectedText<'a> {
-    registry: &'a Registry,
-    list: &'a [(Pkg, u32)],
+fn asked(
+    alloc: Global,
+    registry: &Registry,
+    asker: Asker,
+    need: &(Name, Need),
+) -> Result<Answer, Unread> {
+    let mut text = AnswerText::new(alloc);
+    text.put("{\"asks\":");
+    put_asker(&mut text, registry, asker);
+    text.put(",\"for\":");
+    need.show(&mut text);
+    text.put("}");
+    text.answer()
 }
 
-impl Shows for SelectedText<'_> {
-    fn show<W: fmt::Write>(&self, f: &mut fmt::Formatter<W>) -> fmt::Result {
-        let mut before = "";
-        f.write_str("[")?;
-        for (pkg, ordinal) in self.list {
-            f.write_str(before)?;
-            version_of(self.registry, *pkg, *ordinal).show(f)?;
-            before = ",";
-        }
-        f.write_str("]")
+fn put_asker(text: &mut AnswerText, registry: &Registry, asker: Asker) {
+    match asker {
+        Asker::Request => text.put("\"request\""),
+        Asker::Version(pkg, ordinal) => version_of(registry, pkg, ordinal).show(text),
     }
 }
 

@@ -1,6 +1,5 @@
 //! What a call answers, as a row has it.
 
-use crate::showing::Shows;
 use std::fmt;
 use versions::Refusal;
 
@@ -31,11 +30,12 @@ impl Answer {
     }
 }
 
-impl Shows for Answer {
-    fn show<W: fmt::Write>(&self, f: &mut fmt::Formatter<W>) -> fmt::Result {
+/// As JSON. Only a text takes memory, and it has taken it before.
+impl fmt::Display for Answer {
+    fn fmt<W: fmt::Write>(&self, f: &mut fmt::Formatter<W>) -> fmt::Result {
         match self {
-            Answer::Bool(is) => is.show(f),
-            Answer::Number(number) => number.show(f),
+            Answer::Bool(is) => write!(f, "{is}"),
+            Answer::Number(number) => write!(f, "{number}"),
             Answer::Word(word) => write!(f, "\"{word}\""),
             Answer::Places(first, second) => write!(f, "[{first},{second}]"),
             Answer::Text(text) => f.write_str(text.as_str()),

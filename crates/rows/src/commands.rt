@@ -1,7 +1,7 @@
 //! Commands of one registry, which a session's rows change.
 
 use crate::answer::Answer;
-use crate::reading::{Unread, at, text_at};
+use crate::reading::{Given, Unread, both, text_at, three};
 use registry::{Command, Dependencies, Registry};
 use serde_json::Value;
 use std::alloc::Global;
@@ -31,24 +31,24 @@ pub fn command_of(alloc: Global, kind: &str, row: &Value) -> Result<Command, Unr
 }
 
 fn publication(alloc: Global, row: &Value) -> Result<Command, Unread> {
-    let name = at(alloc, row, "name")?;
-    let version = at(alloc, row, "version")?;
-    Ok(Command::Publish(name, version, dependencies_at(alloc, row)?))
+    let (name, version, needs) = three(alloc, row, "name", "version", "needs")?;
+    Ok(Command::Publish(name, version, needs))
 }
 
 /// The yank of a version, or what takes it back.
 fn yank(alloc: Global, kind: &str, row: &Value) -> Result<Command, Unread> {
-    let name = at(alloc, row, "name")?;
-    let version = at(alloc, row, "version")?;
+    let (name, version) = both(alloc, row, "name", "version")?;
     match kind {
         "yank" => Ok(Command::Yank(name, version)),
         _ => Ok(Command::Unyank(name, version)),
     }
 }
 
-/// The list of dependencies of a row.
-pub fn dependencies_at(alloc: Global, row: &Value) -> Result<Dependencies, Unread> {
-    Ok(Dependencies::new(alloc, at(alloc, row, "needs")?)?)
+/// The dependencies of a publication, as `[["a","^1"]]`.
+impl Given for Dependencies {
+    fn of(alloc: Global, value: &Value) -> Result<Dependencies, Unread> {
+        Ok(Dependencies::new(alloc, Given::of(alloc, value)?)?)
+    }
 }
 
 /// Makes room for a command, enters a copy of it, and answers the revision after it.

@@ -5,6 +5,7 @@
 #![tactic(auto)]
 
 mod answer;
+mod answer_text;
 mod command_texts;
 mod commands;
 mod line_rows;
@@ -17,11 +18,14 @@ mod showing;
 mod stored;
 
 pub use answer::Answer;
-pub use commands::{apply, command_at, command_call, command_of, dependencies_at, enter};
+pub use answer_text::AnswerText;
+pub use commands::{apply, command_at, command_call, command_of, enter};
 pub use line_rows::{derivation_check, learnt_at};
 pub use published::request_at;
-pub use reading::{Given, Unread, at, items, member, size_at, text, text_at, whole, whole_at};
+pub use reading::{
+    Given, Unread, at, both, items, member, size_at, text, text_at, three, whole, whole_at,
+};
 pub use refusals::refusal;
 pub use serving::{row_of, tell};
-pub use showing::{List, Shows, Told, as_told, given, shown};
+pub use showing::{Shows, given, shown};
 pub use stored::{all_stand, count};

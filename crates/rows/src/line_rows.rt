@@ -2,9 +2,9 @@
 
 use crate::answer::Answer;
 use crate::published::request_at;
-use crate::reading::{Given, Unread, at, size_at, whole_at};
+use crate::reading::{Given, Unread, at, both, size_at, three, whole_at};
 use derivations::{Cause, Derivation, Known, Learnt, Line, Premise, Reason, check};
-use registry::Registry;
+use registry::{Registry, Request};
 use serde_json::Value;
 use std::alloc::Global;
 
@@ -15,18 +15,26 @@ pub fn learnt_at(alloc: Global, row: &Value) -> Result<Learnt, Unread> {
 
 /// Whether the lines of a row are a derivation for its request.
 pub fn derivation_check(alloc: Global, registry: &Registry, row: &Value) -> Result<Answer, Unread> {
-    let request = request_at(alloc, row)?;
+    lines_check(alloc, registry, &request_at(alloc, row)?, row)
+}
+
+fn lines_check(
+    alloc: Global,
+    registry: &Registry,
+    request: &Request,
+    row: &Value,
+) -> Result<Answer, Unread> {
     let derivation = Derivation::new(at(alloc, row, "lines")?);
-    Ok(Answer::Bool(check(alloc, registry, &request, &derivation)?))
+    Ok(Answer::Bool(check(alloc, registry, request, &derivation)?))
 }
 
 /// A line of a derivation, as `{"conclusion":[..],"causes":[..,..],"pivot":1}`.
 impl Given for Line {
     fn of(alloc: Global, value: &Value) -> Result<Line, Unread> {
         let pivot = whole_at(value, "pivot")?;
-        let causes = at(alloc, value, "causes")?;
+        let (causes, conclusion) = both(alloc, value, "causes", "conclusion")?;
         Ok(Line {
-            conclusion: at(alloc, value, "conclusion")?,
+            conclusion,
             causes,
             pivot,
         })
@@ -63,12 +71,13 @@ impl Given for Premise {
     fn of(alloc: Global, value: &Value) -> Result<Premise, Unread> {
         let package = whole_at(value, "package")?;
         let target = whole_at(value, "target")?;
+        let (versions, need, within) = three(alloc, value, "versions", "need", "within")?;
         Ok(Premise {
             package,
-            versions: at(alloc, value, "versions")?,
+            versions,
             target,
-            need: at(alloc, value, "need")?,
-            within: at(alloc, value, "within")?,
+            need,
+            within,
         })
     }
 }

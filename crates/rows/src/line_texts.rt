@@ -1,65 +1,81 @@
 //! Lines as answers tell them: in the form in which rows give them.
 
-use crate::showing::{Shows, as_told};
+use crate::answer_text::AnswerText;
+use crate::showing::Shows;
 use derivations::{Cause, Learnt, Line, Premise, Store};
-use std::fmt;
+use terms::VSet;
 
 impl Shows for Line {
-    fn show<W: fmt::Write>(&self, f: &mut fmt::Formatter<W>) -> fmt::Result {
-        let (conclusion, causes) = (as_told(&self.conclusion), as_told(&self.causes));
-        let pivot = self.pivot;
-        write!(
-            f,
-            "{{\"conclusion\":{conclusion},\"causes\":{causes},\"pivot\":{pivot}}}"
-        )
+    fn show(&self, text: &mut AnswerText) {
+        text.put("{\"conclusion\":");
+        self.conclusion.show(text);
+        text.put(",\"causes\":");
+        self.causes.show(text);
+        text.put(",\"pivot\":");
+        text.put_plain(self.pivot);
+        text.put("}");
     }
 }
 
 impl Shows for Cause {
-    fn show<W: fmt::Write>(&self, f: &mut fmt::Formatter<W>) -> fmt::Result {
+    fn show(&self, text: &mut AnswerText) {
         match self {
-            Cause::Line(number) => write!(f, "{{\"line\":{number}}}"),
-            Cause::Premise(premise) => premise.show(f),
-            Cause::Need(index) => write!(f, "{{\"need_at\":{index}}}"),
-            Cause::NotAllowed(pkg, versions) => {
-                write!(f, "{{\"not_allowed\":[{pkg},{}]}}", as_told(versions))
-            }
-            Cause::Root => f.write_str("{\"root\":true}"),
+            Cause::Line(number) => put_number(text, "{\"line\":", *number),
+            Cause::Premise(premise) => premise.show(text),
+            Cause::Need(index) => put_number(text, "{\"need_at\":", *index),
+            Cause::NotAllowed(pkg, versions) => put_barred(text, *pkg, versions),
+            Cause::Root => text.put("{\"root\":true}"),
         }
     }
 }
 
+fn put_number(text: &mut AnswerText, kind: &str, number: usize) {
+    text.put(kind);
+    text.put_plain(number);
+    text.put("}");
+}
+
+fn put_barred(text: &mut AnswerText, pkg: u32, versions: &VSet) {
+    text.put("{\"not_allowed\":[");
+    text.put_plain(pkg);
+    text.put(",");
+    versions.show(text);
+    text.put("]}");
+}
+
 impl Shows for Premise {
-    fn show<W: fmt::Write>(&self, f: &mut fmt::Formatter<W>) -> fmt::Result {
-        let (package, versions) = (self.package, as_told(&self.versions));
-        write!(f, "{{\"package\":{package},\"versions\":{versions},")?;
-        let (target, need, within) = (self.target, self.need.text(), as_told(&self.within));
-        write!(
-            f,
-            "\"target\":{target},\"need\":{need:?},\"within\":{within}}}"
-        )
+    fn show(&self, text: &mut AnswerText) {
+        text.put("{\"package\":");
+        text.put_plain(self.package);
+        text.put(",\"versions\":");
+        self.versions.show(text);
+        text.put(",\"target\":");
+        text.put_plain(self.target);
+        text.put(",\"need\":");
+        self.need.show(text);
+        text.put(",\"within\":");
+        self.within.show(text);
+        text.put("}");
     }
 }
 
 /// What is learnt by what it concludes.
 impl Shows for Learnt {
-    fn show<W: fmt::Write>(&self, f: &mut fmt::Formatter<W>) -> fmt::Result {
-        self.conclusion().show(f)
+    fn show(&self, text: &mut AnswerText) {
+        self.conclusion().show(text);
     }
 }
 
 /// What is stored by what its members conclude, in order of learning.
 impl Shows for Store {
-    fn show<W: fmt::Write>(&self, f: &mut fmt::Formatter<W>) -> fmt::Result {
+    fn show(&self, text: &mut AnswerText) {
         let mut is_first = true;
-        f.write_str("[")?;
+        text.put("[");
         for member in self.members() {
-            if !is_first {
-                f.write_str(",")?;
-            }
-            member.show(f)?;
+            text.put_between(is_first);
+            member.show(text);
             is_first = false;
         }
-        f.write_str("]")
+        text.put("]");
     }
 }

@@ -1,6 +1,6 @@
 //! Names, versions and requirements of a row.
 
-use crate::reading::{Given, Unread, at, text};
+use crate::reading::{Given, Unread, both, text};
 use registry::Request;
 use serde_json::Value;
 use std::alloc::Global;
@@ -26,6 +26,6 @@ impl Given for Need {
 
 /// The needs and the lock of a row.
 pub fn request_at(alloc: Global, row: &Value) -> Result<Request, Unread> {
-    let needs = at(alloc, row, "needs")?;
-    Ok(Request::new(alloc, needs, at(alloc, row, "lock")?)?)
+    let (needs, lock) = both(alloc, row, "needs", "lock")?;
+    Ok(Request::new(alloc, needs, lock)?)
 }

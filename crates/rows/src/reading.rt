@@ -74,6 +74,29 @@ pub fn at<T: Given>(alloc: Global, row: &Value, name: &str) -> Result<T, Unread>
     T::of(alloc, member(row, name)?)
 }
 
+/// What a row gives under two names. It is read here, and not one after another where it is used: a proof grows with
+/// the values that a function owns, times its ways out.
+pub fn both<A: Given + Drop, B: Given>(
+    alloc: Global,
+    row: &Value,
+    first: &str,
+    second: &str,
+) -> Result<(A, B), Unread> {
+    Ok((at(alloc, row, first)?, at(alloc, row, second)?))
+}
+
+/// As `both`, under three names.
+pub fn three<A: Given + Drop, B: Given + Drop, C: Given>(
+    alloc: Global,
+    row: &Value,
+    first: &str,
+    second: &str,
+    third: &str,
+) -> Result<(A, B, C), Unread> {
+    let (one, two) = both(alloc, row, first, second)?;
+    Ok((one, two, at(alloc, row, third)?))
+}
+
 /// A list, as `[1,2]`.
 impl<T: Given + Drop> Given for Vec<T> {
     fn of(alloc: Global, value: &Value) -> Result<Vec<T>, Unread> {

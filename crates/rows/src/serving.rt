@@ -2,7 +2,6 @@
 
 use crate::answer::Answer;
 use crate::reading::Unread;
-use crate::showing::as_told;
 use serde_json::Value;
 use std::alloc::Global;
 use std::io::{self, Print};
@@ -20,8 +19,7 @@ pub fn row_of(alloc: Global, line: &str) -> Result<Value, Unread> {
 /// Writes what a call answered.
 pub fn tell<R: Print>(rt: &R, outcome: Result<Answer, Unread>) -> io::Result<()> {
     let answer = answer_of(outcome);
-    let text = as_told(&answer);
-    println!(rt; "{text}")
+    println!(rt; "{answer}")
 }
 
 fn answer_of(outcome: Result<Answer, Unread>) -> Answer {

@@ -1,37 +1,22 @@
 //! Values as answers tell them, in JSON.
 
 use crate::answer::Answer;
+use crate::answer_text::AnswerText;
 use crate::reading::Unread;
 use std::alloc::Global;
-use std::fmt;
 use terms::{Incompat, Term, VSet};
 use versions::{Name, Need, Published};
 
 /// What an answer can tell.
 pub trait Shows {
-    fn show<W: fmt::Write>(&self, f: &mut fmt::Formatter<W>) -> fmt::Result;
-}
-
-/// A value that is written into other text.
-#[derive(Clone, Copy)]
-pub struct Told<'a, T> {
-    value: &'a T,
-}
-
-impl<T: Shows> fmt::Display for Told<'_, T> {
-    fn fmt<W: fmt::Write>(&self, f: &mut fmt::Formatter<W>) -> fmt::Result {
-        self.value.show(f)
-    }
-}
-
-pub fn as_told<T: Shows>(value: &T) -> Told<'_, T> {
-    Told { value }
+    fn show(&self, text: &mut AnswerText);
 }
 
 /// The answer that tells a value.
 pub fn shown<T: Shows>(alloc: Global, value: &T) -> Result<Answer, Unread> {
-    let text = as_told(value);
-    Ok(Answer::Text(format!(in alloc; "{text}")?))
+    let mut text = AnswerText::new(alloc);
+    value.show(&mut text);
+    text.answer()
 }
 
 /// As `shown`, of a value that only the answer needs.
@@ -41,54 +26,47 @@ pub fn given<T: Shows + Drop>(alloc: Global, value: T) -> Result<Answer, Unread>
 
 // ---- many and few
 
-/// Items in brackets.
-#[derive(Clone, Copy)]
-pub struct List<'a, T> {
-    pub items: &'a [T],
-}
-
-impl<T: Shows> Shows for List<'_, T> {
-    fn show<W: fmt::Write>(&self, f: &mut fmt::Formatter<W>) -> fmt::Result {
-        let mut before = "";
-        f.write_str("[")?;
-        for item in self.items {
-            f.write_str(before)?;
-            item.show(f)?;
-            before = ",";
+impl<T: Shows> Shows for &[T] {
+    fn show(&self, text: &mut AnswerText) {
+        let mut is_first = true;
+        text.put("[");
+        for item in *self {
+            text.put_between(is_first);
+            item.show(text);
+            is_first = false;
         }
-        f.write_str("]")
+        text.put("]");
     }
 }
 
 impl<T: Shows> Shows for Vec<T> {
-    fn show<W: fmt::Write>(&self, f: &mut fmt::Formatter<W>) -> fmt::Result {
-        let items = self.as_slice();
-        List { items }.show(f)
+    fn show(&self, text: &mut AnswerText) {
+        self.as_slice().show(text);
     }
 }
 
 impl<A: Shows, B: Shows> Shows for (A, B) {
-    fn show<W: fmt::Write>(&self, f: &mut fmt::Formatter<W>) -> fmt::Result {
-        f.write_str("[")?;
-        self.0.show(f)?;
-        f.write_str(",")?;
-        self.1.show(f)?;
-        f.write_str("]")
+    fn show(&self, text: &mut AnswerText) {
+        text.put("[");
+        self.0.show(text);
+        text.put(",");
+        self.1.show(text);
+        text.put("]");
     }
 }
 
 impl<T: Shows> Shows for &T {
-    fn show<W: fmt::Write>(&self, f: &mut fmt::Formatter<W>) -> fmt::Result {
+    fn show(&self, text: &mut AnswerText) {
         let value: &T = self;
-        value.show(f)
+        value.show(text);
     }
 }
 
 impl<T: Shows> Shows for Option<T> {
-    fn show<W: fmt::Write>(&self, f: &mut fmt::Formatter<W>) -> fmt::Result {
+    fn show(&self, text: &mut AnswerText) {
         match self {
-            Some(value) => value.show(f),
-            None => f.write_str("null"),
+            Some(value) => value.show(text),
+            None => text.put("null"),
         }
     }
 }
@@ -96,64 +74,56 @@ impl<T: Shows> Shows for Option<T> {
 // ---- numbers and texts
 
 impl Shows for bool {
-    fn show<W: fmt::Write>(&self, f: &mut fmt::Formatter<W>) -> fmt::Result {
-        write!(f, "{self}")
+    fn show(&self, text: &mut AnswerText) {
+        text.put_plain(*self);
     }
 }
 
 impl Shows for u32 {
-    fn show<W: fmt::Write>(&self, f: &mut fmt::Formatter<W>) -> fmt::Result {
-        write!(f, "{self}")
+    fn show(&self, text: &mut AnswerText) {
+        text.put_plain(*self);
     }
 }
 
 impl Shows for usize {
-    fn show<W: fmt::Write>(&self, f: &mut fmt::Formatter<W>) -> fmt::Result {
-        write!(f, "{self}")
+    fn show(&self, text: &mut AnswerText) {
+        text.put_plain(*self);
     }
 }
 
-/// A text, as JSON has it.
 impl Shows for &str {
-    fn show<W: fmt::Write>(&self, f: &mut fmt::Formatter<W>) -> fmt::Result {
-        f.write_str("\"")?;
-        for c in self.chars() {
-            write_quoted(f, c)?;
-        }
-        f.write_str("\"")
-    }
-}
-
-fn write_quoted<W: fmt::Write>(f: &mut fmt::Formatter<W>, c: char) -> fmt::Result {
-    match c {
-        '"' => f.write_str("\\\""),
-        '\\' => f.write_str("\\\\"),
-        '\0'..='\x1f' => write!(f, "\\u{:04x}", c as u32),
-        _ => f.write_char(c),
+    fn show(&self, text: &mut AnswerText) {
+        text.put_quoted(self);
     }
 }
 
 impl Shows for String {
-    fn show<W: fmt::Write>(&self, f: &mut fmt::Formatter<W>) -> fmt::Result {
-        self.as_str().show(f)
+    fn show(&self, text: &mut AnswerText) {
+        text.put_quoted(self.as_str());
     }
 }
 
 impl Shows for Name {
-    fn show<W: fmt::Write>(&self, f: &mut fmt::Formatter<W>) -> fmt::Result {
-        self.text().show(f)
+    fn show(&self, text: &mut AnswerText) {
+        text.put_quoted(self.text());
     }
 }
 
 impl Shows for Published {
-    fn show<W: fmt::Write>(&self, f: &mut fmt::Formatter<W>) -> fmt::Result {
-        self.text().show(f)
+    fn show(&self, text: &mut AnswerText) {
+        text.put_quoted(self.text());
     }
 }
 
 impl Shows for Need {
-    fn show<W: fmt::Write>(&self, f: &mut fmt::Formatter<W>) -> fmt::Result {
-        self.text().show(f)
+    fn show(&self, text: &mut AnswerText) {
+        text.put_quoted(self.text());
+    }
+}
+
+impl Shows for Answer {
+    fn show(&self, text: &mut AnswerText) {
+        text.put_plain(self);
     }
 }
 
@@ -161,34 +131,34 @@ impl Shows for Need {
 
 /// A set, as `[0,1]`.
 impl Shows for VSet {
-    fn show<W: fmt::Write>(&self, f: &mut fmt::Formatter<W>) -> fmt::Result {
+    fn show(&self, text: &mut AnswerText) {
         let mut is_first = true;
-        f.write_str("[")?;
+        text.put("[");
         for ordinal in self.iter() {
-            if !is_first {
-                f.write_str(",")?;
-            }
-            ordinal.show(f)?;
+            text.put_between(is_first);
+            text.put_plain(ordinal);
             is_first = false;
         }
-        f.write_str("]")
+        text.put("]");
     }
 }
 
 /// A term, as `{"in":[0]}` or `{"not":[0]}`.
 impl Shows for Term {
-    fn show<W: fmt::Write>(&self, f: &mut fmt::Formatter<W>) -> fmt::Result {
-        match self {
-            Term::In(set) => write!(f, "{{\"in\":{}}}", as_told(set)),
-            Term::NotIn(set) => write!(f, "{{\"not\":{}}}", as_told(set)),
-        }
+    fn show(&self, text: &mut AnswerText) {
+        let (kind, set) = match self {
+            Term::In(set) => ("{\"in\":", set),
+            Term::NotIn(set) => ("{\"not\":", set),
+        };
+        text.put(kind);
+        set.show(text);
+        text.put("}");
     }
 }
 
 /// Its terms by package, as `[[1,{"in":[0]}]]`.
 impl Shows for Incompat {
-    fn show<W: fmt::Write>(&self, f: &mut fmt::Formatter<W>) -> fmt::Result {
-        let items = self.terms();
-        List { items }.show(f)
+    fn show(&self, text: &mut AnswerText) {
+        self.terms().show(text);
     }
 }

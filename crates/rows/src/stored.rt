@@ -14,10 +14,9 @@ pub fn count(store: &Store) -> usize {
 
 /// Whether each member stands.
 pub fn all_stand(registry: &Registry, store: &Store) -> bool {
+    let mut all = true;
     for member in store.members() {
-        if !member.stands(registry) {
-            return false;
-        }
+        all = all && member.stands(registry);
     }
-    true
+    all
 }

@@ -1,12 +1,15 @@
 //! Two seats of one row: one publishes, then each asks in a thread of its own, and the journal is saved.
+//!
+//! What is told goes into a text that each function is lent, so that few of them own anything where a call may be
+//! refused: a proof grows with the values that a function owns, times its ways out.
 #![tactic(auto)]
 
 ghost use Rattle.std.specs.Prelude.{◌≡◌};
 
-use chronicle::{Row, Seat, seats};
+use chronicle::{Mark, Row, Seat, Stamp, seats};
 use explain::write_lines;
 use journals::{all_have_names, save_journal};
-use registry::Request;
+use registry::{Registry, Request};
 use replies::write_lock;
 use solver::Outcome;
 use std::alloc::Global;
@@ -27,68 +30,127 @@ const LOCKED: &str = r#"{"op":"resolve","needs":[["app","^1"]],"lock":[["log","1
 
 const BAD: &str = r#"{"op":"resolve","needs":[["app","^2"]]}"#;
 
-// What is told, or why a call was refused.
-type Told = Result<Vec<u8>, Refusal>;
+// Done, or why a call was refused.
+type Done = Result<(), Refusal>;
 
 fn main(rt: HostRuntime) -> io::Result<()> {
-    match team(&rt, rt.alloc()) {
-        Ok(text) => rt.stdout().write_all(text.as_slice()),
+    let mut text = Vec::new(rt.alloc());
+    match team(&rt, rt.alloc(), &mut text) {
+        Ok(()) => rt.stdout().write_all(text.as_slice()),
         Err(refusal) => println!(rt; "{}", refusal.name()),
     }
 }
 
-fn team(rt: &impl Threads, alloc: Global) -> Told {
+fn team(rt: &impl Threads, alloc: Global, text: &mut Vec<u8>) -> Done {
     let row = Row::open(alloc, 64)?;
-    let mut both = seats(alloc, &row, 2)?;
+    seated(rt, alloc, &row, text)
+}
+
+fn seated(rt: &impl Threads, alloc: Global, row: &Row, text: &mut Vec<u8>) -> Done {
+    let mut both = seats(alloc, row, 2)?;
     let mut two = both.pop().ok_or(Refusal::Stray)?;
     let mut one = both.pop().ok_or(Refusal::Stray)?;
-    work(rt, alloc, &mut one, &mut two)
+    work(rt, alloc, &mut one, &mut two, text)
 }
 
-// One publishes, and hands two a mark of what it is to have seen before it builds on that.
-fn work<'a>(rt: &impl Threads, alloc: Global, one: &mut Seat<'a>, two: &mut Seat<'a>) -> Told
+fn work<'a>(
+    rt: &impl Threads,
+    alloc: Global,
+    one: &mut Seat<'a>,
+    two: &mut Seat<'a>,
+    text: &mut Vec<u8>,
+) -> Done
     requires { one.old.row ≡ two.old.row }
 {
-    tell(alloc, one, LOG)?;
-    tell(alloc, one, NEXT)?;
-    tell(alloc, one, APP)?;
-    tell(alloc, one, BOLD)?;
-    let mut seen = one.mark()?;
-    let (met, why) = join(rt, || two.meet(&mut seen), || tell(alloc, one, BAD));
-    met?;
-    let mut text = tell(alloc, two, LOCKED)?;
-    text.append(&mut why?)?;
-    save(alloc, two, &mut text)?;
-    Ok(text)
+    publish(alloc, one)?;
+    ask(rt, alloc, one, two, text)?;
+    save(alloc, two, text)
 }
 
-// Enters a command, or answers a request: with a lock list, or with why there is none.
-fn tell(alloc: Global, seat: &mut Seat<'_>, line: &str) -> Told
+fn publish(alloc: Global, one: &mut Seat<'_>) -> Done
+    ensures { one.new.row ≡ one.old.row }
+{
+    enter(alloc, one, LOG)?;
+    enter(alloc, one, NEXT)?;
+    enter(alloc, one, APP)?;
+    enter(alloc, one, BOLD)?;
+    Ok(())
+}
+
+// Enters a command.
+fn enter(alloc: Global, seat: &mut Seat<'_>, line: &str) -> Result<Stamp, Refusal>
     ensures { seat.new.row ≡ seat.old.row }
 {
     match read_request(alloc, line.as_bytes())? {
-        Asked::Command(command) => seat.enter(command).map(|_stamp| Vec::new(alloc)),
-        Asked::Resolve { request, .. } => answer(alloc, seat, &request),
+        Asked::Command(command) => seat.enter(command),
         _ => Err(Refusal::BadLine),
     }
 }
 
-fn answer(alloc: Global, seat: &mut Seat<'_>, request: &Request) -> Told
-    ensures { seat.new.row ≡ seat.old.row }
+// One hands two a mark of what it is to have seen before it builds on that.
+fn ask<'a>(
+    rt: &impl Threads,
+    alloc: Global,
+    one: &mut Seat<'a>,
+    two: &mut Seat<'a>,
+    text: &mut Vec<u8>,
+) -> Done
+    requires { one.old.row ≡ two.old.row }
 {
-    let mut text = Vec::new(alloc);
-    let (_stamp, outcome) = seat.resolve(request)?;
-    let registry = seat.registry();
-    let written = match outcome {
-        Outcome::Selection(mut list, _offered) => write_lock(alloc, &mut list, &mut text),
-        Outcome::Refused(why, _offered) => write_lines(alloc, registry, request, &why, &mut text),
-    };
-    written.map_err(|_| Refusal::NoMemory)?;
-    Ok(text)
+    let mut why = Vec::new(alloc);
+    let mut seen = one.mark()?;
+    meet(rt, alloc, one, two, &mut seen, &mut why)?;
+    tell(alloc, two, LOCKED, text)?;
+    text.append(&mut why)?;
+    Ok(())
+}
+
+fn meet<'a>(
+    rt: &impl Threads,
+    alloc: Global,
+    one: &mut Seat<'a>,
+    two: &mut Seat<'a>,
+    seen: &mut Mark<'a>,
+    why: &mut Vec<u8>,
+) -> Done
+    requires { seen.old.row ≡ two.old.row }
+{
+    let (met, told) = join(rt, || two.meet(seen), || tell(alloc, one, BAD, why));
+    met?;
+    told
+}
+
+// Answers a request: with a lock list, or with why there is none.
+fn tell(alloc: Global, seat: &mut Seat<'_>, line: &str, text: &mut Vec<u8>) -> Done {
+    match read_request(alloc, line.as_bytes())? {
+        Asked::Resolve { request, .. } => answer(alloc, seat, &request, text),
+        _ => Err(Refusal::BadLine),
+    }
+}
+
+fn answer(alloc: Global, seat: &mut Seat<'_>, request: &Request, text: &mut Vec<u8>) -> Done {
+    let (_stamp, mut outcome) = seat.resolve(request)?;
+    match write(alloc, seat.registry(), request, &mut outcome, text) {
+        Ok(()) => Ok(()),
+        Err(_) => Err(Refusal::NoMemory),
+    }
+}
+
+fn write(
+    alloc: Global,
+    registry: &Registry,
+    request: &Request,
+    outcome: &mut Outcome,
+    text: &mut Vec<u8>,
+) -> io::Result<()> {
+    match outcome {
+        Outcome::Selection(list, _offered) => write_lock(alloc, list, text),
+        Outcome::Refused(why, _offered) => write_lines(alloc, registry, request, why, text),
+    }
 }
 
 // Saves what a seat has seen.
-fn save(alloc: Global, seat: &Seat<'_>, text: &mut Vec<u8>) -> Result<(), Refusal> {
+fn save(alloc: Global, seat: &Seat<'_>, text: &mut Vec<u8>) -> Done {
     let mut items = Vec::new(alloc);
     for entry in seat.journal() {
         items.push(&entry.item)?;
