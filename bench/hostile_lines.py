@@ -57,7 +57,7 @@ def two_bumped(versions=VERSIONS):
 
 def explained(versions=1024):
     """A package of which each version needs `q` in words of its own, and a request that none of them meets, to be explained: by
-    a line for each version, which names those that are left."""
+    a line for each version."""
     lines = [publish("q", (major, 0, 0), []) for major in (1, 2)]
     lines += [publish("a", (1, version, 0), [["q", ">=2.0.0, <3.%d.0" % version]]) for version in range(versions)]
     return lines, [compact({"op": "resolve", "needs": [["a", "*"], ["q", "^1"]], "explain": True})]

@@ -1,18 +1,20 @@
-"""Tries wrong bodies that not each landing tries: `edits/NAME` holds edits of the crate NAME, each of which the prover has to
-refuse, in the form of `crates/NAME/must-fail`."""
+"""Tries all wrong bodies: `edits/NAME` holds edits of the crate NAME, each of which the prover has to refuse.
+
+Each is tried by the function that it changes. One that this does not refuse, or that changes what is no function, is tried by
+a proof of the whole crate, as the kit's gate does with `crates/NAME/must-fail`."""
 import os
 import re
 import shutil
 import subprocess
 import tempfile
+from concurrent.futures import ThreadPoolExecutor
 
+from edit_files import CRATES, EDITS, edits_of, functions_of
 from progress import TOP, jobs
+from try_rounds import BAD, BY_CLAUSE, BY_NAME, NOT_REFUSED, build_below, try_in_rounds
 
-EDITS = os.path.join(TOP, "edits")
-# What a try comes to, and the words by which `rt must-fail` tells it.
-BY_CLAUSE, BY_NAME, BY_LIMIT, NOT_REFUSED, BAD, NOT_TRIED = (
-    "refused by a clause", "refused only because a name is gone", "refused only by a limit of the prover",
-    "not refused", "bad", "not tried")
+# What else a try of a whole crate comes to, and the words by which `rt must-fail` tells it.
+BY_LIMIT, NOT_TRIED = "refused only by a limit of the prover", "not tried"
 KINDS = {
     BY_NAME: "refused, as it must be (only because a proof file",
     BY_LIMIT: "refused, as it must be (only by a limit",
@@ -24,46 +26,64 @@ KINDS = {
 
 
 def edited_crates():
-    """The crates that have edits here or among those that each landing tries."""
-    found = set()
-    for folder, inside in ((EDITS, ""), (os.path.join(TOP, "crates"), "must-fail")):
-        for name in os.listdir(folder):
-            at = os.path.join(folder, name, inside)
-            if os.path.isdir(at) and any(file.endswith(".edit") for file in os.listdir(at)):
-                found.add(name)
-    return sorted(found)
+    return [name for name in sorted(os.listdir(EDITS)) if any(edits_of(name))]
 
 
-def copy_with_edits(names, to):
-    """Copies the crates, and puts the edits of those named beside the ones that each landing tries."""
-    shutil.copytree(os.path.join(TOP, "crates"), os.path.join(to, "crates"), ignore=shutil.ignore_patterns("out"))
+def copy_with_edits(edits, to):
+    """Copies the crates, and puts these edits where the kit's gate tries them."""
+    shutil.copytree(CRATES, os.path.join(to, "crates"), ignore=shutil.ignore_patterns("out"))
     for file in ("crates.txt", "HANDLES"):
         shutil.copy(os.path.join(TOP, file), to)
     # the kit takes a folder with this for the top of a repository
     os.mkdir(os.path.join(to, ".git"))
-    for name in names:
-        there = os.path.join(to, "crates", name, "must-fail")
+    for edit in edits:
+        there = os.path.join(to, "crates", edit.crate, "must-fail")
         os.makedirs(there, exist_ok=True)
-        for file in sorted(os.listdir(os.path.join(EDITS, name)) if os.path.isdir(os.path.join(EDITS, name)) else []):
-            if os.path.exists(os.path.join(there, file)):
-                raise SystemExit(f"{name}/{file} stands both in edits and in must-fail")
-            shutil.copy(os.path.join(EDITS, name, file), there)
+        shutil.copy(os.path.join(EDITS, edit.crate, edit.file), there)
+
+
+def try_whole(edits):
+    """Tries edits by proofs of whole crates; answers what came of each of them."""
+    kinds = dict.fromkeys(((edit.crate, edit.file) for edit in edits), NOT_TRIED)
+    with tempfile.TemporaryDirectory() as room:
+        copy_with_edits(edits, room)
+        given = {"RT_JOBS": str(jobs()), **os.environ}
+        with subprocess.Popen(["rt", "must-fail", *sorted({edit.crate for edit in edits})], cwd=room, env=given,
+                              stdin=subprocess.DEVNULL, stdout=subprocess.PIPE, stderr=subprocess.STDOUT, text=True,
+                              errors="replace") as running:
+            for line in running.stdout:
+                print(line, end="", flush=True)
+                told = re.match(r"(?:rt: )?must-fail (\w+)/(\S+): (.*)", line)
+                kind = told and next((kind for kind, words in KINDS.items() if told[3].startswith(words)), None)
+                if kind and (told[1], told[2]) in kinds:
+                    kinds[told[1], told[2]] = kind
+    return kinds
+
+
+def try_by_functions(edits):
+    """Tries edits of one crate by the functions that they change; answers what came of them, as far as each changes one."""
+    kinds = {}
+    with tempfile.TemporaryDirectory() as kept:
+        for edit, (kind, said) in try_in_rounds([edit for edit in edits if len(functions_of(edit)) == 1], kept):
+            print(f"{edit.crate}/{edit.file}: {kind}: {said[:160]}", flush=True)
+            kinds[edit.crate, edit.file] = kind
+    return kinds
 
 
 def count(names):
     """Tries the edits of these crates; answers how many came to what, by crate."""
+    crates = [list(edits_of(name)) for name in names]
+    build_below(names)
+    kinds = {}
+    with ThreadPoolExecutor(jobs()) as pool:
+        for found in pool.map(try_by_functions, crates):
+            kinds.update(found)
+    left = [edit for edits in crates for edit in edits if kinds.get((edit.crate, edit.file), BAD) in (NOT_REFUSED, BAD)]
+    if left:
+        kinds.update(try_whole(left))
     counts = {name: dict.fromkeys(KINDS, 0) for name in names}
-    with tempfile.TemporaryDirectory() as room:
-        copy_with_edits(names, room)
-        given = {"RT_JOBS": str(jobs()), **os.environ}
-        with subprocess.Popen(["rt", "must-fail", *names], cwd=room, env=given, stdin=subprocess.DEVNULL,
-                              stdout=subprocess.PIPE, stderr=subprocess.STDOUT, text=True, errors="replace") as running:
-            for line in running.stdout:
-                print(line, end="", flush=True)
-                told = re.match(r"(?:rt: )?must-fail (\w+)/\S+: (.*)", line)
-                kind = told and next((kind for kind, words in KINDS.items() if told[2].startswith(words)), None)
-                if kind and told[1] in counts:
-                    counts[told[1]][kind] += 1
+    for (name, _), kind in kinds.items():
+        counts[name][kind] += 1
     return counts
 
 
@@ -74,16 +94,10 @@ def edits(names):
     if lacking:
         raise SystemExit(f"no crate of this name has edits: {' '.join(lacking)}")
     counts = count(names or known)
-    there = {name: count_files(name) for name in counts}
     for name, kinds in counts.items():
         told = ", ".join(f"{number} {kind}" for kind, number in kinds.items() if number)
-        print(f"{name}: {there[name]} edits: {told or 'none was tried'}")
+        print(f"{name}: {sum(kinds.values())} edits: {told}")
     whole = {kind: sum(kinds[kind] for kinds in counts.values()) for kind in KINDS}
     print("all: " + ", ".join(f"{number} {kind}" for kind, number in whole.items()))
     refused = whole[BY_CLAUSE] + whole[BY_NAME] + whole[BY_LIMIT]
-    return refused, sum(there.values()) - refused
-
-
-def count_files(name):
-    folders = (os.path.join(EDITS, name), os.path.join(TOP, "crates", name, "must-fail"))
-    return sum(file.endswith(".edit") for folder in folders if os.path.isdir(folder) for file in os.listdir(folder))
+    return refused, sum(whole.values()) - refused

@@ -75,6 +75,12 @@ class SmallEtcd:
         self.events = []
         self.changed = threading.Condition(threading.RLock())
 
+    def copy(self):
+        """Another one with the same keys and history."""
+        other = SmallEtcd()
+        other.revision, other.kept, other.events = self.revision, dict(self.kept), list(self.events)
+        return other
+
     def answer(self, path, asked):
         calls = {"/v3/kv/range": self.range, "/v3/kv/put": lambda it: self.write([("request_put", it)])[0],
                  "/v3/kv/txn": self.transact, "/v3/kv/compaction": lambda it: {}}

@@ -36,7 +36,8 @@ class Told(NamedTuple):
 
 
 def words(what, endpoints, *more):
-    return [sys.executable, ETCD, what, "--endpoints", ",".join(endpoints), "--program", PROGRAM, *more]
+    # without what is installed beside: a front needs the standard library alone, and begins sooner so
+    return [sys.executable, "-S", ETCD, what, "--endpoints", ",".join(endpoints), "--program", PROGRAM, *more]
 
 
 def run(what, endpoints, *more, given=b""):

@@ -79,6 +79,29 @@ def as_many_lines_as_may_be_learnt_are_offered():
         yield f"What is shown by {count + 1} lines is {'' if offered else 'not '}offered", rows
 
 
+def _tops(count, length):
+    """Packages "t0" and on, each of which needs "x" in one version, and a row of packages that ends in "x" in the other. So
+    none of them can be chosen in its higher version, and each takes a line for each package of the row and one more."""
+    yield "x", "1.0.0"
+    yield "x", "2.0.0"
+    for number in range(count):
+        yield f"t{number}", "0.9.0"
+        yield f"t{number}", "1.0.0", "x ^1", "p1 *"
+    for number in range(1, length):
+        yield f"p{number}", "1.0.0", f"p{number + 1} *"
+    yield f"p{length}", "1.0.0", "x ^2"
+
+
+@rows_of("high")
+def offers_have_8192_lines_together():
+    # 31 times 256 lines, and 256 for the last one
+    for count, offered in [(32, 32), (33, 32), (36, 32)]:
+        rows = _published(*_tops(count, 255))
+        needs = [[f"t{number}", "*"] for number in range(count)]
+        rows.append({"of": "solver", "call": "counts", "needs": needs, "lock": [], "gives": [256] * offered})
+        yield f"Of {count} lines that take 256 lines each, {offered} are offered", rows
+
+
 def _feet(rows, count):
     """A package "top" that needs "l" and "r", of which no two versions go together: each two that need the same version
     of "k" are the heads of rows of packages that end in different versions of "x". That is shown by conflicts that rest

@@ -35,20 +35,46 @@ def _chain():
     return [_publish(0, "a", "1.0.0", "b ^1.0.0"), _publish(0, "b", "1.0.0", "c ^1.0.0"), _publish(0, "c", "1.0.0")]
 
 
+def _own_lines(k, *within):
+    """A member that rests on a package of its own, 2k + 5, which package 2k + 4 needs."""
+    premise = _premise(2 * k + 4, 2 * k + 5, list(within))
+    conclusion = [[2 * k + 4, {"in": [0]}], [2 * k + 5, {"not": list(within)}]]
+    return [{"conclusion": conclusion, "causes": [premise, premise], "pivot": 2 * k + 5}]
+
+
+def _learn_own(gives, k, *within):
+    return {"of": "store", "call": "learn", "lines": _own_lines(k, *within), "gives": gives}
+
+
+def _own_packages(count):
+    """Behind the chain, so many packages that each need another one of their own."""
+    return [row for k in range(count) for row in (_publish(0, f"p{k}", "1.0.0", f"q{k} ^1.0.0"), _publish(0, f"q{k}", "1.0.0"))]
+
+
 @rows_of("search")
 def at_most_4096_are_stored():
-    rows = _chain()
-    rows += [_call("learn", k, 0, k) for k in range(1, LIMIT + 1)]
+    own = 9  # of the members rest on packages of their own, and all others on c
+    rows = [*_chain(), *_own_packages(own + 1)]
+    rows += [_learn_own(k + 1, k, 0) for k in range(own)]
+    rows += [_call("learn", k, 0, k) for k in range(own + 1, LIMIT + 1)]
     rows += [
         _call("check", {"refused": 16}, 0, LIMIT + 1),
         _call("learn", {"refused": 16}, 0, LIMIT + 1),
-        _call("learn", {"refused": 15}, 0, 1),
-        # a version of c that each of them rests on
-        _publish(0, "c", "1.1.0"),
-        _call("learn", 1, 0, 1),
+        _call("learn", {"refused": 15}, 0, own + 1),
+        # one goes, and another comes in its place
+        _learn_own({"refused": 16}, own, 0),
+        _publish(LIMIT, f"q{own}", "1.1.0"),
+        _publish(LIMIT, "q7", "2.0.0"),
+        _publish(LIMIT - 1, "q7", "1.1.0"),
+        _learn_own({"refused": 14}, 7, 0),
+        _learn_own(LIMIT, 7, 0, 2),
+        _learn_own({"refused": 16}, own, 0, 1),
+        # a version of c that each of the others rests on
+        _publish(own, "c", "1.1.0"),
+        _call("learn", own + 1, 0, 1),
         _call("learn", {"refused": 14}, 0, 2),
     ]
-    yield "4,096 are stored, and a publication that all rest on drops them all", rows
+    yield "4,096 are stored, one goes and another comes, and a publication that most rest on drops these", rows
 
 
 @rows_of("high")
@@ -80,31 +106,21 @@ def a_seat_stores_at_most_4096():
 
 @rows_of("search")
 def members_go_and_come_one_by_one():
-    # each member rests on a package of its own, 2k + 2, which package 2k + 1 needs
-    def lines(k, *within):
-        premise = _premise(2 * k + 1, 2 * k + 2, list(within))
-        conclusion = [[2 * k + 1, {"in": [0]}], [2 * k + 2, {"not": list(within)}]]
-        return [{"conclusion": conclusion, "causes": [premise, premise], "pivot": 2 * k + 2}]
-
-    def learn(gives, k, *within):
-        return {"of": "store", "call": "learn", "lines": lines(k, *within), "gives": gives}
-
-    rows = []
-    for k in range(LIMIT + 1):
-        rows += [_publish(0, f"p{k}", "1.0.0", f"q{k} ^1.0.0"), _publish(0, f"q{k}", "1.0.0")]
-    rows += [learn(k + 1, k, 0) for k in range(LIMIT)]
-    rows += [learn({"refused": 16}, LIMIT, 0), _publish(LIMIT, "q4096", "1.1.0"), _publish(LIMIT, "q7", "2.0.0")]
-    rows += [_publish(LIMIT - 1, "q7", "1.1.0"), learn({"refused": 14}, 7, 0), learn(LIMIT, 7, 0, 2)]
-    rows += [learn({"refused": 16}, LIMIT, 0, 1)]
+    # after each of these calls every member is asked whether it stands, which takes the square of their number
+    count = 1024
+    rows = [*_chain(), *_own_packages(count + 1)]
+    rows += [_learn_own(k + 1, k, 0) for k in range(count)]
+    rows += [_publish(count, f"q{count}", "1.1.0"), _publish(count, "q7", "2.0.0")]
+    rows += [_publish(count - 1, "q7", "1.1.0"), _learn_own({"refused": 14}, 7, 0), _learn_own(count, 7, 0, 2)]
     # three of four go, so that the empty places go too, and those that stay are found as before
-    gone = [k for k in range(LIMIT) if k % 4 and k != 7]
-    rows += [_publish(LIMIT - 1 - count, f"q{k}", "1.1.0") for count, k in enumerate(gone)]
-    stay = LIMIT - len(gone)
-    rows += [learn({"refused": 15}, k, 0) for k in range(0, LIMIT, 4)]
-    rows += [learn({"refused": 14}, gone[0], 0), learn(stay + 1, gone[0], 0, 1), learn(stay + 2, LIMIT, 0, 1)]
+    gone = [k for k in range(count) if k % 4 and k != 7]
+    rows += [_publish(count - 1 - number, f"q{k}", "1.1.0") for number, k in enumerate(gone)]
+    stay = count - len(gone)
+    rows += [_learn_own({"refused": 15}, k, 0) for k in range(0, count, 4)]
+    rows += [_learn_own({"refused": 14}, gone[0], 0), _learn_own(stay + 1, gone[0], 0, 1), _learn_own(stay + 2, count, 0, 1)]
     rows += [_publish(stay + 1, "q7", "1.2.0"), _publish(stay + 1, "q7", "1.3.0"), _publish(stay, "q0", "1.1.0")]
-    rows += [{"of": "store", "call": "named", "package": 2 * LIMIT + 2, "gives": [lines(LIMIT, 0, 1)[0]["conclusion"]]}]
-    rows += [{"of": "store", "call": "named", "package": 2, "gives": []}]
+    rows += [{"of": "store", "call": "named", "package": 2 * count + 5, "gives": [_own_lines(count, 0, 1)[0]["conclusion"]]}]
+    rows += [{"of": "store", "call": "named", "package": 5, "gives": []}]
     yield "Members go one by one, and others come in their place", rows
 
 

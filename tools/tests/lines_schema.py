@@ -73,7 +73,10 @@ def whole(form, kinds):
     if not isinstance(form, dict):
         return form
     held = {name: whole(it, kinds) for name, it in form.items() if name != "$ref"}
-    return {"allOf": [whole(kinds[form["$ref"].rpartition("/")[2]], kinds)], **held} if "$ref" in form else held
+    if "$ref" not in form:
+        return held
+    referred = whole(kinds[form["$ref"].rpartition("/")[2]], kinds)
+    return {"allOf": [referred], **held} if held else referred
 
 
 def main():

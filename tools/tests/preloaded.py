@@ -3,9 +3,11 @@ import errno
 import os
 import subprocess
 import tempfile
+from typing import NamedTuple
 
 from program import TOP, run
 
+MEMORY = "/dev/shm"  # where short-lived files cost least, on machines that have it
 REFUSE_MEMORY = os.path.join("refuse_memory", "refuse.c")
 BREAK_CALLS = os.path.join("break_calls", "break.c")
 
@@ -17,6 +19,49 @@ def built(case, source):
     library = os.path.join(folder.name, "library.so")
     subprocess.run(["cc", "-O1", "-shared", "-fPIC", "-o", library, os.path.join(TOP, "tools", source)], check=True)
     return library
+
+
+class Refused(NamedTuple):
+    """A run that was refused the request for memory of its number: how it ended, how many requests there were, whether it came to
+    that one, and the folder where it stood."""
+    number: int
+    returncode: int
+    requests: int
+    came: bool
+    folder: str
+
+    def left(self, name):
+        """What stands in a file of its folder; nothing where there is no such file."""
+        try:
+            with open(os.path.join(self.folder, name), "rb") as file:
+                return file.read()
+        except FileNotFoundError:
+            return None
+
+    @property
+    def stdout(self):
+        return self.left("output")
+
+    @property
+    def stderr(self):
+        return self.left("errors")
+
+
+def each_refused(library, command, given, numbers, behind=0):
+    """Runs a command on these bytes once for each of these numbers, a range; it ends before where so many runs in a row did not
+    come to their request. Yields them in order; what they left stands until the last was asked for."""
+    with tempfile.TemporaryDirectory(dir=MEMORY if os.path.isdir(MEMORY) else None) as folder:
+        path = os.path.join(folder, "given")
+        with open(path, "wb") as out:
+            out.write(given)
+        env = {**os.environ, "LD_PRELOAD": library, "REFUSE_FIRST": str(numbers.start), "REFUSE_LAST": str(numbers.stop - 1),
+               "REFUSE_STEP": str(numbers.step), "REFUSE_BEHIND": str(behind), "REFUSE_GIVEN": path}
+        done = subprocess.run(command, env=env, cwd=folder, stdin=subprocess.DEVNULL, stdout=subprocess.PIPE, stderr=subprocess.PIPE, timeout=600)
+        assert (done.returncode, done.stderr) == (0, b""), done
+        for number, line in zip(numbers, done.stdout.splitlines()):
+            ended, requests, came = map(int, line.split())
+            assert ended >= 0, f"with request {number} refused, a signal ended the program: {-ended}"
+            yield Refused(number, ended, requests, came == 1, os.path.join(folder, str(number)))
 
 
 class Break:

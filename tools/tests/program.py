@@ -1,8 +1,8 @@
 """The program under test, and short ways to talk to it."""
+import contextlib
 import json
 import os
 import resource
-import signal
 import subprocess
 import tempfile
 
@@ -52,27 +52,34 @@ def journal_line(line):
     return json.dumps(json.loads(line), sort_keys=True, separators=(",", ":"))
 
 
-def run(words, given=b"", **more):
+def run(words, given=b"", most=None, **more):
     """Runs the program on these bytes and answers what it left. They come from a file: so each read gives as much as is asked
-    for, and which lines are answered together doesn't hang on how a pipe is filled."""
+    for, and which lines are answered together doesn't hang on how a pipe is filled. Where most is given, a file that the program
+    writes gets so many bytes: what goes beyond that is cut off, and then writes fail."""
     more.setdefault("stdout", subprocess.PIPE)
     with tempfile.TemporaryFile() as file:
         if "stdin" not in more:
             file.write(given)
             file.seek(0)
             more["stdin"] = file
-        done = subprocess.run([PROGRAM, *words], stderr=subprocess.PIPE, timeout=100, **more)
+        with files_of_at_most(most):
+            # a signal that this process passes over is passed over by what it starts, where nothing is restored
+            done = subprocess.run([PROGRAM, *words], stderr=subprocess.PIPE, timeout=100, restore_signals=most is None, **more)
     if done.returncode == 0 and done.stdout is not None:
         said.note_run(words, given, done.stdout, more.get("cwd", ""))
     return done
 
 
-def up_to(most):
-    """Lets a program write files of at most so many bytes: what goes beyond that is cut off, and then writes fail."""
-    def limit():
-        signal.signal(signal.SIGXFSZ, signal.SIG_IGN)
-        resource.setrlimit(resource.RLIMIT_FSIZE, (most, most))
-    return limit
+@contextlib.contextmanager
+def files_of_at_most(most):
+    """Meanwhile this process, and what it starts, writes files of at most so many bytes. Set here, and not between the fork and
+    the program, since a fork of a process of this size takes longer than the program."""
+    before = resource.getrlimit(resource.RLIMIT_FSIZE)
+    resource.setrlimit(resource.RLIMIT_FSIZE, before if most is None else (most, before[1]))
+    try:
+        yield
+    finally:
+        resource.setrlimit(resource.RLIMIT_FSIZE, before)
 
 
 def serve(lines, **more):

@@ -8,6 +8,7 @@ import re
 NUMBERS = re.compile(rb"[0-9]+(?:, ?[0-9]+)*")
 REFUSED = re.compile(rb'{"error":([0-9]+),')
 REQUESTS, REPLIES, JOURNAL = {}, {}, {}
+noted = set()  # the hashes of what was noted: many runs say the same
 is_noting = True
 
 
@@ -27,8 +28,18 @@ def number_of(reply):
     return int(found[1]) if found else 0
 
 
+def is_new(*texts):
+    """Whether these texts were not noted together before; from now on they are."""
+    key = tuple(map(hash, texts))
+    is_there = key in noted
+    noted.add(key)
+    return not is_there
+
+
 def note_session(given, printed):
     """Keeps request lines and their replies, where each line has one."""
+    if not is_new(given, printed):
+        return
     requests, replies = list(alike(given)), list(alike(printed))
     if len(requests) == len(replies):
         REPLIES.update(replies)
@@ -37,6 +48,8 @@ def note_session(given, printed):
 
 def note_journal(text):
     """Keeps the lines between the first and the last of a journal's text."""
+    if not is_new(text):
+        return
     JOURNAL.update(list(alike(text))[1:-1])
 
 

@@ -1,9 +1,12 @@
 """Lines that ask to resolve and come together are answered together by several threads, and as they are one by one."""
+import fcntl
 import subprocess
+import time
 import unittest
 
 from program import LIST, PROGRAM, check, publish, resolve, run, unyank, yank
 from tables import tables_under
+from test_broken_streams import waiting
 
 WORKERS = ("1", "2", "7", "64")
 
@@ -37,6 +40,44 @@ def asked_one_by_one(workers, lines):
         client.stdin.close()
         assert (client.stdout.read(), client.wait()) == (b"", 0)
     return replies
+
+
+# Packages none of which can be chosen in its higher version, as conflicts show, by 256 lines each: so much is learnt of a request.
+TOPS, ROW = 33, 255
+CLASHING = [publish("x", "1.0.0"), publish("x", "2.0.0"), *(publish(f"p{i}", "1.0.0", [f"p{i + 1} *"]) for i in range(1, ROW)), publish(f"p{ROW}", "1.0.0", ["x ^2"]),
+            *(publish(f"t{i}", *version) for i in range(TOPS) for version in (["0.9.0"], ["1.0.0", ["x ^1", "p1 *"]]))]
+# The least that a pipe holds.
+PAGE = 4_096
+
+
+def busy(client):
+    """How many nanoseconds of a processor a program took so far."""
+    with open(f"/proc/{client.pid}/schedstat", encoding="ascii") as told:
+        return int(told.read().split()[0])
+
+
+def said_to(client, lines):
+    """The replies to lines that are sent in one piece."""
+    client.stdin.write("".join(line + "\n" for line in lines).encode())
+    told = b""
+    while told.count(b"\n") < len(lines):
+        told += client.stdout.read(PAGE)
+    return told.decode().splitlines()
+
+
+def busy_behind(client, line):
+    """How long a program is busy once its reply to a line is on its way: it is put behind a listing for which the pipe has no
+    room, and so it waits with both until they are read."""
+    client.stdin.write(f"{LIST}\n{line}\n".encode())
+    while waiting(client.stdout) < PAGE:
+        time.sleep(0.001)
+    time.sleep(0.01)
+    before, replies = busy(client), b""
+    while replies.count(b"\n") < 2:
+        replies += client.stdout.read(PAGE)
+    # a line more is answered once the program is through
+    said_to(client, [""])
+    return busy(client) - before, replies.decode().splitlines()[1]
 
 
 class Batches(unittest.TestCase):
@@ -92,6 +133,19 @@ class Batches(unittest.TestCase):
         for workers in (WORKERS[0], WORKERS[-1]):
             self.assertEqual(served(workers, lines), whole)
             self.assertEqual(asked_one_by_one(workers, lines), whole)
+
+    def test_a_client_has_its_answer_before_that_is_learnt(self):
+        line = resolve(*(f"t{i} *" for i in range(TOPS)))
+        with subprocess.Popen([PROGRAM, "serve", "--workers", "1"], stdin=subprocess.PIPE, stdout=subprocess.PIPE, bufsize=0) as client:
+            fcntl.fcntl(client.stdout, fcntl.F_SETPIPE_SZ, PAGE)
+            said_to(client, CLASHING)
+            first, told = busy_behind(client, line)
+            again, _ = busy_behind(client, line)
+            client.stdin.close()
+            self.assertEqual((client.stdout.read(), client.wait()), (b"", 0))
+        self.assertIn('["t0","0.9.0"]', told)
+        # what the first request led to is not learnt again
+        self.assertGreater(first, 4 * again)
 
     def test_the_last_line_may_lack_its_line_feed(self):
         for workers in WORKERS:

@@ -9,7 +9,7 @@ import tty
 import unittest
 
 from preloaded import BREAK_CALLS, Break, built
-from program import LIST, PROGRAM, SERVE, journal_line, publish, resolve, run, up_to
+from program import LIST, PROGRAM, SERVE, journal_line, publish, resolve, run
 from tables import tables_under
 from test_terminal import WAITING
 
@@ -64,7 +64,7 @@ class Writes(unittest.TestCase):
         path = os.path.join(self.folder, "printed")
         for most in range(len(whole) + 1):
             with open(path, "wb") as out:
-                done = run(words, given, stdout=out, preexec_fn=up_to(most))
+                done = run(words, given, stdout=out, most=most)
             fails = most < len(whole)
             self.assertEqual((done.returncode, done.stderr), (1, b"registryd: output failed\n") if fails else (0, b""), most)
             with open(path, "rb") as out:

@@ -171,6 +171,18 @@ class Judged(unittest.TestCase):
         return printed
 
 
+    def judge_each(self, wanted, lines, refusals):
+        """The same of all refusals that one session ends with, each a request, its derivation, and what is told where it fails."""
+        requests, replies = session(lines, *refusals[0][:2])
+        for request, derivation, _ in refusals[1:]:
+            requests.append(request)
+            replies.append(refused(derivation, replies[-1]["revision"]))
+        status, printed = said_of(requests, replies)
+        for (request, derivation, told), said in zip(refusals, printed.splitlines(), strict=True):
+            self.assertIn(" follows" if wanted == 0 else " does not follow: ", said, f"{told}\n{json.dumps(request)}\n{json.dumps(derivation)}")
+        self.assertEqual(status, wanted)
+
+
 class Worked(Judged):
     def test_they_follow(self):
         for name, (lines, request, derivation) in WORKED.items():
@@ -365,18 +377,19 @@ class Random(Judged):
             more = copy.deepcopy(rows)
             for cause in [it for row in more for it in row["causes"] if "line" in it]:
                 cause["line"] += 1
-            self.judge(0, map(json.dumps, commands), request, rows, told)
-            self.judge(0, map(json.dumps, commands), request, [rows[0], *more], told)
+            self.judge_each(0, map(json.dumps, commands), [(request, rows, told), (request, [rows[0], *more], told)])
 
     def test_damaged(self):
         counts = dict.fromkeys(KINDS, 0)
+        fresh = lambda value: json.loads(json.dumps(value))
         for told, commands, known, request, refuter, rng in self.refusals(range(20000, 21000)):
+            refusals = []
             for kind in KINDS:
-                fresh = lambda value: json.loads(json.dumps(value))
                 damage = Damage(known, fresh(request), fresh(refuter.rows), known.said(refuter.rows, request), rng)
                 if getattr(damage, kind)():
-                    self.judge(1, map(json.dumps, commands), damage.request, damage.rows, f"{told}, {kind}")
+                    refusals.append((damage.request, damage.rows, f"{told}, {kind}"))
                     counts[kind] += 1
+            self.judge_each(1, map(json.dumps, commands), refusals)
         # each kind of damage was done often enough
         self.assertGreater(min(counts.values()), 60, counts)
 

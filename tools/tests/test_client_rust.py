@@ -10,6 +10,8 @@ import unittest
 from program import PROGRAM, TOP
 
 HERE = os.path.join(TOP, "clients", "rust")
+# What is built is run once: nothing is kept for later builds, nor for a debugger.
+ONCE = {"CARGO_INCREMENTAL": "0", "CARGO_PROFILE_DEV_DEBUG": "0", "CARGO_PROFILE_TEST_DEBUG": "0"}
 WITHOUT = "(cargo is not there, or is too old: the client in Rust is not built) "
 
 
@@ -39,7 +41,7 @@ def is_buildable():
 class Client(unittest.TestCase):
     def cargo(self, folder, *words, **more):
         """What cargo prints; without the network, and with what it builds in a folder."""
-        given = {**os.environ, "CARGO_TARGET_DIR": os.path.join(folder, "target"), "REGISTRYD": PROGRAM}
+        given = {**os.environ, "CARGO_TARGET_DIR": os.path.join(folder, "target"), "REGISTRYD": PROGRAM, **ONCE}
         words = ["cargo", *words, "--offline", "--locked", "--manifest-path", os.path.join(HERE, "Cargo.toml")]
         done = subprocess.run(words, env=given, stdin=subprocess.DEVNULL, stdout=subprocess.PIPE, stderr=subprocess.PIPE, text=True, timeout=300, **more)
         self.assertEqual(done.returncode, 0, done.stdout + done.stderr)

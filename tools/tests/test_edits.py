@@ -1,16 +1,71 @@
 """Every wrong body can still be put in its place, also those that only `./test --edits` has the prover try."""
+import contextlib
+import io
 import os
 import sys
+import tempfile
 import unittest
 
 from program import TOP
 
 sys.path.insert(0, os.path.join(TOP, "tools"))
-from tried_alone import changes, functions_to_refuse, judged  # noqa: E402
+import try_edits  # noqa: E402
+import try_rounds  # noqa: E402
+from edit_files import CRATES, EDITS, Edit, Function, changes, edits_of, functions, functions_of  # noqa: E402
+from try_rounds import BAD, BY_CLAUSE, BY_NAME, NOT_REFUSED, judged, judged_alone, listed, make_holes, try_in_rounds  # noqa: E402
 
-CRATES, EDITS = os.path.join(TOP, "crates"), os.path.join(TOP, "edits")
-# How many each run of the gate tries: in so many crates, so many of one.
-MOST_CRATES, MOST_EDITS = 7, 8
+# How many each run of the tests tries.
+LISTED = 30
+SOURCE = """\
+pub struct Room<'a> {
+    door: &'a u32,
+}
+
+impl Shows for Option<Room<'_>> {
+    fn show(&self) -> u32
+        ensures { result ≡ field (record {
+            one = 1 }) }
+    {
+        1
+    }
+}
+
+impl<'a> Room<'a> {
+    fn at() -> u32;
+
+    pub fn door(&self) -> u32 { self.door }
+}
+
+impl<T: Drop> From<Failed<T>> for Way {
+    fn from(failed: Failed<T>) -> Way {
+        Way
+    }
+}
+
+#[derive(Drop)]
+pub struct Way;
+
+impl Way {
+    #[inline(always)]
+    #[tactic(auto)]
+    pub const fn new() -> Way {
+        Way
+    }
+}
+
+/// A law.
+pub(crate) fn rooms_have_doors()
+    ensures { ⊤ }
+{}
+"""
+LATER = "./proofs/a/late/Answers.antt:3:7: error: `returns`: as printed, the two types differ"
+GONE = "./proofs/a/late/Answers.antt:3:7: error: `returns`: record `G` has no field `in-Some`"
+OTHER = "./proofs/Lemmas.antt:3:7: error: `lemma`: as printed, the two types differ"
+IN_SOURCE = "note: src/a.rt:12:1: it is not proved that what the function ensures holds when it returns"
+HINT = "note: src/a.rt:12:1: rattle found no values"
+LATE, EARLY = Function("a::late", 20, 30), Function("a::Room::early", 10, 15)
+LATE_STANDS = "fn crate::a::late: depends on a hole in `a`"
+EARLY_STANDS = "fn crate::a::Room::early: no holes"
 
 
 def folders():
@@ -47,29 +102,15 @@ class Edits(unittest.TestCase):
             texts[path] = texts[path].replace(old, new)
         self.assertTrue(texts, "an edit has a file, what stands there, and what is to stand there")
 
-    def test_few_are_tried_by_each_run(self):
-        tried = {name: sum(file.endswith(".edit") for file in os.listdir(folder))
-                 for name, folder in folders() if folder.endswith("must-fail")}
-        self.assertLessEqual(len(tried), MOST_CRATES)
-        self.assertLessEqual(max(tried.values()), MOST_EDITS)
+    def test_each_that_every_run_tries_names_the_function_that_it_changes(self):
+        found = [edit for edits in listed() for edit in edits]
+        self.assertEqual(len(found), LISTED)
+        for edit in found:
+            self.assertEqual([function.path for _, function in functions_of(edit)], [edit.only], edit.file)
 
-    def test_those_of_one_function_name_it(self):
-        found = list(functions_to_refuse())
-        self.assertGreater(len(found), 15)
-        for crate, file, function in found:
-            with open(os.path.join(EDITS, crate, file), encoding="utf-8") as text:
-                path = next(changes(text.read()))[0]
-            with open(os.path.join(CRATES, crate, path), encoding="utf-8") as source:
-                self.assertRegex(source.read(), rf"fn {function.split('::')[-1]}\b", f"{crate}/{file}")
-
-    def test_what_the_prover_says_of_one_function(self):
-        gone = "./proofs/f/Answers.antt:3:7: error: `returns`: record `G` has no field `in-Some`"
-        wrong = "./proofs/f/Answers.antt:3:7: error: `returns`: as printed, the two types differ"
-        self.assertEqual(judged(1, [wrong, gone, "only=2 proved=1"], "f"), (True, f"refused, as it must be: {wrong}"))
-        self.assertEqual(judged(1, ["fn f: not proved", "only=1 proved=0"], "f"), (True, "refused, as it must be: f is not proved"))
-        for status, lines in ((1, [gone, "only=1 proved=0"]), (0, ["only=1 proved=1"]), (1, ["src/f.rt:1:1: error: no such name"]),
-                              (3, ["rattle: no verdict"]), (2, [""])):
-            self.assertFalse(judged(status, lines, "f")[0], lines)
+    def test_all_but_a_few_change_one_function(self):
+        others = [edit.file for name in os.listdir(EDITS) for edit in edits_of(name) if len(functions_of(edit)) != 1]
+        self.assertEqual(others, ["number-of_a_full_journal.edit"])
 
     def test_none_stands_twice(self):
         names = [f"{crate}/{file}" for crate, folder in folders() for file in os.listdir(folder)]
@@ -78,6 +119,152 @@ class Edits(unittest.TestCase):
     def test_each_folder_is_of_a_crate(self):
         for name in os.listdir(EDITS):
             self.assertTrue(os.path.isdir(os.path.join(CRATES, name, "src")), name)
+
+
+class Functions(unittest.TestCase):
+    def test_each_with_a_body_is_found(self):
+        wanted = [Function("near::rooms::OptionShows::show", 6, 11), Function("near::rooms::Room::door", 17, 17),
+                  Function("near::rooms::WayFromFailed::from", 21, 23), Function("ways::Way::new", 30, 34),
+                  Function("near::rooms::rooms_have_doors", 38, 40)]
+        self.assertEqual(list(functions("src/near/rooms.rt", SOURCE, {"Room": ["near", "rooms"], "Way": ["ways"]})), wanted)
+        names = [it.path for it in functions("src/lib.rt", SOURCE, {})]
+        self.assertEqual(names, ["OptionShows::show", "Room::door", "WayFromFailed::from", "Way::new", "rooms_have_doors"])
+
+
+class Verdicts(unittest.TestCase):
+    """What the prover's answer says of an edited function, and of the only one."""
+
+    def among(self, lines, function=LATE):
+        return judged([*lines, "only=2 holes=1"], "crate", "src/a.rt", function)
+
+    def alone(self, *lines):
+        return judged_alone(lines, "crate", "src/a.rt", LATE)
+
+    def test_an_error_at_the_function_refuses_its_edit(self):
+        lines = [LATER, IN_SOURCE, "fn crate::a::late: not proved; it calls `crate::a::Room::early`, which is not proved"]
+        self.assertEqual(self.among(lines), (BY_CLAUSE, LATER))
+        self.assertEqual(self.among(lines, EARLY), (BY_CLAUSE, IN_SOURCE))
+        of_a_cycle = LATER.replace("late", "+late")
+        self.assertEqual(self.among([of_a_cycle]), (BY_CLAUSE, of_a_cycle))
+
+    def test_a_harmless_one_is_seen_beside_one_that_is_refused(self):
+        self.assertEqual(self.among([LATER, "fn crate::a::late: not proved", EARLY_STANDS], EARLY)[0], NOT_REFUSED)
+        self.assertEqual(self.among([IN_SOURCE, "fn crate::a::Room::early: no proof", LATE_STANDS])[0], NOT_REFUSED)
+
+    def test_nothing_is_said_where_the_function_has_no_error_of_its_own(self):
+        waits = "fn crate::a::late: no proof: it calls `crate::a::Room::early`, which is not proved"
+        for lines in ([IN_SOURCE, waits], [GONE, "fn crate::a::late: not proved"], [HINT], [OTHER]):
+            self.assertIsNone(self.among(lines), lines)
+        for place in ("./proofs/a/later/Answers.antt:3:7", "./proofs/b/late/Answers.antt:3:7", "src/a.rt:31:1", "src/b.rt:21:1"):
+            self.assertIsNone(self.among([f"{place}: error: wrong"]), place)
+
+    def test_no_verdict_says_nothing(self):
+        self.assertIsNone(judged([LATER], "crate", "src/a.rt", LATE))
+        self.assertIsNone(judged([LATE_STANDS, "rattle: no verdict"], "crate", "src/a.rt", LATE))
+
+    def test_what_is_said_of_the_only_one(self):
+        last = "only=1 holes=1"
+        self.assertEqual(self.alone(LATER, GONE, last), (BY_CLAUSE, LATER))
+        self.assertEqual(self.alone(GONE, last), (BY_NAME, GONE))
+        self.assertEqual(self.alone(OTHER, GONE, last), (BY_CLAUSE, OTHER))
+        self.assertEqual(self.alone(LATE_STANDS, last)[0], NOT_REFUSED)
+        for line in ("src/f.rt:1:1: error: no such name", "rattle: no verdict", "", last):
+            self.assertEqual(self.alone(line)[0], BAD)
+
+
+class Rounds(unittest.TestCase):
+    """Edits are tried together as far as they can be; the prover is a table of answers here."""
+
+    def setUp(self):
+        self.asked = []
+        kept = try_rounds.asked_with, try_rounds.functions_of
+        self.addCleanup(lambda: [setattr(try_rounds, "asked_with", kept[0]), setattr(try_rounds, "functions_of", kept[1])])
+        try_rounds.functions_of = lambda edit: {("src/a.rt", LATE if edit.file.startswith("late") else EARLY)}
+        try_rounds.asked_with = self.ask
+
+    def ask(self, edits, paths, kept):
+        files = sorted(edit.file for edit in edits)
+        self.asked.append(files)
+        said = {"early": [IN_SOURCE], "early_harmless": [EARLY_STANDS], "late": [LATER], "late_harmless": [LATE_STANDS],
+                "late_gone": [GONE], "late_bad": []}
+        if "late_bad" in files:
+            return ["src/a.rt:1:1: error: no such name"]
+        return [*(line for file in files for line in said[file]), "only=2 holes=1"]
+
+    def kinds(self, *files):
+        return {edit.file: kind for edit, (kind, _) in try_in_rounds([Edit("crate", file, None, ()) for file in files], "")}
+
+    def test_those_of_functions_that_differ_go_together(self):
+        self.assertEqual(self.kinds("early", "late"), {"early": BY_CLAUSE, "late": BY_CLAUSE})
+        self.assertEqual(self.kinds("early", "late_harmless"), {"early": BY_CLAUSE, "late_harmless": NOT_REFUSED})
+        self.assertEqual(self.asked, [["early", "late"], ["early", "late_harmless"]])
+
+    def test_those_of_one_function_go_one_after_another(self):
+        self.assertEqual(self.kinds("late", "late_harmless"), {"late": BY_CLAUSE, "late_harmless": NOT_REFUSED})
+        self.assertEqual(self.asked, [["late"], ["late_harmless"]])
+
+    def test_one_of_which_nothing_is_said_is_tried_alone(self):
+        self.assertEqual(self.kinds("early", "late_gone"), {"early": BY_CLAUSE, "late_gone": BY_NAME})
+        self.assertEqual(self.asked, [["early", "late_gone"], ["late_gone"]])
+
+    def test_a_bad_one_spoils_no_other(self):
+        self.assertEqual(self.kinds("early", "late_bad"), {"early": BY_CLAUSE, "late_bad": BAD})
+        self.assertEqual(self.asked, [["early", "late_bad"], ["early"], ["late_bad"]])
+
+
+class Whole(unittest.TestCase):
+    """What is left when each edit was tried by its function goes to the kit, with the whole crate."""
+
+    def setUp(self):
+        self.tried_whole = []
+        given = {"edits_of": self.edits_of, "functions_of": lambda edit: {1} if edit.file != "constant" else set(),
+                 "build_below": lambda names: None, "try_in_rounds": self.in_rounds, "try_whole": self.whole}
+        for name, stub in given.items():
+            self.addCleanup(setattr, try_edits, name, getattr(try_edits, name))
+            setattr(try_edits, name, stub)
+
+    def edits_of(self, name):
+        return [Edit(name, file, None, ()) for file in ("clause", "name", "not", "unclear", "constant")]
+
+    def in_rounds(self, edits, kept):
+        kinds = {"clause": BY_CLAUSE, "name": BY_NAME, "not": NOT_REFUSED, "unclear": BAD}
+        return [(edit, (kinds[edit.file], "")) for edit in edits]
+
+    def whole(self, edits):
+        self.tried_whole += [(edit.crate, edit.file) for edit in edits]
+        return {(edit.crate, edit.file): BY_CLAUSE if edit.file == "not" else BAD for edit in edits}
+
+    def test_by_crate(self):
+        with contextlib.redirect_stdout(io.StringIO()):
+            counts = try_edits.count(["high", "low"])
+        self.assertEqual(self.tried_whole, [(crate, file) for crate in ("high", "low") for file in ("not", "unclear", "constant")])
+        for name in ("high", "low"):
+            self.assertEqual({kind: number for kind, number in counts[name].items() if number}, {BY_CLAUSE: 2, BY_NAME: 1, BAD: 2})
+
+
+class Holes(unittest.TestCase):
+    def test_every_other_function_gets_one(self):
+        with tempfile.TemporaryDirectory() as folder:
+            for path in ("src", "proofs/rooms/Room/door", "proofs/rooms/+again", "proofs/rooms/again"):
+                os.makedirs(os.path.join(folder, path))
+            with open(os.path.join(folder, "src", "rooms.rt"), "w", encoding="utf-8") as source:
+                source.write(SOURCE + "\npub fn again() {\n    again()\n}\n")
+            with open(os.path.join(folder, "proofs/rooms/Room/door/Answers.antt"), "w", encoding="utf-8") as answers:
+                answers.write("returns = tt\n")
+            make_holes("near", ["rooms::rooms_have_doors"], folder)
+            found = sorted(os.path.relpath(os.path.join(at, file), folder) for at, _, files in os.walk(folder) for file in files)
+            self.assertEqual(found, ["proofs/rooms/OptionShows/show/Proof.antt", "proofs/rooms/Room/door/Proof.antt",
+                                     "proofs/rooms/Way/new/Proof.antt", "proofs/rooms/WayFromFailed/from/Proof.antt",
+                                     "src/rooms.rt"])
+            with open(os.path.join(folder, "src", "rooms.rt"), encoding="utf-8") as source:
+                lines = source.read().split("\n")
+            self.assertEqual(lines[8:11], ["    {", "unreachable!()", "    }"])
+            self.assertEqual(lines[31:34], ["    pub const fn new() -> Way {", "unreachable!()", "    }"])
+            self.assertEqual(lines[37:44], [*SOURCE.split("\n")[37:40], "", "pub fn again() {", "    again()", "}"])
+            self.assertEqual(len(lines), SOURCE.count("\n") + 5)
+            with open(os.path.join(folder, "proofs/rooms/Room/door/Proof.antt"), encoding="utf-8") as proof:
+                self.assertEqual(proof.read(), "use Rattle.near.proofs.rooms.Room.door.Statement.{statement}\n\n"
+                                               "pub door_spec : {M : Type 1} → statement M\ndoor_spec = ?\n")
 
 
 if __name__ == "__main__":

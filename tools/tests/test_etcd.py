@@ -42,13 +42,21 @@ def deaf(moment, path, asked):
 
 
 class OverSmallEtcd(unittest.TestCase):
+    @classmethod
+    def setUpClass(cls):
+        # a journal is founded once, and each test goes on from there
+        cls.founded = SmallEtcd()
+        gate = Gate(cls.founded)
+        ended = fronts.run("found", [gate.url])
+        gate.close()
+        assert (ended.returncode, ended.stdout, ended.stderr) == (0, b"", b""), ended
+
     def setUp(self):
-        self.etcd = SmallEtcd()
+        self.etcd = self.founded.copy()
         self.gate = self.opened()
         folder = tempfile.TemporaryDirectory()
         self.addCleanup(folder.cleanup)
         self.folder = folder.name
-        self.done("found")
 
     def opened(self, hook=lambda moment, path, asked: None):
         gate = Gate(self.etcd, hook)
@@ -459,7 +467,7 @@ class OverEtcd(unittest.TestCase):
         if not is_installed():
             print("(etcd is not installed: what docs/SCALE.md tells to type was not tried) ", end="")
             return
-        first = 1100 + 2 * (os.getpid() % 1000)  # ports of this run alone
+        first = 1100 + 2 * (os.getpid() % 600)  # ports of this run alone, below those of the page
         lines = [line.replace("2379", str(first)).replace("2380", str(first + 1)) for line in members + typed]
         with tempfile.TemporaryDirectory() as folder:
             text = "\n".join(lines).replace("registryd-etcd ", f"registryd-etcd --program {program.PROGRAM} ").replace("tools/", os.path.join(TOP, "tools", ""))

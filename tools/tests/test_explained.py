@@ -10,6 +10,7 @@ import subprocess
 import tempfile
 import unittest
 
+from called import called
 from damages import KINDS, Damage
 from program import publish, run, serve, unyank, yank
 from refuter import Known
@@ -110,37 +111,59 @@ class Explained(unittest.TestCase):
                              [{"follows": it, "revision": len(lines)} for it in (True, True, False, False)], name)
 
     def random_refusals(self, seeds):
+        """Of each registry the commands, and its refused requests with what they were answered."""
         for seed in seeds:
             rng = random.Random(seed)
             commands, _ = tangle(rng)
             requests = [tangle(rng)[1] for _ in range(12)]
-            known = Known(commands)
-            for request, reply in self.explained(list(map(json.dumps, commands)), requests):
-                yield commands, known, request, reply, rng
+            yield commands, Known(commands), self.explained(list(map(json.dumps, commands)), requests), rng
 
     def test_random(self):
         count = 0
-        for commands, known, request, reply, _ in self.random_refusals(range(100)):
-            self.well_told(known, request, reply)
-            answer = json.loads(serve([*map(json.dumps, commands), checking(request, reply["derivation"])])[-1])
-            self.assertEqual(answer, {"follows": True, "revision": len(commands)})
-            count += 1
+        for commands, known, found, _ in self.random_refusals(range(100)):
+            for request, reply in found:
+                self.well_told(known, request, reply)
+            lines = [checking(request, reply["derivation"]) for request, reply in found]
+            answers = serve([*map(json.dumps, commands), *lines])[len(commands):]
+            self.assertEqual(list(map(json.loads, answers)), [{"follows": True, "revision": len(commands)}] * len(found))
+            count += len(found)
         self.assertGreater(count, 300)
 
+    def test_many_reasons(self):
+        # Each version of a package is ruled out for a reason of its own, and there is one line for each. Sixteen lines and more are
+        # put together pairwise: of 64 versions the lines name each as one of 2, of 4, and so on up to 64, so six times. Fifteen
+        # lines or fewer each name one version more than the one before.
+        for versions, named in ((64, 6 * 64), (14, sum(range(2, 15)))):
+            lines = [publish("q", "1.0.0"), publish("q", "2.0.0")]
+            lines += [publish("a", f"1.{number}.0", [f"q >=2.0.0, <3.{number}.0"]) for number in range(versions)]
+            (request, reply), = self.explained(lines, [{"op": "resolve", "needs": [["a", "*"], ["q", "^1"]], "explain": True}])
+            self.well_told(Known(map(json.loads, lines)), request, reply)
+            rows = reply["derivation"]
+            self.assertEqual(len(rows), versions + 1)
+            told = [len(ordinals) for row in rows for name, _, ordinals in row["conclusion"] if name == "a"]
+            self.assertEqual(sum(told), named)
+            self.assertEqual(json.loads(serve([*lines, checking(request, rows)])[-1])["follows"], True)
+
     def test_damaged(self):
-        fresh = lambda value: json.loads(json.dumps(value))
-        for commands, known, request, reply, rng in self.random_refusals(range(1000, 1030)):
-            lines, accepted = [], [{"ok": True, "revision": number} for number in range(1, len(commands) + 1)]
-            for kind in KINDS:
-                rows, said = fresh(reply["derivation"]), known.said(reply["derivation"], request)
-                damage = Damage(known, fresh(request), rows, said, rng)
-                if getattr(damage, kind)():
-                    replies = [*accepted, {**reply, "derivation": damage.rows}]
-                    status, printed = said_of([*commands, damage.request], replies)
-                    self.assertEqual(status, 1, (kind, printed, damage.request, damage.rows))
-                    lines.append(checking(damage.request, damage.rows))
-            for line, answer in zip(lines, serve([*map(json.dumps, commands), *lines])[len(commands):]):
+        for commands, known, found, rng in self.random_refusals(range(1000, 1030)):
+            damages = [damage for request, reply in found for damage in self.damages(known, request, reply["derivation"], rng)]
+            accepted = [{"ok": True, "revision": number} for number in range(1, len(commands) + 1)]
+            replies = [{"derivation": damage.rows, "explanation": [], "refused": True, "revision": len(commands)} for _, damage in damages]
+            status, printed = said_of([*commands, *(damage.request for _, damage in damages)], [*accepted, *replies])
+            for (kind, damage), said in zip(damages, printed.splitlines(), strict=True):
+                self.assertIn(" does not follow: ", said, (kind, damage.request, damage.rows))
+            self.assertEqual(status, int(damages != []))
+            lines = [checking(damage.request, damage.rows) for _, damage in damages]
+            for line, answer in zip(lines, serve([*map(json.dumps, commands), *lines])[len(commands):], strict=True):
                 self.assertNotEqual(json.loads(answer).get("follows"), True, line)
+
+    def damages(self, known, request, rows, rng):
+        """Derivations of a refusal that are damaged, one of each kind that there can be."""
+        fresh = lambda value: json.loads(json.dumps(value))
+        for kind in KINDS:
+            damage = Damage(known, fresh(request), fresh(rows), known.said(rows, request), rng)
+            if getattr(damage, kind)():
+                yield kind, damage
 
 
 class Files(unittest.TestCase):
@@ -155,14 +178,10 @@ class Files(unittest.TestCase):
             out.write("".join(line + "\n" for line in lines))
         return path
 
-    def tool(self, *words):
-        done = subprocess.run([TOOL, *words], stdout=subprocess.PIPE, text=True, timeout=100)
-        return done.returncode, done.stdout
-
     def test_a_session(self):
         lines = [*CHAIN[0], json.dumps(asked(CHAIN[1]))]
-        self.assertEqual(self.tool(self.file("asked", lines), self.file("told", serve(lines))),
-                         (0, "request 5: the refusal at revision 4 follows\n"))
+        done = subprocess.run([TOOL, self.file("asked", lines), self.file("told", serve(lines))], stdout=subprocess.PIPE, text=True, timeout=100)
+        self.assertEqual((done.returncode, done.stdout), (0, "request 5: the refusal at revision 4 follows\n"))
 
     def test_a_race(self):
         # Each file asks why at a place of its own; the tool judges each seat's replies by the journal that was printed.
@@ -178,7 +197,7 @@ class Files(unittest.TestCase):
             journal = self.file("journal", printed[sum(map(len, files)):])
             for number, lines in enumerate(files):
                 replies, printed = printed[:len(lines)], printed[len(lines):]
-                status, said = self.tool("--journal", journal, self.file("asked", lines), self.file("told", replies))
+                status, said, _ = called("check_derivation.py", "--journal", journal, self.file("asked", lines), self.file("told", replies))
                 explained = [it for it in map(json.loads, replies) if "derivation" in it]
                 self.assertEqual((status, said.count(" follows\n")), (0, len(explained)), said)
                 for line, reply in zip(lines, map(json.loads, replies)):

@@ -9,6 +9,7 @@ import tomllib
 import unittest
 from pathlib import Path
 
+from called import called
 from program import LIST, TOP, publish, resolve, serve, yank
 from test_readme import answers, blocks
 
@@ -56,8 +57,8 @@ PACKAGED_COUNTS = [
 
 def made(*words):
     """What the tool writes: its lines, what it counts, and its status."""
-    done = subprocess.run([TOOL, *map(str, words)], stdout=subprocess.PIPE, stderr=subprocess.PIPE, text=True, timeout=300)
-    return done.stdout.splitlines(), done.stderr.splitlines(), done.returncode
+    status, lines, counts = called("import_index", *map(str, words))
+    return lines.splitlines(), counts.splitlines(), status
 
 
 def written(versions, crates, yanked=0):

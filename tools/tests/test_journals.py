@@ -6,7 +6,7 @@ import tempfile
 import unittest
 
 from plain_journal import Unknown, first_fault
-from program import LIST, SERVE, journal_line, publish, resolve, run, serve, unyank, up_to, yank
+from program import LIST, SERVE, journal_line, publish, resolve, run, serve, unyank, yank
 from reference import Registry
 from test_reuse import lines_of, session_of
 
@@ -129,7 +129,7 @@ class Saving(Sessions):
         lines, whole = (CHAIN[0] + "\n" + LIST + "\n").encode(), journal(CHAIN[:1])
         for most in range(len(whole) + 1):
             self.write(self.saved, b"as it was")
-            done = run(self.words(None, self.saved), lines, preexec_fn=up_to(most))
+            done = run(self.words(None, self.saved), lines, most=most)
             fails = most < len(whole)
             self.assertEqual((done.returncode, done.stderr), (1, b"registryd: output failed\n") if fails else (0, b""), most)
             # all replies are written before

@@ -7,6 +7,7 @@ import sys
 import tempfile
 import unittest
 
+from called import called
 from program import TOP, publish, run, serve
 
 sys.path.insert(0, os.path.join(TOP, "tools"))
@@ -89,8 +90,11 @@ class Typed(unittest.TestCase):
         return path
 
     def lock(self, *words, given=""):
-        done = subprocess.run([TOOL, *words], input=given, stdout=subprocess.PIPE, stderr=subprocess.PIPE, text=True, timeout=100)
-        return done.returncode, done.stdout, done.stderr
+        return called("lock", *words, given=given)
+
+    def typed(self, *words, given=""):
+        """What a process of its own prints."""
+        return subprocess.run([TOOL, *words], input=given, stdout=subprocess.PIPE, text=True, timeout=100, check=True).stdout
 
     def test_a_selection_and_back(self):
         # what was selected is locked, written, asked with, and selected again although a newer version is there by then
@@ -115,9 +119,9 @@ class Typed(unittest.TestCase):
     def test_the_program_takes_the_line(self):
         # the line reads as the program reads it, and so does what it answers to it
         path = self.path("some.lock", '[ ["b", "1.0.0"],\n ["a", "1.0.0"] ]')
-        line = self.lock("need", path, "a *", "b ^1")[1]
+        line = self.typed("need", path, "a *", "b ^1")
         told = run(["serve", "--workers", "1"], "".join(it + "\n" for it in [publish("a", "1.0.0"), publish("a", "2.0.0"), publish("b", "1.0.0"), line.strip()]).encode())
-        self.assertEqual(self.lock("write", given=told.stdout.decode())[1], '[["a","1.0.0"],["b","1.0.0"]]\n')
+        self.assertEqual(self.typed("write", given=told.stdout.decode()), '[["a","1.0.0"],["b","1.0.0"]]\n')
 
     def test_what_is_no_lock(self):
         good, bad = self.path("good", '[["a","1.0.0"]]\n'), self.path("bad", '[["a","1.0"]]')

@@ -4,13 +4,12 @@ import copy
 import functools
 import json
 import os
-import subprocess
 import tempfile
 import unittest
 
 from plain_race import stamped, unstamped
 from plain_search import Published
-from preloaded import REFUSE_MEMORY, built
+from preloaded import REFUSE_MEMORY, built, each_refused
 from program import LIST, PROGRAM, SERVE, check, journal_line, publish, resolve, serve, unyank, yank
 from reference import Registry
 from refuter import Known
@@ -75,6 +74,8 @@ RIVALS = [
     [publish("b", "1.0.0"), publish("a", "1.0.0"), unyank("a", "1.0.0"), resolve("b *"), yank("a", "1.0.0"),
      check("b ^1.0.0", derivation=REFUTED)],
 ]
+# No run makes so many requests.
+MOST_REQUESTS = 5000
 # How many runs in a row don't come to their request before that is taken as the end: of threads some runs make more.
 LAST_RUNS = 10
 # Where a race misses memory: before the first line, at a line, or behind the last.
@@ -88,43 +89,58 @@ def with_ample_memory(accepted, line):
     return serve([*accepted, line])[-1]
 
 
+@functools.cache
+def registry_after(accepted):
+    """The plain registry after these commands, which nobody changes."""
+    registry = Registry()
+    if accepted:
+        registry = copy.deepcopy(registry_after(accepted[:-1]))
+        registry.apply(json.loads(accepted[-1]))
+    return registry
+
+
+@functools.cache
+def answers(accepted, line):
+    """The lawful replies to a line that asks for no explanation, after these commands."""
+    request = json.loads(line)
+    if request["op"] == "check":
+        # the tests of derivations say that these are right
+        return [with_ample_memory(accepted, line)]
+    if request["op"] == "resolve":
+        return selections(accepted, line)
+    return [copy.deepcopy(registry_after(accepted)).answer(request, REQUIREMENTS)]
+
+
+@functools.cache
+def explains(accepted, line, reply):
+    """Whether this is a refusal with a derivation that follows: which one depends on what was learnt before, and what finds no
+    memory is not learnt."""
+    commands, request, told_of = list(map(json.loads, accepted)), json.loads(line), json.loads(reply)
+    before = [{"ok": True, "revision": number} for number in range(1, len(commands) + 1)]
+    status, _ = said_of([*commands, request], [*before, told_of])
+    rows = told_of.get("derivation", [])
+    whole = {"derivation": rows, "explanation": told(Known(commands), request, rows), "refused": True, "revision": len(commands)}
+    return status == 0 and reply == json.dumps(whole, separators=(",", ":"), ensure_ascii=False)
+
+
 class Model:
     """What was accepted, by the plain models."""
 
-    def __init__(self):
-        self.registry, self.accepted = Registry(), []
+    def __init__(self, accepted=()):
+        self.accepted = tuple(accepted)
 
     def short(self):
         """The reply to any line where memory is refused."""
-        return self.registry.refused(18)
+        return registry_after(self.accepted).refused(18)
 
     def takes(self, line, reply):
         """Whether this is another lawful reply to a line, whose command is carried out where it is accepted."""
-        request = json.loads(line)
-        return self.explains(request, reply) if "explain" in request else reply in self.answers(line)
-
-    def explains(self, request, reply):
-        """Whether this is a refusal with a derivation that follows: which one depends on what was learnt before, and what
-        finds no memory is not learnt."""
-        commands, told_of = list(map(json.loads, self.accepted)), json.loads(reply)
-        accepted = [{"ok": True, "revision": number} for number in range(1, len(commands) + 1)]
-        status, _ = said_of([*commands, request], [*accepted, told_of])
-        rows = told_of.get("derivation", [])
-        whole = {"derivation": rows, "explanation": told(Known(commands), request, rows), "refused": True, "revision": len(commands)}
-        return status == 0 and reply == json.dumps(whole, separators=(",", ":"), ensure_ascii=False)
-
-    def answers(self, line):
-        """The lawful replies to a line that asks for no explanation."""
-        request = json.loads(line)
-        if request["op"] == "check":
-            # the tests of derivations say that these are right
-            return [with_ample_memory(tuple(self.accepted), line)]
-        if request["op"] == "resolve":
-            return selections(tuple(self.accepted), line)
-        reply = self.registry.answer(request, REQUIREMENTS)
-        if reply.startswith('{"ok"'):
-            self.accepted.append(line)
-        return [reply]
+        if '"explain"' in line:
+            return explains(self.accepted, line, reply)
+        is_lawful = reply in answers(self.accepted, line)
+        if is_lawful and reply.startswith('{"ok"'):
+            self.accepted += (line,)
+        return is_lawful
 
 
 @functools.cache
@@ -160,23 +176,11 @@ class Memory(unittest.TestCase):
     def refuse_each(self, words, given=""):
         """Runs the program with each request refused in turn; answers its number, what the run left, and whether the run
         came to it."""
-        number = behind = 0
-        while behind < LAST_RUNS:
-            number += 1
-            self.assertLess(number, 5000)
-            done, came = self.refuse(words, given, number)
-            behind = 0 if came else behind + 1
-            yield number, done, came
-
-    def refuse(self, words, given, number):
-        told, tell = os.pipe()
-        env = {**os.environ, "LD_PRELOAD": self.library, "REFUSE_REQUEST": str(number), "REFUSE_TELL": str(tell)}
-        done = subprocess.run([PROGRAM, *words], input=given.encode(), env=env, pass_fds=[tell],
-                              stdout=subprocess.PIPE, stderr=subprocess.PIPE, timeout=60)
-        os.close(tell)
-        came = os.read(told, 1) != b""
-        os.close(told)
-        return done, came
+        behind = number = 0
+        for done in each_refused(self.library, [PROGRAM, *words], given.encode(), range(1, MOST_REQUESTS), LAST_RUNS):
+            behind, number = 0 if done.came else behind + 1, done.number
+            yield number, done, done.came
+        self.assertEqual(behind, LAST_RUNS, f"no end of requests at {number}")
 
     def follow(self, lines, replies, number):
         """Checks a session's replies by the rules, and answers at which places they are 18: at one, or at all requests that
@@ -222,29 +226,28 @@ class Memory(unittest.TestCase):
 
     def test_each_request_of_commands_between_batches(self):
         """What is saved are the commands that were told as accepted, wherever memory was missed."""
-        saved, short, unsaved = os.path.join(self.folder, "saved"), 0, 0
-        for number, done, came in self.refuse_each(["serve", "--workers", "4", "--save", saved], "".join(line + "\n" for line in BETWEEN)):
+        short = unsaved = 0
+        for number, done, came in self.refuse_each(["serve", "--workers", "4", "--save", "saved"], "".join(line + "\n" for line in BETWEEN)):
+            saved = done.left("saved")
             if done.stderr == b"registryd: no memory\n":
-                self.assertEqual((done.returncode, done.stdout, os.path.exists(saved)), (1, b"", False), number)
+                self.assertEqual((done.returncode, done.stdout, saved), (1, b"", None), number)
                 continue
             replies = done.stdout.decode().split("\n")[:-1]
             missed = len(self.follow(BETWEEN, replies, number))
             short += missed > 0
             if done.returncode:
-                self.assertEqual((done.returncode, done.stderr, os.path.exists(saved), missed), (1, b"registryd: output failed\n", False, 0), number)
+                self.assertEqual((done.returncode, done.stderr, saved, missed), (1, b"registryd: output failed\n", None, 0), number)
                 unsaved += 1
                 continue
             self.assertLessEqual(missed > 0, came, number)
-            with open(saved, encoding="ascii") as file:
-                kept = [line for line in file.read().split("\n")[1:-2] if not line.startswith('{"derivation"')]
+            kept = [line for line in saved.decode().split("\n")[1:-2] if not line.startswith('{"derivation"')]
             self.assertEqual(kept, [journal_line(line) for line, reply in zip(BETWEEN, replies) if reply.startswith('{"ok"')], number)
-            os.remove(saved)
         self.assertTrue(short > 100 and unsaved > 2, (short, unsaved))
         print(f"({number - LAST_RUNS} requests refused in turn: {short} answered 18, {unsaved} of the journal) ", end="")
 
     def test_each_request_of_a_session_with_journals(self):
         """A session that begins with a journal and leaves one."""
-        loaded, saved = os.path.join(self.folder, "loaded"), os.path.join(self.folder, "saved")
+        loaded = os.path.join(self.folder, "loaded")
         lines = [journal_line(line) for line in (publish("a", "1.0.0", ["b ^1.0.0"]), publish("b", "1.0.0"))]
         premise = {"fact": "premise", "name": "a", "need": "^1.0.0", "target": "b", "versions": [0], "within": [0]}
         learnt = [{"causes": [premise, premise], "conclusion": [["a", True, [0]], ["b", False, [0]]], "pivot": "b"}]
@@ -255,32 +258,29 @@ class Memory(unittest.TestCase):
         replies = ['{"packages":[["a",[["1.0.0",false]]],["b",[["1.0.0",false]]]],"revision":2}', '{"ok":true,"revision":3}']
         short = '{"error":18,"name":"NoMemory","revision":2}'
         early = refused = late = 0
-        words = [*SERVE, "--load", loaded, "--save", saved]
+        words = [*SERVE, "--load", loaded, "--save", "saved"]
         for number, done, came in self.refuse_each(words, "".join(line + "\n" for line in asked)):
-            told = done.stdout.decode().split("\n")[:-1]
+            told, saved = done.stdout.decode().split("\n")[:-1], done.left("saved")
             if done.stderr == b"registryd: no memory\n":
-                self.assertEqual((done.returncode, told, os.path.exists(saved)), (1, [], False), number)
+                self.assertEqual((done.returncode, told, saved), (1, [], None), number)
                 early += 1
                 continue
             self.assertEqual([reply in (whole, short) for reply, whole in zip(told, replies, strict=True)], [True, True], number)
             self.assertLessEqual(told.count(short) + (done.returncode != 0), came, number)
             refused += told.count(short)
             if done.returncode:
-                self.assertEqual((done.returncode, done.stderr, os.path.exists(saved)), (1, b"registryd: output failed\n", False), number)
+                self.assertEqual((done.returncode, done.stderr, saved), (1, b"registryd: output failed\n", None), number)
                 late += 1
                 continue
             self.assertEqual(done.stderr, b"", number)
             left = [*lines, more] if told[1] != short else lines
-            with open(saved, encoding="ascii") as file:
-                self.assertEqual(file.read(), "".join(line + "\n" for line in ["registry-journal 2", *left, f"end {len(left)}"]), number)
-            os.remove(saved)
+            self.assertEqual(saved.decode(), "".join(line + "\n" for line in ["registry-journal 2", *left, f"end {len(left)}"]), number)
         self.assertTrue(early > 20 and refused > 2 and late > 2, (early, refused, late))
         print(f"({number - LAST_RUNS} requests refused in turn: {early} before the first line, {refused} answered 18, "
               f"{late} of the journal) ", end="")
 
-    def models_of(self, files, replies, number):
-        """The commands of the journal that replies tell, and what is accepted after each beginning of them. What was learnt
-        takes places too, and no reply tells of it."""
+    def commands_of(self, files, replies, number):
+        """The commands of the journal that replies tell. What was learnt takes places too, and no reply tells of it."""
         entries = {}
         for asked, told in zip(files, replies):
             self.assertEqual(len(told), len(asked), number)
@@ -288,11 +288,7 @@ class Memory(unittest.TestCase):
                 if "ok" in reply:
                     self.assertNotIn(reply["place"], entries, number)
                     entries[reply["place"]] = line
-        journal, models = [entries[place] for place in sorted(entries)], [Model()]
-        for line in journal:
-            models.append(copy.deepcopy(models[-1]))
-            models[-1].answers(line)
-        return journal, models
+        return [entries[place] for place in sorted(entries)]
 
     def follow_race(self, files, printed, number):
         """Checks a race's replies by the rules, each by the journal that all of them tell. Answers all that is to be
@@ -301,15 +297,17 @@ class Memory(unittest.TestCase):
         for asked in files:
             replies.append(lines[:len(asked)])
             lines = lines[len(asked):]
-        journal, models = self.models_of(files, replies, number)
+        journal = self.commands_of(files, replies, number)
         for seat, (asked, told) in enumerate(zip(files, replies), 1):
             seen = 0
             for line, reply in zip(asked, told):
-                place, revision, is_own = json.loads(reply)["place"], json.loads(reply)["revision"], '"ok"' in reply
+                members, is_own = json.loads(reply), '"ok"' in reply
+                place, revision = members["place"], members["revision"]
                 # nothing that was seen is lost, and a seat's own command comes after it
                 self.assertLessEqual(seen + is_own, place, (number, line))
                 self.assertLessEqual(revision, place, (number, line))
-                seen, model = place, copy.deepcopy(models[revision - is_own])
+                self.assertLessEqual(revision, len(journal), (number, line))
+                seen, model = place, Model(journal[:revision - is_own])
                 if reply == stamped(model.short(), place, seat):
                     short.append((seat, line))
                 else:

@@ -78,14 +78,15 @@ class Searches(unittest.TestCase):
             self.assertEqual({**wanted, "place": reply["place"], "seat": 1}, reply)
 
     def test_a_reply_that_would_take_all_memory(self):
-        # each version is ruled out by a line of its own, which names all that are left: some 15 MB
-        needs = [f"q >=2.0.0, <3.{number}.0" for number in range(400)]
-        lines = [publish("q", "1.0.0"), publish("q", "2.0.0"), *(publish("a", f"1.{number}.0+{'b' * 200}", [need]) for number, need in enumerate(needs))]
+        # each version is ruled out by a line of its own, and named by its long text in eleven lines: some 5 MB, which are
+        # put together in memory from the lines and their texts
+        needs = [f"q >=2.0.0, <3.{number}.0" for number in range(1_500)]
+        lines = [publish("q", "1.0.0"), publish("q", "2.0.0"), *(publish("a", f"1.{number}.0+{'b' * 240}", [need]) for number, need in enumerate(needs))]
         asked = [resolve("a *", "q ^1", explain=True), resolve("a *", "q ^1"), LIST]
         replies = run(["serve", "--workers", "1"], "".join(line + "\n" for line in [*lines, *asked]).encode(),
                       preexec_fn=within(LIMIT)).stdout.decode().split("\n")[len(lines):]
-        self.assertEqual(replies[:2], ['{"error":18,"name":"NoMemory","revision":402}', '{"refused":true,"revision":402}'])
-        self.assertTrue(replies[2].startswith('{"packages":[["a",') and replies[2].endswith('"revision":402}'))
+        self.assertEqual(replies[:2], ['{"error":18,"name":"NoMemory","revision":1502}', '{"refused":true,"revision":1502}'])
+        self.assertTrue(replies[2].startswith('{"packages":[["a",') and replies[2].endswith('"revision":1502}'))
         self.assertEqual(replies[3:], [""])
 
     def test_it_is_memory_that_the_search_wants(self):

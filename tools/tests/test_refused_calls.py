@@ -3,14 +3,14 @@ all as it was, or it answers what it answers otherwise.
 
 The calls stand in `rows/refused`. A table is named by the public calls that it is of. Its row with the member `refuse` is the
 call, the rows before it set things up, and those behind it show what the call left."""
+import functools
 import json
 import os
-import subprocess
 import unittest
 
 import generated_rows_chronicle
 import generated_rows_store
-from preloaded import REFUSE_MEMORY, built
+from preloaded import REFUSE_MEMORY, built, each_refused
 from program import TOP
 from public_calls import that_take_memory
 from row_tables import BEGIN, program, tables_in
@@ -25,27 +25,29 @@ class Session:
     def __init__(self, program, library):
         self.program, self.library = program, library
 
-    def run(self, rows, number=0):
-        """Answers what was answered, how many requests there were, and whether the one of this number was refused."""
-        counted, count = os.pipe()
-        told, tell = os.pipe()
-        env = {**os.environ, "LD_PRELOAD": self.library, "REFUSE_REQUEST": str(number), "REFUSE_TELL": str(tell),
-               "REFUSE_COUNT": str(count)}
-        given = "".join(json.dumps(row) + "\n" for row in rows)
-        done = subprocess.run([self.program], input=given.encode(), env=env, pass_fds=[tell, count],
-                              stdout=subprocess.PIPE, stderr=subprocess.PIPE, timeout=60)
-        for end in (tell, count):
-            os.close(end)
-        requests, came = int(os.read(counted, 20)), os.read(told, 1) != b""
-        for end in (told, counted):
-            os.close(end)
-        answers = [json.loads(line) for line in done.stdout.decode().split("\n")[:-1]]
-        return Answers(answers, done.returncode == 0, requests, came)
+    def each(self, rows, numbers):
+        """What each run of these numbers left."""
+        given = "".join(json.dumps(row) + "\n" for row in rows).encode()
+        return map(Answers, each_refused(self.library, [self.program], given, numbers))
+
+    def run(self, rows):
+        """What a run left that is refused nothing."""
+        (told,) = self.each(rows, range(1))
+        return told
+
+
+@functools.lru_cache(maxsize=64)
+def values(text):
+    """The value of each line; most runs of a table leave the same."""
+    return [json.loads(line) for line in text.splitlines()]
 
 
 class Answers:
-    def __init__(self, answers, is_whole, requests, came):
-        self.answers, self.is_whole, self.requests, self.came = answers, is_whole, requests, came
+    """What a run answered, how many requests there were, and whether it came to the one that is refused."""
+
+    def __init__(self, run):
+        self.answers = values(run.stdout)
+        self.number, self.is_whole, self.requests, self.came = run.number, run.returncode == 0, run.requests, run.came
 
 
 def without_offers(answer):
@@ -79,10 +81,10 @@ class RefusedCalls(unittest.TestCase):
         ample, before = session.run(rows).answers, session.run(rows[:at] + rows[at + 1:]).answers
         self.assertEqual(len(ample), len(rows), table.title)
         self.assertNotIn(ample[at], (SHORT, {"bad": True}, {"skipped": True}), f"{table.title}: the call is not made")
-        for number in range(first + 1, last + 1):
-            told = session.run(rows, number)
-            self.assertTrue(told.came, (table.title, number))
-            short += self.judge(table, at, told, ample, before, number)
+        self.assertGreater(last, first, table.title)
+        for told in session.each(rows, range(first + 1, last + 1)):
+            self.assertTrue(told.came, (table.title, told.number))
+            short += self.judge(table, at, told, ample, before)
         return short
 
     def refuse_last(self, made, count, step):
@@ -93,16 +95,16 @@ class RefusedCalls(unittest.TestCase):
         ample = session.run(rows)
         self.assertEqual(ample.answers, [None, row["gives"]], title)
         tried_again = 0
-        for number in range(ample.requests - count + 1, ample.requests + 1, step):
-            told = session.run(rows, number)
-            self.assertTrue(told.came, (title, number))
+        for told in session.each(rows, range(ample.requests - count + 1, ample.requests + 1, step)):
+            self.assertTrue(told.came, (title, told.number))
             # what is refused where a step is answered, and not where it is made, is the whole row's answer
-            self.assertIn(told.answers, (ample.answers, [None, SHORT]), (title, number))
+            self.assertIn(told.answers, (ample.answers, [None, SHORT]), (title, told.number))
             tried_again += told.answers == ample.answers
         self.assertGreater(tried_again, 0, title)
 
-    def judge(self, table, at, told, ample, before, number):
-        """Whether the call, which was refused this request, answered want of memory; fails where it may not leave this."""
+    def judge(self, table, at, told, ample, before):
+        """Whether the call, which was refused a request, answered want of memory; fails where it may not leave this."""
+        number = told.number
         if not told.is_whole:
             # the row could not be read, so nothing more was
             self.assertEqual(told.answers, ample[:at], (table.title, number))

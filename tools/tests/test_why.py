@@ -7,12 +7,12 @@ import json
 import os
 import random
 import re
-import subprocess
 import sys
 import tempfile
 import unittest
 from xml.etree import ElementTree
 
+from called import called
 from program import PROGRAM, TOP, publish, resolve, run, serve, yank
 from refuter import Known, Refuter
 from test_check_derivation import CHAIN, EITHER, WORKED, tangle
@@ -27,8 +27,6 @@ import hostile_lines
 import workloads
 from read_english import Reader, Unread
 from telling import Derivation, Telling, Versions
-
-TOOL = os.path.join(TOP, "tools", "why")
 
 
 def line(conclusion, *causes, pivot):
@@ -400,8 +398,7 @@ class Typed(unittest.TestCase):
         return path
 
     def why(self, *words):
-        done = subprocess.run([TOOL, "--program", PROGRAM, *words], stdout=subprocess.PIPE, stderr=subprocess.PIPE, text=True, timeout=100)
-        return done.returncode, done.stdout, done.stderr
+        return called("why", "--program", PROGRAM, *words)
 
     def journal(self, lines, name="journal"):
         path = os.path.join(self.folder, name)

@@ -6,7 +6,7 @@ import unittest
 
 from command_lines import cases
 from preloaded import BREAK_CALLS, built
-from program import TOP, run, up_to
+from program import TOP, run
 
 
 class Words(unittest.TestCase):
@@ -29,7 +29,7 @@ class Words(unittest.TestCase):
         if case.told["room"]:
             path = os.path.join(folder, "standard output")
             with open(path, "wb") as out:
-                done = run(words, given, cwd=folder, stdout=out, preexec_fn=up_to(int(case.told["room"][0])))
+                done = run(words, given, cwd=folder, stdout=out, most=int(case.told["room"][0]))
             return done, self.read(folder, path)
         if broken:
             done, came = broken.run(self.library, words, given, cwd=folder)
