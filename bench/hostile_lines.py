@@ -55,6 +55,17 @@ def two_bumped(versions=VERSIONS):
     return bumped(2, versions)
 
 
+def beyond(versions=2048, packages=11):
+    """A package of which each version needs `q` and these packages in words of its own, more of them than the requirements of a
+    package whose sets are kept, and each has as many versions. And a request that none of them goes with."""
+    names = ["n%02d" % number for number in range(packages)]
+    lines = [line for name in names for line in versions_of(name, versions)] + [publish("q", (major, 0, 0), []) for major in (1, 2)]
+    for version in range(versions):
+        needs = [[name, ">=0.%d.0" % version] for name in names]
+        lines.append(publish("a", (1, version, 0), needs + [["q", ">=2.0.0, <3.%d.0" % version]]))
+    return lines, [resolve([["a", "*"], ["q", "^1"]])]
+
+
 def explained(versions=1024):
     """A package of which each version needs `q` in words of its own, and a request that none of them meets, to be explained: by
     a line for each version."""
@@ -93,6 +104,21 @@ def cited_versions(versions=VERSIONS):
     premise = {"fact": "premise", "name": "a", "need": "^1", "target": "b", "versions": every, "within": every}
     row = {"causes": [premise, premise], "conclusion": [["b", False, every], ["a", True, every]], "pivot": "a"}
     return lines, [check([ZED], as_often_as_fits(row, 200) + [REFUTED])]
+
+
+def cited_beyond(versions=VERSIONS):
+    """The lines cite one short premise twice each, by requirements of a package beyond those whose sets are kept."""
+    lines = versions_of("b", versions) + [publish("a", (1, version, 0), [["b", "^2.%d" % version]]) for version in range(versions)]
+    rows = []
+    for number in range(len(as_often_as_fits(cited_once(versions - 1), 200))):
+        rows.append(cited_once(versions // 2 + number % (versions // 2)))
+    return lines, [check([ZED], [*rows, REFUTED])]
+
+
+def cited_once(version):
+    """A line of two premises: this version of `a` needs one of `b` that is not there."""
+    premise = {"fact": "premise", "name": "a", "need": "^2.%d" % version, "target": "b", "versions": [version], "within": []}
+    return {"causes": [premise, premise], "conclusion": [["a", True, [version]]], "pivot": "a"}
 
 
 def cited_line(ordinals=30_000):
@@ -138,9 +164,14 @@ def listing(versions=VERSIONS, packages=12):
 # ---- publications beside what was said of a package
 
 def requirements(count=6_000, versions=500):
-    """So many requirements on `t`, and then versions of it, each of which is tested against all."""
+    """So many requirements on `t`, and then versions of it, each of which is tested against those whose sets are kept."""
     lines = [publish("u%d" % (number // VERSIONS), (1, number % VERSIONS, 0), [["t", ">=0.%d.0" % number]]) for number in range(count)]
     return lines, versions_of("t", versions)
+
+
+def many_requirements(count=24_000):
+    """The same at the limits of a session and of a package."""
+    return requirements(count, VERSIONS)
 
 
 def resting(count=200, versions=100):
@@ -154,7 +185,8 @@ def resting(count=200, versions=100):
     return lines + [resolve([[name, "*"]]) for name in names], [publish("q", (0, version, 0), []) for version in range(versions)]
 
 
-HOSTILE = {"all bumped": all_bumped, "two bumped": two_bumped, "explained": explained, "cited need": cited_need, "cited needs": cited_needs,
-           "cited premise": cited_premise, "cited versions": cited_versions, "cited line": cited_line, "long needs": long_needs,
-           "long texts": long_texts, "long lock": long_lock, "long publication": long_publication, "listing": listing,
-           "requirements": requirements, "resting": resting}
+HOSTILE = {"all bumped": all_bumped, "two bumped": two_bumped, "beyond": beyond, "explained": explained, "cited need": cited_need,
+           "cited needs": cited_needs, "cited premise": cited_premise, "cited versions": cited_versions, "cited beyond": cited_beyond,
+           "cited line": cited_line, "long needs": long_needs, "long texts": long_texts, "long lock": long_lock,
+           "long publication": long_publication, "listing": listing, "requirements": requirements, "many requirements": many_requirements,
+           "resting": resting}

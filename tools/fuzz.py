@@ -23,9 +23,13 @@ import time
 sys.path.insert(0, os.path.join(os.path.dirname(os.path.abspath(__file__)), "tests"))
 import program
 import said
-from made_lines import Maker
+from made_lines import NAMES, Maker
 from plain_journal import first_fault
 from plain_session import PlainSession, Requirements
+
+
+# the program keeps the matching sets of so many requirements of a package
+KEPT_SETS = 128
 
 
 class Find(Exception):
@@ -46,9 +50,16 @@ def run(lines, *words, workers=1):
     return replies
 
 
+def named_before():
+    """Publications that name so many requirements on each package that those of the session are beyond the ones whose sets are kept."""
+    return [{"op": "publish", "name": "y", "version": f"0.0.{number}", "needs": [[name, f"<9.{number}.0"] for name in NAMES]}
+            for number in range(KEPT_SETS)]
+
+
 def first_lines(maker, count):
     """What a session begins with, a value or none for each line, and the lines."""
-    values = []
+    values = named_before() if maker.rng.random() < 0.25 else []
+    count += len(values)
     while len(values) < count:
         values.append(maker.value())
         if values[-1]["op"] == "resolve" and not values[-1].get("explain") and maker.rng.random() < 0.5:

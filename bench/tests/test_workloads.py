@@ -100,10 +100,10 @@ class Workloads(unittest.TestCase):
 
     def test_what_asks_for_much_is_answered_as_it_is_meant(self):
         follows, refused = '"follows":true', '"refused":true'
-        wanted = {"all bumped": refused, "two bumped": refused, "explained": '"derivation":[', "cited need": follows, "cited needs": follows,
-                  "cited premise": follows, "cited versions": follows, "cited line": follows, "long needs": refused, "long texts": refused,
-                  "long lock": '"selected":[["a","1.0.0"]]', "long publication": '"error":6', "listing": '"packages":[', "requirements": '"ok":true',
-                  "resting": '"ok":true'}
+        wanted = {"all bumped": refused, "two bumped": refused, "beyond": refused, "explained": '"derivation":[', "cited need": follows,
+                  "cited needs": follows, "cited premise": follows, "cited versions": follows, "cited beyond": follows, "cited line": follows,
+                  "long needs": refused, "long texts": refused, "long lock": '"selected":[["a","1.0.0"]]', "long publication": '"error":6',
+                  "listing": '"packages":[', "requirements": '"ok":true', "many requirements": '"ok":true', "resting": '"ok":true'}
         self.assertEqual(set(wanted), set(HOSTILE))
         for name, make in HOSTILE.items():
             lines, asked = make(70)

@@ -5,3 +5,4 @@ pub mod Marking
 pub mod Room
 pub mod Standing
 pub mod MatchingLemmas
+pub mod Meeting

@@ -4,7 +4,7 @@ use Rattle.std.specs.Prelude.{Some, slice_get, if◌then◌else◌}
 use Rattle.std.proofs.Math.Bool.{or-false}
 use Rattle.std.proofs.lemmas.Bool.{cases_Bool}
 use Rattle.versions.specs.Words.{Text, same_precedence}
-use Rattle.versions.specs.declared.bounds.Bounds.{Bounds}
+use Rattle.versions.specs.Bounds.{Reach}
 use Rattle.releases.specs.declared.release.Release.{Release}
 use Rattle.releases.specs.Releases.{IsFound, is_yanked, marked, stamped, versions_of}
 use Rattle.releases.specs.Kept.{IsKept}
@@ -31,7 +31,7 @@ length-marked (release ∷ rest) zero yanked = refl
 length-marked (release ∷ rest) (suc k) yanked = ap suc (length-marked rest k yanked)
 
 -- a mark changes nothing that is kept beside the releases
-pub IsKept-marked : (releases : List Release) (rising : List ℕ) (needs : List Text) (sets : List Growing) (bounds : List Bounds) (k : ℕ) (yanked : Bool)
+pub IsKept-marked : (releases : List Release) (rising : List ℕ) (needs : List Text) (sets : List Growing) (bounds : List Reach) (k : ℕ) (yanked : Bool)
     → IsKept releases rising needs sets bounds → IsKept (marked releases k yanked) rising needs sets bounds
 IsKept-marked releases rising needs sets bounds k yanked m = record {
   few = omega (arith, m.few, length-marked releases k yanked);

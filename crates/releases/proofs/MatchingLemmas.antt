@@ -1,9 +1,7 @@
 -- Matching sets: computed afresh, and kept up at a publication.
 use Rattle.std.proofs.Common.{◌≡◌, ◌∙◌, ◌<◌, ◌≤◌, ◌+◌, ◌++◌, ◌∷◌, [], ℕ, List, length, get_or, set, arith, ap, subst, sym, inl, inr, true, false, ◌||◌, ◌&&◌, ◌≢◌, length-append, get_or-set_same, get_or-set_other}
-use Rattle.std.specs.Prelude.{nat_eq, nat_lt, position, slice_get, Some}
+use Rattle.std.specs.Prelude.{nat_eq, nat_lt, min, slice_get, Some}
 use Rattle.std.specs.Str.{bytes_eq}
-use Rattle.std.proofs.lemmas.List.Quantifiers.{position-Some}
-use Rattle.versions.specs.NameLaws.{same_name}
 use Rattle.std.proofs.lemmas.Bool.{cases_lt}
 use Rattle.std.proofs.lemmas.Option.{get_or_from_slice_get, slice_get-get_or, slice_get_past, slice_get_within}
 use Rattle.std.proofs.lemmas.List.Folds.{list_any_at}
@@ -12,11 +10,11 @@ use Rattle.std.proofs.Math.Bool.{and-false, and-true, or-false, or-true}
 use Rattle.std.proofs.Math.Seq.{get_or-append_seam}
 use Rattle.terms.specs.Growing.{Growing}
 use Rattle.terms.specs.Sets.{has}
-use Rattle.versions.specs.Bounds.{IsBounded}
+use Rattle.versions.specs.Bounds.{IsBounded, Reach}
 use Rattle.versions.specs.Words.{Text, meets}
-use Rattle.versions.specs.declared.bounds.Bounds.{Bounds}
+use Rattle.releases.specs.declared.matching.TheConstants.{KEPT_SETS}
 use Rattle.releases.specs.declared.release.Release.{Release}
-use Rattle.releases.specs.Kept.{AreBounds, AreMatching, IsKept, IsMatching}
+use Rattle.releases.specs.Kept.{AreBounds, AreMatching, IsKept, IsKeptNext, IsMatching}
 use Rattle.releases.specs.Releases.{is_named, meets_at, meets_some, versions_of}
 
 itself : (k : ℕ) → nat_eq k k ≡ true
@@ -109,9 +107,9 @@ matching-end versions need n set le m k = m k ∙ elim (cases_lt k n) [
 
 -- the matching sets when those below i have the next ordinal where it is to be in
 pub record IsKeepingUp (versions : List Text) (version : Text) (needs : List Text) (sets : List Growing) (i : ℕ) : Type 0 where
-  pub paired : length sets ≡ length needs
-  pub done : (j : ℕ) (need : Text) (set : Growing) → j < i → j < length needs → IsMatching (versions ++ version ∷ []) (get_or needs j need) (get_or sets j set).ordinals
-  pub left : (j : ℕ) (need : Text) (set : Growing) → i ≤ j → j < length needs → IsMatching versions (get_or needs j need) (get_or sets j set).ordinals
+  pub paired : length sets ≡ min (length needs) KEPT_SETS
+  pub done : (j : ℕ) (need : Text) (set : Growing) → j < i → j < length sets → IsMatching (versions ++ version ∷ []) (get_or needs j need) (get_or sets j set).ordinals
+  pub left : (j : ℕ) (need : Text) (set : Growing) → i ≤ j → j < length sets → IsMatching versions (get_or needs j need) (get_or sets j set).ordinals
   pub room : (j : ℕ) (set : Growing) → i ≤ j → j < length sets → 0 < (get_or sets j set).room
 
 pub keeping_up-begin : (versions : List Text) (version : Text) (needs : List Text) (sets : List Growing) → AreMatching versions needs sets
@@ -127,7 +125,7 @@ pub keeping_up-end : (versions : List Text) (version : Text) (needs : List Text)
     → AreMatching (versions ++ version ∷ []) needs sets
 keeping_up-end versions version needs sets i le m = record {
   paired = m.paired;
-  exact = λ j need set lt. m.done j need set (omega (arith, m.paired)) lt;
+  exact = λ j need set lt. m.done j need set (omega (arith, lt)) lt;
 }
 
 module _ (versions : List Text) (version : Text) (needs : List Text) (sets : List Growing) (i : ℕ) (m : IsKeepingUp versions version needs sets i) (lt : i < length sets) where
@@ -137,15 +135,18 @@ module _ (versions : List Text) (version : Text) (needs : List Text) (sets : Lis
   same : (now : Growing) (sets' : List Growing) → sets' ≡ set sets i now → (d : Growing) → get_or sets' i d ≡ now
   same now sets' e d = ap (λ l. get_or l i d) e ∙ get_or-set_same sets i now d lt
 
+  many : (now : Growing) (sets' : List Growing) → sets' ≡ set sets i now → length sets' ≡ length sets
+  many now sets' e = ap length e ∙ length-set sets i now
+
   -- the set at i is as it is to be
   stepped : (now : Growing) (sets' : List Growing) → sets' ≡ set sets i now → ((need : Text) → IsMatching (versions ++ version ∷ []) (get_or needs i need) now.ordinals)
       → IsKeepingUp versions version needs sets' (i + 1)
   stepped now sets' e exact = record {
-    paired = ap length e ∙ length-set sets i now ∙ m.paired;
+    paired = many now sets' e ∙ m.paired;
     done = λ j need d below within. elim (cases_lt j i) [
       | inl before ↦
           let P : Growing → Type 0 = λ g. IsMatching (versions ++ version ∷ []) (get_or needs j need) g.ordinals in
-          subst P (sym (other now sets' e j d (λ (h : j ≡ i). absurd (omega arith)))) (m.done j need d before within)
+          subst P (sym (other now sets' e j d (λ (h : j ≡ i). absurd (omega arith)))) (m.done j need d before (omega (arith, within, many now sets' e)))
       | inr from ↦
           let is : i ≡ j = omega arith in
           let P : ℕ → Type 0 = λ n. IsMatching (versions ++ version ∷ []) (get_or needs n need) (get_or sets' n d).ordinals in
@@ -154,10 +155,10 @@ module _ (versions : List Text) (version : Text) (needs : List Text) (sets : Lis
     ];
     left = λ j need d from within.
         let P : Growing → Type 0 = λ g. IsMatching versions (get_or needs j need) g.ordinals in
-        subst P (sym (other now sets' e j d (λ (h : j ≡ i). absurd (omega arith)))) (m.left j need d (omega arith) within);
+        subst P (sym (other now sets' e j d (λ (h : j ≡ i). absurd (omega arith)))) (m.left j need d (omega arith) (omega (arith, within, many now sets' e)));
     room = λ j d from within.
         let P : Growing → Type 0 = λ g. 0 < g.room in
-        subst P (sym (other now sets' e j d (λ (h : j ≡ i). absurd (omega arith)))) (m.room j d (omega arith) (omega (arith, within, ap length e, length-set sets i now)));
+        subst P (sym (other now sets' e j d (λ (h : j ≡ i). absurd (omega arith)))) (m.room j d (omega arith) (omega (arith, within, many now sets' e)));
   }
 
   pub met-step : (now : Growing) (d : Growing) (r : Text) → meets (get_or needs i r) version ≡ true
@@ -167,7 +168,7 @@ module _ (versions : List Text) (version : Text) (needs : List Text) (sets : Lis
       let lt' : i < length needs = omega (arith, m.paired) in
       let met' : meets (get_or needs i need) version ≡ true = ap (λ t. meets t version) (get_or_default needs i need r lt') ∙ met in
       grown k
-      ∙ ap (λ b. b || nat_eq (length versions) k) (m.left i need d (omega arith) lt' k)
+      ∙ ap (λ b. b || nat_eq (length versions) k) (m.left i need d (omega arith) lt k)
       ∙ sym (meets_at-push versions version (get_or needs i need) k ∙ ap (λ b. meets_at versions (get_or needs i need) k || (nat_eq (length versions) k && b)) met'
       ∙ ap (λ b. meets_at versions (get_or needs i need) k || b) (and-true (nat_eq (length versions) k))))
 
@@ -176,15 +177,19 @@ module _ (versions : List Text) (version : Text) (needs : List Text) (sets : Lis
   unmet-step d r unmet sets' e = stepped (get_or sets i d) sets' e (λ need k.
       let lt' : i < length needs = omega (arith, m.paired) in
       let unmet' : meets (get_or needs i need) version ≡ false = ap (λ t. meets t version) (get_or_default needs i need r lt') ∙ unmet in
-      m.left i need d (omega arith) lt' k
+      m.left i need d (omega arith) lt k
       ∙ sym (meets_at-push versions version (get_or needs i need) k ∙ ap (λ b. meets_at versions (get_or needs i need) k || (nat_eq (length versions) k && b)) unmet'
       ∙ ap (λ b. meets_at versions (get_or needs i need) k || b) (and-false (nat_eq (length versions) k)) ∙ or-false (meets_at versions (get_or needs i need) k)))
 
 -- ---- bounds
 
 -- a requirement by its place has the bounds at this place
-pub bounds-at : (needs : List Text) (bounds : List Bounds) (i : ℕ) (need : Text) (of : Bounds) → AreBounds needs bounds → i < length needs → need ≡ get_or needs i need → IsBounded need (get_or bounds i of)
-bounds-at needs bounds i need of all lt at = let P : Text → Type 0 = λ t. IsBounded t (get_or bounds i of) in subst P (sym at) (all.exact i need of lt)
+pub bounds-at : (needs : List Text) (bounds : List Reach) (i : ℕ) (need : Text) (of : Reach) → AreBounds needs bounds → i < length needs
+    → need ≡ get_or needs i need → of ≡ get_or bounds i of → IsBounded need of
+bounds-at needs bounds i need of all lt at is =
+    let P : Text → Type 0 = λ t. IsBounded t (get_or bounds i of) in
+    let Q : Reach → Type 0 = λ b. IsBounded need b in
+    subst Q (sym is) (subst P (sym at) (all.exact i need of lt))
 
 -- what holds of each pair holds with one pair more
 pairs-push : {X Y : Type 0} (P : X → Y → Type 0) (xs : List X) (ys : List Y) (x : X) (y : Y) → length ys ≡ length xs
@@ -203,53 +208,74 @@ pairs-push {X = X} {Y = Y} P xs ys x y paired all one i d e lt = elim (cases_lt 
       subst Q (sym first) (subst (P x) (sym second) one)
 ]
 
-paired-push : {X Y : Type 0} (xs : List X) (ys : List Y) (x : X) (y : Y) → length ys ≡ length xs → length (ys ++ y ∷ []) ≡ length (xs ++ x ∷ [])
-paired-push xs ys x y paired = omega (arith, paired, length-append xs (x ∷ []), length-append ys (y ∷ []))
+-- the sets once one requirement more is named
+AreMatching-next : (versions needs : List Text) (need : Text) (sets sets' : List Growing) → AreMatching versions needs sets
+    → IsKeptNext versions need (length needs) sets sets' → AreMatching versions (needs ++ need ∷ []) sets'
+AreMatching-next versions needs need sets sets' m next =
+    let one : length (needs ++ need ∷ []) ≡ length needs + 1 = length-append needs (need ∷ []) in
+    elim (cases_lt (length needs) KEPT_SETS) [
+      | inl early ↦
+          let kept = next.first early in
+          let whole : length sets ≡ length needs = omega (arith, m.paired, early) in
+          let more : length sets' ≡ length sets + 1 = ap length kept.1 ∙ length-append sets (kept.0 ∷ []) in
+          record {
+            paired = omega (arith, one, more, whole, early);
+            exact = λ i n s lt.
+                let P : List Growing → Type 0 = λ l. IsMatching versions (get_or (needs ++ need ∷ []) i n) (get_or l i s).ordinals in
+                subst P (sym kept.1) (pairs-push (λ (t : Text) (g : Growing). IsMatching versions t g.ordinals) needs sets need kept.0 whole
+                (λ j d e under. m.exact j d e (omega (arith, under, whole))) kept.2 i n s (omega (arith, lt, one, more, whole)));
+          }
+      | inr late ↦
+          let same = next.later late in
+          record {
+            paired = omega (arith, one, ap length same, m.paired, late);
+            exact = λ i n s lt.
+                let under : i < length sets = omega (arith, lt, ap length same) in
+                let P : List Growing → Type 0 = λ l. IsMatching versions (get_or (needs ++ need ∷ []) i n) (get_or l i s).ordinals in
+                let Q : Text → Type 0 = λ t. IsMatching versions t (get_or sets i s).ordinals in
+                subst P (sym same) (subst Q (sym (get_or_append_left needs (need ∷ []) n i (omega (arith, under, m.paired)))) (m.exact i n s under));
+          }
+    ]
 
--- one requirement more, with its set and its bounds
-IsKept-push : (releases : List Release) (rising : List ℕ) (needs : List Text) (sets : List Growing) (bounds : List Bounds) (need : Text) (set : Growing) (of : Bounds)
-    → IsKept releases rising needs sets bounds → IsMatching (versions_of releases) need set.ordinals → IsBounded need of
-    → IsKept releases rising (needs ++ need ∷ []) (sets ++ set ∷ []) (bounds ++ of ∷ [])
-IsKept-push releases rising needs sets bounds need set of kept exact bounded = record {
+-- one requirement more, with its bounds, and with its set where that is kept
+IsKept-push : (releases : List Release) (rising : List ℕ) (needs : List Text) (sets sets' : List Growing) (bounds : List Reach) (need : Text) (of : Reach)
+    → IsKept releases rising needs sets bounds → IsKeptNext (versions_of releases) need (length needs) sets sets' → IsBounded need of
+    → IsKept releases rising (needs ++ need ∷ []) sets' (bounds ++ of ∷ [])
+IsKept-push releases rising needs sets sets' bounds need of kept next bounded = record {
   few = kept.few;
   in_order = kept.in_order;
-  matching = record {
-    paired = paired-push needs sets need set kept.matching.paired;
-    exact = pairs-push (λ (n : Text) (s : Growing). IsMatching (versions_of releases) n s.ordinals) needs sets need set kept.matching.paired kept.matching.exact exact;
-  };
+  matching = AreMatching-next (versions_of releases) needs need sets sets' kept.matching next;
   bounded = record {
-    paired = paired-push needs bounds need of kept.bounded.paired;
+    paired = omega (arith, kept.bounded.paired, length-append needs (need ∷ []), length-append bounds (of ∷ []));
     exact = pairs-push IsBounded needs bounds need of kept.bounded.paired kept.bounded.exact bounded;
   };
 }
 
-pub IsKept-named : (releases : List Release) (rising : List ℕ) (needs needs' : List Text) (sets sets' : List Growing) (bounds bounds' : List Bounds) (need : Text) (set : Growing) (of : Bounds)
-    → IsKept releases rising needs sets bounds → IsMatching (versions_of releases) need set.ordinals → IsBounded need of
-    → needs' ≡ needs ++ need ∷ [] → sets' ≡ sets ++ set ∷ [] → bounds' ≡ bounds ++ of ∷ [] → IsKept releases rising needs' sets' bounds'
-IsKept-named releases rising needs needs' sets sets' bounds bounds' need set of kept exact bounded en es eb =
-    rw (en, es, eb) (IsKept-push releases rising needs sets bounds need set of kept exact bounded)
+pub IsKept-named : (releases : List Release) (rising : List ℕ) (needs needs' : List Text) (sets sets' : List Growing) (bounds bounds' : List Reach) (need : Text) (of : Reach)
+    → IsKept releases rising needs sets bounds → IsKeptNext (versions_of releases) need (length needs) sets sets' → IsBounded need of
+    → needs' ≡ needs ++ need ∷ [] → bounds' ≡ bounds ++ of ∷ [] → IsKept releases rising needs' sets' bounds'
+IsKept-named releases rising needs needs' sets sets' bounds bounds' need of kept next bounded en eb =
+    rw (en, eb) (IsKept-push releases rising needs sets sets' bounds need of kept next bounded)
 
 -- ---- a look-up
 
--- the set at the place of the requirement is its matching set
-pub known-matching : (versions needs : List Text) (sets : List Growing) (need : Text) (i : ℕ) (set : Growing) → AreMatching versions needs sets
-    → position (bytes_eq need) needs ≡ Some i → set ≡ get_or sets i set → IsMatching versions need set.ordinals
-known-matching versions needs sets need i set m at is =
-    let p = position-Some (bytes_eq need) needs i [] at in
-    let named : need ≡ get_or needs i [] = same_name need (get_or needs i []) p.1 in
-    let P : Text → Type 0 = λ t. IsMatching versions t (get_or sets i set).ordinals in
-    let Q : Growing → Type 0 = λ s. IsMatching versions need s.ordinals in
-    subst Q (sym is) (subst P (sym named) (m.exact i [] set p.0))
-
--- and so is the set at a place where the requirement stands
+-- the set at the place of a requirement is its matching set
 pub placed-matching : (versions needs : List Text) (sets : List Growing) (need : Text) (i : ℕ) (set : Growing) → AreMatching versions needs sets
-    → slice_get needs i ≡ Some need → set ≡ get_or sets i set → IsMatching versions need set.ordinals
-placed-matching versions needs sets need i set m at is =
-    let within = slice_get_within needs i need at in
+    → slice_get needs i ≡ Some need → i < length sets → set ≡ get_or sets i set → IsMatching versions need set.ordinals
+placed-matching versions needs sets need i set m at within is =
     let named : get_or needs i [] ≡ need = get_or_from_slice_get needs i need [] at in
     let P : Text → Type 0 = λ t. IsMatching versions t (get_or sets i set).ordinals in
     let Q : Growing → Type 0 = λ s. IsMatching versions need s.ordinals in
     subst Q (sym is) (subst P named (m.exact i [] set within))
+
+-- and the bounds there are its bounds
+pub placed-bounds : (needs : List Text) (bounds : List Reach) (need : Text) (i : ℕ) (of : Reach) → AreBounds needs bounds
+    → slice_get needs i ≡ Some need → of ≡ get_or bounds i of → IsBounded need of
+placed-bounds needs bounds need i of all at is =
+    let named : get_or needs i [] ≡ need = get_or_from_slice_get needs i need [] at in
+    let P : Text → Type 0 = λ t. IsBounded t (get_or bounds i of) in
+    let Q : Reach → Type 0 = λ b. IsBounded need b in
+    subst Q (sym is) (subst P named (all.exact i [] of (slice_get_within needs i need at)))
 
 -- a requirement that stands at a place is named
 pub placed-named : (needs : List Text) (need : Text) (i : ℕ) → slice_get needs i ≡ Some need → bytes_eq need need ≡ true → true ≡ is_named needs need

@@ -36,7 +36,7 @@ pub AreMatching-same : (versions needs : List Text) (sets sets' : List Growing) 
     → ((i : ℕ) (d : Growing) → (get_or sets' i d).ordinals ≡ (get_or sets i d).ordinals) → AreMatching versions needs sets'
 AreMatching-same versions needs sets sets' m e same = record {
   paired = e ∙ m.paired;
-  exact = λ i need set lt. let P : List ℕ → Type 0 = λ l. IsMatching versions (get_or needs i need) l in subst P (sym (same i set)) (m.exact i need set lt);
+  exact = λ i need set lt. let P : List ℕ → Type 0 = λ l. IsMatching versions (get_or needs i need) l in subst P (sym (same i set)) (m.exact i need set (omega (arith, lt, e)));
 }
 
 -- what follows, where the call succeeded

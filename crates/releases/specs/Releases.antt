@@ -29,6 +29,15 @@ meets_some need (Some version) = meets need version
 abbrev pub meets_at : List Text → Text → ℕ → Bool
 meets_at versions need k = meets_some need (slice_get versions k)
 
+-- the ordinals from k on of the versions that meet a requirement
+abbrev pub meeting_from : ℕ → List Text → Text → List ℕ
+meeting_from k [] need = []
+meeting_from k (version ∷ rest) need = if meets need version then k ∷ meeting_from (suc k) rest need else meeting_from (suc k) rest need
+
+-- the ordinals of the versions that meet a requirement
+unfoldable pub meeting : List Text → Text → List ℕ
+meeting versions need = meeting_from 0 versions need
+
 -- whether a version of equal precedence is published and yanked
 abbrev pub is_yanked : List Release → Text → Bool
 is_yanked releases version = list_any (λ (release : Release). same_precedence version release.version && release.yanked) releases

@@ -1,23 +1,30 @@
 //! The releases that meet a requirement.
 
-ghost use Rattle.std.specs.Prelude.{◌≡◌, ◌<◌, ◌≤◌, ◌^◌, ◌∷◌, ◌++◌, [], ℕ, length, slice_index_or, IfOk, IsOk, OnOk};
+ghost use Rattle.std.specs.Prelude.{◌≡◌, ◌<◌, ◌≤◌, ◌^◌, ◌∷◌, ◌++◌, [], ℕ, length, slice_index_or, IfOk, IsOk, OnErr, OnOk};
 ghost use Rattle.terms.specs.Growing.{Growing};
 ghost use Rattle.terms.specs.Sets.{has, IsAscending};
-ghost use Rattle.releases.specs.Kept.{AreBounds, AreMatching, IsMatching};
+ghost use Rattle.releases.specs.Kept.{AreBounds, AreMatching, IsKeptNext, IsMatching};
 ghost use Rattle.releases.specs.Releases.{versions_of};
 ghost use Rattle.releases.specs.Matching.{ordinals_of};
+ghost use Rattle.versions.specs.Bounds.{IsBounded};
 
 use crate::release::Release;
+use crate::tested::Tested;
 use std::alloc::{AllocError, Global};
 use terms::{GrowingSet, VSet};
 use versions::{Bounds, Need, Published};
 
-/// The ordinals of the releases that meet a requirement: the set that is kept, or one that was
-/// computed for once.
+/// For how many requirements of a package the matching sets are kept: those that were named first. So
+/// many tests a publication costs at the most.
+pub(crate) const KEPT_SETS: usize = 128;
+
+/// The ordinals of the releases that meet a requirement: the set that is kept, one that was computed for
+/// once, or those that pass a test when they are asked for.
 #[derive(Drop)]
 pub enum Matching<'a> {
     Known(&'a GrowingSet),
     Computed(GrowingSet),
+    Tested(Tested<'a>),
 }
 
 impl Matching<'_> {
@@ -28,6 +35,7 @@ impl Matching<'_> {
         match self {
             Matching::Known(set) => set.has(ordinal),
             Matching::Computed(set) => set.has(ordinal),
+            Matching::Tested(tested) => tested.has(ordinal),
         }
     }
 
@@ -39,26 +47,52 @@ impl Matching<'_> {
         match self {
             Matching::Known(set) => set.set(alloc),
             Matching::Computed(set) => set.set(alloc),
+            Matching::Tested(tested) => tested.set(alloc),
         }
     }
 }
 
-/// The matching set of a requirement, computed afresh: one test a release.
+/// The matching set of a requirement, which has these bounds, computed afresh: one test a release.
 pub(crate) fn computed(
     alloc: Global,
     releases: &[Release],
     need: &Need,
+    bounds: &Bounds,
 ) -> Result<GrowingSet, AllocError>
-    requires { length releases.now ≤ 2 ^ 32 }
+    requires few { length releases.now ≤ 2 ^ 32 }
+    requires bounds { IsBounded need.now bounds.now }
     ensures { IfOk result (λ set. IsMatching (versions_of releases.now) need.now set.ordinals) }
 {
     let mut set = GrowingSet::new(alloc);
     for (ordinal, release) in releases.iter().enumerate() {
-        if need.admits(&release.version) {
+        if bounds.admit(need, &release.version) {
             set.insert(ordinal as u32)?;
         }
     }
     Ok(set)
+}
+
+/// Keeps the matching set of the requirement that comes to a place, if it is one of the first.
+pub(crate) fn keep_set(
+    alloc: Global,
+    releases: &[Release],
+    need: &Need,
+    bounds: &Bounds,
+    place: usize,
+    sets: &mut Vec<GrowingSet>,
+) -> Result<(), AllocError>
+    requires few { length releases.now ≤ 2 ^ 32 }
+    requires bounds { IsBounded need.now bounds.now }
+    ensures kept { OnOk result (IsKeptNext (versions_of releases.now) need.now place sets.old.items sets.new.items) }
+    ensures unchanged { OnErr result (sets.new.items ≡ sets.old.items) }
+{
+    if place >= KEPT_SETS {
+        return Ok(());
+    }
+    sets.reserve(1)?;
+    let set = computed(alloc, releases, need, bounds)?;
+    sets.push(set).unwrap();
+    Ok(())
 }
 
 /// Makes room for one ordinal more in each set.
@@ -74,7 +108,7 @@ pub(crate) fn make_room(sets: &mut [GrowingSet]) -> Result<(), AllocError>
 }
 
 /// Puts the ordinal of a version that is published into each matching set whose requirement it
-/// meets: one test a requirement, by its bounds. Takes no memory.
+/// meets: one test a set, by the requirement's bounds. Takes no memory.
 pub(crate) fn keep_up(
     releases: &[Release],
     needs: &[Need],

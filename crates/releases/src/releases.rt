@@ -2,15 +2,17 @@
 
 ghost use Rattle.std.specs.Prelude.{◌≡◌, ◌<◌, ◌≤◌, ◌^◌, ◌∷◌, ◌++◌, [], ℕ, Bool, true, false, is_some, length, slice_get, Some, IfNone, IfOk, IfSome, IsOk, OnErr, OnOk};
 ghost use Rattle.terms.specs.Sets.{has};
+ghost use Rattle.releases.specs.Kept.{IsMatching};
 ghost use Rattle.releases.specs.Matching.{ordinals_of};
 ghost use Rattle.releases.specs.Releases.{has_version, is_named, is_yanked, marked, meets_at, published, stamped, versions_of, with_need, IsFound};
 ghost use Rattle.releases.specs.Rising.{IsHighest, IsRising};
 ghost use Rattle.releases.specs.declared.release.Release.{Release};
 ghost use Rattle.versions.specs.Words.{Text};
 
-use crate::matching::{Matching, computed, keep_up, make_room};
+use crate::matching::{Matching, computed, keep_set, keep_up, make_room};
 use crate::release::Release;
 use crate::rising::{highest_of, place_of, raise};
+use crate::tested::Tested;
 use indexmap::IndexSet;
 use std::alloc::{AllocError, Global};
 use std::marker::Model;
@@ -102,14 +104,14 @@ impl Releases {
     }
 
     /// The ordinals of the releases that meet a requirement: a look-up where its text is named, which
-    /// takes no memory, else one test a release.
+    /// takes no memory, else one test a release. Of those that are named the sets of the first are kept.
     pub fn matching(&self, need: &Need) -> Result<Matching<'_>, AllocError>
         ensures members { IfOk result (λ m. (k : ℕ) → has (ordinals_of m) k ≡ meets_at (versions_of self.now.releases) need.now k) }
         ensures known { is_named self.now.needs need.now ≡ true → IsOk result }
     {
-        match self.needs.get_index_of(need) {
-            Some(index) => Ok(Matching::Known(&self.sets[index])),
-            None => Ok(Matching::Computed(computed(self.alloc, &self.releases, need)?)),
+        match self.named(need) {
+            Some((place, named)) => Ok(self.lent(place, named)),
+            None => Ok(Matching::Computed(self.computed(need)?)),
         }
     }
 
@@ -119,10 +121,30 @@ impl Releases {
         ensures members { IfOk result (λ m. (k : ℕ) → has (ordinals_of m) k ≡ meets_at (versions_of self.now.releases) need.now k) }
         ensures known { is_named self.now.needs need.now ≡ true → IsOk result }
     {
-        match self.needs.get_index(place) {
-            Some(named) if *named == *need => Ok(Matching::Known(&self.sets[place])),
-            _ => self.matching(need),
+        match self.named_at(need, place) {
+            Some((at, named)) => Ok(self.lent(at, named)),
+            None => Ok(Matching::Computed(self.computed(need)?)),
         }
+    }
+
+    /// What meets the requirement that is named at a place: its set where it is kept, else a test of each
+    /// release. Takes no memory.
+    fn lent<'a>(&'a self, place: usize, need: &'a Need) -> Matching<'a>
+        requires { slice_get self.now.needs place ≡ Some need.now }
+        ensures { (k : ℕ) → has (ordinals_of result) k ≡ meets_at (versions_of self.now.releases) need.now k }
+    {
+        if place < self.sets.len() {
+            return Matching::Known(&self.sets[place]);
+        }
+        Matching::Tested(Tested::new(&self.releases, need, &self.bounds[place]))
+    }
+
+    /// The matching set of a requirement, computed for once.
+    fn computed(&self, need: &Need) -> Result<GrowingSet, AllocError>
+        ensures { IfOk result (λ set. IsMatching (versions_of self.now.releases) need.now set.ordinals) }
+    {
+        let bounds = Bounds::of(need);
+        computed(self.alloc, &self.releases, need, &bounds)
     }
 
     /// The release of highest precedence in a set. No versions are compared: it costs a look for each
@@ -145,8 +167,8 @@ impl Releases {
         highest_of(&self.rising, passes)
     }
 
-    /// Makes room for one release more, at the cost of a look at each named requirement. To every
-    /// other call the releases are as they were.
+    /// Makes room for one release more, at the cost of a look at each set that is kept. To every other
+    /// call the releases are as they were.
     pub fn reserve(&mut self) -> Result<(), AllocError>
         ensures releases { self.new.releases ≡ self.old.releases }
         ensures needs { self.new.needs ≡ self.old.needs }
@@ -159,7 +181,7 @@ impl Releases {
     }
 
     /// Publishes a version of new precedence, in room that was made: it takes no memory. It costs one
-    /// test a named requirement, and moves the ordinals of higher precedence up by one place.
+    /// test for each set that is kept, and moves the ordinals of higher precedence up by one place.
     pub fn push(&mut self, version: Published)
         requires room { 0 < self.old.room }
         requires new { has_version (versions_of self.old.releases) version ≡ false }
@@ -183,8 +205,8 @@ impl Releases {
             .unwrap();
     }
 
-    /// The equal requirement whose matching set is kept, so that equal ones can share its text, and its
-    /// place, for [`Releases::matching_at`]. A requirement stays at its place.
+    /// The equal requirement that is named, so that equal ones can share its text, and its place, for
+    /// [`Releases::matching_at`]. A requirement stays at its place.
     pub fn named(&self, need: &Need) -> Option<(usize, &Need)>
         ensures same { IfSome result (λ kept. kept.1.now ≡ need.now) }
         ensures there { is_some result ≡ is_named self.now.needs need.now }
@@ -206,8 +228,8 @@ impl Releases {
         }
     }
 
-    /// Names a requirement on the package: its matching set is kept from now on. It costs one test a
-    /// release where the requirement is new, else a look-up. No answer but the speed of
+    /// Names a requirement on the package: its matching set is kept from now on, if it is one of the
+    /// first. Then it costs one test a release, else a look-up. No answer but the speed of
     /// [`Releases::matching`] shows it, so it can be called ahead of the publication that names it.
     /// Answers the place of the requirement.
     pub fn name_need(&mut self, need: &Need) -> Result<usize, AllocError>
@@ -220,14 +242,20 @@ impl Releases {
         if let Some(place) = self.needs.get_index_of(need) {
             return Ok(place);
         }
-        self.sets.reserve(1)?;
+        self.needs.reserve(1)?;
         self.bounds.reserve(1)?;
-        let bounds = Bounds::of(need);
-        let set = computed(self.alloc, &self.releases, need)?;
         let named = need.clone()?;
+        let bounds = Bounds::of(need);
         let place = self.needs.len();
-        self.needs.insert(named)?;
-        self.sets.push(set).unwrap();
+        keep_set(
+            self.alloc,
+            &self.releases,
+            need,
+            &bounds,
+            place,
+            &mut self.sets,
+        )?;
+        self.needs.insert(named).unwrap();
         self.bounds.push(bounds).unwrap();
         Ok(place)
     }

@@ -19,10 +19,9 @@ use Rattle.semver.specs.declared.Version.{Version}
 use Rattle.versions.proofs.ReadingLemmas.{meets-read}
 use Rattle.semver.specs.Rules.{in_range}
 use Rattle.semver.specs.Rules as rules
-use Rattle.versions.specs.Bounds.{beyond, beyond_numbers, caret_end, first_of, has, is_before, is_cut_short, is_in_order, is_within, next_minor, next_patch, numbers_of, range_of, zero_beyond, IsBounded}
+use Rattle.versions.specs.Bounds.{beyond, beyond_numbers, caret_end, first_of, has, is_before, is_cut_short, is_in_order, is_within, next_minor, next_patch, numbers_of, range_of, zero_beyond, IsBounded, Reach}
 use Rattle.versions.specs.Bounds as spec
 use Rattle.versions.specs.Words.{Text}
-use Rattle.versions.specs.declared.bounds.Bounds.{Bounds}
 use Rattle.versions.specs.declared.bounds.Numbers.{Numbers}
 use Rattle.versions.specs.declared.bounds.Range.{Range}
 
@@ -264,7 +263,7 @@ range-matches c o v plain = op-range c v plain c.op (shape_of c c.minor c.patch 
 -- ---- the bounds of a requirement
 
 -- what is known of the comparators so far
-pub record IsBoundedBy (cs : List Comparator) (bounds : Bounds) : Type 0 where
+pub record IsBoundedBy (cs : List Comparator) (bounds : Reach) : Type 0 where
   pub range : bounds.is_vague ≡ false → (v : Version) → pre_text v.pre ≡ [] → has bounds.range (numbers_of v) ≡ list_all (λ c. matches_op c.op c v) cs
   pub closed : bounds.opens ≡ false → (v : Version) → list_any (λ c. pre_is_compatible c v) cs ≡ false
 
@@ -273,7 +272,7 @@ closed_one : (c : Comparator) (v : Version) → length (pre_text c.pre) ≡ 0 �
 closed_one c v none = grind (arith, common_steps)
 
 -- one comparator more
-pub bounded-more : (cs : List Comparator) (i : ℕ) (c : Comparator) (old new : Bounds) → i < length cs → c ≡ get_or cs i c
+pub bounded-more : (cs : List Comparator) (i : ℕ) (c : Comparator) (old new : Reach) → i < length cs → c ≡ get_or cs i c
     → (new.is_vague ≡ false → (old.is_vague ≡ false) × ((v : Version) → pre_text v.pre ≡ [] → has new.range (numbers_of v) ≡ (has old.range (numbers_of v) && matches_op c.op c v)))
     → (new.opens ≡ false → (old.opens ≡ false) × (length (pre_text c.pre) ≡ 0))
     → IsBoundedBy (take i cs) old → IsBoundedBy (take (i + 1) cs) new
@@ -286,7 +285,7 @@ bounded-more cs i c old new lt at range opens so_far = record {
 }
 
 -- all of them
-pub bounded : (need : Text) (cs : List Comparator) (i : ℕ) (bounds : Bounds) → req_of need ≡ Ok (map comparator_view cs) → length cs ≤ i
+pub bounded : (need : Text) (cs : List Comparator) (i : ℕ) (bounds : Reach) → req_of need ≡ Ok (map comparator_view cs) → length cs ≤ i
     → IsBoundedBy (take i cs) bounds → IsBounded need bounds
 bounded need cs i bounds read all so_far =
     let whole = rw (take_all i cs all) at so_far in

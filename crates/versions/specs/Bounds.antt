@@ -7,7 +7,6 @@ use Rattle.semver.specs.declared.Op.{Op}
 use Rattle.semver.specs.declared.Op.TheVariants as op
 use Rattle.semver.specs.declared.Version.{Version}
 use Rattle.versions.specs.Words.{Text, meets}
-use Rattle.versions.specs.declared.bounds.Bounds.{Bounds}
 use Rattle.versions.specs.declared.bounds.Numbers.{Numbers}
 use Rattle.versions.specs.declared.bounds.Range.{Range}
 
@@ -91,8 +90,17 @@ range_of op.Caret c = record { lowest = first_of c; end = Some (caret_end c) }
 
 -- ---- what a requirement admits
 
+-- what the bounds of a requirement tell
+pub record Reach : Type 0 where
+  -- the numbers of the versions without a pre-release that meet it
+  pub range : Range
+  -- whether a comparator has a pre-release, without which none meets the requirement
+  pub opens : Bool
+  -- whether the range is not known
+  pub is_vague : Bool
+
 -- the bounds are those of the requirement
-pub record IsBounded (need : Text) (bounds : Bounds) : Type 0 where
+pub record IsBounded (need : Text) (bounds : Reach) : Type 0 where
   -- a version without a pre-release meets it where its numbers are in the range
   pub range : bounds.is_vague ≡ false → (version : Text) (v : Version) → version_parts version ≡ Ok (parts_of v) → pre_text v.pre ≡ []
       → has bounds.range (numbers_of v) ≡ meets need version

@@ -11,20 +11,21 @@ ghost use Rattle.versions.specs.declared.bounds.Numbers.{Numbers};
 use crate::need::Need;
 use crate::published::Published;
 use semver::{Comparator, Op, Version};
+use std::marker::Model;
 
 /// The three numbers of a version.
 #[derive(Clone, Copy)]
 pub struct Numbers {
-    major: u64,
-    minor: u64,
-    patch: u64,
+    pub major: u64,
+    pub minor: u64,
+    pub patch: u64,
 }
 
 /// The numbers from the lowest on, and before the end where there is one.
 #[derive(Clone, Copy)]
 pub struct Range {
-    lowest: Numbers,
-    end: Option<Numbers>,
+    pub lowest: Numbers,
+    pub end: Option<Numbers>,
 }
 
 const ZERO: Numbers = Numbers {
@@ -45,6 +46,24 @@ pub struct Bounds {
     opens: bool,
     /// Whether the range is not known.
     is_vague: bool,
+}
+
+impl Model for Bounds {
+    ghost use Rattle.versions.specs.Bounds.{Reach};
+
+    ghost Value = { Reach };
+
+    ghost view = { λ b. record {
+      range = b.range;
+      opens = b.opens;
+      is_vague = b.is_vague;
+    } };
+
+    ghost inverse = { λ r. record {
+      range = r.range;
+      opens = r.opens;
+      is_vague = r.is_vague;
+    } };
 }
 
 impl Numbers {

@@ -5,19 +5,19 @@ use Rattle.releases.specs.declared.release.Release.{Release}
 use Rattle.releases.specs.Releases.{versions_of}
 use Rattle.releases.proofs.MatchingLemmas.{matching-end, matching-in, matching-out, meets_at-read}
 use Rattle.releases.proofs.matching.computed.Goals as goal
-use Rattle.releases.proofs.matching.computed.Goals.{then-admits+in_ok-insert, else-admits}
+use Rattle.releases.proofs.matching.computed.Goals.{then-admit+in_ok-insert, else-admit}
 
 pub loop-ordinal-preserved : goal.loop-ordinal-preserved
 loop-ordinal-preserved c =
     let read = meets_at-read c.args.releases.now c.args.need.now c.loop-ordinal.ordinal c.index-releases-ordinal.result c.loop-ordinal-test.true
-    ∙ ap (λ (r : Release). meets c.args.need.now r.version) (sym c.index-releases-ordinal.is) ∙ sym c.admits.ensures in
-    elim c.if-admits.branch [
-      | then-admits+in_ok-insert w ↦
+    ∙ ap (λ (r : Release). meets c.args.need.now r.version) (sym c.index-releases-ordinal.is) ∙ sym c.admit.ensures in
+    elim c.if-admit.branch [
+      | then-admit+in_ok-insert w ↦
           rw w.set-is (matching-in (versions_of c.args.releases.now) c.args.need.now c.loop-ordinal.ordinal c.loop-ordinal.set.ordinals c.loop-ordinal.invariant
-          _ (read ∙ w.if-admits.true) w.in_ok-insert.ensures.added)
-      | else-admits w ↦
+          _ (read ∙ w.if-admit.true) w.in_ok-insert.ensures.added)
+      | else-admit w ↦
           rw w.set-is (matching-out (versions_of c.args.releases.now) c.args.need.now c.loop-ordinal.ordinal c.loop-ordinal.set.ordinals c.loop-ordinal.invariant
-          (read ∙ w.if-admits.false))
+          (read ∙ w.if-admit.false))
     ]
 
 pub returns : goal.returns

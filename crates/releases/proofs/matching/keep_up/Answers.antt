@@ -27,4 +27,4 @@ loop-i-preserved c =
 pub admit-requires : goal.admit-requires
 admit-requires c =
     let paired = c.requires.matching.paired in
-    bounds-at c.args.needs.now c.args.bounds.now c.loop-i.i c.index-needs-i.result _ c.requires.bounds (omega (arith, paired)) c.index-needs-i.is
+    bounds-at c.args.needs.now c.args.bounds.now c.loop-i.i c.index-needs-i.result c.index-bounds-i.result c.requires.bounds (omega (arith, paired)) c.index-needs-i.is c.index-bounds-i.is

@@ -5,10 +5,9 @@ use Rattle.std.specs.Str.{bytes_eq}
 use Rattle.std.proofs.lemmas.List.Quantifiers.{position-Some}
 use Rattle.std.proofs.lemmas.Option.{slice_get-get_or}
 use Rattle.std.proofs.Math.Seq.{get_or-append_seam}
-use Rattle.terms.specs.Growing.{Growing}
 use Rattle.versions.specs.NameLaws.{same_name}
 use Rattle.versions.specs.Words.{Text}
-use Rattle.versions.specs.declared.bounds.Bounds.{Bounds}
+use Rattle.versions.specs.Bounds.{Reach}
 use Rattle.releases.proofs.MatchingLemmas.{IsKept-named}
 use Rattle.releases.proofs.releases.Releases.name_need.Goals as goal
 
@@ -38,15 +37,19 @@ returns-in-Some-clause-place c = rw (← c.self.view_is) (known c.self.inside.ne
 
 pub returns-clause-place : goal.returns-clause-place
 returns-clause-place c =
-    last c.self.inside.needs.keys _ c.args.need.now c.in_ok-named.named c.len-place.result c.in_ok-named.ensures.cases c.len-place.ensures.len (sym c.in_default.ensures.found) c.in_ok-insert.ensures.keys
+    let keys = rw c.unwrap.ensures at c.insert.ensures.keys in
+    let same : c.reserve.new.self.keys ≡ c.self.inside.needs.keys = c.in_ok-reserve.ensures.keys in
+    last c.self.inside.needs.keys _ c.args.need.now c.in_ok-named.named c.len-place.result c.in_ok-named.ensures.cases (c.len-place.ensures.len ∙ ap length same) (sym c.in_default.ensures.found)
+    (rw same at keys)
 
 pub invariant_of-self-2 : goal.invariant_of-self-2
 invariant_of-self-2 c =
-    let exact = rw c.deref.ensures.value at c.in_ok-set.ensures in
-    let set_in = rw c.unwrap.ensures at c.push.ensures.items in
-    let sets : c.push.new.self.items ≡ c.self.inside.sets.items ++ c.in_ok-set.set ∷ [] = set_in ∙ ap (λ (l : List Growing). l ++ c.in_ok-set.set ∷ []) c.in_ok-reserve.ensures.items in
-    let bounds_in = rw c.unwrap-2.ensures at c.push-2.ensures.items in
-    let bounds : c.push-2.new.self.items ≡ c.self.inside.bounds.items ++ c.of-bounds.result ∷ [] = bounds_in ∙ ap (λ (l : List Bounds). l ++ c.of-bounds.result ∷ []) c.in_ok-reserve-2.ensures.items in
-    let needs = grown c.self.inside.needs.keys _ c.args.need.now c.in_ok-named.named c.in_ok-named.ensures.cases (sym c.in_default.ensures.found) c.in_ok-insert.ensures.keys in
-    IsKept-named c.self.inside.releases.items c.self.inside.rising.items c.self.inside.needs.keys _ c.self.inside.sets.items _ c.self.inside.bounds.items _ c.args.need.now c.in_ok-set.set c.of-bounds.result
-    c.self.invariant exact c.of-bounds.ensures needs sets bounds
+    let bounds_in = rw c.unwrap-2.ensures at c.push.ensures.items in
+    let bounds : c.push.new.self.items ≡ c.self.inside.bounds.items ++ c.of-bounds.result ∷ [] = bounds_in ∙ ap (λ (l : List Reach). l ++ c.of-bounds.result ∷ []) c.in_ok-reserve-2.ensures.items in
+    let keys = rw c.unwrap.ensures at c.insert.ensures.keys in
+    let same : c.reserve.new.self.keys ≡ c.self.inside.needs.keys = c.in_ok-reserve.ensures.keys in
+    let placed : c.len-place.result ≡ length c.self.inside.needs.keys = c.len-place.ensures.len ∙ ap length same in
+    let kept = rw (c.deref.ensures.value, placed) at c.in_ok-keep_set.ensures.kept in
+    let needs = grown c.self.inside.needs.keys _ c.args.need.now c.in_ok-named.named c.in_ok-named.ensures.cases (sym c.in_default.ensures.found) (rw same at keys) in
+    IsKept-named c.self.inside.releases.items c.self.inside.rising.items c.self.inside.needs.keys _ c.self.inside.sets.items _ c.self.inside.bounds.items _ c.args.need.now c.of-bounds.result
+    c.self.invariant kept c.of-bounds.ensures needs bounds
