@@ -11,6 +11,9 @@ use std::alloc::{AllocError, Global};
 use terms::{Pkg, Term, VSet};
 use versions::{Name, Need};
 
+// What was made so far is dropped by a call where memory is refused. Else what dropping it does would stand in the proof
+// of each way out of each function.
+
 /// The name of a package.
 fn package_name(registry: &Registry, pkg: Pkg) -> Result<Name, AllocError>
     requires { IsSome (package_at registry.now.packages pkg) }
@@ -44,9 +47,22 @@ fn named_terms(
 {
     let mut named = Vec::with_capacity(alloc, terms.len())?;
     for entry in terms {
-        let name = name_of(registry, entry.0)?;
-        let term = entry.1.copy(alloc)?;
-        named.push((name, term))?;
+        let name = match name_of(registry, entry.0) {
+            Ok(name) => name,
+            Err(error) => {
+                drop(named);
+                return Err(error);
+            }
+        };
+        let term = match entry.1.copy(alloc) {
+            Ok(term) => term,
+            Err(error) => {
+                drop(name);
+                drop(named);
+                return Err(error);
+            }
+        };
+        named.push_reserved((name, term));
     }
     Ok(NamedTerms::new(named))
 }
@@ -61,8 +77,22 @@ pub(crate) fn copied(
     ensures { IfOk result (λ copy. copy ≡ (versions.now, need.now, within.now)) }
 {
     let need = need.clone()?;
-    let versions = versions.copy(alloc)?;
-    Ok((versions, need, within.copy(alloc)?))
+    let versions = match versions.copy(alloc) {
+        Ok(versions) => versions,
+        Err(error) => {
+            drop(need);
+            return Err(error);
+        }
+    };
+    let within = match within.copy(alloc) {
+        Ok(within) => within,
+        Err(error) => {
+            drop(need);
+            drop(versions);
+            return Err(error);
+        }
+    };
+    Ok((versions, need, within))
 }
 
 fn named_premise(
@@ -75,13 +105,26 @@ fn named_premise(
     ensures { IfOk result (λ named. numbered_premise registry.now.packages named ≡ Some premise.now) }
 {
     let package = package_name(registry, premise.package)?;
-    let target = name_of(registry, premise.target)?;
-    let (versions, need, within) = copied(
+    let target = match name_of(registry, premise.target) {
+        Ok(target) => target,
+        Err(error) => {
+            drop(package);
+            return Err(error);
+        }
+    };
+    let (versions, need, within) = match copied(
         alloc,
         &premise.versions,
         &premise.need,
         &premise.within,
-    )?;
+    ) {
+        Ok(made) => made,
+        Err(error) => {
+            drop(package);
+            drop(target);
+            return Err(error);
+        }
+    };
     Ok(NamedPremise {
         package,
         versions,
@@ -103,7 +146,14 @@ fn named_cause(alloc: Global, registry: &Registry, cause: &Cause) -> Result<Name
         Cause::Need(index) => Ok(NamedCause::Need(*index)),
         Cause::NotAllowed(pkg, versions) => {
             let name = package_name(registry, *pkg)?;
-            Ok(NamedCause::NotAllowed(name, versions.copy(alloc)?))
+            let versions = match versions.copy(alloc) {
+                Ok(versions) => versions,
+                Err(error) => {
+                    drop(name);
+                    return Err(error);
+                }
+            };
+            Ok(NamedCause::NotAllowed(name, versions))
         }
         Cause::Root => Ok(NamedCause::Root),
     }
@@ -120,7 +170,14 @@ fn named_causes(
     ensures two { IfOk result (λ named. numbered_cause registry.now.packages named.1 ≡ Some causes.now.1) }
 {
     let one = named_cause(alloc, registry, &causes.0)?;
-    Ok((one, named_cause(alloc, registry, &causes.1)?))
+    let two = match named_cause(alloc, registry, &causes.1) {
+        Ok(two) => two,
+        Err(error) => {
+            drop(one);
+            return Err(error);
+        }
+    };
+    Ok((one, two))
 }
 
 fn named_line(alloc: Global, registry: &Registry, line: &Line) -> Result<NamedLine, AllocError>
@@ -130,8 +187,21 @@ fn named_line(alloc: Global, registry: &Registry, line: &Line) -> Result<NamedLi
 {
     let terms = line.conclusion.terms();
     let pivot = name_of(registry, line.pivot)?;
-    let conclusion = named_terms(alloc, registry, terms)?;
-    let causes = named_causes(alloc, registry, &line.causes)?;
+    let conclusion = match named_terms(alloc, registry, terms) {
+        Ok(conclusion) => conclusion,
+        Err(error) => {
+            drop(pivot);
+            return Err(error);
+        }
+    };
+    let causes = match named_causes(alloc, registry, &line.causes) {
+        Ok(causes) => causes,
+        Err(error) => {
+            drop(pivot);
+            drop(conclusion);
+            return Err(error);
+        }
+    };
     Ok(NamedLine {
         conclusion,
         causes,
@@ -163,8 +233,14 @@ pub fn named_lines(
 {
     let mut named = Vec::with_capacity(alloc, lines.len())?;
     for line in lines {
-        let told = named_line(alloc, registry, line)?;
-        named.push(told)?;
+        let told = match named_line(alloc, registry, line) {
+            Ok(told) => told,
+            Err(error) => {
+                drop(named);
+                return Err(error);
+            }
+        };
+        named.push_reserved(told);
     }
     Ok(NamedDerivation::new(named))
 }

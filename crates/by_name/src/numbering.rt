@@ -32,10 +32,17 @@ fn numbered_terms(
     let mut numbered = Vec::with_capacity(alloc, terms.len())?;
     for entry in terms {
         let Some(pkg) = number_in(registry, &entry.0) else {
+            drop(numbered);
             return Ok(None);
         };
-        let term = entry.1.copy(alloc)?;
-        numbered.push((pkg, term))?;
+        let term = match entry.1.copy(alloc) {
+            Ok(term) => term,
+            Err(error) => {
+                drop(numbered);
+                return Err(error);
+            }
+        };
+        numbered.push_reserved((pkg, term));
     }
     Ok(Some(numbered))
 }
@@ -116,10 +123,17 @@ fn numbered_causes(
     let Some(one) = numbered_cause(alloc, registry, &causes.0)? else {
         return Ok(None);
     };
-    let Some(two) = numbered_cause(alloc, registry, &causes.1)? else {
-        return Ok(None);
-    };
-    Ok(Some((one, two)))
+    match numbered_cause(alloc, registry, &causes.1) {
+        Ok(Some(two)) => Ok(Some((one, two))),
+        Ok(None) => {
+            drop(one);
+            Ok(None)
+        }
+        Err(error) => {
+            drop(one);
+            Err(error)
+        }
+    }
 }
 
 fn numbered_line(
@@ -135,14 +149,21 @@ fn numbered_line(
     let Some(conclusion) = numbered_conclusion(alloc, registry, line.conclusion.terms())? else {
         return Ok(None);
     };
-    let Some(causes) = numbered_causes(alloc, registry, &line.causes)? else {
-        return Ok(None);
-    };
-    Ok(Some(Line {
-        conclusion,
-        causes,
-        pivot,
-    }))
+    match numbered_causes(alloc, registry, &line.causes) {
+        Ok(Some(causes)) => Ok(Some(Line {
+            conclusion,
+            causes,
+            pivot,
+        })),
+        Ok(None) => {
+            drop(conclusion);
+            Ok(None)
+        }
+        Err(error) => {
+            drop(conclusion);
+            Err(error)
+        }
+    }
 }
 
 /// The lines that names stand for in a registry, under the same conditions as [`numbered`].
@@ -155,10 +176,18 @@ pub fn numbered_lines(
 {
     let mut numbered = Vec::with_capacity(alloc, lines.len())?;
     for line in lines {
-        let Some(found) = numbered_line(alloc, registry, line)? else {
+        let found = match numbered_line(alloc, registry, line) {
+            Ok(found) => found,
+            Err(error) => {
+                drop(numbered);
+                return Err(error);
+            }
+        };
+        let Some(found) = found else {
+            drop(numbered);
             return Ok(None);
         };
-        numbered.push(found)?;
+        numbered.push_reserved(found);
     }
     Ok(Some(numbered))
 }

@@ -50,10 +50,22 @@ fn is_derived(
     let Some(one) = find_given(alloc, registry, request, kept, earlier, &line.causes.0)? else {
         return Ok(false);
     };
-    let Some(two) = find_given(alloc, registry, request, kept, earlier, &line.causes.1)? else {
-        return Ok(false);
-    };
-    follows(alloc, one.incompat(), two.incompat(), line)
+    match find_given(alloc, registry, request, kept, earlier, &line.causes.1) {
+        Ok(Some(two)) => {
+            let answer = follows(alloc, one.incompat(), two.incompat(), line);
+            drop(two);
+            drop(one);
+            answer
+        }
+        Ok(None) => {
+            drop(one);
+            Ok(false)
+        }
+        Err(error) => {
+            drop(one);
+            Err(error)
+        }
+    }
 }
 
 /// Whether each line follows from facts and the lines before it, by what is kept of the needs.
@@ -98,10 +110,22 @@ fn is_offered(alloc: Global, earlier: &[Line], line: &Line) -> Result<bool, Allo
     let Some(one) = find_offered(alloc, earlier, &line.causes.0)? else {
         return Ok(false);
     };
-    let Some(two) = find_offered(alloc, earlier, &line.causes.1)? else {
-        return Ok(false);
-    };
-    follows(alloc, one.incompat(), two.incompat(), line)
+    match find_offered(alloc, earlier, &line.causes.1) {
+        Ok(Some(two)) => {
+            let answer = follows(alloc, one.incompat(), two.incompat(), line);
+            drop(two);
+            drop(one);
+            answer
+        }
+        Ok(None) => {
+            drop(one);
+            Ok(false)
+        }
+        Err(error) => {
+            drop(one);
+            Err(error)
+        }
+    }
 }
 
 /// Whether each line follows from premises and the lines before it.

@@ -182,9 +182,15 @@ impl Store {
         ensures unchanged { OnErr result (self.new.members ≡ self.old.members) }
         ensures succeeds { learn_refusal registry.now.packages self.old.members learnt ≡ None → 0 < self.old.room → IsOk result }
     {
-        self.check(registry, &learnt)?;
+        if let Err(refusal) = self.check(registry, &learnt) {
+            drop(learnt);
+            return Err(refusal);
+        }
         if self.slots.len() == self.slots.capacity() {
-            self.reserve()?;
+            if let Err(refusal) = self.reserve() {
+                drop(learnt);
+                return Err(refusal);
+            }
         }
         Ok(self.push(learnt)?)
     }

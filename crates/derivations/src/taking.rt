@@ -1,7 +1,7 @@
 // What the lines of a derivation say, copied or taken from the lines of a search.
 
-ghost use Rattle.std.specs.Prelude.{◌≡◌, ◌≢◌, ◌<◌, [], ℕ, length, slice_get, IfOk};
-ghost use Rattle.derivations.specs.Taking.{lines_at, said_at, ArePlaced};
+ghost use Rattle.std.specs.Prelude.{◌≡◌, ◌≢◌, ◌<◌, ◌++◌, ◌∷◌, [], ℕ, length, slice_get, IfOk, OnOk};
+ghost use Rattle.derivations.specs.Taking.{line_at, lines_at, said_at, ArePlaced};
 
 use crate::cutting::Known;
 use crate::facts::Cause;
@@ -18,6 +18,37 @@ pub struct Step {
     pub pivot: Pkg,
 }
 
+/// Puts the line of a step behind the others, with a copy of what the search's line says.
+fn copy_line(
+    alloc: Global,
+    known: &[Known],
+    lines: &mut Vec<Line>,
+    step: Step,
+) -> Result<(), AllocError>
+    requires { step.place < length known.now }
+    ensures { OnOk result (lines.new.items ≡ lines.old.items ++ line_at known.now step ∷ []) }
+{
+    let Step {
+        place,
+        causes,
+        pivot,
+    } = step;
+    match known[place].conclusion.copy(alloc) {
+        Ok(conclusion) => {
+            lines.push(Line {
+                conclusion,
+                causes,
+                pivot,
+            })?;
+            Ok(())
+        }
+        Err(error) => {
+            drop(causes);
+            Err(error)
+        }
+    }
+}
+
 /// The lines of these steps, with copies of what the search's lines say.
 pub fn lines_copied(
     alloc: Global,
@@ -29,11 +60,13 @@ pub fn lines_copied(
 {
     let mut lines = Vec::with_capacity(alloc, steps.len())?;
     for step in steps {
-        lines.push(Line {
-            conclusion: known[step.place].conclusion.copy(alloc)?,
-            causes: step.causes,
-            pivot: step.pivot,
-        })?;
+        match copy_line(alloc, known, &mut lines, step) {
+            Ok(()) => {}
+            Err(error) => {
+                drop(lines);
+                return Err(error);
+            }
+        }
     }
     Ok(lines)
 }

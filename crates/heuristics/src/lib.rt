@@ -13,7 +13,7 @@
 //! | `watches.rt` | learnt lines of three terms or more, each looked at from two packages | Unit Propagation |
 //! | `late.rt` | lines that derived later than they could have | Unit Propagation |
 //! | `kept.rt` | what is kept of a package that lines name | Unit Propagation, Decision Making |
-//! | `numbers.rt` | where it stands what is known of a package | |
+//! | `numbers.rt` | the index at which a list has what is known of a package | |
 //! | `spent.rt` | the lines that are not looked at until the search jumps back | Unit Propagation |
 //! | `queue.rt` | the packages that are to be decided | Decision Making |
 //! | `order.rt` | the order of decisions | Decision Making |

@@ -1,8 +1,10 @@
 -- The parts of what a line buffer holds.
-use Rattle.std.proofs.Common.{◌≡◌, ◌≢◌, ℕ, ◌+◌, ◌-◌, ◌≤◌, ◌<◌, List, [], ◌∷◌, ◌++◌, Bool, true, false, length, take, drop, slice_range, sym, ap, subst, ◌∙◌, arith, refl, length-take, length-drop, length-append, append_assoc}
+use Rattle.std.proofs.Common.{◌≡◌, ◌≢◌, ℕ, ◌+◌, ◌-◌, ◌≤◌, ◌<◌, List, [], ◌∷◌, ◌++◌, Bool, true, false, length, take, drop, slice_range, sym, ap, subst, ◌∙◌, arith, refl, length-take, length-drop, length-append, append_assoc, true≢false}
 use Rattle.std.proofs.lemmas.List.{take-append-drop, drop-drop, append-nil, drop-take}
 use lib.Seq.{take-add, take-take}
 use Rattle.std.proofs.lemmas.List.Elements.{All-append}
+use borrow.Author.Tests.{ltb-true, ltb-false}
+use Rattle.std.proofs.Common.{ltb}
 use Rattle.lines.specs.Lines.{line_feed, HasNoFeed}
 use Rattle.lines.specs.Unread.{StandsFor, Finds, line_limit}
 use Rattle.lines.specs.declared.buffer.Next.TheVariants.{Line, TooLong, More}
@@ -102,3 +104,40 @@ pub moved-read : (old mid new : List ℕ) (i k n : ℕ) → i ≤ k → take (k 
 moved-read old mid new i k n low moved kept =
     slice_range-join new 0 (k - i) (k - i + n) (omega arith) (omega arith)
     ∙ ap (λ l. l ++ slice_range new (k - i) (k - i + n)) (moved-part old mid new i k k low (omega arith) moved kept)
+
+-- ---- what numbers say of a part, so that no proof of a call looks for it among all that it knows
+
+pub from_none : (n : ℕ) → 0 ≤ n
+from_none n = omega arith
+
+pub up_to : (n : ℕ) → n ≤ n
+up_to n = omega arith
+
+pub further : (i j k : ℕ) → i ≤ j → j ≤ k → i ≤ k
+further i j k low high = omega arith
+
+pub within_part : (xs : List ℕ) (j k offset : ℕ) → offset < length (slice_range xs j k) → offset < k - j
+within_part xs j k offset within = omega (arith, within, length-take {A = ℕ}, length-drop {A = ℕ})
+
+-- how long a part is that ends behind a place
+pub length-cut : (xs : List ℕ) (i j k offset size : ℕ) → i ≤ j → offset < k - j → k ≤ size → length xs ≡ size → length (slice_range xs i (j + offset)) ≡ j + offset - i
+length-cut xs i j k offset size low within high whole = length-slice_range xs i (j + offset) (omega arith) (omega arith)
+
+pub length-part : (xs : List ℕ) (i j size : ℕ) → i ≤ j → j ≤ size → length xs ≡ size → length (slice_range xs i j) ≡ j - i
+length-part xs i j size low high whole = length-slice_range xs i j low (omega arith)
+
+-- whether a line is over the limit, by a test of its length
+pub over_by : (n length : ℕ) → length ≡ n → ltb line_limit n ≡ true → line_limit < length
+over_by n length is over = omega (arith, ltb-true, over)
+
+pub fits_by : (n length : ℕ) → length ≡ n → ltb line_limit n ≡ false → length ≤ line_limit
+fits_by n length is under = omega (arith, ltb-false, under)
+
+pub over_than : (n length : ℕ) → length ≡ n → line_limit < n → line_limit < length
+over_than n length is over = omega arith
+
+pub fits_than : (n length : ℕ) → length ≡ n → n ≤ line_limit → length ≤ line_limit
+fits_than n length is under = omega arith
+
+pub not_both : (b : Bool) → b ≡ true → b ≡ false → ⊥
+not_both b one two = true≢false (sym one ∙ two)

@@ -71,13 +71,30 @@ pub(crate) fn with_room(alloc: Global, room: usize) -> Result<Ledger, AllocError
     ensures kept { IfOk result IsLedger }
     ensures made { IfOk result (λ ledger. ledger.made.items ≡ []) }
 {
-    let any = Term::NotIn(VSet::new(alloc));
-    Ok(Ledger {
-        made: Vec::with_capacity(alloc, room)?,
-        notes: Vec::with_capacity(alloc, room)?,
-        heads: Vec::with_capacity(alloc, room)?,
-        any,
-    })
+    let mut ledger = empty(alloc);
+    match make_rooms(&mut ledger.made, &mut ledger.notes, &mut ledger.heads, room) {
+        Ok(()) => Ok(ledger),
+        Err(error) => {
+            drop(ledger);
+            Err(error)
+        }
+    }
+}
+
+/// Makes room for so many assignments, and for packages below this number.
+fn make_rooms(
+    made: &mut Vec<Assignment>,
+    notes: &mut Vec<Note>,
+    heads: &mut Vec<Option<usize>>,
+    room: usize,
+) -> Result<(), AllocError>
+    ensures made { made.new.items ≡ made.old.items }
+    ensures notes { notes.new.items ≡ notes.old.items }
+    ensures heads { heads.new.items ≡ heads.old.items }
+{
+    made.reserve(room)?;
+    notes.reserve(room)?;
+    heads.reserve(room)
 }
 
 /// The jump from a place, or from none.
@@ -258,12 +275,16 @@ pub(crate) fn add(
     ensures ok { OnOk result (ledger.new.made.items ≡ ledger.old.made.items ++ a ∷ []) }
     ensures err { OnErr result (ledger.new.made.items ≡ ledger.old.made.items) }
 {
-    make_room(
+    if let Err(error) = make_room(
         &mut ledger.made,
         &mut ledger.notes,
         &mut ledger.heads,
         a.pkg,
-    )?;
+    ) {
+        drop(a);
+        drop(said);
+        return Err(error);
+    }
     put(ledger, a, last, said);
     Ok(())
 }
@@ -278,6 +299,8 @@ fn undo(ledger: &mut Ledger)
     let a = ledger.made.pop().unwrap();
     let note = ledger.notes.pop().unwrap();
     enter(&mut ledger.heads, a.pkg, note.earlier);
+    drop(note);
+    drop(a);
 }
 
 /// Takes the assignments above a level away, from the last one on.

@@ -149,7 +149,7 @@ impl Partial {
         ensures rising { IfOk result (λ found. IsStrictlyIncreasing found.items) }
         ensures lawful { IsPartial self.now }
     {
-        Ok(undecided_in(self.alloc, &self.ledger)?)
+        undecided_in(self.alloc, &self.ledger)
     }
 
     /// How an incompatibility stands to the assignments, by one look at each of its packages.
@@ -170,7 +170,7 @@ impl Partial {
         ensures early { IfOk result (λ found. (bound : ℕ) → Satisfied (take bound self.now) incompat.now → found.0 < bound) }
         ensures back { IfOk result (λ found. CanGoBack self.now incompat.now found.0 found.1) }
     {
-        Ok(satisfier_of(self.alloc, &self.ledger, incompat.terms())?)
+        satisfier_of(self.alloc, &self.ledger, incompat.terms())
     }
 
     /// Adds a derivation at the present level, with the place of its cause in the caller's list.

@@ -192,3 +192,14 @@ versions_of-placed names lists name i v paired number within at =
     same_place (position (bytes_eq name) names) (Some i) (sym (number_of-packages_of names (lists_of lists) name both) ∙ number ∙ ap (λ j. Some j) next) in
     versions_of-packages_of names (lists_of lists) name both ∙ ap (λ o. versions_where o (lists_of lists)) place
     ∙ get_or-map (λ (u : PublicationList). u.publications) lists i v [] within ∙ ap (λ (u : PublicationList). u.publications) (sym at)
+
+rooms-behind : (lists : List PublicationList) (list : PublicationList) (i : ℕ) → i < length lists
+    → (i < length (lists ++ list ∷ [])) × (slice_index (rooms_of (lists ++ list ∷ [])) i ≡ slice_index (rooms_of lists) i)
+rooms-behind [] list i lt = absurd (omega arith)
+rooms-behind (x ∷ lists) list zero lt = (omega arith, refl)
+rooms-behind (x ∷ lists) list (suc i) lt = let rest = rooms-behind lists list i (omega arith) in (omega (arith, rest.0), rest.1)
+
+-- a list keeps its place and its room where one is put behind all
+pub rooms-stay : (lists lists' : List PublicationList) (list : PublicationList) → lists' ≡ lists ++ list ∷ []
+    → (i : ℕ) → i < length lists → (i < length lists') × (slice_index (rooms_of lists') i ≡ slice_index (rooms_of lists) i)
+rooms-stay lists lists' list is = λ i lt. rw is (rooms-behind lists list i lt)

@@ -118,8 +118,8 @@ impl Publications {
         Some(self.releases.as_slice()[ordinal as usize].yanked)
     }
 
-    /// The ordinals of those that meet a requirement: the kept set where its text is named, else one
-    /// that is computed.
+    /// The ordinals of those that meet a requirement: the kept set or the test where its text is named,
+    /// else a set that is computed.
     pub fn matching(&self, need: &Need) -> Result<Matching<'_>, AllocError>
         ensures { IfOk result (λ set. (k : ℕ) → has (ordinals_of set) k ≡ publication_meets (slice_get self.now.publications k) need.now) }
     {
@@ -151,8 +151,8 @@ impl Publications {
         self.releases.highest_where(passes)
     }
 
-    /// The equal requirement whose matching set is kept, where there is one, and its place. No look-up is
-    /// made where it is named at this place.
+    /// The equal requirement that is named, where there is one, and its place. No look-up is made where it
+    /// is named at this place.
     pub fn named_at(&self, need: &Need, place: usize) -> Option<(usize, &Need)>
         ensures { IfSome result (λ kept. kept.1.now ≡ need.now) }
     {
@@ -168,7 +168,8 @@ impl Publications {
         }
     }
 
-    /// Keeps the matching set of a requirement from now on, and answers the requirement's place.
+    /// Names a requirement, whose matching set is kept from now on if it is one of the first, and answers the
+    /// requirement's place.
     pub fn name_need(&mut self, need: &Need) -> Result<usize, AllocError>
         ensures { self.new.publications ≡ self.old.publications }
     {

@@ -49,9 +49,9 @@ pub struct Facts<'a> {
 
 /// Packages, numbered from 1 in order of first mention, each with its publications in order.
 ///
-/// A version is found by bisection, in rising precedence. Beside each package stands the matching set
-/// of every requirement that a publication names on it: it is made with the room for that
-/// publication, and each version that is published is tested once against each.
+/// A version is found by bisection, in rising precedence. Beside each package stand the requirements that
+/// publications name on it, and the matching sets of the first of them: such a set is made with the room
+/// for that publication, and each version that is published is tested once against each.
 #[derive(Drop)]
 pub struct Registry {
     names: IndexSet<Name>,
@@ -246,8 +246,9 @@ impl Registry {
     }
 
     /// The ordinals of the published versions of a package that meet a requirement; none of one that
-    /// is not numbered. Where some publication names this requirement on the package, its kept set is
-    /// lent, at the cost of a look-up by the requirement's text; else each version is tested.
+    /// is not numbered. Where some publication names this requirement on the package, it costs a look-up by
+    /// the requirement's text, and its set is lent, if it is kept, or else its test; where none does, each
+    /// version is tested.
     pub fn matching_set(&self, pkg: Pkg, need: &Need) -> Result<Matching<'_>, AllocError>
         ensures { IfOk result (λ set. (k : ℕ) → has (ordinals_of set) k ≡ meets_at self.now.packages pkg k need.now) }
     {
@@ -507,9 +508,9 @@ impl Registry {
         if ready_for(&self.ready, name, needs.needs()).is_some() {
             return Ok(());
         }
-        self.ready = None;
+        drop(self.ready.take());
         let ready = make_ready(self.alloc, &mut self.names, &mut self.lists, name, needs)?;
-        self.ready = Some(ready);
+        drop(self.ready.replace(ready));
         Ok(())
     }
 
@@ -560,7 +561,7 @@ impl Registry {
         ensures packages { self.new.packages ≡ with_versions name.now (step.set_yanked version.now yanked) self.old.packages }
         ensures revision { self.new.revision ≡ self.old.revision }
     {
-        self.ready = None;
+        drop(self.ready.take());
         set_yanked_in(&self.names, &mut self.lists, name, version, yanked);
     }
 }

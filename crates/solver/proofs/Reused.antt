@@ -28,7 +28,7 @@ Keeps-push known line k x at = get-left known (line ∷ []) k x at
 said_later : (old new : List Known) (terms : Terms) (at : ℕ) → Keeps old new → SaysAt old terms at → SaysAt new terms at
 said_later old new terms at keeps h = (h.0, keeps at h.0 h.1, h.2)
 
-AreAt-later : (old new : List Known) (said : List Terms) (places : List ℕ) → Keeps old new → AreAt old said places → AreAt new said places
+pub AreAt-later : (old new : List Known) (said : List Terms) (places : List ℕ) → Keeps old new → AreAt old said places → AreAt new said places
 AreAt-later old new said places keeps h = record { lengths = h.lengths; each = λ i terms e. said_later old new terms (get_or places i 0) keeps (h.each i terms e) }
 
 -- one more that stands at its place

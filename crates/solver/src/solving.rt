@@ -15,6 +15,7 @@ ghost use Rattle.solver.specs.Searching.{MayRefuse};
 
 use crate::greedy::search_greedily;
 use crate::offering::offered_of;
+use crate::search::Search;
 use crate::starting::start;
 use crate::task::Task;
 use crate::turns::{Ended, run};
@@ -113,8 +114,17 @@ fn search_from(task: &Task<'_>, worklist: &mut Worklist) -> Result<Outcome, Refu
     ensures only { IfErr result (MayRefuse task.now.budget) }
 {
     let mut search = start(task, worklist)?;
-    let ended = run(task, &mut search, worklist)?;
-    outcome_of(task, ended, search.known, &worklist.learnt)
+    match run(task, &mut search, worklist) {
+        Ok(ended) => {
+            let Search { partial, known, .. } = search;
+            drop(partial);
+            outcome_of(task, ended, known, &worklist.learnt)
+        }
+        Err(refusal) => {
+            drop(search);
+            Err(refusal)
+        }
+    }
 }
 
 /// Searches for an answer, with backjumps. What conflicts led to is offered to be learnt.

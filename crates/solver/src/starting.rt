@@ -1,6 +1,6 @@
 // The start of a search: the root, and the needs of the request.
 
-ghost use Rattle.std.specs.Prelude.{◌≡◌, IfOk, OnOk};
+ghost use Rattle.std.specs.Prelude.{◌≡◌, [], IfOk, OnOk};
 ghost use Rattle.solver.specs.Lines.{root_terms};
 ghost use Rattle.solver.specs.Pushing.{Extends};
 ghost use Rattle.solver.specs.Searching.{Searches};
@@ -26,21 +26,39 @@ fn root_line(task: &Task<'_>) -> Result<Known, AllocError>
     })
 }
 
+/// Puts the root's fact, its derivation and its decision into a search that has nothing.
+fn put_root(task: &Task<'_>, search: &mut Search) -> Result<(), AllocError>
+    requires partial { search.old.partial ≡ [] }
+    requires known { search.old.known.items ≡ [] }
+    ensures { OnOk result (Searches task.now search.new) }
+{
+    search.known.reserve(2 * ROOM)?;
+    let line = root_line(task)?;
+    search.known.push(line)?;
+    let root = Term::In(VSet::single(task.alloc, 0)?);
+    search.partial.derive(ROOT, root, 0)?;
+    search.partial.decide(ROOT, 0)?;
+    Ok(())
+}
+
 /// The root alone: its fact, its derivation and its decision.
 fn begin(task: &Task<'_>) -> Result<Search, AllocError>
     ensures { IfOk result (Searches task.now) }
 {
-    let mut known = Vec::with_capacity(task.alloc, 2 * ROOM)?;
-    known.push(root_line(task)?)?;
-    let mut partial = Partial::with_room(task.alloc, 2 * ROOM)?;
-    partial.derive(ROOT, Term::In(VSet::single(task.alloc, 0)?), 0)?;
-    partial.decide(ROOT, 0)?;
-    Ok(Search {
+    let partial = Partial::with_room(task.alloc, 2 * ROOM)?;
+    let mut search = Search {
         partial,
-        known,
+        known: Vec::new(task.alloc),
         conflicts: 0,
         stride: 1,
-    })
+    };
+    match put_root(task, &mut search) {
+        Ok(()) => Ok(search),
+        Err(error) => {
+            drop(search);
+            Err(error)
+        }
+    }
 }
 
 /// Puts all needs behind the lines. They stand at the root's level, whatever is decided later.
@@ -62,8 +80,13 @@ fn add_needs(
 pub(crate) fn start(task: &Task<'_>, worklist: &mut Worklist) -> Result<Search, AllocError>
     ensures { IfOk result (Searches task.now) }
 {
-    let mut search = begin(task)?;
-    add_needs(task, &mut search.known, worklist)?;
     worklist.changed.push(ROOT)?;
-    Ok(search)
+    let mut search = begin(task)?;
+    match add_needs(task, &mut search.known, worklist) {
+        Ok(()) => Ok(search),
+        Err(error) => {
+            drop(search);
+            Err(error)
+        }
+    }
 }

@@ -1,5 +1,5 @@
 -- Texts that are judged one after another.
-use Rattle.std.proofs.Common.{◌≡◌, ℕ, zero, suc, ◌+◌, add-one, List, [], ◌∷◌, ◌++◌, take, drop, map, Bool, true, false, ◌&&◌, if◌then◌else◌, Option, Some, None, Result, Ok, Err, refl, sym, ap, ◌∙◌, subst}
+use Rattle.std.proofs.Common.{◌≡◌, ℕ, zero, suc, ◌+◌, add-one, List, [], ◌∷◌, ◌++◌, take, drop, map, arith, length, Bool, true, false, ◌&&◌, if◌then◌else◌, Option, Some, None, Result, Ok, Err, refl, sym, ap, ◌∙◌, subst}
 use Rattle.std.specs.List.{flat_map, list_all, slice_get}
 use Rattle.std.proofs.lemmas.List.Concat.{flat_map-append}
 use Rattle.wire.proofs.ItemLemmas.{take_one_more}
@@ -99,6 +99,24 @@ read_more test pairs left later done n name other pair before taken here kept go
           rw (same, kept) (ap (λ l. l ++ pair ∷ []) before.done_is ∙ sym (take_one_more pairs n pair here));
       good = holds_more (λ (d : Text × Text). d.1) test pairs n pair here before.good good;
     }
+
+empty : (texts : List Text) → length texts ≡ 0 → texts ≡ []
+empty [] none = refl
+empty (text ∷ texts) none = absurd (omega (arith, none))
+
+none_left : (pairs : List (Text × Text)) (n : ℕ) → names_of (drop n pairs) ≡ [] → take n pairs ≡ pairs
+none_left [] zero none = refl
+none_left [] (suc n) none = refl
+none_left (pair ∷ pairs) zero none = absurd (cc)
+none_left (pair ∷ pairs) (suc n) none = ap (λ l. pair ∷ l) (none_left pairs n none)
+
+-- all pairs are read
+pub read_all : (test : Text → Bool) (pairs : List (Text × Text)) (left : List Text) (done : List (Text × Text)) (n : ℕ) (bad : Refusal) → Read test pairs left done n → length left ≡ 0
+    → checked (list_all test (map (λ (d : Text × Text). d.1) pairs)) pairs bad ≡ Ok done
+read_all test pairs left done n bad before none =
+    let all = none_left pairs n (sym before.left_is ∙ empty left none) in
+    let good : list_all test (map (λ (d : Text × Text). d.1) pairs) ≡ true = ap (λ (l : List (Text × Text)). list_all test (map (λ (d : Text × Text). d.1) l)) (sym all) ∙ before.good in
+    rw good (ap Ok (sym (before.done_is ∙ all)))
 
 refuses_alike : (X Y : Type 0) (bad e : Refusal) → Refuses {Y = X} e (Err bad) → Refuses {Y = Y} e (Err bad)
 refuses_alike X Y bad NoMemory refuses = tt

@@ -1,17 +1,20 @@
 -- Lines that ask nothing, and arrays of another length.
 use Rattle.std.proofs.Common.{◌≡◌, ◌≢◌, ℕ, ◌+◌, List, Bool, true, false, refl, Option, None, Some, Err, length, ◌==◌, if◌then◌else◌, nat_le, ne_eqb, codes, rules}
+use Rattle.std.proofs.Common.{◌∙◌, [], ◌∷◌, get_or, option_map, ap, arith}
+use Rattle.std.specs.Option.{option_and_then, option_zip}
 use Rattle.std.specs.Str.{IsUtf8, is_utf8}
 use Rattle.std.proofs.lemmas.Str.{IsUtf8-from_is_utf8, is_utf8-from_IsUtf8}
 use Rattle.serde_json.specs.Data.{Data}
 use Rattle.serde_json.specs.Read.{read}
 use Rattle.serde_json.specs.Events.{items_len}
-use Rattle.serde_json.specs.View.{items_view}
+use Rattle.serde_json.specs.View.{items_view, view}
 use Rattle.serde_json.proofs.Views.{items_len-items_view}
 use Rattle.serde_json.specs.declared.value.Value.{Value}
 use Rattle.versions.specs.declared.refusal.Refusal.TheVariants.{BadLine}
 use Rattle.versions.specs.Words.{Text}
 use Rattle.wire.specs.Members.{has_member, member_count}
-use Rattle.wire.specs.NamedShapes.{derivation_at}
+use Rattle.wire.specs.NamedShapes.{cause_in, causes_of, derivation_at}
+use Rattle.by_name.specs.declared.derivation.NamedCause.{NamedCause}
 use Rattle.by_name.specs.declared.derivation.NamedLine.{NamedLine}
 use Rattle.wire.specs.Shapes.{budget_in, check, checking_in, explain_in, lock_in, pairs_at, resolution_in, resolve}
 use Rattle.wire.specs.Requests.{request_in, request_of}
@@ -88,3 +91,24 @@ pub checking_of : (d : Data) (lock needs : List (Text × Text)) (lines : List Na
 checking_of d lock needs lines counted locked needed derived =
     let same : (member_count d == 3 + has_member (codes "lock") d) ≡ true = search rules in
     rw (same, ← locked, ← needed, ← derived) refl
+
+-- ---- two causes
+
+zipped : {C : Type 0} (said : C → NamedCause) (one two : Option C)
+    → option_map {U = NamedCause × NamedCause} (λ (c : C × C). (said c.0, said c.1)) (option_zip one two)
+    ≡ option_and_then (λ (a : NamedCause). option_map {U = NamedCause × NamedCause} (λ (b : NamedCause). (a, b)) (option_map said two)) (option_map said one)
+zipped said None two = refl
+zipped said (Some a) None = refl
+zipped said (Some a) (Some b) = refl
+
+-- the causes of an array of two values
+pub causes_read : {C : Type 0} (said : C → NamedCause) (vs : List Value) (v w : Value) (one two : Option C) → length vs ≡ 2 → v ≡ get_or vs 0 v → w ≡ get_or vs 1 w
+    → option_map said one ≡ cause_in (view v) → option_map said two ≡ cause_in (view w)
+    → option_map {U = NamedCause × NamedCause} (λ (c : C × C). (said c.0, said c.1)) (option_zip one two) ≡ causes_of (items_view vs)
+causes_read said [] v w one two len at_v at_w first second = absurd (omega (arith, len))
+causes_read said (x ∷ []) v w one two len at_v at_w first second = absurd (omega (arith, len))
+causes_read said (x ∷ y ∷ []) v w one two len at_v at_w first second =
+    zipped said one two
+    ∙ ap (λ (o : Option NamedCause). option_and_then (λ (a : NamedCause). option_map {U = NamedCause × NamedCause} (λ (b : NamedCause). (a, b)) (option_map said two)) o) (first ∙ ap (λ (u : Value). cause_in (view u)) at_v)
+    ∙ ap (λ (o : Option NamedCause). option_and_then (λ (a : NamedCause). option_map {U = NamedCause × NamedCause} (λ (b : NamedCause). (a, b)) o) (cause_in (view x))) (second ∙ ap (λ (u : Value). cause_in (view u)) at_w)
+causes_read said (x ∷ y ∷ z ∷ vs) v w one two len at_v at_w first second = absurd (omega (arith, len))

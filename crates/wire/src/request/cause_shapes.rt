@@ -42,7 +42,7 @@ fn causes_of(items: &[Value]) -> Option<(CauseShape<'_>, CauseShape<'_>)>
     if items.len() != 2 {
         return None;
     }
-    Some((cause_in(&items[0])?, cause_in(&items[1])?))
+    cause_in(&items[0]).zip(cause_in(&items[1]))
 }
 
 fn cause_in(value: &Value) -> Option<CauseShape<'_>>

@@ -1,4 +1,5 @@
-use Rattle.std.proofs.Common.{◌∙◌, List, [], ◌∷◌, ◌++◌, take, Option, Some, refl, sym, ap}
+use Rattle.std.proofs.Common.{◌≡◌, ◌∙◌, ◌+◌, List, [], ◌∷◌, ◌++◌, take, Option, Some, arith, refl, sym, ap}
+use Rattle.std.proofs.lemmas.List.{take_all}
 use Rattle.std.proofs.lemmas.Option.{slice_get_read}
 use Rattle.versions.specs.Words.{Text}
 use Rattle.terms.specs.declared.term.Term.{Term}
@@ -13,11 +14,20 @@ name_of-requires c =
     term_has_name c.args.registry.now.packages c.args.terms.now c.loop-entry.entry-index c.entry-item.result here c.requires
 
 pub loop-entry-preserved : goal.loop-entry-preserved
-loop-entry-preserved c =
-    let packages = c.args.registry.now.packages in
-    let here = slice_get_read c.args.terms.now _ c.loop-entry.entry-index _ refl c.loop-entry-test.true c.entry-item.is in
-    let before = take c.loop-entry.entry-index c.args.terms.now in
-    ap (λ (terms : List (Option Text × Term)). numbered_terms packages terms) c.in_ok-push.ensures.items
-    ∙ terms_more packages c.loop-entry.named.items before (c.in_ok-name.name, c.in_ok-term.term) c.entry-item.result.0 c.loop-entry.invariant c.in_ok-name.ensures
-    ∙ ap (λ (t : Term). Some (before ++ (c.entry-item.result.0, t) ∷ [])) c.in_ok-term.ensures.same
-    ∙ ap (λ (terms : Terms). Some terms) (sym (take_one c.args.terms.now c.loop-entry.entry-index c.entry-item.result here))
+loop-entry-preserved c = record {
+  told =
+      let packages = c.args.registry.now.packages in
+      let here = slice_get_read c.args.terms.now _ c.loop-entry.entry-index _ refl c.loop-entry-test.true c.entry-item.is in
+      let before = take c.loop-entry.entry-index c.args.terms.now in
+      ap (λ (terms : List (Option Text × Term)). numbered_terms packages terms) c.push_reserved.ensures.items
+      ∙ terms_more packages c.loop-entry.named.items before (c.in-Ok.name, c.in-Ok-copy.term) c.entry-item.result.0 c.loop-entry.invariant.told c.in-Ok.ensures
+      ∙ ap (λ (t : Term). Some (before ++ (c.entry-item.result.0, t) ∷ [])) c.in-Ok-copy.ensures.same
+      ∙ ap (λ (terms : Terms). Some terms) (sym (take_one c.args.terms.now c.loop-entry.entry-index c.entry-item.result here));
+  count = c.push_reserved.ensures.len ∙ ap (λ n. n + 1) c.loop-entry.invariant.count;
+  room = rw c.push_reserved.ensures.capacity c.loop-entry.invariant.room;
+}
+
+pub returns : goal.returns
+returns c =
+    let all : take c.loop-entry.entry-index c.args.terms.now ≡ c.args.terms.now = take_all _ _ (omega arith) in
+    rw (c.new.ensures, c.loop-entry.invariant.told, all) refl

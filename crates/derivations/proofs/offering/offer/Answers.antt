@@ -1,6 +1,8 @@
-use Rattle.std.proofs.Common.{subst}
+use Rattle.std.proofs.Common.{◌≡◌, List, subst, sym}
 use Rattle.std.specs.Prelude.{IfSome}
 use Rattle.derivations.specs.Known.{ShowsLine}
+use Rattle.derivations.specs.declared.line.Line.{Line}
+use Rattle.derivations.proofs.Finding.{if_weaker}
 use Rattle.derivations.proofs.Offered.{learnt_by}
 use Rattle.derivations.proofs.offering.offer.Goals as goal
 
@@ -8,3 +10,9 @@ pub learnable-requires : goal.learnable-requires
 learnable-requires c =
     learnt_by c.args.known.now c.args.place c.in-Some.lines.items c.requires.lawful
     (subst (λ found. IfSome found (λ lines. ShowsLine c.args.known.now c.args.place lines.items)) c.in-Some.is c.in_ok-found.ensures.shows)
+
+pub returns-in_ok-learnable-in-Some-clause-shows : goal.returns-in_ok-learnable-in-Some-clause-shows
+returns-in_ok-learnable-in-Some-clause-shows c =
+    let shows = subst (λ found. IfSome found (λ lines. ShowsLine c.args.known.now c.args.place lines.items)) c.in-Some.is c.in_ok-found.ensures.shows in
+    if_weaker (λ (learnt : List Line). learnt ≡ c.in-Some.lines.items) (ShowsLine c.args.known.now c.args.place)
+    (λ learnt same. subst (λ (lines : List Line). ShowsLine c.args.known.now c.args.place lines) (sym same) shows) c.in_ok-learnable-in-Some.field-0 c.in_ok-learnable-in-Some.ensures

@@ -3,8 +3,8 @@ use Rattle.partial.specs.Ledger.{last_place}
 use Rattle.partial.proofs.Noting.{noted-same}
 use Rattle.partial.proofs.ledger.add.Goals as goal
 
-pub returns-in_err-make_room-clause-kept : goal.returns-in_err-make_room-clause-kept
-returns-in_err-make_room-clause-kept c =
+pub returns-in-Err-clause-kept : goal.returns-in-Err-clause-kept
+returns-in-Err-clause-kept c =
     let l = c.args.ledger.now in (
       noted-same l.made.items c.make_room.new.made.items l.notes.items c.make_room.new.notes.items (λ p. slice_get l.heads.items p) (λ p. slice_get c.make_room.new.heads.items p)
           c.make_room.ensures.made c.make_room.ensures.notes c.make_room.ensures.heads c.requires.kept.0,

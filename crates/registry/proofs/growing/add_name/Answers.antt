@@ -1,4 +1,5 @@
 use Rattle.std.proofs.Common.{◌∙◌, ◌≡◌, ◌∷◌, ◌++◌, [], if◌then◌else◌, ap, sym, Bool, true, false, not, refl}
+use Rattle.registry.proofs.GrowthLemmas.{rooms-stay}
 use Rattle.registry.proofs.PackageLemmas.{with_name-new, with_name-known}
 use Rattle.registry.specs.Publications.{packages_in}
 use Rattle.registry.proofs.growing.add_name.Goals as goal
@@ -23,3 +24,8 @@ returns-else-unwrap-clause-packages c =
     let known = told c.unwrap.result _ added ∙ rw c.if-unwrap.false refl in
     ap (λ ks. packages_in ks c.args.lists.now.items) (keys ∙ ap (λ b. if b then names else names ++ c.args.name ∷ []) known)
     ∙ with_name-known names c.args.lists.now.items c.args.name c.requires.paired known
+
+pub returns-then-unwrap-clause-stay : goal.returns-then-unwrap-clause-stay
+returns-then-unwrap-clause-stay c =
+    let items = rw c.unwrap-then-unwrap.ensures at c.push.ensures.items in
+    rooms-stay c.args.lists.now.items c.push.new.self.items c.args.publications items

@@ -20,3 +20,15 @@ returns-clause-ready c = record {
   empty = c.in_ok-needs.ensures.empty;
   room = c.in_ok-make_room.ensures.room;
 }
+
+pub returns-in_err-make_room-clause-lists : goal.returns-in_err-make_room-clause-lists
+returns-in_err-make_room-clause-lists c = c.make_room.ensures.lists ∙ c.named_needs.ensures.lists
+
+pub returns-in_err-make_room-clause-length : goal.returns-in_err-make_room-clause-length
+returns-in_err-make_room-clause-length c = c.make_room.ensures.length ∙ c.named_needs.ensures.length
+
+pub returns-clause-lists : goal.returns-clause-lists
+returns-clause-lists c = c.make_room.ensures.lists ∙ c.named_needs.ensures.lists
+
+pub returns-clause-length : goal.returns-clause-length
+returns-clause-length c = c.make_room.ensures.length ∙ c.named_needs.ensures.length

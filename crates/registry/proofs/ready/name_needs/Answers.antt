@@ -1,6 +1,8 @@
-use Rattle.std.proofs.Common.{◌∙◌, refl}
+use Rattle.std.proofs.Common.{◌≡◌, ◌∙◌, [], arith, drop, refl, sym, take}
+use Rattle.std.proofs.lemmas.List.{append-nil, drop_all, take_all}
 use Rattle.std.specs.List.{list_any}
 use Rattle.std.specs.Str.{bytes_eq}
+use Rattle.registry.specs.Rooms.{names_in}
 use Rattle.registry.proofs.ReadyLemmas.{taken-push, unknown-more}
 use Rattle.registry.proofs.ready.name_needs.Goals as goal
 
@@ -16,3 +18,19 @@ loop-need-preserved c = record {
   lists = c.add_need.ensures.lists ∙ c.loop-need.invariant.lists;
   count = c.add_need.ensures.length ∙ c.loop-need.invariant.count;
 }
+
+pub returns-in_err-add_need-clause-lists : goal.returns-in_err-add_need-clause-lists
+returns-in_err-add_need-clause-lists c = c.add_need.ensures.lists ∙ c.loop-need.invariant.lists
+
+pub returns-in_err-add_need-clause-length : goal.returns-in_err-add_need-clause-length
+returns-in_err-add_need-clause-length c = c.add_need.ensures.length ∙ c.loop-need.invariant.count
+
+pub returns-clause-same : goal.returns-clause-same
+returns-clause-same c =
+    let all : take c.loop-need.need-index c.args.needs.now ≡ c.args.needs.now = take_all _ _ (omega arith) in
+    c.loop-need.invariant.equal ∙ all
+
+pub returns-clause-named : goal.returns-clause-named
+returns-clause-named c =
+    let none : drop c.loop-need.need-index c.args.needs.now ≡ [] = drop_all c.loop-need.need-index c.args.needs.now (omega arith) in
+    sym (append-nil (names_in c.loop-need.named.added.items)) ∙ (rw none at c.loop-need.invariant.named)

@@ -1,5 +1,7 @@
-use Rattle.std.proofs.Common.{◌<◌, length, arith}
-use Rattle.std.proofs.lemmas.List.{map-append}
+use Rattle.std.proofs.Common.{◌≡◌, ◌∙◌, ◌<◌, length, arith, ap, take}
+use Rattle.replies.specs.Listings.{rows_of}
+use Rattle.registry.specs.Registry.{Packages}
+use Rattle.std.proofs.lemmas.List.{map-append, take_all}
 use Rattle.replies.proofs.ListingLemmas.{rows_of-listed, rows_of-unlisted}
 use Rattle.replies.proofs.listing.published.Goals as goal
 use Rattle.replies.proofs.listing.published.Goals.{then-versions-gt0+in_ok-push, else-versions-gt0}
@@ -16,3 +18,9 @@ loop-place-preserved c =
           let there = rw c.versions.ensures at w.if-versions-gt0.false in
           rw w.entries-is (rows_of-unlisted c.args.registry.now.packages c.loop-place.place _ within c.loop-place.invariant there)
     ]
+
+pub returns-clause-rows : goal.returns-clause-rows
+returns-clause-rows c =
+    let packages = c.args.registry.now.packages in
+    let all : take c.loop-place.place packages ≡ packages = take_all c.loop-place.place packages (omega (arith, c.packages-count.ensures.packages)) in
+    c.loop-place.invariant ∙ ap (λ (ps : Packages). rows_of ps) all

@@ -1,5 +1,6 @@
 use Rattle.std.proofs.Common.{flat_map}
 use Rattle.std.proofs.lemmas.Result.{err_from_is_err_and}
+use Rattle.std.proofs.lemmas.Bool.{false≢true}
 use Rattle.replies.proofs.ReplyLemmas.{found_parts}
 use Rattle.replies.proofs.PutLemmas.{all_wait, first_fails, first_room, second_fails, second_room, third_put}
 use Rattle.replies.proofs.reply.put_around.Goals as goal
@@ -26,14 +27,14 @@ pub returns-in_err-put_all-clause-waits : goal.returns-in_err-put_all-clause-wai
 returns-in_err-put_all-clause-waits g c = λ fits.
     let parts = found_parts (flat_map (λ t. t.now) c.args.before.now) c.args.after.now c.args.between.now c.args.stamp c.args.revision in
     let failed = (c.in_err-put_all.ensures.waits (first_room parts c.args.outbox.now fits)).0 in
-    absurd (cc)
+    absurd (false≢true failed)
 
 pub returns-in_err-put_found-clause-waits : goal.returns-in_err-put_found-clause-waits
 returns-in_err-put_found-clause-waits g c = λ fits.
     let parts = found_parts (flat_map (λ t. t.now) c.args.before.now) c.args.after.now c.args.between.now c.args.stamp c.args.revision in
     let waits = (c.in_ok-put_all.ensures.waits (first_room parts c.args.outbox.now fits)).1 in
     let failed = (c.in_err-put_found.ensures.waits (second_room parts c.args.outbox.now c.put_all.new.self waits fits)).0 in
-    absurd (cc)
+    absurd (false≢true failed)
 
 pub returns-clause-waits : goal.returns-clause-waits
 returns-clause-waits g c =

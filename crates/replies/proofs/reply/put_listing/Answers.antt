@@ -1,4 +1,5 @@
 use Rattle.std.proofs.lemmas.Result.{err_from_is_err_and}
+use Rattle.std.proofs.lemmas.Bool.{false≢true}
 use Rattle.replies.proofs.ReplyLemmas.{listed_parts}
 use Rattle.replies.proofs.PutLemmas.{all_wait, first_fails, first_room, second_fails, second_room, third_put}
 use Rattle.replies.proofs.reply.put_listing.Goals as goal
@@ -25,14 +26,14 @@ pub returns-in_err-put-clause-waits : goal.returns-in_err-put-clause-waits
 returns-in_err-put-clause-waits g c = λ fits.
     let parts = listed_parts c.args.listing.now c.args.stamp c.args.revision in
     let failed = (c.in_err-put.ensures.waits (first_room parts c.args.outbox.now fits)).0 in
-    absurd (cc)
+    absurd (false≢true failed)
 
 pub returns-in_err-put_packages-clause-waits : goal.returns-in_err-put_packages-clause-waits
 returns-in_err-put_packages-clause-waits g c = λ fits.
     let parts = listed_parts c.args.listing.now c.args.stamp c.args.revision in
     let waits = (c.in_ok-put.ensures.waits (first_room parts c.args.outbox.now fits)).1 in
     let failed = (c.in_err-put_packages.ensures.waits (second_room parts c.args.outbox.now c.put.new.self waits fits)).0 in
-    absurd (cc)
+    absurd (false≢true failed)
 
 pub returns-clause-waits : goal.returns-clause-waits
 returns-clause-waits g c =

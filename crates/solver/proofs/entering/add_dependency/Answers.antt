@@ -40,3 +40,9 @@ push_dependency-requires-clause-within c k =
     let found = c.in_ok-target.ensures in
     let there = entry_there packages c.args.pkg c.args.ordinal _ c.args.index c.index-facts-index.result (found.name, found.need) c.facts.ensures found.at in
     ap (λ (s : List ℕ). has s k) c.in_ok-within.ensures.same ∙ found.members k ∙ ap (λ (x : Text × Text). meets_at packages c.in_ok-target.target k x.1) (sym there)
+
+pub push_dependency-requires-clause-dependents : goal.push_dependency-requires-clause-dependents
+push_dependency-requires-clause-dependents c = c.in_ok-versions.ensures
+
+pub push_dependency-requires-clause-apart : goal.push_dependency-requires-clause-apart
+push_dependency-requires-clause-apart c = λ same. c.if-target-pkg.false (sym same)

@@ -1,5 +1,6 @@
 use Rattle.std.proofs.Common.{◌∙◌, sym}
 use Rattle.std.proofs.lemmas.Option.{none-some, slice_get_within}
+use Rattle.solver.proofs.Decisions.{acts_as}
 use Rattle.solver.proofs.Naming.{dependency_apart, dependency_numbered}
 use Rattle.solver.proofs.Obstacles.{dependency_decides, entry_contained, entry_unmet}
 use Rattle.solver.proofs.Pushed.{exactly_dependents}
@@ -36,3 +37,16 @@ decide_on-requires-clause-decide c =
     let here = (c.in_ok-versions.ensures c.args.ordinal).1 used in
     dependency_decides c.args.task.now made c.act.new.search.partial c.push_dependency.new.known.items c.in_ok-at.at c.args.pkg c.args.ordinal c.in-Some.target _ c.in_ok-versions.versions c.in_ok-within.within c.assignments-made.ensures.lawful
     (dependency_apart c.publications_are_lawful.ensures.lawful packages c.args.pkg c.args.ordinal c.in-Some.target _ c.packages-packages.ensures.reachable used numbered) c.requires.chosen here numbered unmet c.in_ok-within.ensures.members c.in_ok-at.ensures.place unused.0.0 unused.1
+
+pub act-requires-clause-search : goal.act-requires-clause-search
+act-requires-clause-search c = c.in_ok-at.ensures.extends c.args.search.now.partial c.requires.search
+
+pub decide_on-requires-clause-search : goal.decide_on-requires-clause-search
+decide_on-requires-clause-search c =
+    let unused = rw c.in-Neither.is at c.in_ok-acted.ensures.acts in
+    rw (unused.0.0, unused.0.1) (c.in_ok-at.ensures.extends c.args.search.now.partial c.requires.search)
+
+pub returns-in_ok-decide_on-in-Neither-clause-acts : goal.returns-in_ok-decide_on-in-Neither-clause-acts
+returns-in_ok-decide_on-in-Neither-clause-acts c =
+    let unused = rw c.in-Neither.is at c.in_ok-acted.ensures.acts in
+    acts_as c.args.task.now c.args.search.now c.act.new.search c.decide_on.new.search ⊥ ⊥ c.in_ok-decide_on-in-Neither.field-0 unused.0.0 (λ none. none) c.in_ok-decide_on-in-Neither.ensures.acts

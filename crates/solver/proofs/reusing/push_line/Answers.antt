@@ -1,5 +1,5 @@
 use Rattle.std.proofs.Common.{ap, length}
-use Rattle.solver.proofs.Reused.{line_extends, line_keeps, line_place}
+use Rattle.solver.proofs.Reused.{AreAt-later, line_extends, line_keeps, line_place}
 use Rattle.solver.proofs.reusing.push_line.Goals as goal
 
 pub returns-clause-extends : goal.returns-clause-extends
@@ -19,3 +19,14 @@ returns-clause-place c =
     line_place c.args.task.now.registry.now.packages c.args.task.now.request.now c.args.known.now.items c.place_of.new.known.items c.place_of-2.new.known.items c.push.new.self.items c.args.places.now c.args.line.now
     c.in_ok-first.first c.in_ok-second.second c.in_ok-conclusion.conclusion c.requires c.in_ok-first.ensures.keeps c.in_ok-second.ensures.keeps c.in_ok-first.ensures.place c.in_ok-second.ensures.place
     c.in_ok-conclusion.ensures c.in_ok-push.ensures.items (length c.as_slice-at.result.now) (ap length c.as_slice-at.ensures.value)
+
+pub place_of-requires-clause-given : goal.place_of-requires-clause-given
+place_of-requires-clause-given c =
+    let d = c.requires in
+    (d.derived.one, record { earlier = d.earlier; said = d.said; offers = d.derived.gives_one })
+
+pub place_of-requires-2-clause-given : goal.place_of-requires-2-clause-given
+place_of-requires-2-clause-given c =
+    let d = c.requires in
+    let said = AreAt-later c.args.known.now.items c.place_of.new.known.items d.earlier c.args.places.now c.in_ok-first.ensures.keeps d.said in
+    (d.derived.two, record { earlier = d.earlier; said = said; offers = d.derived.gives_two })

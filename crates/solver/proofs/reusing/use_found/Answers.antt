@@ -29,3 +29,11 @@ members-preserved c = elim c.match-branch-2.branch [
         fell = fell_more c.args.task.now c.args.search.now c.members.search c.use_member.new.search c.members.last c.members.invariant.same c.members.invariant.fell on;
       })
 ]
+
+pub returns-in-Backjumped-clause-acts : goal.returns-in-Backjumped-clause-acts
+returns-in-Backjumped-clause-acts c =
+    let on = rw c.in-Backjumped.is at c.in_ok-use_member.ensures.acts in
+    (on.0, fell_more c.args.task.now c.args.search.now c.members.search c.use_member.new.search c.members.last c.members.invariant.same c.members.invariant.fell on)
+
+pub returns-in-Refused-clause-acts : goal.returns-in-Refused-clause-acts
+returns-in-Refused-clause-acts c = rw c.in-Refused.is at c.in_ok-use_member.ensures.acts

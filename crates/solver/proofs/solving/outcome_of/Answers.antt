@@ -32,3 +32,15 @@ returns-in_ok-derivation-in-Refused-clause-lawful c =
       c.in_ok-derivation-in-Refused.ensures.derived packages wanted ends.lawful,
       c.offered_of-offered-in-Refused.ensures,
     )
+
+pub tell-requires-clause-once : goal.tell-requires-clause-once
+tell-requires-clause-once c = (rw c.in-Selected.is at c.requires).1.once
+
+pub tell-requires-clause-selection : goal.tell-requires-clause-selection
+tell-requires-clause-selection c = (rw c.in-Selected.is at c.requires).1.meets.selection
+
+pub cut-requires-clause-ordered : goal.cut-requires-clause-ordered
+cut-requires-clause-ordered c = (rw c.in-Refused.is at c.requires).ordered
+
+pub cut-requires-clause-end : goal.cut-requires-clause-end
+cut-requires-clause-end c = (rw c.in-Refused.is at c.requires).ends

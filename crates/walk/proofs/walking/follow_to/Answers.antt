@@ -1,5 +1,6 @@
 use Rattle.std.proofs.Common.{◌≡◌, ◌∙◌, ◌++◌, [], ◌∷◌, ℕ, List, inl, inr, nat_eq, rules, subst, sym}
-use Rattle.std.specs.Prelude.{None, Some}
+use Rattle.std.proofs.lemmas.List.{append-nil}
+use Rattle.std.specs.Prelude.{None}
 use Rattle.indexmap.proofs.CallerLemmas.{insert_entry-new}
 use Rattle.walk.specs.Choosing.{choice_of, Follows}
 use Rattle.walk.specs.Walks.{ComesAs}
@@ -38,3 +39,23 @@ returns-clause-comes g c =
     let new : choice_of old target ≡ None = search rules in
     subst (λ (l : List (ℕ × ℕ)). ComesAs target (choice_of old) (choice_of l)) (sym (c.in_ok-insert.ensures.entries ∙ insert_entry-new nat_eq c.args.found.now target ordinal new))
     (comes_pushed old target ordinal)
+
+-- where nothing is added
+
+pub returns-in-Some-clause-grown : goal.returns-in-Some-clause-grown
+returns-in-Some-clause-grown g c = ([], sym (append-nil c.args.found.now.entries))
+
+pub returns-in-Some-clause-comes : goal.returns-in-Some-clause-comes
+returns-in-Some-clause-comes g c p k h = inl h
+
+pub returns-in_default-choose-clause-grown : goal.returns-in_default-choose-clause-grown
+returns-in_default-choose-clause-grown g c = ([], sym (append-nil c.args.found.now.entries))
+
+pub returns-in_default-choose-clause-comes : goal.returns-in_default-choose-clause-comes
+returns-in_default-choose-clause-comes g c p k h = inl h
+
+pub returns-then-not-passes-clause-grown : goal.returns-then-not-passes-clause-grown
+returns-then-not-passes-clause-grown g c = ([], sym (append-nil c.args.found.now.entries))
+
+pub returns-then-not-passes-clause-comes : goal.returns-then-not-passes-clause-comes
+returns-then-not-passes-clause-comes g c p k h = inl h

@@ -1,7 +1,8 @@
-use Rattle.std.proofs.Common.{◌∙◌, ◌≡◌, ◌+◌, ◌++◌, ◌∷◌, [], ap, sym, subst, arith, rules, set, false, length, List}
-use Rattle.std.specs.Prelude.{None, Some}
+use Rattle.std.proofs.Common.{◌∙◌, ◌≡◌, ◌<◌, ◌≤◌, ◌-◌, ℕ, ◌+◌, ◌++◌, ◌∷◌, [], ap, sym, subst, arith, rules, set, false, length, List, vec_capacity, vec_len}
+use Rattle.std.specs.Prelude.{None, Some, position}
 use Rattle.std.specs.List.{list_any}
 use Rattle.std.specs.Str.{bytes_eq}
+use Rattle.versions.specs.Words.{Text}
 use Rattle.registry.specs.Lawful.{IsRegistry}
 use Rattle.registry.specs.Publications.{packages_in}
 use Rattle.registry.specs.Registry.{Packages, Publication, has_version, number_of, versions_of}
@@ -12,6 +13,18 @@ use Rattle.registry.proofs.Lawfulness.{accepted_by, lawful-publish, versions-nam
 use Rattle.registry.proofs.ReadyLemmas.{ready-for, ready-taken}
 use Rattle.registry.proofs.registry.Registry.enter.Goals as goal
 use Rattle.registry.proofs.registry.Registry.enter.Goals.{After-drop-needs-inside, After-index_mut-list}
+
+above : (n m : ℕ) → n < m → 0 < m
+above n m fits = omega arith
+
+fits_one : (n m k : ℕ) → n < m - k → k < m
+fits_one n m k fits = omega arith
+
+fits_behind : (n m k : ℕ) → n < m → m ≤ k + 1 → n ≤ k
+fits_behind n m k fits more = omega arith
+
+fits_lists : (n room held room' held' : ℕ) → n < room - held → room ≤ room' → held' ≤ held + 1 → held' + n ≤ room'
+fits_lists n room held room' held' fits more grown = omega arith
 
 -- the packages before
 abbrev before : After-index_mut-list → Packages
@@ -37,6 +50,48 @@ listed c =
     sym (versions_of-placed c.add_names.new.names.keys c.add_names.new.lists.items c.args.name c.enter_name-index.result c.index_mut-list.result.now
     c.add_names.ensures.paired (number c) stay.0 c.index_mut-list.ensures.value)
     ∙ ap (λ (ps : Packages). versions_of ps c.args.name) (named c) ∙ versions-named (before c) c.args.name (names_in c.in-Some.ready.added.items) c.args.name
+
+pub enter_name-index-requires-clause-paired : goal.enter_name-index-requires-clause-paired
+enter_name-index-requires-clause-paired c = c.self.invariant.0
+
+pub enter_name-index-requires-clause-placed : goal.enter_name-index-requires-clause-placed
+enter_name-index-requires-clause-placed c =
+    let ready = ready-taken c.self.inside.names.keys _ c.self.inside.lists.items _ c.self.inside.ready c.in-Some.ready c.self.invariant.2 (sym c.take.ensures.value ∙ c.in-Some.is) in
+    let same = ready-for c.self.inside.ready c.in-Some.ready c.args.name c.args.needs (ap (λ (s : State). s.ready) c.self.view_is ∙ c.requires.ready) (sym c.take.ensures.value ∙ c.in-Some.is) in
+    ready.placed ∙ ap (λ (n : Text). position (bytes_eq n) c.self.inside.names.keys) same.0
+
+pub enter_name-index-requires-clause-names_room : goal.enter_name-index-requires-clause-names_room
+enter_name-index-requires-clause-names_room c =
+    let ready = ready-taken c.self.inside.names.keys _ c.self.inside.lists.items _ c.self.inside.ready c.in-Some.ready c.self.invariant.2 (sym c.take.ensures.value ∙ c.in-Some.is) in
+    above _ _ ready.names_fit
+
+pub enter_name-index-requires-clause-lists_room : goal.enter_name-index-requires-clause-lists_room
+enter_name-index-requires-clause-lists_room c =
+    let ready = ready-taken c.self.inside.names.keys _ c.self.inside.lists.items _ c.self.inside.ready c.in-Some.ready c.self.invariant.2 (sym c.take.ensures.value ∙ c.in-Some.is) in
+    fits_one _ _ _ ready.lists_fit
+
+pub enter_name-index-requires-clause-empty : goal.enter_name-index-requires-clause-empty
+enter_name-index-requires-clause-empty c =
+    let ready = ready-taken c.self.inside.names.keys _ c.self.inside.lists.items _ c.self.inside.ready c.in-Some.ready c.self.invariant.2 (sym c.take.ensures.value ∙ c.in-Some.is) in
+    ready.own
+
+pub add_names-requires-clause-paired : goal.add_names-requires-clause-paired
+add_names-requires-clause-paired c = c.enter_name-index.ensures.paired
+
+pub add_names-requires-clause-names_room : goal.add_names-requires-clause-names_room
+add_names-requires-clause-names_room c =
+    let ready = ready-taken c.self.inside.names.keys _ c.self.inside.lists.items _ c.self.inside.ready c.in-Some.ready c.self.invariant.2 (sym c.take.ensures.value ∙ c.in-Some.is) in
+    fits_behind _ _ _ ready.names_fit c.enter_name-index.ensures.names_room
+
+pub add_names-requires-clause-lists_room : goal.add_names-requires-clause-lists_room
+add_names-requires-clause-lists_room c =
+    let ready = ready-taken c.self.inside.names.keys _ c.self.inside.lists.items _ c.self.inside.ready c.in-Some.ready c.self.invariant.2 (sym c.take.ensures.value ∙ c.in-Some.is) in
+    fits_lists _ (vec_capacity c.self.inside.lists) (vec_len c.self.inside.lists) _ _ ready.lists_fit c.enter_name-index.ensures.lists_room.0 c.enter_name-index.ensures.lists_room.1
+
+pub add_names-requires-clause-empty : goal.add_names-requires-clause-empty
+add_names-requires-clause-empty c =
+    let ready = ready-taken c.self.inside.names.keys _ c.self.inside.lists.items _ c.self.inside.ready c.in-Some.ready c.self.invariant.2 (sym c.take.ensures.value ∙ c.in-Some.is) in
+    ready.empty
 
 pub push-requires-clause-new : goal.push-requires-clause-new
 push-requires-clause-new c =

@@ -7,5 +7,5 @@ pub invariant_of-self : goal.invariant_of-self
 invariant_of-self c = (
   c.set_yanked_in.ensures.paired,
   subst IsRegistry (sym c.set_yanked_in.ensures.packages) (lawful-mark _ c.args.name.now c.args.version.now c.args.yanked c.self.invariant.1),
-  tt,
+  rw c.take.ensures.after tt,
 )

@@ -1,5 +1,6 @@
 use Rattle.std.proofs.Common.{map}
 use Rattle.std.proofs.lemmas.Result.{err_from_is_err_and}
+use Rattle.std.proofs.lemmas.Bool.{false≢true}
 use Rattle.replies.specs.Replies.{row_json}
 use Rattle.replies.proofs.ReplyLemmas.{array_parts, packages_parts}
 use Rattle.replies.proofs.PutLemmas.{all_wait, first_fails, first_room, second_fails, second_room, third_put}
@@ -26,14 +27,14 @@ pub returns-in_err-put-clause-waits : goal.returns-in_err-put-clause-waits
 returns-in_err-put-clause-waits g c = λ fits.
     let parts = array_parts (map row_json c.args.listing.now) in
     let failed = (c.in_err-put.ensures.waits (first_room parts c.args.outbox.now fits)).0 in
-    absurd (cc)
+    absurd (false≢true failed)
 
 pub returns-in_err-put_rows-clause-waits : goal.returns-in_err-put_rows-clause-waits
 returns-in_err-put_rows-clause-waits g c = λ fits.
     let parts = packages_parts c.listing.inside.registry.now.packages c.as_slice.result.now c.args.listing.now (rw c.as_slice.ensures.value c.listing.view_is) in
     let waits = (c.in_ok-put.ensures.waits (first_room parts c.args.outbox.now fits)).1 in
     let failed = (c.in_err-put_rows.ensures.waits (second_room parts c.args.outbox.now c.put.new.self waits fits)).0 in
-    absurd (cc)
+    absurd (false≢true failed)
 
 pub returns-clause-waits : goal.returns-clause-waits
 returns-clause-waits g c =

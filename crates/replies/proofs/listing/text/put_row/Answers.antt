@@ -1,4 +1,5 @@
 use Rattle.std.proofs.lemmas.Result.{err_from_is_err_and}
+use Rattle.std.proofs.lemmas.Bool.{false≢true}
 use Rattle.replies.proofs.ReplyLemmas.{row_parts}
 use Rattle.replies.proofs.PutLemmas.{all_wait, first_fails, first_room, second_fails, second_room, third_put}
 use Rattle.replies.proofs.listing.text.put_row.Goals as goal
@@ -25,14 +26,14 @@ pub returns-in_err-put_parts-clause-waits : goal.returns-in_err-put_parts-clause
 returns-in_err-put_parts-clause-waits g c = λ fits.
     let parts = row_parts c.args.registry.now.packages c.args.entry.now c.args.later _ _ c.opening.ensures c.text.ensures.text c.text.ensures.valid in
     let failed = (c.in_err-put_parts.ensures.waits (first_room parts c.args.outbox.now fits)).0 in
-    absurd (cc)
+    absurd (false≢true failed)
 
 pub returns-in_err-put_versions-clause-waits : goal.returns-in_err-put_versions-clause-waits
 returns-in_err-put_versions-clause-waits g c = λ fits.
     let parts = row_parts c.args.registry.now.packages c.args.entry.now c.args.later _ _ c.opening.ensures c.text.ensures.text c.text.ensures.valid in
     let waits = (c.in_ok-put_parts.ensures.waits (first_room parts c.args.outbox.now fits)).1 in
     let failed = (c.in_err-put_versions.ensures.waits (second_room parts c.args.outbox.now c.put_parts.new.outbox waits fits)).0 in
-    absurd (cc)
+    absurd (false≢true failed)
 
 pub returns-clause-waits : goal.returns-clause-waits
 returns-clause-waits g c =

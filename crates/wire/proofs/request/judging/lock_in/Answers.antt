@@ -3,7 +3,7 @@ use Rattle.std.proofs.lemmas.Result.{err_from_is_err_and}
 use Rattle.std.specs.List.{slice_get}
 use Rattle.versions.specs.Words.{Text, is_version}
 use Rattle.versions.specs.declared.refusal.Refusal.TheVariants.{BadVersion}
-use Rattle.wire.proofs.JudgeLemmas.{refuses_by, given_by, fails_at, read_more}
+use Rattle.wire.proofs.JudgeLemmas.{refuses_by, given_by, fails_at, read_all, read_more}
 use Rattle.wire.proofs.request.judging.lock_in.Goals as goal
 
 pub returns-in_err-read-2 : goal.returns-in_err-read-2
@@ -17,3 +17,7 @@ loop-name-preserved c =
     let read = given_by _ _ _ BadVersion c.in_ok-read-2.ensures.gives in
     rw (c.in_ok-push.ensures.items, c.in_ok-push.ensures.len)
     (read_more is_version c.args.lock.now _ _ c.loop-name.read.items _ c.in-Some.name _ _ c.loop-name.invariant c.in-Some.ensures.steps.0 at read.1 read.0)
+
+pub returns : goal.returns
+returns c =
+    read_all is_version c.args.lock.now _ c.loop-name.read.items _ BadVersion c.loop-name.invariant (sym c.loop-name.name-iterator.rest.ok.0 ∙ c.in-None.ensures.steps.0)

@@ -1,0 +1,21 @@
+use Rattle.std.proofs.Common.{[], ◌∷◌, refl}
+use Rattle.std.proofs.lemmas.Option.{slice_get_within}
+use Rattle.terms.specs.declared.term.Term.TheVariants.{In}
+use Rattle.solver.specs.declared.search.Search.{Search}
+use Rattle.solver.specs.Searching.{IsUnused}
+use Rattle.solver.proofs.Decisions.{acts_as, not_neither_alone, unused_says}
+use Rattle.solver.proofs.deciding.bar.Goals as goal
+
+pub act-requires-clause-within : goal.act-requires-clause-within
+act-requires-clause-within c = slice_get_within c.push_barred.new.known.items c.in_ok-at.at c.in_ok-at.ensures.place.0 c.in_ok-at.ensures.place.1
+
+pub act-requires-clause-search : goal.act-requires-clause-search
+act-requires-clause-search c = c.in_ok-at.ensures.extends c.args.search.now.partial c.requires.search
+
+pub returns-clause-acts : goal.returns-clause-acts
+returns-clause-acts c =
+    let old = c.args.search.now in
+    let mid : Search = record { partial = old.partial; known = c.push_barred.new.known; conflicts = old.conflicts; stride = old.stride } in
+    acts_as c.args.task.now old mid c.act.new.search (IsUnused mid c.act.new.search c.in_ok-at.at) ⊥ c.in_ok-act.field-0 refl
+    (λ unused. not_neither_alone old.partial c.args.pkg c.args.versions c.requires.left (unused_says mid c.act.new.search ((c.args.pkg, In c.args.versions) ∷ []) c.in_ok-at.at c.in_ok-at.ensures.place unused))
+    c.in_ok-act.ensures.acts

@@ -1,0 +1,24 @@
+use Rattle.std.proofs.Common.{◌≡◌, ◌∙◌, ap, length, refl, subst, sym, true}
+use Rattle.std.proofs.lemmas.Bool.{or_right}
+use Rattle.std.proofs.lemmas.Option.{get_or_from_slice_get, slice_get_read}
+use Rattle.std.specs.Prelude.{Some}
+use Rattle.terms.specs.Incompats.{has_term}
+use Rattle.derivations.specs.declared.cutting.Known.{Known}
+use Rattle.solver.proofs.lines.line_from.Goals as goal
+
+pub returns-clause-follows : goal.returns-clause-follows
+returns-clause-follows c =
+    let known = c.args.known.now in
+    let one = c.index-known-i.result in
+    let two = c.index-known-j.result in
+    let there = c.requires.second in
+    let same : two ≡ there.0 = c.index-known-j.is ∙ get_or_from_slice_get known c.args.j there.0 two there.1 in
+    let has : has_term two.conclusion c.args.pivot ≡ true = subst (λ (line : Known). has_term line.conclusion c.args.pivot ≡ true) (sym same) there.2 in
+    record {
+      one = one;
+      two = two;
+      one_at = slice_get_read known (length known) c.args.i one refl c.requires.first c.index-known-i.is;
+      two_at = there.1 ∙ ap Some (sym same);
+      on_pivot = or_right (has_term one.conclusion c.args.pivot) (has_term two.conclusion c.args.pivot) has;
+      follows = c.in_ok-conclusion.ensures.follows;
+    }
