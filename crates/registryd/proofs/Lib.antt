@@ -1,16 +1,1 @@
-pub mod BatchLemmas
-pub mod CommandWalk
-pub mod GivenValues
-pub mod KeptLemmas
-pub mod LawfulLemmas
-pub mod OutcomeLemmas
-pub mod PutLemmas
-pub mod RaceLemmas
-pub mod RacingLemmas
-pub mod ServeLemmas
-pub mod ServedLemmas
-pub mod LoadedLemmas
-pub mod SessionLemmas
-pub mod SessionRows
-pub mod WaitLemmas
 pub mod WordLemmas

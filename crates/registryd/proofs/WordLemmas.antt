@@ -6,16 +6,16 @@ use Rattle.clap.specs.Words.{Row, Text, fault_of, subcommand_of}
 use Rattle.book.specs.declared.item.Item.{Item}
 use Rattle.journals.specs.declared.load.LoadFault.{LoadFault}
 use Rattle.journals.specs.declared.load.LoadFault.TheVariants as unloaded
-use Rattle.registryd.specs.CommandLine.{program_app}
+use Rattle.command_line.specs.CommandLine.{program_app}
 use Rattle.registryd.specs.Ending.{IsUnread, end_of_load, end_of_run}
 use Rattle.registryd.specs.Obeyed.{HasBroken, HasNoJournal, HasServed, MayBegin}
-use Rattle.registryd.specs.Session.{Breaks, Serves}
-use Rattle.registryd.specs.Words.{AskToServe, IsServe, Says}
+use Rattle.session.specs.Session.{Breaks, Serves}
+use Rattle.command_line.specs.Words.{AskToServe, IsServe, Says}
 use Rattle.registryd.specs.declared.ending.End.TheVariants as end
-use Rattle.registryd.specs.declared.serve.RunFault.{RunFault}
-use Rattle.registryd.specs.declared.serve.RunFault.TheVariants.{Input, Memory, Output}
-use Rattle.registryd.specs.declared.words.Words.{Words}
-use Rattle.registryd.specs.declared.words.Words.TheVariants.{Serve}
+use Rattle.answers.specs.declared.fault.RunFault.{RunFault}
+use Rattle.answers.specs.declared.fault.RunFault.TheVariants.{Input, Memory, Output}
+use Rattle.command_line.specs.declared.words.Words.{Words}
+use Rattle.command_line.specs.declared.words.Words.TheVariants.{Serve}
 
 -- serving, with the files that are named
 serve_asked : (words : Words) (workers : ℕ) (load save : Option (String Global)) (given : Option (Text × List Row)) (from to : Option Text) → Says words given

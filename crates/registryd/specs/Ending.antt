@@ -4,8 +4,8 @@ use Rattle.registryd.specs.declared.ending.End.{End}
 use Rattle.registryd.specs.declared.ending.End.TheVariants.{Done, Input, Output, Journal, Memory, Words}
 use Rattle.journals.specs.declared.load.LoadFault.{LoadFault}
 use Rattle.journals.specs.declared.load.LoadFault.TheVariants as unloaded
-use Rattle.registryd.specs.declared.serve.RunFault.{RunFault}
-use Rattle.registryd.specs.declared.serve.RunFault.TheVariants as broken
+use Rattle.answers.specs.declared.fault.RunFault.{RunFault}
+use Rattle.answers.specs.declared.fault.RunFault.TheVariants as broken
 
 -- the exit status: 0 where all went well, 2 for bad words, and else 1
 abbrev pub status_of : End → ℕ

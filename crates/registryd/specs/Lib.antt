@@ -1,16 +1,2 @@
-pub mod CommandLine
 pub mod Ending
-pub mod Outcomes
-pub mod Served
-pub mod Told
-pub mod Lawful
-pub mod Answering
-pub mod Putting
-pub mod Session
-pub mod Batches
-pub mod Loaded
-pub mod Racing
-pub mod Kept
-pub mod Race
-pub mod Words
 pub mod Obeyed

@@ -4,7 +4,7 @@ ghost use Rattle.std.specs.IoError.{error_kind};
 ghost use Rattle.lines.specs.Texts.{Writes};
 ghost use Rattle.registryd.specs.Ending.{status_of, text_of, journal_text, end_of_load, end_of_run, IsUnread};
 
-use crate::serve::RunFault;
+use answers::RunFault;
 use itoa::Buffer;
 use journals::LoadFault;
 use lines::{write_text, write_texts};

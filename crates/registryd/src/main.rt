@@ -3,27 +3,12 @@
 
 ghost use Rattle.std.specs.Prelude.{◌≡◌, drop};
 
-mod answer;
-mod batch;
-mod command_line;
 mod ending;
 mod files;
-mod found;
 mod freed;
-mod journal;
-mod kept;
-mod ledger;
 mod obey;
-mod put;
-mod race;
-mod reasons;
-mod running;
-mod seat;
-mod serve;
-mod served;
-mod told;
-mod words;
 
+use command_line::{Words, read_words};
 use ending::{End, ending};
 use freed::keep_what_is_freed;
 use lines::write_text;
@@ -33,7 +18,6 @@ use std::env::Env;
 use std::io::{IsTerminal, Write};
 use std::process::ExitCode;
 use std::{env, io};
-use words::{Words, read_words};
 
 // What a session at a terminal says before its first line.
 const WAITING: &str =

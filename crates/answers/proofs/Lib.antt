@@ -1,0 +1,3 @@
+pub mod LawfulLemmas
+pub mod OutcomeLemmas
+pub mod PutLemmas

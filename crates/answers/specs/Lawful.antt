@@ -1,0 +1,113 @@
+-- Which replies are lawful for a line, whether a session answers it or a seat of a race.
+use Rattle.std.specs.Prelude.{◌≡◌, ◌⊎◌, ℕ, List, [], ◌∷◌, length, nat_le, if◌then◌else◌, Bool, Option, Some, Result, Err, MatchResult}
+use Rattle.versions.specs.declared.refusal.Refusal.{Refusal}
+use Rattle.versions.specs.declared.refusal.Refusal.TheVariants.{BadLine, NoMemory}
+use Rattle.registry.specs.Registry.{Packages}
+use Rattle.registry.specs.Requests.{Wanted}
+use Rattle.registry.specs.Step.{Change, Publish, Unyank, Yank}
+use Rattle.registry.specs.declared.commands.Command.TheVariants as commands
+use Rattle.derivations.specs.Learning.{IsLearnt}
+use Rattle.derivations.specs.declared.line.Line.{Line}
+use Rattle.book.specs.declared.item.Item.{Item}
+use Rattle.book.specs.declared.item.Item.TheVariants as item
+use Rattle.lines.specs.Unread.{line_limit}
+use Rattle.wire.specs.Shapes.{Request, check, command, listing, resolve}
+use Rattle.wire.specs.Requests.{request_of}
+use Rattle.replies.specs.Replies.{Body, Reply, accepted, refused}
+use Rattle.answers.specs.Outcomes.{TellsFound, TellsListing, TellsSpent, TellsVerdict}
+use Rattle.answers.specs.Told.{reply_from}
+use Rattle.answers.specs.declared.told.Standing.{Standing}
+
+-- ---- where lines are answered
+
+-- Of a ledger, as contracts see it: where it stands, the registry there, and what its calls do.
+pub record Ways (S : Type 0) : Type 1 where
+  pub standing : S → Standing
+  pub packages : S → Packages
+  -- it has looked for what others entered, and entered nothing
+  pub looks : S → S → Type 0
+  -- the item was entered, and is accepted there
+  pub enters : S → Item → S → Type 0
+  -- the lowest refusal that applies to an item there
+  pub refusal : S → Item → Option Refusal
+  -- why a call may go no further there, beside want of memory
+  pub halts : S → Refusal → Type 0
+
+-- a reply where it stands
+abbrev pub reply_at : {S : Type 0} → Ways S → S → Body → Reply
+reply_at w here body = reply_from (w.standing here) body
+
+-- a call goes no further
+abbrev pub IsStopped : {S : Type 0} → Ways S → S → Refusal → Type 0
+IsStopped w here refusal = (refusal ≡ NoMemory) ⊎ w.halts here refusal
+
+-- the item of a command
+abbrev pub item_of : Change → Item
+item_of (Publish name version needs) = item.Command (commands.Publish name version needs)
+item_of (Yank name version) = item.Command (commands.Yank name version)
+item_of (Unyank name version) = item.Command (commands.Unyank name version)
+
+-- ---- one request
+
+-- A refusal is told, and nothing is looked for.
+abbrev pub IsRefused : {S : Type 0} → Ways S → Refusal → S → Reply → S → Type 0
+IsRefused w refusal old reply new = (new ≡ old) × (reply ≡ reply_at w new (refused refusal))
+
+-- Nothing is entered, and a refusal is told that is so where it then stands.
+abbrev pub LooksAndRefuses : {S : Type 0} → Ways S → (S → Refusal → Type 0) → S → Reply → S → Type 0
+LooksAndRefuses w is old reply new = w.looks old new × ((refusal : Refusal) × is new refusal × (reply ≡ reply_at w new (refused refusal)))
+
+-- Nothing is entered, and such a body is told of the registry where it then stands.
+abbrev pub LooksAndTells : {S : Type 0} → Ways S → (Packages → Body → Type 0) → S → Reply → S → Type 0
+LooksAndTells w is old reply new = w.looks old new × ((body : Body) × is (w.packages new) body × (reply ≡ reply_at w new body))
+
+-- The item is entered, and it is told that it is accepted.
+abbrev pub IsEntered : {S : Type 0} → Ways S → Item → S → Reply → S → Type 0
+IsEntered w i old reply new = w.enters old i new × (reply ≡ reply_at w new accepted)
+
+-- Each of these is learnt or dropped, one after another. What is learnt follows from premises, and is accepted after all that was there before.
+abbrev pub Learns : {S : Type 0} → Ways S → S → List (List Line) → S → Type 0
+Learns {S} w old [] new = new ≡ old
+Learns {S} w old (lines ∷ rest) new = (mid : S) × (w.looks old mid ⊎ (IsLearnt lines × w.enters old (item.Learnt lines) mid)) × Learns w mid rest new
+
+-- Some may be learnt.
+abbrev pub LearnsSome : {S : Type 0} → Ways S → S → S → Type 0
+LearnsSome w old new = (offered : List (List Line)) × Learns w old offered new
+
+-- What the solver found is told. Then some of what it offers may be learnt.
+abbrev pub FindsAndLearns : {S : Type 0} → Ways S → Wanted → Bool → S → Reply → S → Type 0
+FindsAndLearns {S} w wanted explain old reply new = (mid : S) × LooksAndTells w (λ packages body. TellsFound packages wanted explain body) old reply mid
+    × LearnsSome w mid new
+
+-- A request may be answered so. All but a command is answered of the registry where the ledger then stands.
+abbrev pub Answers : {S : Type 0} → Ways S → Request → S → Reply → S → Type 0
+Answers w (command change) old reply new =
+    IsEntered w (item_of change) old reply new ⊎ LooksAndRefuses w (λ here refusal. w.refusal here (item_of change) ≡ Some refusal) old reply new
+Answers w (resolve wanted explain budget) old reply new =
+    FindsAndLearns w wanted explain old reply new ⊎ LooksAndTells w (λ packages body. TellsSpent packages wanted budget body) old reply new
+Answers w (check wanted lines) old reply new = LooksAndTells w (λ packages body. TellsVerdict packages wanted lines body) old reply new
+Answers w listing old reply new = LooksAndTells w TellsListing old reply new
+
+-- A request is answered so, or a call for it goes no further.
+abbrev pub MayAnswer : {S : Type 0} → Ways S → Request → S → Reply → S → Type 0
+MayAnswer w request old reply new = LooksAndRefuses w (IsStopped w) old reply new ⊎ Answers w request old reply new
+
+-- ---- one line
+
+-- what a line asks, or that it is at fault, also by its length
+abbrev pub asked : List ℕ → Result Request Refusal
+asked line = if nat_le (length line) line_limit then request_of line else Err BadLine
+
+-- A line may be answered so: for want of memory, or as what it asks is.
+abbrev pub IsLawful : {S : Type 0} → Ways S → List ℕ → S → Reply → S → Type 0
+IsLawful w line old reply new = IsRefused w NoMemory old reply new
+    ⊎ MatchResult (asked line) (λ request. MayAnswer w request old reply new) (λ fault. IsRefused w fault old reply new)
+
+-- ---- lines one after another
+
+-- The lines may be answered so, one reply a line, each after what those before it left.
+abbrev pub AreLawful : {S : Type 0} → Ways S → List (List ℕ) → S → List Reply → S → Type 0
+AreLawful {S} w [] old [] new = new ≡ old
+AreLawful {S} w (line ∷ lines) old (reply ∷ replies) new = (mid : S) × IsLawful w line old reply mid × AreLawful w lines mid replies new
+AreLawful {S} w [] old (reply ∷ replies) new = ⊥
+AreLawful {S} w (line ∷ lines) old [] new = ⊥

@@ -1,0 +1,161 @@
+//! The answer to one line, of a session and of a seat of a race alike.
+ghost use Rattle.std.specs.Prelude.{◌⊎◌, ℕ, List, IfErr, IfOk};
+ghost use Rattle.registry.specs.Commands.{change_of};
+ghost use Rattle.solver.specs.Outcomes.{MayStop};
+ghost use Rattle.wire.specs.Shapes as shapes;
+ghost use Rattle.answers.specs.Answering.{IsRead, LeadsTo};
+ghost use Rattle.answers.specs.Lawful.{IsLawful, IsStopped, MayAnswer};
+ghost use Rattle.answers.specs.Outcomes.{TellsFound};
+ghost use Rattle.answers.specs.Told.{told_body};
+
+use crate::ledger::Ledger;
+use crate::told::{Told, told_of, verdict_on};
+use book::Item;
+use by_name::NamedDerivation;
+use derivations::Learnt;
+use intake::Intake;
+use lines::LINE_LIMIT;
+use registry::{Command, Request};
+use solver::solve_under;
+use std::alloc::Global;
+use versions::Refusal;
+use wire::Asked;
+
+/// What is answered to a line, where the ledger then stands.
+#[derive(Drop)]
+pub enum Answer {
+    Told(Told),
+    /// What a search found, and what it offers to be learnt once that is told.
+    Found(Told, Vec<Learnt>),
+    /// What is published, which the registry lends.
+    Listing,
+}
+
+/// Answers a line.
+pub fn answer_line<L: Ledger>(
+    alloc: Global,
+    ledger: &mut L,
+    intake: &mut Intake,
+    line: &[u8],
+) -> Answer
+    ensures { LeadsTo L.ways (IsLawful L.ways line.now ledger.old) result ledger.new }
+{
+    answer_read(alloc, ledger, read_line(alloc, intake, line))
+}
+
+/// Reads what a line asks. One that is too long is at fault.
+pub fn read_line(alloc: Global, intake: &mut Intake, line: &[u8]) -> Result<Asked, Refusal>
+    ensures { IsRead result line.now }
+{
+    if line.len() > LINE_LIMIT {
+        return Err(Refusal::BadLine);
+    }
+    intake.read(alloc, line)
+}
+
+/// Answers a line of which this was read.
+pub fn answer_read<L: Ledger>(alloc: Global, ledger: &mut L, read: Result<Asked, Refusal>) -> Answer
+    ensures { (line : List ℕ) → IsRead read line → LeadsTo L.ways (IsLawful L.ways line ledger.old) result ledger.new }
+{
+    match read {
+        Ok(Asked::Command(command)) => enter(ledger, command),
+        Ok(
+            Asked::Resolve {
+                request,
+                explain,
+                budget,
+            },
+        ) => resolve(alloc, ledger, &request, explain, budget),
+        Ok(
+            Asked::Check {
+                request,
+                derivation,
+            },
+        ) => judge(alloc, ledger, &request, &derivation),
+        Ok(Asked::Listing) => list(ledger),
+        Err(fault) => Answer::Told(Told::Refusal(fault)),
+    }
+}
+
+/// Enters a command. The answer takes no memory, so that an accepted one is never told as 18.
+fn enter<L: Ledger>(ledger: &mut L, command: Command) -> Answer
+    ensures { LeadsTo L.ways (MayAnswer L.ways (shapes.command (change_of command)) ledger.old) result ledger.new }
+{
+    match ledger.enter(Item::Command(command)) {
+        Ok(()) => Answer::Told(Told::Accepted),
+        Err(refusal) => Answer::Told(Told::Refusal(refusal)),
+    }
+}
+
+/// Answers a request, after a look, with what the solver answers.
+fn resolve<L: Ledger>(
+    alloc: Global,
+    ledger: &mut L,
+    request: &Request,
+    explain: bool,
+    budget: Option<u32>,
+) -> Answer
+    ensures { LeadsTo L.ways (MayAnswer L.ways (shapes.resolve request.now explain budget) ledger.old) result ledger.new }
+{
+    match found_by(alloc, ledger, request, explain, budget) {
+        Ok((told, offered)) => Answer::Found(told, offered),
+        Err(e) => Answer::Told(Told::Refusal(e)),
+    }
+}
+
+/// Judges a derivation, after a look.
+fn judge<L: Ledger>(
+    alloc: Global,
+    ledger: &mut L,
+    request: &Request,
+    derivation: &NamedDerivation,
+) -> Answer
+    ensures { LeadsTo L.ways (MayAnswer L.ways (shapes.check request.now derivation.now) ledger.old) result ledger.new }
+{
+    match ledger.look() {
+        Ok(()) => Answer::Told(verdict_on(alloc, ledger.registry(), request, derivation)),
+        Err(e) => Answer::Told(Told::Refusal(e)),
+    }
+}
+
+/// Lists what is published, after a look.
+fn list<L: Ledger>(ledger: &mut L) -> Answer
+    ensures { LeadsTo L.ways (MayAnswer L.ways shapes.listing ledger.old) result ledger.new }
+{
+    match ledger.look() {
+        Ok(()) => Answer::Listing,
+        Err(e) => Answer::Told(Told::Refusal(e)),
+    }
+}
+
+/// What is told of a request, after a look, and what is offered to be learnt.
+fn found_by<L: Ledger>(
+    alloc: Global,
+    ledger: &mut L,
+    request: &Request,
+    explain: bool,
+    budget: Option<u32>,
+) -> Result<(Told, Vec<Learnt>), Refusal>
+    ensures looks { L.ways.looks ledger.old ledger.new }
+    ensures told { IfOk result (λ r. TellsFound (L.ways.packages ledger.new) request.now explain (told_body r.0)) }
+    ensures only { IfErr result (λ e. IsStopped L.ways ledger.new e ⊎ MayStop (L.ways.packages ledger.new) request.now budget e) }
+{
+    ledger.look()?;
+    found_here(alloc, ledger, request, explain, budget)
+}
+
+/// What is told of a request where the ledger stands, and what is offered to be learnt.
+fn found_here<L: Ledger>(
+    alloc: Global,
+    ledger: &L,
+    request: &Request,
+    explain: bool,
+    budget: Option<u32>,
+) -> Result<(Told, Vec<Learnt>), Refusal>
+    ensures told { IfOk result (λ r. TellsFound (L.ways.packages ledger.now) request.now explain (told_body r.0)) }
+    ensures only { IfErr result (MayStop (L.ways.packages ledger.now) request.now budget) }
+{
+    let registry = ledger.registry();
+    let outcome = solve_under(alloc, registry, request, ledger.store(), budget)?;
+    Ok(told_of(alloc, registry, request, explain, outcome)?)
+}

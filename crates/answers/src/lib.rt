@@ -1,0 +1,28 @@
+//! The answer to one line, by a session or by a seat of a race: [`answer_line`] asks the registry of a [`Ledger`], and
+//! [`put_told`] writes what is told as a reply.
+//!
+//! | File | What it does |
+//! |---|---|
+//! | `ledger` | what lines are answered by |
+//! | `answer` | the answer to a line: a command is entered, a request resolved, a derivation judged, a listing lent |
+//! | `told` | what is told of what the solver found, and of a derivation |
+//! | `reasons` | why no selection meets a request, by names and with its explanation |
+//! | `put` | the lines of replies |
+//! | `fault` | why lines are answered no further |
+//! | `laws` | what one may build on lawful replies |
+#![tactic(auto)]
+
+mod answer;
+mod fault;
+mod laws;
+mod ledger;
+mod put;
+mod reasons;
+mod told;
+
+pub use answer::{Answer, answer_line, answer_read, read_line};
+pub use fault::RunFault;
+pub use laws::lawful_replies_add_up;
+pub use ledger::{Ledger, learn_all};
+pub use put::{put_listing, put_or_send, put_told};
+pub use told::{Standing, Told, told_of};

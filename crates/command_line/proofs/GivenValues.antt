@@ -1,0 +1,234 @@
+-- Which values the words give where clap finds no fault in them.
+use Rattle.std.proofs.Common.{◌≡◌, ◌||◌, Bool, true, false, not, cond, List, [], ◌∷◌, ◌++◌, Option, Some, None, refl, sym, subst, ◌∙◌, ap, is_some, find, length, fold, codes, inl, inr, arith, option_and_then, option_map, slice_get, true≢false}
+use Rattle.std.specs.List.{AllByRecursion}
+use Rattle.std.specs.Option.{option_map_or}
+use Rattle.std.specs.Str.{bytes_eq}
+use Rattle.clap.specs.Values.{read_as}
+use Rattle.clap.specs.ValueTests.{accepts}
+use Rattle.clap.specs.Facts.{explicit_source}
+use Rattle.clap.proofs.ValueTestLemmas.{accepts-Accepts}
+use Rattle.clap.specs.Kinds.{Kinds, check_kinds, or_else, range_kinds}
+use Rattle.clap.specs.Simple.{Shape, built, built_leaf, filled, help_rule, inherited, marked_built, with_index, with_leaf_noted, entered, label_of, names_of, rows_at, subcommand_of}
+use Rattle.clap.specs.Takes.{is_given}
+use Rattle.clap.specs.Walk.{Row, Rule, Text, action_of, all_of, at_row, answers_to, finished, has_row, more_values, nothing_held, one_of, reading_by, row_text, settled, used_as, values_or_missing, walk, walk_from, with_default, default_rows, with_values, without}
+use Rattle.clap.specs.Faults.{check_fault, entered_fault, fault_of, level_fault, repeat_fault, set_fault, values_fault}
+use Rattle.clap.specs.declared.builder.action.ArgAction.{ArgAction}
+use Rattle.clap.specs.declared.builder.action.ArgAction.TheVariants as action
+use Rattle.clap.specs.declared.builder.ValueParser.TheVariants.{Unsigned}
+use Rattle.clap.specs.declared.builder.value_parser.Reading.{Reading}
+use Rattle.clap.specs.declared.builder.value_parser.Reading.TheVariants.{AsWritten}
+use Rattle.clap.specs.declared.error.ErrorKind.{ErrorKind}
+use Rattle.clap.specs.declared.error.ErrorKind.TheVariants as kind
+use Rattle.clap.specs.declared.parser.matches.ValueSource.{ValueSource}
+use Rattle.command_line.specs.CommandLine.{program_app, serve_app, race_app, workers_rule, files_rule, option_rule}
+use Rattle.command_line.specs.declared.words.TheConstants.{MOST_WORKERS}
+use Rattle.command_line.specs.Words.{HasFiles, HasWorkers, IsGiven}
+use Rattle.command_line.proofs.CommandWalk.{Keeps, no_fault, walk_keeps, settle_keeps}
+
+append_all : {X : Type 0} (P : X → Type 0) (xs ys : List X) → AllByRecursion P xs → AllByRecursion P ys → AllByRecursion P (xs ++ ys)
+append_all P [] ys first then = then
+append_all P (x ∷ xs) ys (here, rest) then = (here, append_all P xs ys rest then)
+
+module _ (id : Text) (test : Text → Bool) where
+  -- the values begin with one that passes the test, and are read as they were written
+  abbrev pub FirstPasses : List Text → Reading → Type 0
+  FirstPasses values how = (first : Text) × (rest : List Text) × (values ≡ first ∷ rest) × (how ≡ AsWritten) × (test first ≡ true)
+
+  abbrev pub IsGood : Row → Type 0
+  IsGood r = bytes_eq r.id id ≡ true → FirstPasses r.values r.reading
+
+  abbrev pub Good : List Row → Type 0
+  Good = AllByRecursion IsGood
+
+  at_row_good : (which : Text) (change : Row → List Row) (missing rows : List Row) → Good rows → ((r : Row) → IsGood r → Good (change r)) → Good missing
+      → Good (at_row which change missing rows)
+  at_row_good which change missing [] good changes new = new
+  at_row_good which change missing (r ∷ rs) (here, rest) changes new =
+      elim (bytes_eq r.id which) as (λ b. Good (cond b (change r ++ rs) (r ∷ at_row which change missing rs)))
+      [ true ↦ append_all IsGood (change r) rs (changes r here) rest | false ↦ (here, at_row_good which change missing rs rest changes new) ]
+
+  without_good : (which : Text) (rows : List Row) → Good rows → Good (without which rows)
+  without_good which rows good = at_row_good which (λ _. []) [] rows good (λ r here. tt) tt
+
+  with_values_good : (which : Text) (how : Reading) (source : ValueSource) (values : List Text) (rows : List Row) → Good rows
+      → (bytes_eq which id ≡ true → FirstPasses values how) → Good (with_values which how source values rows)
+  with_values_good which how source values rows good first =
+      at_row_good which (more_values source values) _ rows good
+      (λ r here. ((λ same. let f = here same in (f.0, f.1 ++ values, ap (λ l. l ++ values) f.2, f.3, f.4)), tt))
+      (first, tt)
+
+  used_good : (x : ArgAction) (which : Text) (how : Reading) (values : List Text) (rows : List Row) → (x ≡ action.Count → ⊥) → Good rows
+      → (bytes_eq which id ≡ true → FirstPasses values how) → Good (used_as x which how values rows)
+  used_good action.Set which how values rows other good first = with_values_good which how _ values _ (without_good which rows good) first
+  used_good action.SetTrue which how values rows other good first = with_values_good which how _ values _ (without_good which rows good) first
+  used_good action.SetFalse which how values rows other good first = with_values_good which how _ values _ (without_good which rows good) first
+  used_good action.Append which how values rows other good first = with_values_good which how _ values rows good first
+  used_good action.Count which how values rows other good first = absurd (other refl)
+  used_good action.Help which how values rows other good first = good
+  used_good action.HelpShort which how values rows other good first = good
+  used_good action.HelpLong which how values rows other good first = good
+  used_good action.Version which how values rows other good first = good
+
+  -- a row that was given has such a value
+  pub given_first : (rows : List Row) → Good rows → is_given id rows ≡ true
+      → (r : Row) × (find (λ r. bytes_eq r.id id) rows ≡ Some r) × FirstPasses r.values r.reading
+  given_first [] good given = absurd (true≢false (sym given))
+  given_first (r ∷ rs) (here, rest) given = go (λ later. given_first rs rest later) (bytes_eq r.id id) refl given
+    where
+      go : (is_given id rs ≡ true → (q : Row) × (find (λ q. bytes_eq q.id id) rs ≡ Some q) × FirstPasses q.values q.reading)
+          → (b : Bool) → bytes_eq r.id id ≡ b → option_map_or (λ q. explicit_source q.source) (cond b (Some r) (find (λ q. bytes_eq q.id id) rs)) false ≡ true
+          → (q : Row) × (cond b (Some r) (find (λ q. bytes_eq q.id id) rs) ≡ Some q) × FirstPasses q.values q.reading
+      go later true is given = (r, refl, here is)
+      go later false is given = later given
+
+  -- such an argument is read as its first value, and has all of its values
+  pub first_read : (rows : List Row) → Good rows → is_given id rows ≡ true
+      → (first : Text) × (rest : List Text) × (one_of id rows ≡ Some first) × (all_of id rows ≡ Some (first ∷ rest)) × (test first ≡ true)
+  first_read rows good given =
+      let met = given_first rows good given in
+      let passes = met.2 in
+      let row_is : row_text met.0 ≡ Some passes.0 = ap (λ v. option_map (read_as met.0.reading) (slice_get v 0)) passes.2 ∙ ap (λ how. Some (read_as how passes.0)) passes.3 in (
+        passes.0,
+        passes.1,
+        ap (option_and_then row_text) met.1 ∙ row_is,
+        ap (option_map (λ (r : Row). r.values)) met.1 ∙ ap (λ v. Some v) passes.2,
+        passes.4,
+      )
+
+-- ---- one level of the parse
+
+with_default_none : (rows : List Row) (a : Rule) → a.defaults ≡ [] → with_default rows a ≡ rows
+with_default_none rows a none =
+    elim (has_row a.id rows) as (λ b. cond b rows (default_rows a.id (reading_by a) a.defaults rows) ≡ rows)
+    [ true ↦ refl | false ↦ ap (λ values. default_rows a.id (reading_by a) values rows) none ]
+
+-- where no argument has a default, the rows at the end are those of the walk
+defaults_none : (c : List Rule) (rows : List Row) → AllByRecursion (λ a. a.defaults ≡ []) c → fold with_default rows c ≡ rows
+defaults_none [] rows all = refl
+defaults_none (a ∷ c) rows (here, rest) = ap (λ r. fold with_default r c) (with_default_none rows a here) ∙ defaults_none c rows rest
+
+-- what a level without fault leaves
+level_leaves : (Good : List Row → Type 0) (s : Shape) (words : List Text) → AllByRecursion (Keeps Good s) s.rules → AllByRecursion (λ a. a.defaults ≡ []) s.rules → Good []
+    → level_fault s [] nothing_held words false [] ≡ []
+    → Good (finished s.rules (walk s.rules [] nothing_held words).held) × (check_fault s (finished s.rules (walk s.rules [] nothing_held words).held) false ≡ [])
+level_leaves Good s words keeps defaults empty none =
+    let end = (walk s.rules [] nothing_held words).held in
+    let walked_well = no_fault _ _ none in
+    let settled_well = no_fault _ _ walked_well.1 in
+    let after = no_fault _ _ settled_well.1 in
+    let good = walk_keeps Good s keeps [] words (walk_from nothing_held) empty walked_well.0 in
+    let kept = settle_keeps Good s keeps end good settled_well.0 in
+    (subst Good (sym (defaults_none s.rules (settled s.rules end).rows defaults)) kept, after.1)
+
+-- ---- the program's own levels
+
+abbrev serve_shape : Shape
+serve_shape = built_leaf (inherited (marked_built (with_leaf_noted program_app.top)) serve_app.top)
+
+abbrev race_shape : Shape
+race_shape = built_leaf (inherited (marked_built (with_leaf_noted program_app.top)) race_app.top)
+
+subcommands : (built program_app).subs ≡ serve_shape ∷ race_shape ∷ []
+subcommands = refl
+
+abbrev is_worker_count : Text → Bool
+is_worker_count = accepts false (Unsigned 1 MOST_WORKERS)
+
+accepted : (b : Bool) (k : ErrorKind) (ks : Kinds) → or_else (cond b [] (k ∷ [])) ks ≡ [] → b ≡ true
+accepted true k ks none = refl
+accepted false k ks none = absurd (cc)
+
+WorkersGood : List Row → Type 0
+WorkersGood = Good (codes "workers") is_worker_count
+
+-- a use of an option that takes one value, and is not the one in question
+keeps_option : (a : Rule) → action_of a ≡ action.Set → bytes_eq a.id (codes "workers") ≡ false → Keeps WorkersGood serve_shape a
+unfolding WorkersGood
+keeps_option a is other values rows good none =
+    used_good (codes "workers") is_worker_count (action_of a) a.id (reading_by a) (values_or_missing a values) rows (λ count. cc) good (λ same. absurd (true≢false (sym same ∙ other)))
+
+keeps_workers : Keeps WorkersGood serve_shape (filled workers_rule)
+unfolding WorkersGood
+keeps_workers [] rows good none = absurd (cc)
+keeps_workers (v ∷ vs) rows good none =
+    let again = serve_shape.args_override_self in
+    let used_well = no_fault (range_kinds 1 1 (length (v ∷ vs))) (set_fault again (filled workers_rule) (v ∷ vs) rows) none in
+    let once = no_fault (repeat_fault again (codes "workers") rows) (values_fault (filled workers_rule) (v ∷ vs)) used_well.1 in
+    let passes = accepted (is_worker_count v) kind.ValueValidation (values_fault (filled workers_rule) vs) once.1 in
+    used_good (codes "workers") is_worker_count action.Set (codes "workers") AsWritten (v ∷ vs) rows (λ count. cc) good (λ same. (v, vs, refl, refl, passes))
+
+keeps_help : (Good : List Row → Type 0) (s : Shape) → Keeps Good s (filled help_rule)
+keeps_help Good s values rows good none = good
+
+workers_kept : AllByRecursion (Keeps WorkersGood serve_shape) serve_shape.rules
+workers_kept = (keeps_workers, (keeps_option (filled (option_rule (codes "load"))) refl refl, (keeps_option (filled (option_rule (codes "save"))) refl refl, (keeps_help WorkersGood serve_shape, tt))))
+
+FilesGood : List Row → Type 0
+FilesGood = Good (codes "files") (λ _. true)
+
+keeps_files : Keeps FilesGood race_shape (with_index 1 (filled files_rule))
+unfolding FilesGood
+keeps_files [] rows good none = absurd (cc)
+keeps_files (v ∷ vs) rows good none =
+    used_good (codes "files") (λ _. true) action.Append (codes "files") AsWritten (v ∷ vs) rows (λ count. cc) good (λ same. (v, vs, refl, refl, refl))
+
+files_kept : AllByRecursion (Keeps FilesGood race_shape) race_shape.rules
+files_kept = (keeps_files, (keeps_help FilesGood race_shape, tt))
+
+-- the last checks of a level want what is required
+asked_for : (b : Bool) → check_kinds false false (not b || false) ≡ [] → b ≡ true
+asked_for true none = refl
+asked_for false none = absurd (cc)
+
+-- what `serve` was given: a number of workers
+workers_given : (words : List Text) → level_fault serve_shape [] nothing_held words false [] ≡ []
+    → HasWorkers (finished serve_shape.rules (walk serve_shape.rules [] nothing_held words).held)
+unfolding WorkersGood
+workers_given words none =
+    let left = level_leaves WorkersGood serve_shape words workers_kept (refl, (refl, (refl, (refl, tt)))) tt none in
+    let rows = finished serve_shape.rules (walk serve_shape.rules [] nothing_held words).held in
+    let read = first_read (codes "workers") is_worker_count rows left.0 (asked_for (is_given (codes "workers") rows) left.1) in
+    (read.0, read.2, accepts-Accepts false (Unsigned 1 MOST_WORKERS) read.0 read.4)
+
+-- what `race` was given: a file or more
+files_given : (words : List Text) → level_fault race_shape [] nothing_held words false [] ≡ []
+    → HasFiles (finished race_shape.rules (walk race_shape.rules [] nothing_held words).held)
+unfolding FilesGood
+files_given words none =
+    let left = level_leaves FilesGood race_shape words files_kept (refl, (refl, tt)) tt none in
+    let rows = finished race_shape.rules (walk race_shape.rules [] nothing_held words).held in
+    let read = first_read (codes "files") (λ _. true) rows left.0 (asked_for (is_given (codes "files") rows) left.1) in
+    (read.0 ∷ read.1, read.3, omega arith)
+
+-- ---- the whole command line
+
+abbrev program_shape : Shape
+program_shape = (built program_app).top
+
+-- the last checks of the program want a subcommand
+subcommand_wanted : (rows : List Row) (has : Bool) → check_fault program_shape rows has ≡ [] → has ≡ true
+subcommand_wanted rows true none = refl
+subcommand_wanted rows false none = absurd (cc)
+
+entered_by : (words : List Text) (is_serve is_race : Bool) → let met = cond is_serve (Some serve_shape) (cond is_race (Some race_shape) None) in
+    option_map_or (λ s. level_fault s [] nothing_held words false []) met [] ≡ [] → is_some (option_map (λ s. rows_at s words) met) ≡ true → IsGiven (option_map (λ s. rows_at s words) met)
+entered_by words true is_race below has = ((rows_at serve_shape words).1, inl (refl, workers_given words below))
+entered_by words false true below has = ((rows_at race_shape words).1, inr (refl, files_given words below))
+entered_by words false false below has = absurd (true≢false (sym has))
+
+entered_from : (stop : Option (Text × List Text)) → entered_fault (built program_app) stop ≡ [] → is_some (entered (built program_app) stop) ≡ true
+    → IsGiven (entered (built program_app) stop)
+entered_from None below has = absurd (true≢false (sym has))
+entered_from (Some p) below has = entered_by p.1 (answers_to p.0 (label_of serve_shape)) (answers_to p.0 (label_of race_shape)) below has
+
+-- where clap finds no fault in the words, a subcommand and its values are given
+pub given_values : (words : List Text) → fault_of program_app words ≡ [] → IsGiven (subcommand_of program_app words)
+given_values words none =
+    let names = names_of (built program_app) in
+    let end = walk program_shape.rules names nothing_held words in
+    let has = is_some (entered (built program_app) end.stopped) in
+    let walked_well = no_fault _ _ none in
+    let entered_well = no_fault _ _ walked_well.1 in
+    let settled_well = no_fault _ _ entered_well.1 in
+    let defaults_well = no_fault _ _ settled_well.1 in
+    entered_from end.stopped entered_well.0 (subcommand_wanted (finished program_shape.rules end.held) has defaults_well.1)

@@ -1,0 +1,2 @@
+pub mod CommandWalk
+pub mod GivenValues

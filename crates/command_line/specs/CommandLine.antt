@@ -1,0 +1,42 @@
+-- The command line, as clap is told of it.
+use Rattle.std.specs.Prelude.{Some, true, codes}
+use Rattle.clap.specs.Words.{App, Rule, Text, new_app, new_rule, with_rule, with_subcommand}
+use Rattle.clap.specs.declared.builder.action.ArgAction.TheVariants.{Set, Append}
+use Rattle.clap.specs.declared.builder.ValueParser.TheVariants.{Unsigned}
+use Rattle.command_line.specs.declared.words.TheConstants.{MOST_WORKERS}
+
+-- `--name VALUE`, which may be left out
+abbrev pub option_rule : Text → Rule
+option_rule name = record (new_rule name) { long = Some name; action = Some Set; value_names = 1 }
+
+-- `--workers N`, which has to be there, N from 1 to MOST_WORKERS
+abbrev pub workers_rule : Rule
+workers_rule = record (option_rule (codes "workers")) { required = true; parser = Some (Unsigned 1 MOST_WORKERS) }
+
+-- one file or more
+abbrev pub files_rule : Rule
+files_rule = record (new_rule (codes "files")) {
+  required = true;
+  action = Some Append;
+  range = Some (record { start_inclusive = 1; end_inclusive = 18446744073709551615 });
+  value_names = 1;
+}
+
+-- `serve --workers N [--load FILE] [--save FILE]`
+abbrev pub serve_app : App
+serve_app = with_rule (with_rule (with_rule (new_app (codes "serve")) workers_rule) (option_rule (codes "load"))) (option_rule (codes "save"))
+
+-- `race FILE...`
+abbrev pub race_app : App
+race_app = with_rule (new_app (codes "race")) files_rule
+
+-- one of the two, with no word for the program itself
+abbrev pub program_app : App
+program_app = let a = new_app (codes "registryd") in
+    with_subcommand (with_subcommand (record a {
+      top = record a.top {
+        no_binary_name = true;
+        disable_help_subcommand = true;
+        subcommand_required = true;
+      };
+    }) serve_app.top) race_app.top

@@ -1,0 +1,79 @@
+-- What the words of the command line say.
+use Rattle.std.specs.Prelude.{◌≡◌, ◌≤◌, ◌<◌, ◌⊎◌, ℕ, List, [], Option, Some, None, codes, map, String, string_bytes, option_map, length}
+use Rattle.std.specs.Str.Parse.{IsNumeral, digits_value, without_leading_plus}
+use Rattle.std.specs.declared.alloc.Global.{Global}
+use Rattle.clap.specs.Words.{IsUnsignedIn, Row, Text, fault_of, subcommand_of, first_of, all_of, one_of}
+use Rattle.command_line.specs.CommandLine.{program_app}
+use Rattle.command_line.specs.declared.words.TheConstants.{MOST_FILES, MOST_WORKERS}
+use Rattle.command_line.specs.declared.words.Words.{Words}
+use Rattle.command_line.specs.declared.words.Words.TheVariants.{Serve, Race}
+
+abbrev pub texts : List (String Global) → List Text
+texts words = map string_bytes words
+
+-- a text writes the number in decimal digits, perhaps after a plus
+abbrev pub Writes : Text → ℕ → Type 0
+Writes text n = IsNumeral 10 (without_leading_plus text) × (digits_value 10 (without_leading_plus text) ≡ n)
+
+-- the number of workers, which is 1 to MOST_WORKERS, is the one that was given
+abbrev pub SaysWorkers : ℕ → List Row → Type 0
+SaysWorkers workers rows = (1 ≤ workers) × (workers ≤ MOST_WORKERS)
+    × ((text : Text) × (one_of (codes "workers") rows ≡ Some text) × Writes text workers)
+
+-- the options of `serve` are those that were given
+abbrev pub SaysServe : Words → List Row → Type 0
+SaysServe (Serve workers load save) rows = SaysWorkers workers rows
+    × (option_map string_bytes load ≡ first_of (codes "load") rows)
+    × (option_map string_bytes save ≡ first_of (codes "save") rows)
+SaysServe (Race files) rows = ⊥
+
+-- the files of `race`, 1 to MOST_FILES, are those that were given
+abbrev pub SaysRace : Words → List Row → Type 0
+SaysRace (Serve workers load save) rows = ⊥
+SaysRace (Race files) rows = (0 < length files.items) × (length files.items ≤ MOST_FILES)
+    × (Some (texts files.items) ≡ all_of (codes "files") rows)
+
+-- the words say what clap gives for them: a subcommand with its values
+abbrev pub Says : Words → Option (Text × List Row) → Type 0
+Says words given = (rows : List Row) × (((given ≡ Some (codes "serve", rows)) × SaysServe words rows)
+    ⊎ ((given ≡ Some (codes "race", rows)) × SaysRace words rows))
+
+abbrev pub IsManyFiles : List Row → Type 0
+IsManyFiles rows = (files : List Text) × (all_of (codes "files") rows ≡ Some files) × (MOST_FILES < length files)
+
+-- more files than a race takes
+abbrev pub HasManyFiles : Option (Text × List Row) → Type 0
+HasManyFiles given = (rows : List Row) × (given ≡ Some (codes "race", rows)) × IsManyFiles rows
+
+-- `serve` is given, with these files to begin from and to leave, where they are named
+abbrev pub IsServe : Option Text → Option Text → Option (Text × List Row) → Type 0
+IsServe load save given = (rows : List Row) × (given ≡ Some (codes "serve", rows))
+    × (first_of (codes "load") rows ≡ load) × (first_of (codes "save") rows ≡ save)
+
+-- clap finds no fault in the words, and they ask to serve with these files
+abbrev pub AskToServe : List Text → Option Text → Option Text → Type 0
+AskToServe words load save = (fault_of program_app words ≡ []) × IsServe load save (subcommand_of program_app words)
+
+-- a race of so many files is given, at most MOST_FILES
+abbrev pub IsRaceOf : ℕ → Option (Text × List Row) → Type 0
+IsRaceOf count given = (rows : List Row) × (files : List Text) × (given ≡ Some (codes "race", rows))
+    × (all_of (codes "files") rows ≡ Some files) × (length files ≡ count) × (count ≤ MOST_FILES)
+
+-- clap finds no fault in the words, and they ask for a race of so many files
+abbrev pub AskToRace : List Text → ℕ → Type 0
+AskToRace words count = (fault_of program_app words ≡ []) × IsRaceOf count (subcommand_of program_app words)
+
+-- ---- what clap has seen to
+
+-- a number of workers is given, from 1 to MOST_WORKERS
+abbrev pub HasWorkers : List Row → Type 0
+HasWorkers rows = (text : Text) × (one_of (codes "workers") rows ≡ Some text) × IsUnsignedIn 1 MOST_WORKERS text
+
+-- a file is given
+abbrev pub HasFiles : List Row → Type 0
+HasFiles rows = (files : List Text) × (all_of (codes "files") rows ≡ Some files) × (0 < length files)
+
+-- a subcommand is given, with the values that it has to have
+abbrev pub IsGiven : Option (Text × List Row) → Type 0
+IsGiven given = (rows : List Row) × (((given ≡ Some (codes "serve", rows)) × HasWorkers rows)
+    ⊎ ((given ≡ Some (codes "race", rows)) × HasFiles rows))

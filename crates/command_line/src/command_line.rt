@@ -1,0 +1,91 @@
+//! The command line of the program, as clap is told of it.
+ghost use Rattle.std.specs.Prelude.{◌≡◌, IfOk, true, false};
+ghost use Rattle.clap.specs.Words.{app_of, rule_of};
+ghost use Rattle.clap.specs.declared.Command.TheViews.{out-Command as fields_of};
+ghost use Rattle.command_line.specs.CommandLine.{option_rule, workers_rule, files_rule, serve_app, race_app, program_app};
+
+use crate::words::MOST_WORKERS;
+use clap::builder::ValueParser;
+use clap::{Arg, ArgAction, Command};
+use std::alloc::{AllocError, Global};
+
+// What the help of `serve` shows.
+const SERVE_EXAMPLE: &str = "Example: echo '{\"op\":\"list\"}' | registryd serve --workers 1";
+
+// What the help of `race` shows.
+const RACE_EXAMPLE: &str = "Example: registryd race first.lines second.lines";
+
+/// `registryd serve --workers N [--load FILE] [--save FILE]` or `registryd race FILE...`, without the
+/// program's name.
+pub fn program<'a>(alloc: Global) -> Result<Command<'a>, AllocError>
+    ensures { IfOk result (λ c. app_of c ≡ program_app) }
+{
+    let serve = serve_command(alloc)?;
+    let named = Command::new(alloc, "registryd").bin_name("registryd")?;
+    let with_serve = named
+        .about("A package registry that reads request lines and writes reply lines")
+        .no_binary_name(true)
+        .disable_help_subcommand(true)
+        .subcommand_required(true)
+        .subcommand(serve)?;
+    let race = race_command(alloc)?;
+    with_serve.subcommand(race)
+}
+
+fn serve_command<'a>(alloc: Global) -> Result<Command<'a>, AllocError>
+    ensures app { IfOk result (λ c. app_of c ≡ serve_app) }
+    ensures local { IfOk result (λ c. (fields_of c).has_globals ≡ false) }
+{
+    let bare = Command::new(alloc, "serve")
+        .about("Answers the request lines of standard input")
+        .after_help(SERVE_EXAMPLE);
+    let with_workers = bare.arg(workers_option(alloc))?;
+    let with_load = with_workers.arg(file_option(alloc, "load", "A journal to begin from"))?;
+    with_load.arg(file_option(alloc, "save", "Where to write the journal at the end"))
+}
+
+fn race_command<'a>(alloc: Global) -> Result<Command<'a>, AllocError>
+    ensures app { IfOk result (λ c. app_of c ≡ race_app) }
+    ensures local { IfOk result (λ c. (fields_of c).has_globals ≡ false) }
+{
+    Command::new(alloc, "race")
+        .about("Answers the request lines of files, a thread to each")
+        .after_help(RACE_EXAMPLE)
+        .arg(files_argument(alloc))
+}
+
+fn workers_option<'a>(alloc: Global) -> Arg<'a>
+    ensures rule { rule_of result ≡ workers_rule }
+    ensures local { result.global ≡ false }
+{
+    Arg::new(alloc, "workers")
+        .long("workers")
+        .value_name("N")
+        .help("How many threads resolve, 1 to 64")
+        .required(true)
+        .action(ArgAction::Set)
+        .value_parser(ValueParser::Unsigned(1, MOST_WORKERS))
+}
+
+fn file_option<'a>(alloc: Global, name: &'a str, help: &'a str) -> Arg<'a>
+    ensures rule { rule_of result ≡ option_rule name.entry.now }
+    ensures local { result.global ≡ false }
+{
+    Arg::new(alloc, name)
+        .long(name)
+        .value_name("FILE")
+        .help(help)
+        .action(ArgAction::Set)
+}
+
+fn files_argument<'a>(alloc: Global) -> Arg<'a>
+    ensures rule { rule_of result ≡ files_rule }
+    ensures local { result.global ≡ false }
+{
+    Arg::new(alloc, "files")
+        .value_name("FILE")
+        .help("1 to 63 files of request lines")
+        .required(true)
+        .action(ArgAction::Append)
+        .num_args(1..)
+}

@@ -1,0 +1,7 @@
+//! The command line of the program: [`read_words`] tells what its words ask for, as clap reads them.
+#![tactic(auto)]
+
+mod command_line;
+mod words;
+
+pub use words::{MOST_FILES, MOST_WORKERS, WordFault, Words, advice_on, read_words};

@@ -1,0 +1,173 @@
+//! The words of the command line, as clap reads them.
+ghost use Rattle.std.specs.Prelude.{◌≡◌, ◌≢◌, [], IfOk, IfErr, OnOk, IsErrOf, option_map, true, map, string_bytes};
+ghost use Rattle.clap.specs.Words.{fault_of, takes, subcommand_of, subcommand_rows_of, rows_of, found_of, kind_of};
+ghost use Rattle.command_line.specs.CommandLine.{program_app};
+ghost use Rattle.command_line.specs.Words.{texts, Says, SaysServe, SaysRace, HasManyFiles, IsManyFiles, HasWorkers, HasFiles, IsGiven};
+ghost use Rattle.command_line.specs.declared.words.WordFault.TheVariants.{Memory};
+
+use crate::command_line::program;
+use clap::error::ErrorKind;
+use clap::{ArgMatches, Error};
+use std::alloc::{AllocError, Global};
+use thiserror::Error as ThisError;
+
+/// The most threads that resolve requests.
+pub const MOST_WORKERS: u64 = 64;
+
+/// The most files that a race takes: with the seat that prints the journal they are 64 seats.
+pub const MOST_FILES: usize = 63;
+
+/// What the words ask for.
+#[derive(Drop)]
+pub enum Words {
+    /// Answer the lines of standard input, by so many resolving threads, from a journal's commands on
+    /// and with a journal at the end, where files are named for them.
+    Serve {
+        workers: usize,
+        load: Option<String>,
+        save: Option<String>,
+    },
+    /// Answer the lines of each file, side by side.
+    Race(Vec<String>),
+}
+
+/// Why there are no words to obey.
+#[derive(Clone, Copy, Debug, PartialEq, Eq, ThisError)]
+pub enum WordFault {
+    /// clap refuses the words, as it does for `--help`, or a race has too many files.
+    #[error("bad words")]
+    Bad,
+    #[error("no memory")]
+    Memory,
+}
+
+impl From<AllocError> for WordFault {
+    ghost from_gives = { λ _ fault. fault ≡ Memory };
+
+    fn from(_refused: AllocError) -> WordFault {
+        WordFault::Memory
+    }
+}
+
+/// Reads the words after the program's name.
+pub fn read_words(alloc: Global, words: &[String]) -> Result<Words, WordFault>
+    // The subcommand, the options and the files are those that clap gives for the words.
+    ensures ok { IfOk result (λ w. Says w (subcommand_of program_app (texts words.now))) }
+    // Only words in which clap finds no fault are obeyed.
+    ensures taken { OnOk result (fault_of program_app (texts words.now) ≡ []) }
+    // Only words in which clap finds a fault are bad, or too many files.
+    ensures bad { IsErrOf result WordFault.Bad → fault_of program_app (texts words.now) ≡ []
+        → HasManyFiles (subcommand_of program_app (texts words.now)) }
+    // Words that clap takes are bad only for too many files.
+    ensures refused { IsErrOf result WordFault.Bad → takes program_app (texts words.now) ≡ true
+        → HasManyFiles (subcommand_of program_app (texts words.now)) }
+{
+    let matches = matches_of(alloc, words)?;
+    words_of(alloc, &matches)
+}
+
+/// What to show a person whose words are bad: what clap says to them, and the help of the program
+/// where clap has nothing against them.
+pub fn advice_on(alloc: Global, words: &[String]) -> Result<String, AllocError> {
+    match program(alloc)?.try_get_matches_from(words) {
+        Ok(_) => help(alloc),
+        Err(e) => format!(in alloc; "{e}"),
+    }
+}
+
+// The help of the program.
+fn help(alloc: Global) -> Result<String, AllocError> {
+    program(alloc)?.render_help()
+}
+
+// What clap makes of the words.
+fn matches_of<'a>(alloc: Global, words: &'a [String]) -> Result<ArgMatches<'a>, WordFault>
+    ensures ok { IfOk result (λ m. subcommand_rows_of m ≡ subcommand_of program_app (texts words.entry.now)) }
+    ensures given { IfOk result (λ m. IsGiven (subcommand_rows_of m)) }
+    ensures taken { OnOk result (fault_of program_app (texts words.entry.now) ≡ []) }
+    ensures bad { IsErrOf result WordFault.Bad → fault_of program_app (texts words.entry.now) ≢ [] }
+    ensures refused { IsErrOf result WordFault.Bad → takes program_app (texts words.entry.now) ≢ true }
+{
+    let command = program(alloc)?;
+    match command.try_get_matches_from(words) {
+        Ok(matches) => Ok(matches),
+        Err(e) => Err(fault_in(&e)),
+    }
+}
+
+// Want of memory is no fault of the words.
+fn fault_in(e: &Error) -> WordFault
+    ensures bad { result ≡ WordFault.Bad → kind_of e.now ≢ ErrorKind.OutOfMemory }
+    ensures memory { result ≡ WordFault.Memory → kind_of e.now ≡ ErrorKind.OutOfMemory }
+{
+    match e.kind() {
+        ErrorKind::OutOfMemory => WordFault::Memory,
+        _ => WordFault::Bad,
+    }
+}
+
+fn words_of(alloc: Global, matches: &ArgMatches) -> Result<Words, WordFault>
+    requires { IsGiven (subcommand_rows_of matches.now) }
+    ensures ok { IfOk result (λ w. Says w (subcommand_rows_of matches.now)) }
+    ensures bad { IsErrOf result WordFault.Bad → HasManyFiles (subcommand_rows_of matches.now) }
+{
+    match matches.subcommand_matches("serve") {
+        Some(given) => return serve_words(alloc, given),
+        None => {}
+    }
+    match matches.subcommand_matches("race") {
+        Some(given) => race_words(alloc, given),
+        None => unreachable!(),
+    }
+}
+
+fn serve_words(alloc: Global, given: &ArgMatches) -> Result<Words, WordFault>
+    requires { HasWorkers (rows_of (found_of given.now)) }
+    ensures ok { IfOk result (λ w. SaysServe w (rows_of (found_of given.now))) }
+    ensures kind { IfErr result (λ e. e ≡ WordFault.Memory) }
+{
+    let Some(workers) = given.get_one::<usize>("workers") else {
+        unreachable!()
+    };
+    let load = copied(alloc, given.get_str("load"))?;
+    let save = copied(alloc, given.get_str("save"))?;
+    Ok(Words::Serve {
+        workers,
+        load,
+        save,
+    })
+}
+
+fn race_words(alloc: Global, given: &ArgMatches) -> Result<Words, WordFault>
+    requires { HasFiles (rows_of (found_of given.now)) }
+    ensures ok { IfOk result (λ w. SaysRace w (rows_of (found_of given.now))) }
+    ensures bad { IsErrOf result WordFault.Bad → IsManyFiles (rows_of (found_of given.now)) }
+{
+    let Some(files) = given.get_strs("files") else {
+        unreachable!()
+    };
+    if files.len() > MOST_FILES {
+        return Err(WordFault::Bad);
+    }
+    let files = copies(alloc, files)?;
+    Ok(Words::Race(files))
+}
+
+fn copies(alloc: Global, texts: &[&str]) -> Result<Vec<String>, AllocError>
+    ensures { IfOk result (λ v. map string_bytes v.items ≡ map (λ t. t.now) texts.now) }
+{
+    let mut all = Vec::with_capacity(alloc, texts.len())?;
+    for text in texts {
+        all.push(String::from_str(alloc, *text)?)?;
+    }
+    Ok(all)
+}
+
+fn copied(alloc: Global, text: Option<&str>) -> Result<Option<String>, AllocError>
+    ensures { IfOk result (λ o. option_map string_bytes o ≡ option_map (λ t. t.now) text.entry) }
+{
+    match text {
+        None => Ok(None),
+        Some(text) => Ok(Some(String::from_str(alloc, text)?)),
+    }
+}

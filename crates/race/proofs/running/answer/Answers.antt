@@ -1,0 +1,24 @@
+use Rattle.std.proofs.Common.{ap, subst, ◌∙◌}
+use Rattle.replies.specs.Replies.{reply_text}
+use Rattle.answers.specs.Outcomes.{MayTell, TellsListing}
+use Rattle.answers.specs.Told.{reply_from, told_body}
+use Rattle.race.proofs.running.answer.Goals as goal
+
+pub returns-in-Told : goal.returns-in-Told
+returns-in-Told c =
+    let lawful = rw c.in-Told.is at c.answer_line.ensures in
+    (_, lawful, ap (λ at. reply_text (reply_from at (told_body c.in-Told.told))) c.standing.ensures)
+
+pub returns-in-Found : goal.returns-in-Found
+returns-in-Found c =
+    let lawful = rw c.in-Found.is at c.answer_line.ensures in
+    (_, lawful _ c.learn_all.ensures, ap (λ at. reply_text (reply_from at (told_body c.in-Found.told))) c.standing-at.ensures)
+
+pub returns-in-Listing : goal.returns-in-Listing
+returns-in-Listing c =
+    let lawful = rw c.in-Listing.is at c.answer_line.ensures in
+    let kept = c.keep_listing.ensures in (
+      _,
+      lawful kept.0 (subst (λ packages. MayTell (TellsListing packages) kept.0) c.registry.ensures kept.1),
+      kept.2 ∙ ap (λ at. reply_text (reply_from at kept.0)) c.standing-in-Listing.ensures,
+    )

@@ -1,0 +1,3 @@
+pub mod Racing
+pub mod Kept
+pub mod Race

@@ -1,0 +1,88 @@
+-- The seats of a race: their ledgers, what they answer, and what a race prints.
+use Rattle.std.specs.Prelude.{◌≡◌, ◌<◌, ◌⊎◌, ℕ, ◌+◌, List, [], ◌∷◌, ◌++◌, All, Contains, flat_map, length, Option, Some}
+use Rattle.std.specs.Io.KnownBytes.{Appends}
+use Rattle.versions.specs.Words.{Text}
+use Rattle.versions.specs.declared.refusal.Refusal.TheVariants.{Stray}
+use Rattle.book.specs.declared.item.Item.{Item}
+use Rattle.chronicle.specs.Cells.{Cells}
+use Rattle.chronicle.specs.Journals.{Begins, items_of, packages_of, refusal_at, revision_of}
+use Rattle.chronicle.specs.Seats.{Accepted, MayHaveSeen, Place}
+use Rattle.chronicle.specs.declared.entry.Entry.{Entry}
+use Rattle.chronicle.specs.declared.entry.Stamp.{Stamp}
+use Rattle.chronicle.specs.declared.row.TheConstants.{CAPACITY_LIMIT}
+use Rattle.lines.specs.Lines.{lines_of}
+use Rattle.lines.specs.Texts.{IsBeginning}
+use Rattle.journals.specs.Saved.{saved_text}
+use Rattle.replies.specs.Replies.{Reply, replies_text}
+use Rattle.answers.specs.Lawful.{AreLawful, Ways}
+
+-- ---- journals
+
+-- the file of a journal, by the names of its packages
+abbrev pub file_of : List Entry → Text
+file_of journal = saved_text (packages_of journal) (items_of journal)
+
+-- ---- a seat's ledger
+
+-- A look may show what others entered. An item that is accepted stands behind all that the seat had seen. A call goes no further where the next cell has an entry of the seat's number that it did not make.
+abbrev pub seat_ways : Ways Place
+seat_ways = record {
+  standing = λ seat. record { revision = revision_of seat.journal; stamp = Some (record { place = length seat.journal; seat = seat.number }) };
+  packages = λ seat. packages_of seat.journal;
+  looks = MayHaveSeen;
+  enters = λ old i new. (stamp : Stamp) × Accepted old new i stamp;
+  refusal = λ seat i. refusal_at seat.row.capacity seat.journal i;
+  halts = λ seat refusal. (refusal ≡ Stray) × (length seat.journal < seat.row.capacity);
+}
+
+-- the seat of a row with this number, before it has seen anything
+abbrev pub fresh_seat : Cells → ℕ → Place
+fresh_seat row number = record { row = row; number = number; journal = [] }
+
+-- ---- files
+
+-- These may be the replies to a file's lines by the seat of the row with this number, which has then seen these entries.
+pub record IsRun (row : Cells) (number : ℕ) (file : Text) (replies : List Reply) (seen : List Entry) : Type 0 where
+  pub end : Place
+  pub session : AreLawful seat_ways (lines_of file) (fresh_seat row number) replies end
+  pub journal : seen ≡ end.journal
+
+-- Each file has its replies, by seats that are numbered in order from this one on, and each of these has then seen its entries.
+abbrev pub AreRun : Cells → ℕ → List Text → List (List Reply) → List (List Entry) → Type 0
+AreRun row number [] [] [] = Unit {0}
+AreRun row number (file ∷ files) (replies ∷ rest) (seen ∷ others) = IsRun row number file replies seen × AreRun row (number + 1) files rest others
+AreRun row number [] [] (seen ∷ others) = ⊥
+AreRun row number [] (replies ∷ rest) all = ⊥
+AreRun row number (file ∷ files) [] all = ⊥
+AreRun row number (file ∷ files) (replies ∷ rest) [] = ⊥
+
+-- There is a row of so many cells, and each file has its replies by a seat of it, which has seen a beginning of the journal. Unless the journal is empty, one of them has seen all of it.
+pub record IsRace (files : List Text) (journal : List Entry) (replies : List (List Reply)) : Type 0 where
+  pub row : Cells
+  pub sized : row.capacity ≡ CAPACITY_LIMIT
+  pub seen : List (List Entry)
+  pub runs : AreRun row 1 files replies seen
+  pub begins : All (λ (entries : List Entry). Begins entries journal) seen
+  pub whole : (journal ≡ []) ⊎ Contains seen journal
+
+-- ---- what is printed
+
+-- the replies, seat by seat, and then the file of the journal
+abbrev pub race_text : List (List Reply) → List Entry → Text
+race_text replies journal = flat_map replies_text replies ++ file_of journal
+
+-- There is one journal, of which each seat has seen a beginning and one has seen all, each file's lines have their lawful replies, and what was written is these replies and the journal.
+pub record Races (written_before written_after : Option (List ℕ)) (files : List Text) : Type 0 where
+  pub journal : List Entry
+  pub replies : List (List Reply)
+  pub raced : IsRace files journal replies
+  pub written : Appends written_before written_after (race_text replies journal)
+
+-- The same, but that a beginning alone of these replies and the journal was written.
+pub record RacesInPart (written_before written_after : Option (List ℕ)) (files : List Text) : Type 0 where
+  pub journal : List Entry
+  pub replies : List (List Reply)
+  pub raced : IsRace files journal replies
+  pub text : List ℕ
+  pub written : Appends written_before written_after text
+  pub beginning : IsBeginning text (race_text replies journal)

@@ -1,0 +1,16 @@
+//! A race: [`race`] answers files of lines, each by a seat of one row in a thread of its own.
+//!
+//! | File | What it does |
+//! |---|---|
+//! | `seat` | a seat as a ledger |
+//! | `running` | one seat, which answers the lines of a file |
+//! | `kept` | replies, which are kept until all seats are done |
+//! | `racing` | all seats, and what is written of them |
+#![tactic(auto)]
+
+mod kept;
+mod racing;
+mod running;
+mod seat;
+
+pub use racing::race;

@@ -1,4 +1,0 @@
-use Rattle.registryd.proofs.answer.answer_line.Goals as goal
-
-pub returns : goal.returns
-returns g c = c.answer_read.ensures c.args.line.now c.read_line.ensures

@@ -1,9 +1,0 @@
-use Rattle.wire.specs.Shapes.{listing}
-use Rattle.registryd.proofs.LawfulLemmas.{listed_reply, stopped_reply}
-use Rattle.registryd.proofs.answer.list.Goals as goal
-
-pub returns-in-Ok : goal.returns-in-Ok
-returns-in-Ok g c = listed_reply g.L.Ledger.ways _ _ c.look.ensures.looks
-
-pub returns-in-Err : goal.returns-in-Err
-returns-in-Err g c = stopped_reply g.L.Ledger.ways listing _ _ c.in-Err.e c.look.ensures.looks c.in-Err.ensures.stopped

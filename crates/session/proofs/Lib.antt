@@ -1,0 +1,7 @@
+pub mod BatchLemmas
+pub mod ServeLemmas
+pub mod ServedLemmas
+pub mod LoadedLemmas
+pub mod SessionLemmas
+pub mod SessionRows
+pub mod WaitLemmas

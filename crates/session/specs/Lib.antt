@@ -1,0 +1,5 @@
+pub mod Served
+pub mod Putting
+pub mod Session
+pub mod Batches
+pub mod Loaded

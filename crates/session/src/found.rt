@@ -1,0 +1,127 @@
+//! Lines that were found: each is replied to, or waits to be answered with its neighbours.
+ghost use Rattle.std.specs.Prelude.{◌∷◌, ◌++◌, ℕ, List, []};
+ghost use Rattle.lines.specs.Unread.{IsFound};
+ghost use Rattle.answers.specs.Answering.{IsRead};
+ghost use Rattle.session.specs.Batches.{AreAsked, Takes};
+ghost use Rattle.answers.specs.Lawful.{IsLawful};
+ghost use Rattle.session.specs.Putting.{PutsReply};
+ghost use Rattle.session.specs.Session.{session_ways};
+
+use crate::batch::Batch;
+use crate::served::Served;
+use answers::{
+    Answer, Ledger, answer_read, lawful_replies_add_up, learn_all, put_listing, put_told, read_line,
+};
+use intake::Intake;
+use lines::{LineBuffer, Next, Outbox};
+use replies::puts_add_up;
+use std::alloc::Global;
+use std::io;
+use std::io::Write;
+use std::sync::Wait;
+use std::thread::Threads;
+use versions::Refusal;
+use wire::Asked;
+
+/// Reads what the line asks that was found.
+pub fn read_found(
+    alloc: Global,
+    intake: &mut Intake,
+    lines: &LineBuffer,
+    found: Next,
+) -> Result<Asked, Refusal>
+    requires { (line : List ℕ) × IsFound found lines.now line }
+    ensures { (line : List ℕ) → IsFound found lines.now line → IsRead result line }
+{
+    match found {
+        Next::Line => read_line(alloc, intake, lines.line()),
+        Next::TooLong => Err(Refusal::BadLine),
+        Next::More => unreachable!(),
+    }
+}
+
+/// Has a line wait that asks to resolve. Before a line of another kind, and before one for which there is no room, those
+/// that wait are replied to.
+pub fn take<H: Threads + Wait + Sync, W: Write>(
+    rt: &H,
+    alloc: Global,
+    served: &mut Served,
+    batch: &mut Batch,
+    outbox: &mut Outbox,
+    writer: &mut W,
+    read: Result<Asked, Refusal>,
+) -> io::Result<()>
+    ensures { (waiting : List (List ℕ)) (line : List ℕ) → AreAsked waiting batch.old → IsRead read line
+        → Takes (W.contents writer.old) (W.contents writer.new) outbox.old outbox.new result (waiting ++ line ∷ []) served.old served.new batch.new }
+{
+    lawful_replies_add_up::<Served>();
+    match read {
+        Ok(
+            Asked::Resolve {
+                request,
+                explain,
+                budget,
+            },
+        ) => {
+            batch.make_room(rt, alloc, served, outbox, writer)?;
+            batch.push(request, explain, budget);
+            Ok(())
+        }
+        Ok(asked) => reply_behind(rt, alloc, served, batch, outbox, writer, Ok(asked)),
+        Err(fault) => reply_behind(rt, alloc, served, batch, outbox, writer, Err(fault)),
+    }
+}
+
+/// Replies to a line of which this was read, behind those that wait.
+fn reply_behind<H: Threads + Wait + Sync, W: Write>(
+    rt: &H,
+    alloc: Global,
+    served: &mut Served,
+    batch: &mut Batch,
+    outbox: &mut Outbox,
+    writer: &mut W,
+    read: Result<Asked, Refusal>,
+) -> io::Result<()>
+    ensures { (waiting : List (List ℕ)) (line : List ℕ) → AreAsked waiting batch.old → IsRead read line
+        → Takes (W.contents writer.old) (W.contents writer.new) outbox.old outbox.new result (waiting ++ line ∷ []) served.old served.new batch.new }
+{
+    puts_add_up();
+    lawful_replies_add_up::<Served>();
+    match batch.reply(rt, alloc, served, outbox, writer, false) {
+        Ok(()) => reply_to(alloc, served, outbox, writer, read),
+        Err(e) => {
+            drop(read);
+            Err(e)
+        }
+    }
+}
+
+/// Replies to a line of which this was read. The reply waits in the outbox where there is room. What a search offers is
+/// learnt once the reply is put.
+pub fn reply_to<W: Write>(
+    alloc: Global,
+    served: &mut Served,
+    outbox: &mut Outbox,
+    writer: &mut W,
+    read: Result<Asked, Refusal>,
+) -> io::Result<()>
+    ensures { (line : List ℕ) → IsRead read line
+        → PutsReply (λ reply. IsLawful session_ways line served.old reply served.new) (W.contents writer.old) (W.contents writer.new) outbox.old outbox.new result }
+{
+    match answer_read(alloc, served, read) {
+        Answer::Told(told) => {
+            let told_put = put_told(outbox, writer, served.standing(), &told);
+            drop(told);
+            told_put
+        }
+        Answer::Found(told, offered) => {
+            let put = put_told(outbox, writer, served.standing(), &told);
+            learn_all(served, offered);
+            drop(told);
+            put
+        }
+        Answer::Listing => {
+            put_listing(alloc, outbox, writer, served.standing(), served.registry())
+        }
+    }
+}
