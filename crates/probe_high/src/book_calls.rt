@@ -30,7 +30,6 @@ fn about_item(
     item: &Item,
 ) -> Result<Answer, Unread> {
     match name {
-        "check" => check(replica, item),
         "judge" => judge(replica, row, item),
         "shared" => shared(alloc, replica, item),
         "reserve" => reserve(replica, item),
@@ -57,11 +56,6 @@ fn standing(replica: &Replica) -> Answer {
     }
     let revision = replica.registry().revision();
     Answer::Places(revision as usize, count(replica.store()))
-}
-
-fn check(replica: &Replica, item: &Item) -> Result<Answer, Unread> {
-    replica.check(item)?;
-    Ok(Answer::None)
 }
 
 fn judge(replica: &Replica, row: &Value, item: &Item) -> Result<Answer, Unread> {

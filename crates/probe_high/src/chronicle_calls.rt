@@ -64,7 +64,7 @@ fn with_first<'a>(
 }
 
 /// The last of so many seats.
-pub fn last_of<'a>(alloc: Global, cells: &'a Row, count: u32) -> Result<Seat<'a>, Unread>
+fn last_of<'a>(alloc: Global, cells: &'a Row, count: u32) -> Result<Seat<'a>, Unread>
     requires { (1 ≤ count) × (count ≤ 64) }
     ensures { IfOk result (λ s. s.row ≡ cells.now) }
 {

@@ -7,6 +7,7 @@ use rows::{Answer, AnswerText, Given, Unread, at, both, given, items, member, te
 use serde_json::Value;
 use std::alloc::Global;
 use std::io;
+use versions::Refusal;
 
 pub fn lines_call(alloc: Global, name: &str, row: &Value) -> Result<Answer, Unread> {
     match name {
@@ -92,15 +93,9 @@ fn take(
 fn found_told(alloc: Global, lines: &LineBuffer, found: Next) -> Result<Answer, Unread> {
     match found {
         Next::Line => told(alloc, lines.line()),
-        Next::TooLong => too_long(alloc),
+        Next::TooLong => Ok(Answer::Refused(Refusal::TooLong)),
         Next::More => Ok(Answer::None),
     }
-}
-
-fn too_long(alloc: Global) -> Result<Answer, Unread> {
-    let mut text = AnswerText::new(alloc);
-    text.put("{\"too_long\":true}");
-    text.answer()
 }
 
 /// Reads once, if no line has ended; else the next line is the answer.

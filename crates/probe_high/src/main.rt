@@ -22,7 +22,6 @@ mod seat_steps;
 mod session;
 mod solver_calls;
 mod texts;
-mod thread_calls;
 mod wire_calls;
 
 use session::{Session, serve};

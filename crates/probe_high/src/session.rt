@@ -10,7 +10,6 @@ use crate::lines_calls::lines_call;
 use crate::pool_calls::pool_call;
 use crate::reply_calls::replies_call;
 use crate::solver_calls::solver_call;
-use crate::thread_calls::thread_call;
 use crate::wire_calls::wire_call;
 use book::Replica;
 use registry::Registry;
@@ -68,7 +67,6 @@ impl Session {
             "registry" => command_call(alloc, &mut self.registry, name, row),
             "book" => book_call(alloc, &mut self.replica, name, row),
             "chronicle" => chronicle_call(alloc, name, row),
-            "threads" => thread_call(rt, alloc, name),
             "jobs" => jobs_call(rt, alloc, row),
             "pool" => pool_call(rt, alloc, &self.registry, name, row),
             of => call_for(alloc, &self.registry, of, name, row),

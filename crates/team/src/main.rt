@@ -4,12 +4,12 @@
 //! refused: a proof grows with the values that a function owns, times its ways out.
 #![tactic(auto)]
 
-ghost use Rattle.std.specs.Prelude.{◌≡◌};
+ghost use Rattle.std.specs.Prelude.{◌≡◌, All};
 
 use chronicle::{Mark, Row, Seat, Stamp, seats};
 use explain::write_lines;
 use journals::{all_have_names, save_journal};
-use registry::{Registry, Request};
+use registry::Request;
 use replies::write_lock;
 use solver::Outcome;
 use std::alloc::Global;
@@ -33,6 +33,12 @@ const BAD: &str = r#"{"op":"resolve","needs":[["app","^2"]]}"#;
 // Done, or why a call was refused.
 type Done = Result<(), Refusal>;
 
+// Lets go of what was owned: one call, where the end of a scope would be proved anew at each way out.
+fn ending<D, T: Drop>(done: D, owned: T) -> D {
+    drop(owned);
+    done
+}
+
 fn main(rt: HostRuntime) -> io::Result<()> {
     let mut text = Vec::new(rt.alloc());
     match team(&rt, rt.alloc(), &mut text) {
@@ -43,25 +49,29 @@ fn main(rt: HostRuntime) -> io::Result<()> {
 
 fn team(rt: &impl Threads, alloc: Global, text: &mut Vec<u8>) -> Done {
     let row = Row::open(alloc, 64)?;
-    seated(rt, alloc, &row, text)
+    ending(seated(rt, alloc, &row, text), row)
 }
 
 fn seated(rt: &impl Threads, alloc: Global, row: &Row, text: &mut Vec<u8>) -> Done {
     let mut both = seats(alloc, row, 2)?;
-    let mut two = both.pop().ok_or(Refusal::Stray)?;
-    let mut one = both.pop().ok_or(Refusal::Stray)?;
-    work(rt, alloc, &mut one, &mut two, text)
+    ending(work(rt, alloc, row, both.as_mut_slice(), text), both)
 }
 
 fn work<'a>(
     rt: &impl Threads,
     alloc: Global,
-    one: &mut Seat<'a>,
-    two: &mut Seat<'a>,
+    row: &'a Row,
+    both: &mut [Seat<'a>],
     text: &mut Vec<u8>,
 ) -> Done
-    requires { one.old.row ≡ two.old.row }
+    requires { All (λ s. s.row ≡ row.now) both.old }
 {
+    let Some((one, others)) = both.split_first_mut() else {
+        return Err(Refusal::Stray);
+    };
+    let Some((two, _)) = others.split_first_mut() else {
+        return Err(Refusal::Stray);
+    };
     publish(alloc, one)?;
     ask(rt, alloc, one, two, text)?;
     save(alloc, two, text)
@@ -83,7 +93,7 @@ fn enter(alloc: Global, seat: &mut Seat<'_>, line: &str) -> Result<Stamp, Refusa
 {
     match read_request(alloc, line.as_bytes())? {
         Asked::Command(command) => seat.enter(command),
-        _ => Err(Refusal::BadLine),
+        other => ending(Err(Refusal::BadLine), other),
     }
 }
 
@@ -97,12 +107,8 @@ fn ask<'a>(
 ) -> Done
     requires { one.old.row ≡ two.old.row }
 {
-    let mut why = Vec::new(alloc);
     let mut seen = one.mark()?;
-    meet(rt, alloc, one, two, &mut seen, &mut why)?;
-    tell(alloc, two, LOCKED, text)?;
-    text.append(&mut why)?;
-    Ok(())
+    ending(meet(rt, alloc, one, two, &mut seen, text), seen)
 }
 
 fn meet<'a>(
@@ -111,42 +117,32 @@ fn meet<'a>(
     one: &mut Seat<'a>,
     two: &mut Seat<'a>,
     seen: &mut Mark<'a>,
-    why: &mut Vec<u8>,
+    text: &mut Vec<u8>,
 ) -> Done
     requires { seen.old.row ≡ two.old.row }
 {
-    let (met, told) = join(rt, || two.meet(seen), || tell(alloc, one, BAD, why));
-    met?;
-    told
+    let mut why = Vec::new(alloc);
+    let (met, told) = join(rt, || two.meet(seen), || tell(alloc, one, BAD, &mut why));
+    met.and(told)?;
+    tell(alloc, two, LOCKED, text)?;
+    Ok(text.append(&mut why)?)
 }
 
 // Answers a request: with a lock list, or with why there is none.
 fn tell(alloc: Global, seat: &mut Seat<'_>, line: &str, text: &mut Vec<u8>) -> Done {
     match read_request(alloc, line.as_bytes())? {
-        Asked::Resolve { request, .. } => answer(alloc, seat, &request, text),
-        _ => Err(Refusal::BadLine),
+        Asked::Resolve { request, .. } => ending(answer(alloc, seat, &request, text), request),
+        other => ending(Err(Refusal::BadLine), other),
     }
 }
 
 fn answer(alloc: Global, seat: &mut Seat<'_>, request: &Request, text: &mut Vec<u8>) -> Done {
     let (_stamp, mut outcome) = seat.resolve(request)?;
-    match write(alloc, seat.registry(), request, &mut outcome, text) {
-        Ok(()) => Ok(()),
-        Err(_) => Err(Refusal::NoMemory),
-    }
-}
-
-fn write(
-    alloc: Global,
-    registry: &Registry,
-    request: &Request,
-    outcome: &mut Outcome,
-    text: &mut Vec<u8>,
-) -> io::Result<()> {
-    match outcome {
+    let written = match &mut outcome {
         Outcome::Selection(list, _offered) => write_lock(alloc, list, text),
-        Outcome::Refused(why, _offered) => write_lines(alloc, registry, request, why, text),
-    }
+        Outcome::Refused(why, _offered) => write_lines(alloc, seat.registry(), request, why, text),
+    };
+    ending(written.map_err(|_| Refusal::NoMemory), outcome)
 }
 
 // Saves what a seat has seen.
