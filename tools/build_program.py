@@ -11,56 +11,64 @@ NAME = "registryd"
 PROGRAM = os.path.join(TOP, "crates", NAME, "out", NAME)
 
 
+def lines_of(words, folder):
+    """Runs a command and yields its lines."""
+    with subprocess.Popen(words, cwd=folder, stdin=subprocess.DEVNULL, stdout=subprocess.PIPE, stderr=subprocess.STDOUT,
+                          text=True, errors="replace") as running:
+        yield from running.stdout
+
+
+def prove_below(number, progress):
+    """Proves the libraries below; answers what was said of one that is not proved, or nothing."""
+    said, failed = {}, ""
+    for line in lines_of([sys.executable, os.path.join(TOP, "tools", "prove_below.py"), NAME, str(number)], TOP):
+        crate, behind, text = line.partition("> ")
+        if behind and text == "failed\n":
+            failed = failed or crate
+        elif behind and not follow_below(crate, text.rstrip("\n"), progress):
+            said.setdefault(crate, []).append(text)
+    return said.get(failed)
+
+
+def follow_below(crate, text, progress):
+    """Notes what is said of a crate that is proved beside others; answers whether that says where it stands."""
+    counted = re.match(r"so far: (\d+) of (\d+) functions checked", text)
+    if text in ("proved", "stands"):
+        progress.finish(crate, is_kept=text == "stands")
+    elif text == "begins" or counted:
+        progress.note(crate, int(counted[1]) / max(1, int(counted[2])) if counted else 0.0)
+    return text in ("begins", "proved", "stands")
+
+
 def build(number, progress):
     """Runs the proof; answers whether the program stands, and what was said."""
+    said = prove_below(number, progress)
+    if said:
+        return False, said
     said, stands = [], False
-    # the words that are passed here end the new program at once
-    words = ["rt", "run", "--jobs", str(number), "--", "--help"]
-    with subprocess.Popen(words, cwd=os.path.dirname(os.path.dirname(PROGRAM)), stdin=subprocess.DEVNULL,
-                          stdout=subprocess.PIPE, stderr=subprocess.STDOUT, text=True, errors="replace") as running:
-        for line in running.stdout:
-            said.append(line)
-            stands = stands or line.startswith(f"rt: running out/{NAME}")
-            follow(line, progress)
+    # what is left is proved in the order of the crates; the words that are passed end the new program at once
+    for line in lines_of(["rt", "run", "--jobs", str(number), "--", "--help"], os.path.dirname(os.path.dirname(PROGRAM))):
+        said.append(line)
+        stands = stands or line.startswith(f"rt: running out/{NAME}")
+        follow(line, progress)
     return stands, said
 
 
 def follow(line, progress):
-    """Notes what a line of the prover says of where it is: crates are proved one after another, in their order."""
+    """Notes what a line of the prover says of where it is, where crates are proved one after another."""
     ended = re.match(r"crate (\w+): modules loaded", line)
     if ended:
         progress.finish(ended[1])
-    pass_over(progress)
+    at = next((crate for crate in progress.crates if crate not in progress.done), None)
     counted = re.match(r"so far: (\d+) of (\d+) functions checked", line)
-    if counted:
-        progress.note(int(counted[1]) / max(1, int(counted[2])))
-
-
-def pass_over(progress):
-    """Notes the libraries that stand already, as earlier runs proved them: nothing is said of these."""
-    for crate in progress.crates[:-1]:
-        if not is_built(crate):
-            return
-        progress.finish(crate, is_kept=True)
-
-
-def is_built(crate):
-    """Whether a library stands, and no source of it is newer."""
-    folder = os.path.join(TOP, "crates", crate)
-    try:
-        # a library that was taken from another checkout keeps its time of writing
-        built = os.stat(os.path.join(folder, "out", "rlib", "stamp")).st_ctime
-    except OSError:
-        return False
-    sources = (os.path.join(at, file) for part in ("src", "specs", "proofs")
-               for at, _, files in os.walk(os.path.join(folder, part)) for file in files)
-    return all(os.stat(source).st_mtime <= built for source in sources)
+    if at and (counted or at not in progress.parts):
+        progress.note(at, int(counted[1]) / max(1, int(counted[2])) if counted else 0.0)
 
 
 def main():
     number = jobs()
     print(f"{NAME}: it is proved and built first; after that it starts at once", file=sys.stderr)
-    progress = Progress(NAME, crates_below(NAME), number, in_order=True)
+    progress = Progress(NAME, crates_below(NAME), number)
     progress.say()
     try:
         stands, said = build(number, progress)

@@ -135,13 +135,22 @@ def functions_of(edit):
 
 
 def put_in_place(edits, folder):
-    """Puts edits in their places in a copy of their crate."""
+    """Puts edits in their places in a copy of their crate, each where its text stands before any of them is put there."""
+    places = {}
     for edit in edits:
         for path, old, new in edit.changes:
-            at = os.path.join(folder, path)
-            with open(at, encoding="utf-8") as source:
-                text = source.read()
+            places.setdefault(path, []).append((old, new))
+    for path, pairs in places.items():
+        at = os.path.join(folder, path)
+        with open(at, encoding="utf-8") as source:
+            text = source.read()
+        for old, _ in pairs:
             if text.count(old) != 1:
                 raise ValueError(f"{old} does not stand once in {path}")
-            with open(at, "w", encoding="utf-8") as source:
-                source.write(text.replace(old, new))
+        end = len(text)
+        for begin, old, new in sorted(((text.index(old), old, new) for old, new in pairs), reverse=True):
+            if begin + len(old) > end:
+                raise ValueError(f"{old} overlaps with another edit of {path}")
+            text, end = text[:begin] + new + text[begin + len(old):], begin
+        with open(at, "w", encoding="utf-8") as source:
+            source.write(text)

@@ -6,10 +6,8 @@ import threading
 import time
 
 TOP = os.path.dirname(os.path.dirname(os.path.abspath(__file__)))
-# What a crate that the file of seconds doesn't name takes, for each byte of its text, and what the quick pass over all
-# sources takes that comes first.
+# What a crate that the file of seconds doesn't name takes, for each byte of its text.
 SECONDS_A_BYTE = 0.001
-QUICK_PASS = 60
 # How much sooner several jobs are done than one: they wait for one another.
 GAIN = {1: 1.0, 2: 1.7, 3: 2.2, 4: 2.6}
 # A line is rewritten this often.
@@ -57,15 +55,15 @@ def told(seconds):
 
 
 class Progress:
-    """One line on standard error: rewritten where that is a terminal, else written anew with each crate. Crates are proved
-    side by side, or one after another in their order."""
+    """One line on standard error: rewritten where that is a terminal, else written anew with each crate."""
 
-    def __init__(self, name, crates, jobs, in_order=False, out=sys.stderr):
-        self.name, self.crates, self.in_order, self.out = name, crates, in_order, out
+    def __init__(self, name, crates, jobs, out=sys.stderr):
+        self.name, self.crates, self.out = name, crates, out
         self.weights = {crate: seconds_of(crate) for crate in crates}
         self.rate = GAIN.get(jobs, GAIN[4])
         self.begun = time.monotonic()
-        self.done, self.part, self.skipped = set(), 0.0, 0.0
+        # those that are proved, those that are being proved, each with which part of it is, and the time of what was kept
+        self.done, self.parts, self.skipped = set(), {}, 0.0
         self.rewrites, self.lock, self.is_over = out.isatty(), threading.RLock(), threading.Event()
         if self.rewrites:
             threading.Thread(target=self.tick, daemon=True).start()
@@ -80,26 +78,23 @@ class Progress:
             if crate not in self.weights or crate in self.done:
                 return
             self.done.add(crate)
-            self.part = 0.0
+            self.parts.pop(crate, None)
             if is_kept:
                 self.skipped += self.weights[crate]
         self.say()
 
-    def note(self, part):
-        """Notes which part of the crate at which it is, where they come in order, is proved."""
+    def note(self, crate, part=0.0):
+        """Notes that a crate is being proved, and which part of it is."""
         with self.lock:
-            self.part = part
-
-    def at(self):
-        """The crate that is being proved, where they come in order."""
-        return next((crate for crate in self.crates if crate not in self.done), None) if self.in_order else None
+            if crate in self.weights and crate not in self.done:
+                self.parts[crate] = part
 
     def left(self, elapsed):
         """About how many seconds are left: by what was measured, and more and more by what this run took so far."""
         whole = sum(self.weights.values()) - self.skipped
         done = sum(self.weights[crate] for crate in self.done) - self.skipped
-        done += self.part * self.weights.get(self.at(), 0.0)
-        measured = (whole - done) / self.rate + max(0.0, QUICK_PASS - elapsed) * (done == 0)
+        done += sum(part * self.weights[crate] for crate, part in self.parts.items())
+        measured = (whole - done) / self.rate
         if done <= 0:
             return measured
         seen = (whole - done) * elapsed / done
@@ -109,10 +104,9 @@ class Progress:
     def text(self):
         elapsed = time.monotonic() - self.begun
         number = min(len(self.done) + 1, len(self.crates))
-        at = self.at()
         if len(self.done) == len(self.crates):
             return f"{self.name}: all {len(self.crates)} crates are proved, {told(elapsed)} so far"
-        where = f"crate {number} of {len(self.crates)}" + (f" ({at})" if at else "")
+        where = f"crate {number} of {len(self.crates)}" + (f" ({', '.join(self.parts)})" if self.parts else "")
         return f"{self.name}: {where}, {told(elapsed)} so far, about {told(self.left(elapsed))} left"
 
     def say(self):

@@ -9,9 +9,10 @@ import subprocess
 import tempfile
 from concurrent.futures import ThreadPoolExecutor
 
+from draw_crates import reached, stands_on
 from edit_files import CRATES, EDITS, edits_of, functions_of
 from progress import TOP, jobs
-from try_rounds import BAD, BY_CLAUSE, BY_NAME, NOT_REFUSED, build_below, try_in_rounds
+from try_rounds import BAD, BY_CLAUSE, BY_NAME, NOT_REFUSED, build_below, library, link_all, take, try_in_rounds
 
 # What else a try of a whole crate comes to, and the words by which `rt must-fail` tells it.
 BY_LIMIT, NOT_TRIED = "refused only by a limit of the prover", "not tried"
@@ -30,12 +31,18 @@ def edited_crates():
 
 
 def copy_with_edits(edits, to):
-    """Copies the crates, and puts these edits where the kit's gate tries them."""
+    """Copies the crates with the libraries that stand below those of the edits, and puts these edits where the kit's gate tries
+    them."""
     shutil.copytree(CRATES, os.path.join(to, "crates"), ignore=shutil.ignore_patterns("out"))
     for file in ("crates.txt", "HANDLES"):
         shutil.copy(os.path.join(TOP, file), to)
     # the kit takes a folder with this for the top of a repository
     os.mkdir(os.path.join(to, ".git"))
+    crates = stands_on()
+    for name in set().union(*(reached(crates, edit.crate) for edit in edits)):
+        built = os.path.dirname(library(name))
+        if os.path.isdir(built):
+            link_all(built, os.path.join(to, "crates", name, "out", "rlib"))
     for edit in edits:
         there = os.path.join(to, "crates", edit.crate, "must-fail")
         os.makedirs(there, exist_ok=True)
@@ -60,23 +67,23 @@ def try_whole(edits):
     return kinds
 
 
-def try_by_functions(edits):
+def try_by_functions(edits, room):
     """Tries edits of one crate by the functions that they change; answers what came of them, as far as each changes one."""
     kinds = {}
-    with tempfile.TemporaryDirectory() as kept:
-        for edit, (kind, said) in try_in_rounds([edit for edit in edits if len(functions_of(edit)) == 1], kept):
-            print(f"{edit.crate}/{edit.file}: {kind}: {said[:160]}", flush=True)
-            kinds[edit.crate, edit.file] = kind
+    for edit, (kind, said) in try_in_rounds([edit for edit in edits if len(functions_of(edit)) == 1], room):
+        print(f"{edit.crate}/{edit.file}: {kind}: {said[:160]}", flush=True)
+        kinds[edit.crate, edit.file] = kind
     return kinds
 
 
 def count(names):
-    """Tries the edits of these crates; answers how many came to what, by crate."""
-    crates = [list(edits_of(name)) for name in names]
-    build_below(names)
+    """Tries the edits of these crates, those with the most first; answers how many came to what, by crate."""
+    crates = sorted((list(edits_of(name)) for name in names), key=len, reverse=True)
     kinds = {}
-    with ThreadPoolExecutor(jobs()) as pool:
-        for found in pool.map(try_by_functions, crates):
+    with tempfile.TemporaryDirectory() as room, ThreadPoolExecutor(jobs()) as pool:
+        for name in build_below(names):
+            take(name, room)
+        for found in pool.map(try_by_functions, crates, [room] * len(crates)):
             kinds.update(found)
     left = [edit for edits in crates for edit in edits if kinds.get((edit.crate, edit.file), BAD) in (NOT_REFUSED, BAD)]
     if left:

@@ -4,16 +4,15 @@ A crate is copied with as many edits in their places as change functions that di
 functions alone, over the libraries that stand. The gate has proved all others, so that their proofs are holes here: a hole
 stands for what the function promises. An edit is refused only by an error at its own function, so that none is taken for
 refused because another is; where nothing says so or the contrary, it is tried once more alone."""
+import contextlib
 import os
 import re
 import shutil
 import subprocess
 import tempfile
-from concurrent.futures import ThreadPoolExecutor
 
 from draw_crates import reached, stands_on
 from edit_files import CRATES, EDITS, edits_of, functions_in, functions_of, put_in_place
-from progress import jobs
 
 PARTS = ("src", "specs", "proofs")
 # What a try comes to.
@@ -37,20 +36,40 @@ def build_below(names):
     if stamped or not all(os.path.isdir(library(name)) for name in below):
         for name in sorted(below, key=lambda name: len(reached(crates, name))):
             subprocess.run(["rt", "lib"], cwd=os.path.join(CRATES, name), stdin=subprocess.DEVNULL, check=True)
+    return below
 
 
-def words(name, paths, kept):
-    """How the prover is asked for functions of a crate; what it keeps of that serves its next round."""
+def link_all(folder, to):
+    """Links the files of a folder, or copies them where they cannot be linked."""
+    def link(source, target):
+        try:
+            os.link(source, target)
+        except OSError:
+            shutil.copy2(source, target)
+
+    shutil.copytree(folder, to, copy_function=link)
+
+
+def take(name, room):
+    """Takes a library as it stands into a room for tries: what is built or put back in its place later changes nothing there."""
+    link_all(library(name), os.path.join(room, f"{name}.rlib"))
+
+
+def words(name, paths, room):
+    """How the prover is asked for functions of a crate, over the libraries of a room; what it keeps there of that serves its next
+    round."""
     kit = os.path.dirname(subprocess.run(["rt", "doc"], stdout=subprocess.PIPE, text=True, check=True).stdout.strip())
     crates = stands_on()
     root = next(root for root in ("src/lib.rt", "src/main.rt") if os.path.exists(os.path.join(CRATES, name, root)))
     asked = [f"{kit}/bin/rattle", "check", "--crate-name", name, root, "-L", f"dependency={kit}/rlibs"]
     for below in ["std", *crates[name]]:
-        asked += ["--extern", f"{below}={library(below) if below in crates else f'{kit}/rlibs/{below}.rlib'}"]
-    for below in sorted(reached(crates, name)):
-        asked += ["-L", f"dependency={os.path.dirname(library(below))}"]
-    asked += ["--antt-project", f"{kit}/rattle/logic/antt-project.json", "--logic-built", f"{kit}/logic_built",
-              "--incremental", kept, "--jobs", "1", "--allow-holes"]
+        asked += ["--extern", f"{below}={room if below in crates else f'{kit}/rlibs'}/{below}.rlib"]
+    kept = os.path.join(room, f"kept-{name}")
+    # where the room is gone, nothing more is tried in it
+    with contextlib.suppress(FileExistsError):
+        os.mkdir(kept)
+    asked += ["-L", f"dependency={room}", "--antt-project", f"{kit}/rattle/logic/antt-project.json",
+              "--logic-built", f"{kit}/logic_built", "--incremental", kept, "--jobs", "1", "--allow-holes"]
     return asked + [word for path in paths for word in ("--only", path)]
 
 
@@ -87,16 +106,16 @@ def empty(path, function):
             source.write("\n".join(lines))
 
 
-def asked_with(edits, paths, kept):
+def asked_with(edits, paths, room):
     """What the prover answers about these functions of a crate with these edits: its lines."""
     name = edits[0].crate
-    with tempfile.TemporaryDirectory() as room:
+    with tempfile.TemporaryDirectory() as copy:
         for part in PARTS:
             if os.path.isdir(os.path.join(CRATES, name, part)):
-                shutil.copytree(os.path.join(CRATES, name, part), os.path.join(room, part))
-        make_holes(name, paths, room)
-        put_in_place(edits, room)
-        done = subprocess.run(words(name, paths, kept), cwd=room, stdin=subprocess.DEVNULL, stdout=subprocess.PIPE,
+                shutil.copytree(os.path.join(CRATES, name, part), os.path.join(copy, part))
+        make_holes(name, paths, copy)
+        put_in_place(edits, copy)
+        done = subprocess.run(words(name, paths, room), cwd=copy, stdin=subprocess.DEVNULL, stdout=subprocess.PIPE,
                               stderr=subprocess.STDOUT, text=True, errors="replace")
     return done.stdout.rstrip("\n").split("\n")
 
@@ -149,49 +168,44 @@ def first_of_each(places):
     return {edit: function for function, edit in round_of.items()}
 
 
-def try_alone(edit, path, function, kept):
+def try_alone(edit, path, function, room):
     try:
-        return judged_alone(asked_with([edit], [function.path], kept), edit.crate, path, function)
+        return judged_alone(asked_with([edit], [function.path], room), edit.crate, path, function)
     except (OSError, ValueError) as fault:
         return BAD, str(fault)
 
 
-def try_together(places, kept):
+def try_together(places, room):
     """What comes of edits of functions that differ: of each that the prover's answer says something of."""
     try:
-        lines = asked_with([*places], [function.path for _, function in places.values()], kept)
+        lines = asked_with([*places], [function.path for _, function in places.values()], room)
     except (OSError, ValueError):
         return {}
     found = {edit: judged(lines, edit.crate, *place) for edit, place in places.items()}
     return {edit: verdict for edit, verdict in found.items() if verdict}
 
 
-def try_round(places, kept):
+def try_round(places, room):
     """The same of each that anything is said of. Where nothing is said of any, as beside one that the prover cannot read, a half
     of them is tried at a time."""
     if len(places) == 1:
         (edit, place), = places.items()
-        return {edit: try_alone(edit, *place, kept)}
-    found = try_together(places, kept)
+        return {edit: try_alone(edit, *place, room)}
+    found = try_together(places, room)
     if found:
         return found
     every = [*places.items()]
     half = len(every) // 2
-    return {**try_round(dict(every[:half]), kept), **try_round(dict(every[half:]), kept)}
+    return {**try_round(dict(every[:half]), room), **try_round(dict(every[half:]), room)}
 
 
-def try_in_rounds(edits, kept):
+def try_in_rounds(edits, room):
     """Tries edits of one crate, each of which changes one function; yields each with what came of it."""
     waiting = {edit: next(iter(functions_of(edit))) for edit in edits}
     while waiting:
-        for edit, verdict in try_round(first_of_each(waiting), kept).items():
+        for edit, verdict in try_round(first_of_each(waiting), room).items():
             del waiting[edit]
             yield edit, verdict
-
-
-def try_crate(edits):
-    with tempfile.TemporaryDirectory() as kept:
-        return list(try_in_rounds(edits, kept))
 
 
 def listed():
@@ -199,15 +213,3 @@ def listed():
     crates = [[edit for edit in edits_of(name) if edit.only] for name in sorted(os.listdir(EDITS))]
     return [edits for edits in crates if edits]
 
-
-def try_each():
-    """Tries those; answers how many a clause refuses, and how many not."""
-    crates = listed()
-    build_below({edits[0].crate for edits in crates})
-    counts = [0, 0]
-    with ThreadPoolExecutor(jobs()) as pool:
-        for tried in pool.map(try_crate, crates):
-            for edit, (kind, said) in tried:
-                print(f"wrong body {edit.crate}/{edit.file}: {kind}: {said[:160]}", flush=True)
-                counts[kind != BY_CLAUSE] += 1
-    return tuple(counts)

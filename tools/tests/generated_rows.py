@@ -101,6 +101,56 @@ def each_of_many_versions_is_found():
     yield f"each of {MOST_VERSIONS} versions is found, and none before it", rows
 
 
+# for so many requirements of a package the matching sets are kept: those that were named first
+KEPT_SETS = 128
+PATCHES = 70
+
+
+def of_each_patch():
+    """Requirements by which each patch is told, two of a kind that is tested otherwise, and the patches that meet each; those
+    are ordinals too. The last one's set has a pre-release besides, whose ordinal is the number of patches."""
+    yield from ((f">=0.0.{patch}", [*range(patch, PATCHES)]) for patch in range(PATCHES))
+    yield from ((f"<0.0.{patch}", [*range(patch)]) for patch in range(PATCHES))
+    yield "<=18446744073709551615", [*range(PATCHES)]
+    yield ">=0.0.7-alpha", [*range(7, PATCHES + 1)]
+
+
+def looked_up(place, need, met):
+    """Rows for a requirement that is named at a place: what is told by the right place, by others, and by none."""
+    yield row("releases", "is_kept", place < KEPT_SETS, need=need)
+    yield row("releases", "matching_has", met, need=need, below=PATCHES + 10)
+    yield row("releases", "matching", met, need=need)
+    yield from (row("releases", "matching_at", met, need=need, place=at) for at in (place, place // 2, 1000))
+
+
+@rows_of("low")
+def requirements_beyond_those_whose_sets_are_kept():
+    """The Cargo Book, "Specifying Dependencies": whether a patch meets a requirement on its number. A pre-release meets one that
+    names its numbers with a pre-release."""
+    patches = [row("releases", "publish", version=f"0.0.{patch}") for patch in range(PATCHES)]
+    needs = [*of_each_patch()]
+    yield f"{len(needs)} requirements that are named between publications", [
+        *patches[:30],
+        *(row("releases", "name_need", place, need=need) for place, (need, _) in enumerate(needs)),
+        *patches[30:],
+        row("releases", "publish", version="0.0.7-beta"),
+        *(told for place, (need, met) in enumerate(needs) for told in looked_up(place, need, met))]
+
+
+def refused_beyond_the_kept_sets():
+    """Tables of which one row is the call whose requests for memory are refused: a naming where the sets of the first requirements are
+    kept, and what is asked of a requirement beyond these. Where a title names a public call, that is the one that wants the memory."""
+    patches = [row("releases", "publish", version=f"0.0.{patch}") for patch in range(PATCHES)]
+    needs = [need for need, _ in of_each_patch()][:KEPT_SETS + 1]
+    *kept, beyond = [row("releases", "name_need", need=need) for need in needs]
+    left = [row("releases", "list"), row("releases", "matching", need=needs[-1]), row("releases", "is_kept", need=needs[0])]
+    yield "releases::Releases::name_need: a requirement beyond those whose sets are kept", [*kept, *patches, {**beyond, "refuse": True}, *left]
+    for call, given in (("matching", {}), ("matching_at", {"place": KEPT_SETS}), ("matching_has", {"below": PATCHES})):
+        asked = row("releases", call, need=needs[-1], **given, refuse=True)
+        name = "" if call == "matching_has" else "releases::Tested::set: "
+        yield f"{name}{call} of a requirement beyond those whose sets are kept", [*kept, beyond, *patches, asked, *left]
+
+
 @rows_of("low")
 def matching_sets_round_words():
     """The Cargo Book, "Specifying Dependencies": the last ten of 70 minor versions meet the requirement."""

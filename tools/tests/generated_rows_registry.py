@@ -4,7 +4,7 @@ Each function gives its tables, one after another: a title, and the rows with wh
 they are run, since some rows take a megabyte.
 """
 
-from generated_rows import rows_of
+from generated_rows import KEPT_SETS, PATCHES, of_each_patch, rows_of
 
 
 def _publish(name, version, needs, gives):
@@ -75,6 +75,23 @@ def versions_at_their_limit():
     rows.append(_publish("b", "0.0.4096", [], 4_097))
     rows.append(_registry("versions", 4_096, pkg=1))
     yield "A package has at most 4,096 versions, and one more of equal precedence is refused for that", rows
+
+
+@rows_of("low")
+def dependencies_beyond_those_whose_sets_are_kept():
+    """The Cargo Book, "Specifying Dependencies": whether a patch meets a requirement on its number. A pre-release meets one that
+    names its numbers with a pre-release."""
+    needs = [*of_each_patch()]
+    patches = [("a", f"0.0.{patch}", []) for patch in range(PATCHES)]
+    published = [*patches[:30], *(("b", f"1.{place}.0", [["a", need]]) for place, (need, _) in enumerate(needs)), *patches[30:],
+                 ("a", "0.0.7-beta", [])]
+    rows = [_publish(*what, revision) for revision, what in enumerate(published, 1)]
+    for place, (need, met) in enumerate(needs):
+        told = {"kept": place < KEPT_SETS, "has": met}
+        rows += [_registry("dependency", [1, told], pkg=2, k=place, index=0, below=PATCHES + 10),
+                 _registry("matching_set", told, pkg=1, need=need, below=PATCHES + 10),
+                 _registry("matching", met, pkg=1, need=need)]
+    yield f"{len(needs)} requirements of a package, each of a version that depends on it", rows
 
 
 @rows_of("low")

@@ -1,6 +1,7 @@
 """Tables of `derivations`, `walk` and `solver` that would be too large to be kept: each public function makes some.
 
-A table is a title and its rows; a row's member `gives` is what the call is wanted to answer."""
+A table is a title and its rows; a row's member `gives` is what the call is wanted to answer, or what the function in its
+member `by` is to give of that."""
 
 from generated_rows import rows_of
 
@@ -71,11 +72,31 @@ def _row_of_packages(count):
     yield f"p{count}", "1.0.0", "x ^2"
 
 
+def _counts(answer):
+    """How many lines each that is offered has."""
+    return [len(lines) for lines in answer["offered"]]
+
+
+def _count_as_cited(lines):
+    """How many lines the last one takes where each is counted as often as it is cited."""
+    counts = []
+    for line in lines:
+        counts.append(1 + sum(counts[cause["line"] - 1] for cause in line["causes"] if "line" in cause))
+    return counts[-1]
+
+
+def _beyond_256(answer):
+    """Of the offer that takes most lines where one is counted as often as it is cited: whether these are more than 256, and whether
+    its lines are, each counted once."""
+    most = max(answer["offered"], key=_count_as_cited)
+    return [_count_as_cited(most) > 256, len(most) > 256]
+
+
 @rows_of("high")
 def as_many_lines_as_may_be_learnt_are_offered():
     for count, offered in [(3, [4]), (255, [256]), (256, [])]:
         rows = _published(*_row_of_packages(count))
-        rows.append(_asked("solver", "counts", offered, "top *"))
+        rows.append(_asked("solver", "solve", offered, "top *", by=_counts))
         yield f"What is shown by {count + 1} lines is {'' if offered else 'not '}offered", rows
 
 
@@ -98,7 +119,7 @@ def offers_have_8192_lines_together():
     for count, offered in [(32, 32), (33, 32), (36, 32)]:
         rows = _published(*_tops(count, 255))
         needs = [[f"t{number}", "*"] for number in range(count)]
-        rows.append({"of": "solver", "call": "counts", "needs": needs, "lock": [], "gives": [256] * offered})
+        rows.append({"of": "solver", "call": "solve", "needs": needs, "lock": [], "by": _counts, "gives": [256] * offered})
         yield f"Of {count} lines that take 256 lines each, {offered} are offered", rows
 
 
@@ -123,5 +144,5 @@ def _feet(rows, count):
 @rows_of("high")
 def a_line_that_is_cited_again_counts_once():
     rows = _published(*_feet(7, 14))
-    rows.append(_asked("solver", "cited_beyond", [True, False], "top *", limit=256))
+    rows.append(_asked("solver", "solve", [True, False], "top *", by=_beyond_256))
     yield "What takes more than 256 lines as they are cited, and no more where each counts once, is offered", rows

@@ -58,7 +58,7 @@ def lines_round_the_limit():
     """This project's limit: a line has at most 1,048,576 bytes, and a longer one is given up alone."""
     rows = []
     for length in (1_048_575, 1_048_576, 1_048_577, 1_200_000, 3_000_000):
-        found = "x" * length if length <= 1_048_576 else {"too_long": True}
+        found = "x" * length if length <= 1_048_576 else {"refused": 20}
         for piece in ({"piece": 65_536}, {"piece": 50_000}, {}):
             rows.append(_row("lines", "read", [[found, "next"]], text=[["x", length], ["\nnext", 1]], then="",
                             signals=True, steps=["rest"], **piece))
@@ -70,7 +70,7 @@ def last_lines_round_the_limit():
     """As above, without a line feed at the end."""
     rows = []
     for length in (1_048_576, 1_048_577, 1_200_000):
-        found = "x" * length if length <= 1_048_576 else {"too_long": True}
+        found = "x" * length if length <= 1_048_576 else {"refused": 20}
         rows.append(_row("lines", "read", [[found]], text=[["x", length]], then="", signals=True, piece=65_536,
                         steps=["rest"]))
     yield "a last line over the limit is given up", rows

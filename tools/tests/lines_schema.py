@@ -8,6 +8,7 @@ import json
 import os
 import subprocess
 import sys
+from concurrent.futures import ThreadPoolExecutor
 
 SCHEMA = os.path.join(os.path.dirname(os.path.abspath(__file__)), "..", "..", "docs", "lines.schema.json")
 DEBIAN = "/usr/bin/python3"
@@ -41,7 +42,16 @@ def in_digits(value):
 
 
 def refused(pairs):
-    """The places of those pairs of a definition's name and a value in which the value is not of that definition."""
+    """The places of those pairs of a definition's name and a value in which the value is not of that definition. As many children
+    judge as there are processors, where there are many pairs."""
+    number = min(len(os.sched_getaffinity(0)), 1 + len(pairs) // 100)
+    with ThreadPoolExecutor(number) as pool:
+        parts = pool.map(refused_of, [pairs[first::number] for first in range(number)])
+        return sorted(first + number * place for first, places in enumerate(parts) for place in places)
+
+
+def refused_of(pairs):
+    """The same, judged by one child."""
     given = json.dumps([[kind, in_digits(value)] for kind, value in pairs])
     done = subprocess.run([judge(), os.path.abspath(__file__)], input=given, stdout=subprocess.PIPE, text=True, check=True, timeout=300)
     return json.loads(done.stdout)

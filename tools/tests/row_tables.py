@@ -30,17 +30,24 @@ class BadRows(Exception):
 
 
 class Row:
-    """One call: the line that asks for it, where it stands, and the answer that is wanted."""
+    """One call: the line that asks for it, where it stands, and the answer that is wanted. A row that a function made may have a
+    member `by`, a function of the answer: what it gives is compared in the answer's place."""
 
     def __init__(self, place, given):
         if not isinstance(given, dict) or not all(isinstance(given.get(name), str) for name in ("of", "call")):
             raise BadRows(f"{place}: a row is an object whose members `of` and `call` are texts")
         asked = {name: value for name, value in given.items() if name != "gives"}
+        self.by = asked.pop("by") if callable(given.get("by")) else None
         self.place, self.wanted = place, given.get("gives")
         self.asked = json.dumps(asked, separators=(",", ":"))
 
     def fault(self, got):
         """What is to be told of an answer that is not the one that is wanted, else None."""
+        if self.by:
+            try:
+                got = self.by(got)
+            except (LookupError, TypeError, ValueError) as fault:
+                return f"{self.place}: {cut(self.asked)}\n  got    {cut(plain(got))}\n  which is of another form: {fault!r}"
         if plain(got) == plain(self.wanted):
             return None
         return f"{self.place}: {cut(self.asked)}\n  wanted {cut(plain(self.wanted))}\n  got    {cut(plain(got))}"

@@ -11,7 +11,7 @@ from program import TOP
 sys.path.insert(0, os.path.join(TOP, "tools"))
 import try_edits  # noqa: E402
 import try_rounds  # noqa: E402
-from edit_files import CRATES, EDITS, Edit, Function, changes, edits_of, functions, functions_of  # noqa: E402
+from edit_files import CRATES, EDITS, Edit, Function, changes, edits_of, functions, functions_of, put_in_place  # noqa: E402
 from try_rounds import BAD, BY_CLAUSE, BY_NAME, NOT_REFUSED, judged, judged_alone, listed, make_holes, try_in_rounds  # noqa: E402
 
 # How many each run of the tests tries.
@@ -68,22 +68,14 @@ LATE_STANDS = "fn crate::a::late: depends on a hole in `a`"
 EARLY_STANDS = "fn crate::a::Room::early: no holes"
 
 
-def folders():
-    """The folders of edits, each with the crate that they are of."""
-    for name in sorted(os.listdir(CRATES)):
-        for folder in (os.path.join(CRATES, name, "must-fail"), os.path.join(EDITS, name)):
-            if os.path.isdir(folder):
-                yield name, folder
-
-
 class Edits(unittest.TestCase):
     def test_each_can_be_applied(self):
         count = 0
-        for crate, folder in folders():
-            for file in sorted(os.listdir(folder)):
+        for crate in sorted(os.listdir(EDITS)):
+            for file in sorted(os.listdir(os.path.join(EDITS, crate))):
                 with self.subTest(f"{crate}/{file}"):
                     self.assertRegex(file, r"^[a-z0-9_]+-[a-z0-9_]+\.edit$")
-                    with open(os.path.join(folder, file), encoding="utf-8") as text:
+                    with open(os.path.join(EDITS, crate, file), encoding="utf-8") as text:
                         self.apply(os.path.join(CRATES, crate), text.read())
                     count += 1
         self.assertGreater(count, 100)
@@ -112,13 +104,33 @@ class Edits(unittest.TestCase):
         others = [edit.file for name in os.listdir(EDITS) for edit in edits_of(name) if len(functions_of(edit)) != 1]
         self.assertEqual(others, ["number-of_a_full_journal.edit"])
 
-    def test_none_stands_twice(self):
-        names = [f"{crate}/{file}" for crate, folder in folders() for file in os.listdir(folder)]
-        self.assertEqual(sorted(names), sorted(set(names)))
+    def test_the_gate_of_the_kit_tries_none(self):
+        self.assertEqual([name for name in os.listdir(CRATES) if os.path.exists(os.path.join(CRATES, name, "must-fail"))], [])
 
     def test_each_folder_is_of_a_crate(self):
         for name in os.listdir(EDITS):
             self.assertTrue(os.path.isdir(os.path.join(CRATES, name, "src")), name)
+
+
+class Places(unittest.TestCase):
+    """Several edits of a file go to where their texts stand before any of them is put there."""
+
+    def put(self, *pairs):
+        with tempfile.TemporaryDirectory() as folder:
+            path = os.path.join(folder, "a.rt")
+            with open(path, "w", encoding="utf-8") as file:
+                file.write("one; two; three; two two")
+            put_in_place([Edit("crate", f"{number}.edit", None, (("a.rt", *pair),)) for number, pair in enumerate(pairs)], folder)
+            with open(path, encoding="utf-8") as file:
+                return file.read()
+
+    def test_what_one_puts_there_is_not_what_another_takes_away(self):
+        self.assertEqual(self.put(("three;", "one;"), ("one;", "three; three;")), "three; three; two; one; two two")
+
+    def test_a_text_that_does_not_stand_once_and_one_in_another(self):
+        for pairs in ([("two", "2")], [("four", "4")], [("one; two;", "1"), ("two; three", "2")]):
+            with self.assertRaises(ValueError):
+                self.put(*pairs)
 
 
 class Functions(unittest.TestCase):
@@ -182,7 +194,7 @@ class Rounds(unittest.TestCase):
         try_rounds.functions_of = lambda edit: {("src/a.rt", LATE if edit.file.startswith("late") else EARLY)}
         try_rounds.asked_with = self.ask
 
-    def ask(self, edits, paths, kept):
+    def ask(self, edits, paths, room):
         files = sorted(edit.file for edit in edits)
         self.asked.append(files)
         said = {"early": [IN_SOURCE], "early_harmless": [EARLY_STANDS], "late": [LATER], "late_harmless": [LATE_STANDS],
@@ -218,7 +230,7 @@ class Whole(unittest.TestCase):
     def setUp(self):
         self.tried_whole = []
         given = {"edits_of": self.edits_of, "functions_of": lambda edit: {1} if edit.file != "constant" else set(),
-                 "build_below": lambda names: None, "try_in_rounds": self.in_rounds, "try_whole": self.whole}
+                 "build_below": lambda names: set(), "try_in_rounds": self.in_rounds, "try_whole": self.whole}
         for name, stub in given.items():
             self.addCleanup(setattr, try_edits, name, getattr(try_edits, name))
             setattr(try_edits, name, stub)
@@ -226,7 +238,7 @@ class Whole(unittest.TestCase):
     def edits_of(self, name):
         return [Edit(name, file, None, ()) for file in ("clause", "name", "not", "unclear", "constant")]
 
-    def in_rounds(self, edits, kept):
+    def in_rounds(self, edits, room):
         kinds = {"clause": BY_CLAUSE, "name": BY_NAME, "not": NOT_REFUSED, "unclear": BAD}
         return [(edit, (kinds[edit.file], "")) for edit in edits]
 

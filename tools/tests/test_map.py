@@ -12,7 +12,7 @@ LINK = re.compile(r"\[`([^`]+)`\]\(([^)#]+)\)")
 TABLE = re.compile(r"(?<!\[)`([\w/]+\.rows)`")
 # where the columns behind the rule lead
 COLUMNS = (("function", r"crates/\w+/src/.+\.rt"), ("definition", r"crates/\w+/specs/.+\.antt"),
-           ("proof", r"crates/\w+/proofs/.+"), ("test", r"(tools/tests|bench/tests)/.+\.py|crates/probe_high/src/thread_calls\.rt"))
+           ("proof", r"crates/\w+/proofs/.+"), ("test", r"(tools/tests|bench/tests)/.+\.py"))
 
 
 def read(path):

@@ -2,7 +2,6 @@
 import io
 import os
 import sys
-import tempfile
 import unittest
 from unittest import mock
 
@@ -23,18 +22,9 @@ def proved(crate):
     return f"crate {crate}: modules loaded=807 checked=941\n"
 
 
-IS_BUILT = build_program.is_built
-
-
 class Lines(unittest.TestCase):
-    def setUp(self):
-        # nothing stands, whatever the tests run beside
-        patch = mock.patch.object(build_program, "is_built", lambda crate: False)
-        patch.start()
-        self.addCleanup(patch.stop)
-
     def follow(self, lines, out):
-        progress = Progress("registryd", crates_below("registryd"), 4, in_order=True, out=out)
+        progress = Progress("registryd", crates_below("registryd"), 4, out=out)
         progress.say()
         for line in lines:
             build_program.follow(line, progress)
@@ -46,33 +36,31 @@ class Lines(unittest.TestCase):
         self.follow([proved(crate) for crate in crates], out)
         lines = out.getvalue().splitlines()
         self.assertEqual(len(lines), len(crates) + 1)
-        for number, (crate, line) in enumerate(zip(crates, lines), 1):
-            self.assertRegex(line, fr"^registryd: crate {number} of {len(crates)} \({crate}\), \d+ s so far, about .* left$")
+        for number, line in enumerate(lines[:-1], 1):
+            self.assertRegex(line, fr"^registryd: crate {number} of {len(crates)}( \(\w+\))?, \d+ s so far, about .* left$")
         self.assertRegex(lines[-1], fr"^registryd: all {len(crates)} crates are proved, ")
 
-    def test_what_stands_is_passed_over(self):
-        crates, out = crates_below("registryd"), io.StringIO()
-        with mock.patch.object(build_program, "is_built", lambda crate: crate in crates[:5]):
-            progress = self.follow(["nothing of interest\n", proved("no_crate_of_ours"), proved(crates[5])], out)
-        self.assertEqual(progress.done, {*crates[:6]})
-        self.assertEqual(progress.skipped, sum(progress.weights[crate] for crate in crates[:5]))
+    def test_crates_side_by_side(self):
+        crates = crates_below("registryd")
+        lines = [*(f"{crate}> stands" for crate in crates[:4]), "of no crate", f"{crates[4]}> begins", f"{crates[5]}> begins",
+                 f"{crates[4]}> so far: 30 of 60 functions checked; the verdict comes last", f"{crates[5]}> proved"]
+        progress = Progress("registryd", crates, 4, out=io.StringIO())
+        with mock.patch.object(build_program, "lines_of", lambda words, folder: (line + "\n" for line in lines)):
+            self.assertIsNone(build_program.prove_below(4, progress))
+        self.assertEqual(progress.done, {*crates[:4], crates[5]})
+        self.assertEqual(progress.skipped, sum(progress.weights[crate] for crate in crates[:4]))
+        self.assertEqual(progress.parts, {crates[4]: 0.5})
+        self.assertRegex(progress.text(), fr"^registryd: crate 6 of {len(crates)} \({crates[4]}\), ")
 
-    def test_a_library_stands_until_a_source_is_newer(self):
-        with tempfile.TemporaryDirectory() as top, mock.patch.object(build_program, "TOP", top):
-            source = os.path.join(top, "crates", "low", "src", "lib.rt")
-            stamp = os.path.join(top, "crates", "low", "out", "rlib", "stamp")
-            for file in (source, stamp):
-                self.assertFalse(IS_BUILT("low"))
-                os.makedirs(os.path.dirname(file))
-                open(file, "w").close()
-            self.assertTrue(IS_BUILT("low"))
-            later = os.stat(stamp).st_ctime + 60
-            os.utime(source, (later, later))
-            self.assertFalse(IS_BUILT("low"))
+    def test_what_was_said_of_a_crate_that_failed(self):
+        lines = ["low> begins", "high> begins", "low> wrong", "high> right", "low> failed", "high> proved"]
+        progress = Progress("registryd", crates_below("registryd"), 4, out=io.StringIO())
+        with mock.patch.object(build_program, "lines_of", lambda words, folder: (line + "\n" for line in lines)):
+            self.assertEqual(build_program.build(4, progress), (False, ["wrong\n"]))
 
     def test_less_is_left_as_it_goes_on(self):
         crates = crates_below("registryd")
-        progress = Progress("registryd", crates, 4, in_order=True, out=io.StringIO())
+        progress = Progress("registryd", crates, 4, out=io.StringIO())
         whole = progress.left(0)
         build_program.follow("so far: 30 of 60 functions checked; the verdict comes last\n", progress)
         self.assertLess(progress.left(1), whole)

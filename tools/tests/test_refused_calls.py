@@ -8,12 +8,13 @@ import json
 import os
 import unittest
 
+import generated_rows
 import generated_rows_chronicle
 import generated_rows_store
 from preloaded import REFUSE_MEMORY, built, each_refused
 from program import TOP
 from public_calls import that_take_memory
-from row_tables import BEGIN, program, tables_in
+from row_tables import BEGIN, generated, program, tables_in
 
 ROWS = os.path.join(TOP, "rows", "refused")
 SHORT = {"refused": 18}
@@ -122,6 +123,8 @@ class RefusedCalls(unittest.TestCase):
     def test_each_public_call_has_a_table(self):
         named = {name for file in sorted(os.listdir(ROWS)) for table in tables_of(file)
                   for name in table.title.split(", ")}
+        named |= {name for table in generated(generated_rows.refused_beyond_the_kept_sets())
+                  for name, colon, _ in [table.title.partition(": ")] if colon}
         self.assertEqual(named, that_take_memory())
 
     def test_the_last_requests_of_a_row_that_ends_behind_a_segment(self):
@@ -129,6 +132,12 @@ class RefusedCalls(unittest.TestCase):
 
     def test_the_last_requests_of_a_seat_whose_store_was_full(self):
         self.refuse_last(generated_rows_store.a_seat_stores_at_most_4096(), 300, 300)
+
+    def test_requirements_beyond_those_whose_sets_are_kept(self):
+        session = Session(program("low"), self.library)
+        for table in generated(generated_rows.refused_beyond_the_kept_sets()):
+            with self.subTest(table.title):
+                self.assertGreater(self.refuse_each(session, table), 0, f"{table.title}: no request was refused")
 
     def test_each_request_of_each_call(self):
         count = refused = 0

@@ -105,6 +105,15 @@ class Reading(unittest.TestCase):
         self.assertIsNone(row.fault({"b": [None], "a": 1}))
         self.assertIsNotNone(row.fault({"b": [], "a": 1}))
 
+    def test_an_answer_that_is_compared_by_what_a_function_gives_of_it(self):
+        row = row_tables.Row("it", {"of": "set", "call": "it", "by": len, "gives": 2})
+        self.assertEqual(row.asked, '{"of":"set","call":"it"}')
+        self.assertIsNone(row.fault([1, 1]))
+        self.assertIn("got    3", row.fault([1, 1, 1]))
+        self.assertIn("of another form", row.fault(2))
+        # no file can have such a member
+        self.assertIn('"by":1', row_tables.Row("it", {"of": "set", "call": "it", "by": 1}).asked)
+
     def answering(self, script):
         """A program that runs these shell commands."""
         folder = tempfile.TemporaryDirectory()

@@ -1,0 +1,69 @@
+"""Runs the tests in Python, files of them side by side, one a processor.
+
+What the program says in them is judged by the last file, `test_written_lines.py`: so it runs when all others have ended, and
+gets what they noted (`said.py`)."""
+import contextlib
+import io
+import os
+import sys
+import unittest
+from concurrent.futures import ProcessPoolExecutor
+
+from progress import TOP
+
+FOLDERS = ("tools/tests", "bench/tests")
+LAST = "test_written_lines.py"
+# The files that take longest: they begin first.
+LONG = ("test_refused_calls.py", "test_row_tables.py", "test_memory.py", "test_etcd.py", "test_journals.py")
+
+
+def files():
+    """The files of tests, those that take longest first."""
+    found = [os.path.join(TOP, folder, file) for folder in FOLDERS if os.path.isdir(os.path.join(TOP, folder))
+             for file in os.listdir(os.path.join(TOP, folder)) if file.startswith("test_") and file.endswith(".py")]
+    return sorted(found, key=lambda path: (os.path.basename(path) not in LONG, os.path.basename(path) == LAST, path))
+
+
+def run_file(path):
+    """Runs the tests of one file; answers what they wrote, how many passed and failed, and what the program said in them."""
+    wrote = io.StringIO()
+    with contextlib.redirect_stdout(wrote):
+        suite = unittest.TestLoader().discover(os.path.dirname(path), os.path.basename(path))
+        done = unittest.TextTestRunner(stream=wrote, verbosity=2).run(suite)
+    # a skipped one counts as failed: nothing is left out unseen
+    failed = len(done.failures) + len(done.errors) + len(done.skipped) + len(done.unexpectedSuccesses)
+    if not done.testsRun:
+        failed = max(failed, 1)
+    return wrote.getvalue(), max(done.testsRun - failed, 0), failed, noted()
+
+
+def noted():
+    """What the program said in the tests of this process."""
+    said = sys.modules.get("said")
+    return [(name, getattr(said, name)) for name in ("REQUESTS", "REPLIES", "JOURNAL")] if said else []
+
+
+def tell(wrote, passed, failed, said):
+    """Shows what the tests of a file wrote; notes what the program said in them, for the last file."""
+    print(wrote, end="", flush=True)
+    for name, lines in said:
+        getattr(sys.modules["said"], name).update(lines)
+    return passed, failed
+
+
+def run_all(processors):
+    """Runs them all; answers how many tests passed and failed."""
+    sys.path.insert(0, os.path.join(TOP, FOLDERS[0]))
+    import said
+    *others, last = files()
+    counts = [0, 0]
+    with ProcessPoolExecutor(processors) as pool:
+        runs = {path: pool.submit(run_file, path) for path in others}
+        for path, of in runs.items():
+            try:
+                found = tell(*of.result())
+            except Exception as fault:
+                print(f"{path}: it could not be run: {type(fault).__name__}: {fault}", flush=True)
+                found = 0, 1
+            counts = [sum(pair) for pair in zip(counts, found)]
+    return tuple(sum(pair) for pair in zip(counts, tell(*run_file(last))))

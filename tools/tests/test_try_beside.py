@@ -1,0 +1,122 @@
+"""Wrong bodies are tried beside the gate: each over what is proved, none instead of a proof. The prover is a stub here."""
+import contextlib
+import io
+import os
+import sys
+import tempfile
+import unittest
+
+from program import TOP
+
+sys.path.insert(0, os.path.join(TOP, "tools"))
+import try_beside
+import try_rounds
+from edit_files import Edit
+from try_rounds import BY_CLAUSE, NOT_REFUSED
+
+# low and side stand on nothing, mid on low, high on mid and side; top is a program
+CRATES = {"low": ["std"], "side": [], "mid": ["low"], "high": ["mid", "side"], "top": ["high"]}
+EDITED = ("low", "mid", "high")
+
+
+class Beside(unittest.TestCase):
+    def setUp(self):
+        self.folder = tempfile.TemporaryDirectory()
+        self.addCleanup(self.folder.cleanup)
+        self.begun, self.built = [], []
+        listed = [[Edit(name, f"{name}-{number}.edit", None, ()) for number in range(2)] for name in EDITED]
+        for module, name, stub in ((try_beside, "stands_on", lambda: CRATES), (try_beside, "listed", lambda: listed),
+                                   (try_beside, "library", self.library), (try_rounds, "library", self.library),
+                                   (try_beside, "build_below", self.build_below), (try_beside, "try_in_rounds", self.in_rounds)):
+            self.addCleanup(setattr, module, name, getattr(module, name))
+            setattr(module, name, stub)
+
+    def library(self, name):
+        return os.path.join(self.folder.name, name, "out", "rlib", f"{name}.rlib")
+
+    def build(self, name, text="by the gate"):
+        os.makedirs(self.library(name), exist_ok=True)
+        with open(os.path.join(self.library(name), "text"), "w", encoding="utf-8") as file:
+            file.write(text)
+
+    def build_below(self, names):
+        below = {"low", "mid", "side"}
+        for name in below:
+            self.built.append(name)
+            os.makedirs(self.library(name), exist_ok=True)
+        return below
+
+    def in_rounds(self, edits, room):
+        name = edits[0].crate
+        self.begun.append(name)
+        for below in try_beside.reached(CRATES, name):
+            self.assertTrue(os.path.isdir(os.path.join(room, f"{below}.rlib")), f"{below} below {name}")
+        return [(edit, (BY_CLAUSE if edit.file.endswith("-0.edit") else NOT_REFUSED, "")) for edit in edits]
+
+    def prove(self, tries, name):
+        if name != "top":
+            self.build(name)
+        tries.tell(name, True)
+        for of in tries.tried:
+            of.result()
+
+    def counts(self, tries, is_well=True):
+        with contextlib.redirect_stdout(io.StringIO()):
+            return tries.end(is_well)
+
+    def test_none_begins_while_proofs_have_all_processors(self):
+        with try_beside.Tries(2) as tries:
+            for name in ("low", "side"):
+                self.prove(tries, name)
+                # mid and side, then mid, are being proved; of two processors one is idle then
+                self.assertEqual(self.begun, [] if name == "low" else ["low"])
+            for name in ("mid", "high", "top"):
+                self.prove(tries, name)
+            self.assertEqual(self.begun, ["low", "mid", "high"])
+            self.assertEqual(self.counts(tries), (3, 3))
+        self.assertEqual(self.built, [])
+
+    def test_on_one_processor_they_come_when_the_gate_has_ended(self):
+        with try_beside.Tries(1) as tries:
+            for name in ("side", "low", "mid", "high"):
+                self.prove(tries, name)
+                self.assertEqual(self.begun, [])
+            self.prove(tries, "top")
+            self.assertEqual(self.counts(tries), (3, 3))
+
+    def test_what_is_put_back_later_changes_nothing(self):
+        with try_beside.Tries(4) as tries:
+            self.prove(tries, "low")
+            os.rename(self.library("low"), self.library("low") + ".aside")
+            self.build("low", "by hand")
+            with open(os.path.join(tries.room.name, "low.rlib", "text"), encoding="utf-8") as file:
+                self.assertEqual(file.read(), "by the gate")
+
+    def test_no_edit_of_a_crate_that_failed_or_stands_on_one_is_tried(self):
+        with try_beside.Tries(4) as tries:
+            for name in ("low", "side"):
+                self.prove(tries, name)
+            for name in ("mid", "high", "top"):
+                tries.tell(name, False)
+            self.assertEqual(self.counts(tries, False), (1, 1))
+        self.assertEqual(self.begun, ["low"])
+
+    def test_libraries_that_the_gate_keeps_elsewhere_are_built_when_it_has_ended(self):
+        with try_beside.Tries(4) as tries:
+            for name in ("low", "side", "mid", "high", "top"):
+                tries.tell(name, True)
+            self.assertEqual(self.begun, ["low"])
+            self.assertEqual(self.counts(tries), (3, 3))
+        self.assertEqual(sorted(self.built), ["low", "mid", "side"])
+
+    def test_nothing_is_tried_once_it_is_broken_off(self):
+        with self.assertRaises(KeyboardInterrupt), try_beside.Tries(4) as tries:
+            room = tries.room.name
+            raise KeyboardInterrupt
+        self.assertFalse(os.path.exists(room))
+        with self.assertRaises(OSError):
+            try_rounds.words("versions", [], room)
+
+
+if __name__ == "__main__":
+    unittest.main()
