@@ -1,6 +1,7 @@
 // Which lines are looked at, and which package is decided.
 
 use crate::late::Late;
+use crate::left::Left;
 use crate::lines::Lines;
 use crate::occurrences::Occurrences;
 use crate::question::{Question, ROOM};
@@ -9,12 +10,14 @@ use crate::spent::Spent;
 use crate::watches::{Situation, Watches};
 use partial::Partial;
 use std::alloc::{AllocError, Global};
-use terms::{Incompat, Pkg, Term};
+use terms::{Incompat, Pkg};
 
 /// What is to be looked at and to be decided. Lines are known by their places in the search.
 #[derive(Drop)]
 pub struct Agenda {
     occurrences: Occurrences,
+    /// What is left of packages, where lines are watched.
+    left: Left,
     /// The lines of three terms or more that conflicts led to.
     watches: Watches,
     /// The lines that are looked at now.
@@ -30,14 +33,16 @@ pub struct Agenda {
 }
 
 impl Agenda {
-    pub fn new(alloc: Global) -> Result<Agenda, AllocError> {
+    /// Of no lines, and with room for so many packages.
+    pub fn new(alloc: Global, room: usize) -> Result<Agenda, AllocError> {
         Ok(Agenda {
-            occurrences: Occurrences::new(alloc)?,
+            occurrences: Occurrences::new(alloc, room)?,
+            left: Left::new(alloc),
             watches: Watches::new(alloc),
             ripe: Vec::with_capacity(alloc, ROOM)?,
             used: Vec::with_capacity(alloc, ROOM)?,
-            queue: Queue::new(alloc)?,
-            spent: Spent::new(alloc)?,
+            queue: Queue::new(alloc, room)?,
+            spent: Spent::new(alloc, room.saturating_mul(2))?,
             late: Late::new(alloc),
         })
     }
@@ -100,7 +105,7 @@ impl Agenda {
         if terms.len() <= 2 {
             return self.occurrences.note(alloc, conclusion, at);
         }
-        self.watches.note(Situation { alloc, partial }, terms, at)
+        self.watches.note(alloc, partial, terms, at)
     }
 
     /// Looks at a package of which something was settled: puts it into the queue, if it is to be
@@ -120,7 +125,7 @@ impl Agenda {
         if let Some(said) = partial.said(pkg) {
             self.occurrences
                 .gather(partial, pkg, said, &mut self.spent, &mut self.ripe)?;
-            self.gather_watched(question.alloc, partial, lines, pkg, said)?;
+            self.gather_watched(question.alloc, partial, lines, pkg)?;
         }
         self.late.hand_out(&mut self.ripe, partial.level())
     }
@@ -132,14 +137,18 @@ impl Agenda {
         partial: &Partial,
         lines: &L,
         pkg: Pkg,
-        said: &Term,
     ) -> Result<(), AllocError> {
         if !self.watches.has(pkg) {
             return Ok(());
         }
-        let now = Situation { alloc, partial };
-        self.watches
-            .gather(now, lines, pkg, said, &self.spent, &mut self.ripe)?;
+        self.left.follow(partial)?;
+        let now = Situation {
+            alloc,
+            partial,
+            left: &self.left,
+            lines,
+        };
+        self.watches.gather(&now, pkg, &mut self.ripe)?;
         // All are used newest first, wherever they stood.
         self.ripe.sort_unstable();
         Ok(())
@@ -161,6 +170,32 @@ impl Agenda {
         self.queue.next(question, &mut self.occurrences, partial)
     }
 
+    /// Notes that lines were resolved on a package in a conflict.
+    pub fn resolve_on(
+        &mut self,
+        question: &Question<'_>,
+        partial: &Partial,
+        pkg: Pkg,
+    ) -> Result<(), AllocError> {
+        self.queue
+            .warm(question, &mut self.occurrences, partial, pkg)
+    }
+
+    /// Notes that the search jumped back by a line that concludes this: its packages had to do with the
+    /// conflict.
+    fn end_conflict(
+        &mut self,
+        question: &Question<'_>,
+        partial: &Partial,
+        conclusion: &Incompat,
+    ) -> Result<(), AllocError> {
+        for entry in conclusion.terms() {
+            self.resolve_on(question, partial, entry.0)?;
+        }
+        self.queue.count_conflict();
+        Ok(())
+    }
+
     /// Takes back what was noted above the level to which the search has jumped back, where it used the
     /// line at a place, which concludes this.
     pub fn backjump(
@@ -171,6 +206,8 @@ impl Agenda {
         at: usize,
     ) -> Result<(), AllocError> {
         let level = partial.level();
+        self.left.back_to(level);
+        self.end_conflict(question, partial, conclusion)?;
         self.queue
             .backjump(question, &mut self.occurrences, partial)?;
         self.used.clear();

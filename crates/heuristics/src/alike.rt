@@ -1,9 +1,8 @@
 // Packages whose versions all depend on the same.
 
-use crate::question::Question;
+use crate::question::{Question, needs};
 use registry::Registry;
 use terms::Pkg;
-use walk::Asker;
 
 /// From how many versions on the dependencies of a package are put among the lines before one is
 /// decided. Packages with fewer are decided early, since those with the fewest versions come first.
@@ -16,8 +15,7 @@ pub(crate) fn are_alike(registry: &Registry, pkg: Pkg) -> bool {
 
 /// Whether all versions of a package have the same dependencies, and some.
 pub(crate) fn depend_alike(question: &Question<'_>, pkg: Pkg) -> bool {
-    let first = Asker::Version(pkg, 0).needs(question.registry, question.request);
-    !first.is_empty() && are_alike(question.registry, pkg)
+    !needs(question.registry, pkg, 0).is_empty() && are_alike(question.registry, pkg)
 }
 
 /// Whether several versions of a package, which are all, have the same dependencies, and some.

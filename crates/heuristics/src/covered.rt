@@ -1,6 +1,5 @@
 // Which dependencies of the versions of packages stand among the lines.
 
-use crate::question::ROOM;
 use indexmap::IndexMap;
 use std::alloc::{AllocError, Global};
 use terms::{Pkg, Term};
@@ -37,6 +36,14 @@ pub(crate) struct Covered {
     beyond: IndexMap<(Pkg, Pkg), Term>,
 }
 
+/// Whether a term is of one version alone.
+fn is_of_one(versions: &Term) -> bool {
+    match versions {
+        Term::In(set) => set.len() == 1,
+        Term::NotIn(_) => false,
+    }
+}
+
 impl Targets {
     /// Of a package that has none.
     pub fn none() -> Targets {
@@ -45,11 +52,11 @@ impl Targets {
 }
 
 impl Covered {
-    pub fn new(alloc: Global) -> Result<Covered, AllocError> {
-        Ok(Covered {
-            listed: Vec::with_capacity(alloc, ROOM)?,
+    pub fn new(alloc: Global) -> Covered {
+        Covered {
+            listed: Vec::new(alloc),
             beyond: IndexMap::new(alloc),
-        })
+        }
     }
 
     /// The index of a target in the list, if it stands there.
@@ -84,7 +91,8 @@ impl Covered {
     }
 
     /// Notes that the dependencies of these versions of a package on a target stand among the lines, and
-    /// answers what targets the package has then.
+    /// answers what targets the package has then. Of one version alone nothing is noted: what it depends on
+    /// is put there once, whatever other versions have.
     pub fn add(
         &mut self,
         alloc: Global,
@@ -92,6 +100,9 @@ impl Covered {
         at: (Pkg, Pkg),
         versions: &Term,
     ) -> Result<Targets, AllocError> {
+        if is_of_one(versions) {
+            return Ok(targets);
+        }
         if let Some(index) = self.place(targets, at.1) {
             if let Some(listed) = self.listed.as_mut_slice().get_mut(index) {
                 listed.versions = listed.versions.or(alloc, versions)?;

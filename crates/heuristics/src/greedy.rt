@@ -9,13 +9,12 @@ use crate::alike::depend_alike;
 use crate::numbers::{index_of, set_number};
 use crate::obstacle::Obstacle;
 use crate::order::Order;
-use crate::question::{Question, ROOM, locked_version};
+use crate::question::{Question, ROOM, locked_version, needs, room_for};
 use indexmap::IndexMap;
 use registry::Matching;
 use std::alloc::AllocError;
 use terms::{Pkg, Term, VSet};
 use versions::{Name, Need};
-use walk::Asker;
 
 /// How many versions may be looked at, for each package of the registry, before it gives up.
 const PATIENCE: usize = 4;
@@ -46,6 +45,15 @@ struct Greedy {
     beside: Vec<(Pkg, Term)>,
     /// What is taken to be needed beforehand.
     obstacle: Option<Obstacle>,
+}
+
+/// What a greedy search came to.
+#[derive(Drop)]
+pub struct Attempt {
+    /// Decisions on all packages that are needed, if each could be met.
+    pub decided: Option<IndexMap<Pkg, u32>>,
+    /// For how many packages room is made in a search that goes on where this one gave up.
+    pub room: usize,
 }
 
 /// The versions of a set that are allowed.
@@ -80,8 +88,16 @@ fn best_of(question: &Question<'_>, pkg: Pkg, left: &Term) -> Option<u32> {
     };
     match locked_ordinal(question, pkg) {
         Some(ordinal) if versions.has(ordinal) => Some(ordinal),
-        Some(_) | None => question.registry.highest(pkg, versions),
+        Some(_) | None => highest_of(question, pkg, versions),
     }
+}
+
+/// The highest version of a set; of one version nothing is looked up.
+fn highest_of(question: &Question<'_>, pkg: Pkg, versions: &VSet) -> Option<u32> {
+    if versions.len() == 1 {
+        return versions.iter().next();
+    }
+    question.registry.highest(pkg, versions)
 }
 
 /// The ordinal of the version that the lock names.
@@ -94,7 +110,7 @@ impl Greedy {
         Ok(Greedy {
             numbers: Vec::with_capacity(question.alloc, ROOM)?,
             needed: Vec::with_capacity(question.alloc, ROOM)?,
-            order: Order::new(question.alloc)?,
+            order: Order::new(question.alloc, ROOM)?,
             alike: Vec::with_capacity(question.alloc, ROOM)?,
             met: 0,
             beside: Vec::new(question.alloc),
@@ -203,10 +219,7 @@ impl Greedy {
         ordinal: u32,
     ) -> Result<bool, AllocError> {
         self.beside.clear();
-        let count = Asker::Version(pkg, ordinal)
-            .needs(question.registry, question.request)
-            .len();
-        for index in 0..count {
+        for index in 0..needs(question.registry, pkg, ordinal).len() {
             let (target, matching) = question.registry.dependency(pkg, ordinal, index)?;
             if !self.meet(question, target, &matching)? {
                 return Ok(false);
@@ -222,7 +235,7 @@ impl Greedy {
             None => self.add(question, pkg, left)?,
             Some(needed) => needed.left = left,
         }
-        self.order.add(count, pkg)
+        self.order.add(count as u64, pkg)
     }
 
     /// Keeps what was noted.
@@ -257,10 +270,10 @@ impl Greedy {
     }
 
     /// Whether an entry of the order is of an undecided package and up to date.
-    fn is_next(&self, count: usize, pkg: Pkg) -> bool {
+    fn is_next(&self, count: u64, pkg: Pkg) -> bool {
         match self.get(pkg) {
             None => false,
-            Some(needed) => count_of(&needed.left) == count && needed.decided.is_none(),
+            Some(needed) => count_of(&needed.left) as u64 == count && needed.decided.is_none(),
         }
     }
 
@@ -381,19 +394,24 @@ impl Greedy {
     }
 
     /// Decisions on all packages that are needed, if each could be met.
-    fn find(&mut self, question: &Question<'_>) -> Result<Option<IndexMap<Pkg, u32>>, AllocError> {
-        if !self.decide_minding(question)? {
-            return Ok(None);
-        }
-        Ok(Some(self.decisions(question)?))
+    fn find(&mut self, question: &Question<'_>) -> Result<Attempt, AllocError> {
+        let decided = if self.decide_minding(question)? {
+            Some(self.decisions(question)?)
+        } else {
+            None
+        };
+        Ok(Attempt {
+            decided,
+            room: room_for(self.needed.len()),
+        })
     }
 }
 
-/// Decisions on all packages that are needed, if each could be met.
+/// Decides greedily on all packages that are needed.
 pub fn decide_greedily(
     question: &Question<'_>,
     obstacle: Option<Obstacle>,
-) -> Result<Option<IndexMap<Pkg, u32>>, AllocError> {
+) -> Result<Attempt, AllocError> {
     let mut greedy = Greedy::new(question, obstacle)?;
     greedy.find(question)
 }

@@ -11,12 +11,14 @@
 //! | `agenda.rt` | which lines are looked at, and which package is decided | Unit Propagation, Decision Making |
 //! | `occurrences.rt` | occurrence lists: the lines that name a package | Unit Propagation |
 //! | `watches.rt` | learnt lines of three terms or more, each looked at from two packages | Unit Propagation |
+//! | `left.rt` | what is left of packages, a word each | Unit Propagation |
 //! | `late.rt` | lines that derived later than they could have | Unit Propagation |
 //! | `kept.rt` | what is kept of a package that lines name | Unit Propagation, Decision Making |
 //! | `numbers.rt` | the index at which a list has what is known of a package | |
 //! | `spent.rt` | the lines that are not looked at until the search jumps back | Unit Propagation |
 //! | `queue.rt` | the packages that are to be decided | Decision Making |
 //! | `order.rt` | the order of decisions | Decision Making |
+//! | `heat.rt` | how much packages had to do with the last conflicts | Decision Making |
 //! | `covered.rt` | which dependencies are among the lines | Decision Making |
 //! | `alike.rt` | packages whose versions all depend on the same | Decision Making |
 //! | `sharing.rt` | where versions of a package may have the same dependency | Decision Making |
@@ -28,8 +30,10 @@ mod agenda;
 mod alike;
 mod covered;
 mod greedy;
+mod heat;
 mod kept;
 mod late;
+mod left;
 mod lines;
 mod numbers;
 mod obstacle;
@@ -42,9 +46,9 @@ mod spent;
 mod watches;
 
 pub use agenda::Agenda;
-pub use greedy::decide_greedily;
+pub use greedy::{Attempt, decide_greedily};
 pub use late::FAR;
 pub use lines::Lines;
 pub use obstacle::{Obstacle, obstacle_at};
-pub use question::{Question, ROOM, locked_version};
+pub use question::{Question, locked_version};
 pub use sharing::{Place, Sharing};

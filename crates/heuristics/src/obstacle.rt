@@ -1,10 +1,9 @@
 // What stands in the way of the preferred selection.
 
 use crate::alike::are_alike;
-use crate::question::Question;
+use crate::question::{Question, needs};
 use std::alloc::AllocError;
 use terms::{Pkg, Term};
-use walk::Asker;
 
 /// A dependency that the preferred selection does not meet, and that all versions of a package have. A
 /// selection with that package has to meet it.
@@ -17,18 +16,14 @@ pub struct Obstacle {
     pub within: Term,
 }
 
-/// The obstacle in what is asked for at an index, if it is one.
+/// The obstacle in the dependency of a version at an index, if it is one.
 pub fn obstacle_at(
     question: &Question<'_>,
-    asker: Asker,
+    pkg: Pkg,
+    ordinal: u32,
     index: usize,
 ) -> Result<Option<Obstacle>, AllocError> {
-    let Asker::Version(pkg, ordinal) = asker else {
-        return Ok(None);
-    };
-    if index >= asker.needs(question.registry, question.request).len()
-        || !are_alike(question.registry, pkg)
-    {
+    if index >= needs(question.registry, pkg, ordinal).len() || !are_alike(question.registry, pkg) {
         return Ok(None);
     }
     let (target, matching) = question.registry.dependency(pkg, ordinal, index)?;

@@ -4,7 +4,7 @@ use crate::alike::several_depend_alike;
 use crate::covered::Covered;
 use crate::kept::Kept;
 use crate::numbers::{index_of, set_number};
-use crate::question::{Question, ROOM};
+use crate::question::Question;
 use crate::spent::Spent;
 use partial::Partial;
 use std::alloc::{AllocError, Global};
@@ -66,14 +66,16 @@ enum Use {
 }
 
 impl Occurrences {
-    pub fn new(alloc: Global) -> Result<Occurrences, AllocError> {
+    /// Of no lines, and with room for so many packages, each in two lines.
+    pub fn new(alloc: Global, room: usize) -> Result<Occurrences, AllocError> {
+        let lines = room.saturating_mul(2);
         Ok(Occurrences {
-            numbers: Vec::with_capacity(alloc, ROOM)?,
-            kept: Vec::with_capacity(alloc, ROOM)?,
-            occurrences: Vec::with_capacity(alloc, 2 * ROOM)?,
-            sayings: Vec::with_capacity(alloc, 2 * ROOM)?,
+            numbers: Vec::with_capacity(alloc, room)?,
+            kept: Vec::with_capacity(alloc, room)?,
+            occurrences: Vec::with_capacity(alloc, lines)?,
+            sayings: Vec::with_capacity(alloc, lines)?,
             aside: 0,
-            covered: Covered::new(alloc)?,
+            covered: Covered::new(alloc),
         })
     }
 

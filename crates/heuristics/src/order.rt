@@ -1,22 +1,26 @@
 // The order of decisions (doc/solver.md, "Decision Making").
 
-use crate::question::ROOM;
 use std::alloc::{AllocError, Global};
 use std::cmp::Reverse;
 use std::collections::BinaryHeap;
 use terms::Pkg;
 
-/// Packages, each with the number of versions that were left of it: the one with the fewest comes first,
-/// of several the one with the lowest number.
+/// More than any package's number. An entry is one number, which is compared at once: its rank, and below
+/// that the number of its package.
+const NUMBERS: u64 = 1 << 17;
+
+/// Packages, each with a rank, as the number of versions that were left of it: the one of lowest rank comes
+/// first, of several the one with the lowest number.
 #[derive(Drop)]
 pub(crate) struct Order {
-    heap: BinaryHeap<Reverse<(usize, Pkg)>>,
+    heap: BinaryHeap<Reverse<u64>>,
 }
 
 impl Order {
-    pub fn new(alloc: Global) -> Result<Order, AllocError> {
+    /// Empty, and with room for so many packages.
+    pub fn new(alloc: Global, room: usize) -> Result<Order, AllocError> {
         Ok(Order {
-            heap: BinaryHeap::with_capacity(alloc, ROOM)?,
+            heap: BinaryHeap::with_capacity(alloc, room)?,
         })
     }
 
@@ -25,15 +29,16 @@ impl Order {
         self.heap.len()
     }
 
-    /// Adds a package of which so many versions are left.
-    pub fn add(&mut self, count: usize, pkg: Pkg) -> Result<(), AllocError> {
-        self.heap.push(Reverse((count, pkg)))?;
+    /// Adds a package of this rank.
+    pub fn add(&mut self, rank: u64, pkg: Pkg) -> Result<(), AllocError> {
+        let entry = rank.saturating_mul(NUMBERS).saturating_add(u64::from(pkg));
+        self.heap.push(Reverse(entry))?;
         Ok(())
     }
 
-    /// Takes the entry that comes first.
-    pub fn pop(&mut self) -> Option<(usize, Pkg)> {
+    /// Takes the entry that comes first: its rank and its package.
+    pub fn pop(&mut self) -> Option<(u64, Pkg)> {
         let Reverse(entry) = self.heap.pop()?;
-        Some(entry)
+        Some((entry / NUMBERS, (entry % NUMBERS) as Pkg))
     }
 }

@@ -1,13 +1,25 @@
 // What is asked of which registry.
 
+ghost use Rattle.std.specs.Prelude.{◌≡◌};
+ghost use Rattle.registry.specs.Registry.{needs_of};
+
 use registry::{Registry, Request};
 use std::alloc::Global;
 use terms::Pkg;
-use versions::Published;
+use versions::{Name, Need, Published};
 
-/// For how many packages and lines room is made before a search, so that a small one need not move its
-/// lists again and again while they grow.
-pub const ROOM: usize = 128;
+/// For at least so many packages room is made before a search, so that a small one need not move its lists
+/// again and again while they grow.
+pub(crate) const ROOM: usize = 128;
+
+/// For how many packages room is made for each that is known to be needed before a search: the others that
+/// it comes to are needed by these.
+const REACHED: usize = 4;
+
+/// For how many packages room is made before a search, where so many are known to be needed.
+pub(crate) fn room_for(needed: usize) -> usize {
+    needed.saturating_mul(REACHED).max(ROOM)
+}
 
 /// A request to a registry.
 #[derive(Clone, Copy)]
@@ -15,6 +27,16 @@ pub struct Question<'a> {
     pub alloc: Global,
     pub registry: &'a Registry,
     pub request: &'a Request,
+}
+
+/// What a version depends on, in order; nothing where it is not published.
+pub(crate) fn needs<'a>(registry: &'a Registry, pkg: Pkg, ordinal: u32) -> &'a [(Name, Need)]
+    ensures { result.now ≡ needs_of registry.now.packages pkg ordinal }
+{
+    match registry.facts_at(pkg, ordinal) {
+        None => &[],
+        Some(facts) => facts.needs,
+    }
 }
 
 /// The version of a package that the lock names.

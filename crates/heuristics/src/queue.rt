@@ -2,25 +2,31 @@
 
 ghost use Rattle.std.specs.Prelude.{◌≡◌};
 
+use crate::heat::{Heat, count_at};
 use crate::occurrences::Occurrences;
 use crate::order::Order;
-use crate::question::{Question, ROOM};
+use crate::question::Question;
 use partial::Partial;
 use std::alloc::{AllocError, Global};
 use terms::{Pkg, Term};
 
+/// Higher than any rank.
+const NONE: u64 = u64::MAX;
+
 /// Undecided packages with a positive term, in the order in which they are decided.
 #[derive(Drop)]
 pub(crate) struct Queue {
-    /// Counts with their packages. Each package that is to be decided has an entry whose count is not
+    /// Ranks with their packages. Each package that is to be decided has an entry whose count is not
     /// above its own; one that is out of date is put right when it comes out.
     order: Order,
     /// The packages that came out, in order.
     decided: Vec<Pkg>,
     /// The package that came out last, until it is known to be decided.
     last: Option<Pkg>,
-    /// By number of the package: the lowest count that is known among its entries, where it has one.
-    held: Vec<Option<usize>>,
+    /// By number of the package: the lowest rank that is known among its entries, `NONE` where it has none.
+    held: Vec<u64>,
+    /// Which of several packages with equally few versions is decided first.
+    heat: Heat,
 }
 
 /// What is said of a package that is selected and has no decision.
@@ -36,44 +42,49 @@ fn undecided(partial: &Partial, pkg: Pkg) -> Option<&Term> {
     }
 }
 
-/// Notes the lowest count of a package among the entries.
-fn hold(held: &mut Vec<Option<usize>>, pkg: Pkg, count: Option<usize>) -> Result<(), AllocError> {
+/// Notes the lowest rank of a package among the entries.
+fn hold(held: &mut Vec<u64>, pkg: Pkg, rank: u64) -> Result<(), AllocError> {
     for _ in held.len()..pkg as usize + 1 {
-        held.push(None)?;
+        held.push(NONE)?;
     }
     if let Some(own) = held.as_mut_slice().get_mut(pkg as usize) {
-        *own = count;
+        *own = rank;
     }
     Ok(())
 }
 
 impl Queue {
-    pub fn new(alloc: Global) -> Result<Queue, AllocError> {
+    /// Empty, and with room for so many packages.
+    pub fn new(alloc: Global, room: usize) -> Result<Queue, AllocError> {
         Ok(Queue {
-            order: Order::new(alloc)?,
-            decided: Vec::with_capacity(alloc, ROOM)?,
+            order: Order::new(alloc, room)?,
+            decided: Vec::with_capacity(alloc, room)?,
             last: None,
             held: Vec::new(alloc),
+            heat: Heat::new(alloc),
         })
     }
 
-    /// The lowest count that is known among the entries of a package.
+    /// The lowest rank that is known among the entries of a package.
     #[inline(always)]
-    fn held_of(&self, pkg: Pkg) -> Option<usize> {
-        self.held.as_slice().get(pkg as usize).copied().flatten()
+    fn held_of(&self, pkg: Pkg) -> u64 {
+        self.held
+            .as_slice()
+            .get(pkg as usize)
+            .copied()
+            .unwrap_or(NONE)
     }
 
-    /// Adds an entry, unless there is one of the package that comes out no later.
+    /// Adds an entry of a package with so many versions, unless there is one that comes out no later.
     fn put(&mut self, pkg: Pkg, count: usize) -> Result<(), AllocError>
         ensures { self.new.decided.items ≡ self.old.decided.items }
     {
-        if let Some(held) = self.held_of(pkg) {
-            if held <= count {
-                return Ok(());
-            }
+        let rank = self.heat.rank(pkg, count);
+        if self.held_of(pkg) <= rank {
+            return Ok(());
         }
-        self.order.add(count, pkg)?;
-        hold(&mut self.held, pkg, Some(count))
+        self.order.add(rank, pkg)?;
+        hold(&mut self.held, pkg, rank)
     }
 
     /// Puts a package into the queue, if it is to be decided.
@@ -91,6 +102,23 @@ impl Queue {
             self.put(pkg, count)?;
         }
         Ok(())
+    }
+
+    /// Heats a package that has to do with a conflict.
+    pub fn warm(
+        &mut self,
+        question: &Question<'_>,
+        occurrences: &mut Occurrences,
+        partial: &Partial,
+        pkg: Pkg,
+    ) -> Result<(), AllocError> {
+        self.heat.add(pkg)?;
+        self.offer(question, occurrences, partial, pkg)
+    }
+
+    /// Notes a conflict more.
+    pub fn count_conflict(&mut self) {
+        self.heat.count_conflict();
     }
 
     /// Puts back into the queue what was decided and is not any more, after the search jumped back.
@@ -111,8 +139,8 @@ impl Queue {
     }
 
     /// The package that comes first in the queue and is to be decided: the one with the fewest versions
-    /// to choose from, of several the one with the lowest number. It leaves the queue, unless it is
-    /// not decided then.
+    /// to choose from, of several the hottest, where heat is minded, and the one with the lowest number. It
+    /// leaves the queue, unless it is not decided then.
     pub fn next(
         &mut self,
         question: &Question<'_>,
@@ -127,12 +155,12 @@ impl Queue {
             let Some((offered, pkg)) = self.order.pop() else {
                 return Ok(None);
             };
-            if self.held_of(pkg) == Some(offered) {
-                hold(&mut self.held, pkg, None)?;
+            if self.held_of(pkg) == offered {
+                hold(&mut self.held, pkg, NONE)?;
             }
             if let Some(said) = undecided(partial, pkg) {
                 let count = occurrences.count(question, pkg, said)?;
-                if count == offered {
+                if count as u64 == count_at(offered) {
                     self.decided.push(pkg)?;
                     self.last = Some(pkg);
                     return Ok(Some(pkg));

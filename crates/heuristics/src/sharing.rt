@@ -1,16 +1,19 @@
 // Where versions of a package may have the same dependency.
 
-use crate::question::Question;
+use crate::question::{Question, needs};
 use indexmap::IndexMap;
+use registry::NEED_LIMIT;
 use std::alloc::{AllocError, Global};
 use std::hash::{DefaultHasher, Hash, Hasher};
 use terms::Pkg;
 use versions::{Name, Need};
-use walk::Asker;
 
 /// Up to this many dependencies of a package are compared with each that is looked for, which takes less
 /// than a table of them.
 const FEW: usize = 256;
+
+/// Packages with at most so many versions have few dependencies, whatever each depends on.
+const FEW_VERSIONS: usize = FEW / NEED_LIMIT;
 
 /// Where a dependency stands: the ordinal of its version, and its index there.
 #[derive(Clone, Copy)]
@@ -49,11 +52,6 @@ fn key_of(entry: &(Name, Need)) -> u64 {
     state.finish()
 }
 
-/// What a version of a package depends on.
-fn needs<'a>(question: &Question<'a>, pkg: Pkg, ordinal: u32) -> &'a [(Name, Need)] {
-    Asker::Version(pkg, ordinal).needs(question.registry, question.request)
-}
-
 /// Whether a version depends on the same as the one before it.
 fn is_repeated(question: &Question<'_>, pkg: Pkg, ordinal: u32) -> bool {
     let repeats = question
@@ -69,7 +67,7 @@ fn has_many(question: &Question<'_>, pkg: Pkg) -> bool {
     let mut count = 0usize;
     for ordinal in 0..question.registry.version_count(pkg) {
         if !is_repeated(question, pkg, ordinal) {
-            count = count.saturating_add(needs(question, pkg, ordinal).len());
+            count = count.saturating_add(needs(question.registry, pkg, ordinal).len());
         }
         if count > FEW {
             return true;
@@ -88,8 +86,13 @@ impl Sharing {
         }
     }
 
-    /// Whether the dependencies of a package are listed, which they are from now on if they are many.
+    /// Whether `find` is to be asked for the dependencies of a package: they are listed, which they are from
+    /// now on if they are many, or there is one version, which shares none with others.
     pub fn lists(&mut self, question: &Question<'_>, pkg: Pkg) -> Result<bool, AllocError> {
+        let versions = question.registry.versions(pkg);
+        if versions <= FEW_VERSIONS {
+            return Ok(versions == 1);
+        }
         if let Some(many) = self.has_many.get(&pkg).copied() {
             return Ok(many);
         }
@@ -116,7 +119,7 @@ impl Sharing {
         pkg: Pkg,
         ordinal: u32,
     ) -> Result<(), AllocError> {
-        for (index, entry) in needs(question, pkg, ordinal).iter().enumerate() {
+        for (index, entry) in needs(question.registry, pkg, ordinal).iter().enumerate() {
             self.list(pkg, Place { ordinal, index }, entry)?;
         }
         Ok(())
@@ -134,7 +137,8 @@ impl Sharing {
         self.listed.as_slice().get(number.checked_sub(1)?).copied()
     }
 
-    /// Finds the places where versions of a package that is listed may have a dependency.
+    /// Finds the places where versions of a package that is listed may have a dependency; none where the
+    /// package has one version.
     pub fn find(
         &mut self,
         question: &Question<'_>,
@@ -142,6 +146,9 @@ impl Sharing {
         entry: &(Name, Need),
     ) -> Result<(), AllocError> {
         self.found.clear();
+        if question.registry.versions(pkg) <= FEW_VERSIONS {
+            return Ok(());
+        }
         let mut number = self.last.get(&(pkg, key_of(entry))).copied().unwrap_or(0);
         for _ in 0..self.listed.len() {
             let Some(listed) = self.listed_at(number) else {

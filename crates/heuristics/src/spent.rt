@@ -2,7 +2,6 @@
 
 ghost use Rattle.std.specs.Prelude.{◌≤◌, length};
 
-use crate::question::ROOM;
 use std::alloc::{AllocError, Global};
 
 /// Lines of which a term is contradicted as long as what was settled stands: those by which something
@@ -22,10 +21,11 @@ fn mark(lines: &mut [bool], at: usize, is_spent: bool) {
 }
 
 impl Spent {
-    pub fn new(alloc: Global) -> Result<Spent, AllocError> {
+    /// Without lines, and with room for so many of them.
+    pub fn new(alloc: Global, room: usize) -> Result<Spent, AllocError> {
         Ok(Spent {
-            is_spent: Vec::with_capacity(alloc, 2 * ROOM)?,
-            order: Vec::with_capacity(alloc, 2 * ROOM)?,
+            is_spent: Vec::with_capacity(alloc, room)?,
+            order: Vec::with_capacity(alloc, room)?,
         })
     }
 

@@ -104,6 +104,7 @@ module _ (terms : List (ℕ × Term)) (lawful : IsIncompat terms) (i : ℕ) (x :
 -- what the loop over the terms keeps of those it has seen
 pub record IsReached (made : List Assignment) (terms : List (ℕ × Term)) (i count own others : ℕ) : Type 0 where
   pub within : count ≤ length made
+  pub ordered : others ≤ count
   pub least : IsLeast (λ k. Satisfied (take k made) (take i terms)) count
   pub found : 0 < i → (entry : ℕ × Term) × (slice_get terms own ≡ Some entry) × (own < i)
       × IsLeast (λ k. Holds (take k made) entry.0 entry.1) count × IsLeast (λ k. SatisfiedBut (take k made) (take i terms) entry.0) others
@@ -111,6 +112,7 @@ pub record IsReached (made : List Assignment) (terms : List (ℕ × Term)) (i co
 pub reached-none : (made : List Assignment) (terms : List (ℕ × Term)) → IsReached made terms 0 0 0 0
 reached-none made terms = record {
   within = omega arith;
+  ordered = omega arith;
   least = (λ p c said. refl, λ k lt h. omega (arith, lt));
   found = λ lt. absurd (omega (arith, lt));
 }
@@ -153,6 +155,7 @@ module _ (made : List Assignment) (terms : List (ℕ × Term)) (lawful : IsIncom
       let is : max count n ≡ n = omega arith in
       rw add-one (record {
         within = s.within;
+        ordered = omega (arith, more);
         least = subst (IsLeast (λ k. Satisfied (take k made) (take (suc i) terms))) is all;
         found = λ _. (
           x,
@@ -173,13 +176,14 @@ module _ (made : List Assignment) (terms : List (ℕ × Term)) (lawful : IsIncom
     | inr apart ↦ omega (arith, apart)
   ]
 
-  pub reached-as_far : (now : ℕ) → n ≤ count → now ≡ max others n → IsReached made terms (i + 1) count own now
+  reached-as_far : (now : ℕ) → n ≤ count → now ≡ max others n → IsReached made terms (i + 1) count own now
   reached-as_far now le is_now =
       let is : max count n ≡ count = omega arith in
       let f = h.found (some_before le) in
       let off : f.0.0 ≡ x.0 → ⊥ = λ e. let below = apart-at 0 own i terms f.0 x lawful f.2 f.1 at in omega (arith, e, below) in
       rw (add-one, is_now) (record {
         within = h.within;
+        ordered = omega (arith, h.ordered, le);
         least = subst (IsLeast (λ k. Satisfied (take k made) (take (suc i) terms))) is all;
         found = λ _. (
           f.0,
@@ -191,6 +195,51 @@ module _ (made : List Assignment) (terms : List (ℕ × Term)) (lawful : IsIncom
               (Least-both (λ k. SatisfiedBut (take k made) (take i terms) f.0.0) (λ k. Holds (take k made) x.0 x.1) others n (SatisfiedBut-longer made (take i terms) f.0.0) (Holds-longer made x.0 x.1) f.4 s.least),
         );
       })
+
+-- a term that holds with fewer assignments than the others take changes nothing
+module _ (made : List Assignment) (terms : List (ℕ × Term)) (lawful : IsIncompat terms) (i : ℕ) (x : ℕ × Term) (lt : i < length terms) (read : x ≡ get_or terms i x)
+    (count own others n : ℕ) (h : IsReached made terms i count own others) where
+  here : slice_get terms i ≡ Some x
+  here = slice_get_read terms (length terms) i x refl lt read
+
+  others_before : n < others → 0 < i
+  others_before below = elim (cases_eq i 0) [
+    | inl e ↦
+        let none : count ≡ 0 = Least-zero (λ k. Satisfied (take k made) (take i terms)) count h.least (λ p c said. ap (λ j. true_at (take j terms) p c) e) in
+        absurd (omega (arith, below, h.ordered, none))
+    | inr apart ↦ omega (arith, apart)
+  ]
+
+  reached-below : Holds (take n made) x.0 x.1 → n < others → IsReached made terms (i + 1) count own others
+  reached-below holds below =
+      let f = h.found (others_before below) in
+      let off : f.0.0 ≡ x.0 → ⊥ = λ e. let less = apart-at 0 own i terms f.0 x lawful f.2 f.1 here in omega (arith, e, less) in
+      rw add-one (record {
+        within = h.within;
+        ordered = h.ordered;
+        least = (
+          seen-join terms lawful i x here (take count made) (h.least.0, Holds-longer made x.0 x.1 n count (omega (arith, below, h.ordered)) holds),
+          λ k less whole. h.least.1 k less (seen-split terms lawful i x here (take k made) whole).0,
+        );
+        found = λ _. (
+          f.0,
+          f.1,
+          omega (arith, f.2),
+          f.3,
+          (
+            but-join terms lawful i x here (take others made) f.0.0 (f.4.0, Holds-longer made x.0 x.1 n others (omega (arith, below)) holds),
+            λ k less but. f.4.1 k less (but-split terms lawful i x here (take k made) f.0.0 off but).0,
+          ),
+        );
+      })
+
+  pub reached-no_further : (others ≤ n → IsShortestOn made x.0 x.1 n) → Holds (take n made) x.0 x.1 → (now : ℕ) → n ≤ count → now ≡ max others n → IsReached made terms (i + 1) count own now
+  reached-no_further s holds now le is_now = elim (cases_lt n others) [
+    | inl below ↦
+        let same : others ≡ now = omega (arith, below, is_now) in
+        subst (IsReached made terms (i + 1) count own) same (reached-below holds below)
+    | inr more ↦ reached-as_far made terms lawful i x lt read count own others n h (s more) now le is_now
+  ]
 
 -- the last assignment that a package's term needs is on that package
 needed_on : (made : List Assignment) (p : ℕ) (t : Term) (n : ℕ) → suc n ≤ length made → IsLeast (λ k. Holds (take k made) p t) (suc n) → IsPlaceOn made p (Some n)

@@ -89,16 +89,21 @@ fn step_back(ledger: &Ledger, at: usize, entry: &(Pkg, Term)) -> Option<Option<u
 }
 
 /// How many assignments it takes, from the first on, until a package's term must hold, where it must
-/// with those up to the place `last`. This looks at few of the assignments on that package, and at no other.
-fn shortest_on(ledger: &Ledger, last: Option<usize>, entry: &(Pkg, Term)) -> usize
+/// with those up to the place `last`. Where it takes fewer than `enough`, the answer may be any number below
+/// that which will do. This looks at few of the assignments on that package, and at no other.
+fn shortest_on(ledger: &Ledger, last: Option<usize>, entry: &(Pkg, Term), enough: usize) -> usize
     requires kept { IsLedger ledger.now }
     requires on { IsPlaceOn ledger.now.made.items entry.now.0 last }
     requires holds { Holds (take (through last) ledger.now.made.items) entry.now.0 entry.now.1 }
-    ensures shortest { IsShortestOn ledger.now.made.items entry.now.0 entry.now.1 result }
+    ensures shortest { enough ≤ result → IsShortestOn ledger.now.made.items entry.now.0 entry.now.1 result }
+    ensures holds { Holds (take result ledger.now.made.items) entry.now.0 entry.now.1 }
     ensures within { result ≤ through last }
 {
     let mut place = last;
     'walk: while let Some(at) = place {
+        if at + 1 < enough {
+            return at + 1;
+        }
         match step_back(ledger, at, entry) {
             None => return at + 1,
             Some(before) => place = before,
@@ -121,7 +126,7 @@ fn reach_of(ledger: &Ledger, terms: &[(Pkg, Term)]) -> Reach
         others: 0,
     };
     for (i, entry) in terms.iter().enumerate() {
-        let count = shortest_on(ledger, last_on(ledger, entry.0), entry);
+        let count = shortest_on(ledger, last_on(ledger, entry.0), entry, reach.others);
         if count > reach.count {
             reach = Reach {
                 count,
@@ -159,7 +164,7 @@ pub(crate) fn satisfier_of(
     let index = reach.count - 1;
     let own = &terms[reach.own];
     let rest = (own.0, rest_of(alloc, &ledger.made[index].term, &own.1)?);
-    let alone = shortest_on(ledger, ledger.notes[index].earlier, &rest);
+    let alone = shortest_on(ledger, ledger.notes[index].earlier, &rest, 0);
     let before = alone.max(reach.others);
     let level = level_of(&ledger.made[..before]);
     Ok((index, level.max(1)))

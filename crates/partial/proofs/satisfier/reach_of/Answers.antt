@@ -1,7 +1,7 @@
-use Rattle.std.proofs.Common.{sym, subst}
+use Rattle.std.proofs.Common.{arith, sym, subst}
 use Rattle.partial.specs.Ledger.{IsPlaceOn}
 use Rattle.partial.proofs.Places.{last_on_package}
-use Rattle.partial.proofs.Reaching.{holds-last, reached-all, reached-as_far, reached-further}
+use Rattle.partial.proofs.Reaching.{holds-last, reached-all, reached-further, reached-no_further}
 use Rattle.partial.proofs.satisfier.reach_of.Goals as goal
 use Rattle.partial.proofs.satisfier.reach_of.Goals.{then-count-reach, else-count-reach}
 
@@ -19,13 +19,14 @@ loop-i-preserved c =
     let made = c.args.ledger.now.made.items in
     let terms = c.args.terms.now in
     let old = c.loop-i.reach in
+    let ordered = c.loop-i.invariant.ordered in
     elim c.if-count-reach.branch [
       | then-count-reach w ↦
           rw w.reach-is (reached-further made terms c.requires.lawful c.loop-i.i c.index-terms-i.result c.loop-i-test.true c.index-terms-i.is
-          old.count old.own old.others c.shortest_on-count.result c.loop-i.invariant c.shortest_on-count.ensures.shortest w.if-count-reach.true)
+          old.count old.own old.others c.shortest_on-count.result c.loop-i.invariant (c.shortest_on-count.ensures.shortest (omega (arith, ordered, w.if-count-reach.true))) w.if-count-reach.true)
       | else-count-reach w ↦
-          rw w.reach-is (reached-as_far made terms c.requires.lawful c.loop-i.i c.index-terms-i.result c.loop-i-test.true c.index-terms-i.is
-          old.count old.own old.others c.shortest_on-count.result c.loop-i.invariant c.shortest_on-count.ensures.shortest w.max.result w.if-count-reach.false w.max.ensures)
+          rw w.reach-is (reached-no_further made terms c.requires.lawful c.loop-i.i c.index-terms-i.result c.loop-i-test.true c.index-terms-i.is
+          old.count old.own old.others c.shortest_on-count.result c.loop-i.invariant c.shortest_on-count.ensures.shortest c.shortest_on-count.ensures.holds w.max.result w.if-count-reach.false w.max.ensures)
     ]
 
 pub returns : goal.returns

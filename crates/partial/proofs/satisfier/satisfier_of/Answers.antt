@@ -1,4 +1,4 @@
-use Rattle.std.proofs.Common.{◌∙◌, ◌-◌, ap, max, refl, sym, take, slice_get}
+use Rattle.std.proofs.Common.{◌∙◌, arith, ◌-◌, ap, max, refl, sym, take, slice_get}
 use Rattle.std.proofs.lemmas.List.{length-take-le}
 use Rattle.partial.specs.Assignments.{decisions}
 use Rattle.partial.proofs.Says.{LevelsFrom-take}
@@ -37,5 +37,5 @@ returns c =
     let r = c.reach_of-reach.result in
     found l.made.items l.notes.items (λ p. slice_get l.heads.items p) c.requires.kept.0 c.args.terms.now c.requires.lawful r.count r.own r.others (r.count - 1) c.reach_of-reach.ensures refl
     c.index.result.now c.index.ensures c.index-terms-reach.result c.index-terms-reach.is c.index-2.result.now c.index-2.ensures c.in_ok-rest_of.field-0 c.in_ok-rest_of.ensures
-    c.shortest_on-alone.result c.max-before.result c.max.result c.shortest_on-alone.ensures.shortest c.shortest_on-alone.ensures.within c.max-before.ensures
+    c.shortest_on-alone.result c.max-before.result c.max.result (c.shortest_on-alone.ensures.shortest (omega arith)) c.shortest_on-alone.ensures.within c.max-before.ensures
     (c.max.ensures ∙ ap (λ d. max d 1) (c.level_of-level.ensures ∙ ap (λ xs. decisions (take c.max-before.result xs)) c.deref.ensures.value))

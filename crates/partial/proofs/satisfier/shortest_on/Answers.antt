@@ -1,4 +1,4 @@
-use Rattle.std.proofs.Common.{◌<◌, arith, subst, take}
+use Rattle.std.proofs.Common.{◌<◌, add-one, arith, subst, take}
 use Rattle.partial.specs.Ledger.{through}
 use Rattle.partial.specs.Reach.{Holds}
 use Rattle.partial.proofs.satisfier.shortest_on.Goals as goal
@@ -18,3 +18,7 @@ walk-preserved c =
       holds = held.holds;
       within = omega (arith, less, c.walk.invariant.within);
     }
+
+pub returns-then-at-enough-clause-holds : goal.returns-then-at-enough-clause-holds
+returns-then-at-enough-clause-holds c =
+    rw add-one (subst (λ o. Holds (take (through o) c.args.ledger.now.made.items) c.args.entry.now.0 c.args.entry.now.1) c.in-Some.is c.walk.invariant.holds)
