@@ -14,7 +14,7 @@ use Rattle.solver.specs.Outcomes.{Tells, TellsOne}
 use Rattle.explain.specs.Explanations.{explanation}
 use Rattle.solver.specs.Outcomes.{MayStop}
 use Rattle.by_name.specs.Named.{IsNumbered}
-use Rattle.replies.specs.Replies.{explained, no_selection, refused, selected}
+use Rattle.replies.specs.Replies.{explained, refused, selected}
 use Rattle.by_name.specs.declared.derivation.NamedLine.{NamedLine}
 use Rattle.answers.specs.Outcomes.{IsAnswer, IsRefuted, TellsFound, TellsNone, TellsSpent}
 
@@ -31,10 +31,6 @@ found_selection packages wanted explain list lawful preferred =
 -- a derivation that there is none
 refuted_by : DerivationsRefute → (packages : Packages) (wanted : Wanted) (lines : List Line) → IsDerivation packages wanted lines → IsRefuted packages wanted
 refuted_by refute packages wanted lines derivation = record { lines = lines; derivation = derivation; none = refute packages wanted lines derivation }
-
--- told without its reason
-pub told_none : DerivationsRefute → (packages : Packages) (wanted : Wanted) (lines : List Line) → IsDerivation packages wanted lines → TellsNone packages wanted false no_selection
-told_none refute packages wanted lines derivation = (refuted_by refute packages wanted lines derivation, refl)
 
 -- told by names, with the lines that explain it
 pub told_explained : DerivationsRefute → (packages : Packages) (wanted : Wanted) (lines : List Line) (named : List NamedLine) (texts : List Text) → IsDerivation packages wanted lines

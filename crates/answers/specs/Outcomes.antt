@@ -5,7 +5,8 @@ use Rattle.versions.specs.declared.refusal.Refusal.TheVariants.{BudgetSpent, NoM
 use Rattle.registry.specs.Registry.{Packages}
 use Rattle.registry.specs.Requests.{Wanted}
 use Rattle.registry.specs.Selections.{Choices}
-use Rattle.derivations.specs.Derivations.{IsDerivation, NoSelection}
+use Rattle.derivations.specs.Derivations.{IsDerivation}
+pub use Rattle.derivations.specs.Derivations.{IsRefuted}
 use Rattle.derivations.specs.declared.line.Line.{Line}
 use Rattle.walk.specs.Preferring.{IfPreferredServes}
 use Rattle.solver.specs.Outcomes.{Tells, TellsOne}
@@ -22,12 +23,6 @@ use Rattle.by_name.specs.declared.derivation.NamedLine.{NamedLine}
 pub record IsAnswer (packages : Packages) (wanted : Wanted) (list : List (Text × Text)) : Type 0 where
   pub lawful : TellsOne packages wanted list
   pub preferred : IfPreferredServes packages wanted (λ (s : Choices). Tells packages s list)
-
--- there is a derivation, and no selection meets the request
-pub record IsRefuted (packages : Packages) (wanted : Wanted) : Type 0 where
-  pub lines : List Line
-  pub derivation : IsDerivation packages wanted lines
-  pub none : NoSelection packages wanted
 
 -- A selection is told that answers the request.
 abbrev pub TellsSelection : Packages → Wanted → Body → Type 0

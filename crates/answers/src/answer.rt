@@ -16,7 +16,7 @@ use derivations::Learnt;
 use intake::Intake;
 use lines::LINE_LIMIT;
 use registry::{Command, Request};
-use solver::solve_under;
+use solver::decide_under;
 use std::alloc::Global;
 use versions::Refusal;
 use wire::Asked;
@@ -156,6 +156,6 @@ fn found_here<L: Ledger>(
     ensures only { IfErr result (MayStop (L.ways.packages ledger.now) request.now budget) }
 {
     let registry = ledger.registry();
-    let outcome = solve_under(alloc, registry, request, ledger.store(), budget)?;
-    Ok(told_of(alloc, registry, request, explain, outcome)?)
+    let verdict = decide_under(alloc, registry, request, ledger.store(), budget, explain)?;
+    Ok(told_of(alloc, registry, request, explain, verdict)?)
 }

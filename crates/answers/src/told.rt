@@ -1,17 +1,16 @@
 //! What is told in reply to a line, by a session and by the seats of a race alike.
 ghost use Rattle.std.specs.Prelude.{IfOk};
-ghost use Rattle.derivations.specs.Derivations.{IsDerivation};
 ghost use Rattle.walk.specs.Preferring.{IfPreferredServes};
-ghost use Rattle.solver.specs.Outcomes as outcomes;
-ghost use Rattle.answers.specs.Outcomes.{MayTell, TellsFound, TellsNone, TellsVerdict};
+ghost use Rattle.solver.specs.Verdicts.{Decides, IsVerdict};
+ghost use Rattle.answers.specs.Outcomes.{MayTell, TellsFound, TellsVerdict};
 ghost use Rattle.answers.specs.Told.{told_body};
 
 use crate::reasons::{explained, follows};
 use by_name::NamedDerivation;
-use derivations::{Derivation, Learnt, derivations_refute};
+use derivations::{Learnt, derivations_refute};
 use registry::{Registry, Request};
 use replies::{Explained, Spot};
-use solver::Outcome;
+use solver::Verdict;
 use std::alloc::{AllocError, Global};
 use versions::{Name, Published, Refusal};
 
@@ -41,38 +40,21 @@ pub fn told_of(
     registry: &Registry,
     request: &Request,
     explain: bool,
-    outcome: Outcome,
+    verdict: Verdict,
 ) -> Result<(Told, Vec<Learnt>), AllocError>
-    requires lawful { outcomes.IsLawful registry.now.packages request.now outcome }
-    requires preferred { IfPreferredServes registry.now.packages request.now (λ s. outcomes.Answers registry.now.packages s outcome) }
+    requires lawful { IsVerdict registry.now.packages request.now explain verdict }
+    requires preferred { IfPreferredServes registry.now.packages request.now (λ s. Decides registry.now.packages s verdict) }
     ensures { IfOk result (λ r. TellsFound registry.now.packages request.now explain (told_body r.0)) }
 {
-    match outcome {
-        Outcome::Selection(list, offered) => Ok((Told::Selection(list), offered)),
-        Outcome::Refused(derivation, offered) => {
-            let told = told_refused(alloc, registry, request, explain, &derivation)?;
-            Ok((told, offered))
+    derivations_refute();
+    match verdict {
+        Verdict::Selection(list, offered) => Ok((Told::Selection(list), offered)),
+        Verdict::NoSelection(offered) => Ok((Told::NoSelection, offered)),
+        Verdict::Refused(derivation, offered) => {
+            let reason = explained(alloc, registry, request, &derivation)?;
+            Ok((Told::Explained(reason), offered))
         }
     }
-}
-
-/// What is told of a request that no selection meets: that, and why where it is asked.
-fn told_refused(
-    alloc: Global,
-    registry: &Registry,
-    request: &Request,
-    explain: bool,
-    derivation: &Derivation,
-) -> Result<Told, AllocError>
-    requires { IsDerivation registry.now.packages request.now derivation.now }
-    ensures { IfOk result (λ told. TellsNone registry.now.packages request.now explain (told_body told)) }
-{
-    derivations_refute();
-    if !explain {
-        return Ok(Told::NoSelection);
-    }
-    let reason = explained(alloc, registry, request, derivation)?;
-    Ok(Told::Explained(reason))
 }
 
 /// What is told of a derivation that a request is given with.

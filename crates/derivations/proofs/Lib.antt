@@ -10,6 +10,7 @@ pub mod Judging
 pub mod LastLine
 pub mod Sound
 pub mod Ends
+pub mod Refuting
 pub mod Offered
 pub mod Clearing
 pub mod Tested

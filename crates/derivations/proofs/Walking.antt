@@ -33,11 +33,11 @@ pub length-conclusions : (lines : List Line) → length (conclusions lines) ≡ 
 length-conclusions [] = refl
 length-conclusions (line ∷ rest) = ap suc (length-conclusions rest)
 
-conclusions-push : (lines : List Line) (line : Line) → conclusions (lines ++ line ∷ []) ≡ conclusions lines ++ line.conclusion ∷ []
+pub conclusions-push : (lines : List Line) (line : Line) → conclusions (lines ++ line ∷ []) ≡ conclusions lines ++ line.conclusion ∷ []
 conclusions-push [] line = refl
 conclusions-push (x ∷ rest) line = ap (λ l. x.conclusion ∷ l) (conclusions-push rest line)
 
-last-push : (lines : List Line) (line : Line) → last_conclusion (lines ++ line ∷ []) ≡ Some line.conclusion
+pub last-push : (lines : List Line) (line : Line) → last_conclusion (lines ++ line ∷ []) ≡ Some line.conclusion
 last-push [] line = refl
 last-push (x ∷ []) line = refl
 last-push (x ∷ y ∷ rest) line = last-push (y ∷ rest) line
@@ -54,7 +54,7 @@ AreDerivedBy-push gives earlier (x ∷ rest) line h is =
 abbrev pub AreNumbered : List Known → List ℕ → List Terms → Type 0
 AreNumbered known numbers earlier = (m n : ℕ) (line : Known) → slice_get known m ≡ Some line → get_or numbers m 0 ≡ suc n → slice_get earlier n ≡ Some line.conclusion
 
-gives_fact : (packages : Packages) (wanted : Wanted) (earlier : List Terms) (c : Cause) (terms : Terms) → IsFact packages wanted c terms → Yields packages wanted earlier c terms
+pub gives_fact : (packages : Packages) (wanted : Wanted) (earlier : List Terms) (c : Cause) (terms : Terms) → IsFact packages wanted c terms → Yields packages wanted earlier c terms
 gives_fact packages wanted earlier (cause.Line n) terms h = absurd h
 gives_fact packages wanted earlier (cause.Premise p) terms h = h
 gives_fact packages wanted earlier (cause.Need i) terms h = h

@@ -106,3 +106,9 @@ pub record IsDerivation (packages : Packages) (wanted : Wanted) (lines : List Li
 -- no selection meets the request
 abbrev pub NoSelection : Packages → Wanted → Type 0
 NoSelection packages wanted = (s : Choices) → Meets packages wanted s → ⊥
+
+-- there is a derivation, and no selection meets the request
+pub record IsRefuted (packages : Packages) (wanted : Wanted) : Type 0 where
+  pub lines : List Line
+  pub derivation : IsDerivation packages wanted lines
+  pub none : NoSelection packages wanted

@@ -6,8 +6,8 @@ use Rattle.registry.specs.Requests.{Wanted}
 use Rattle.registry.specs.Step as registry
 use Rattle.registry.specs.Step.{Change}
 use Rattle.derivations.specs.Facts.{Holds, Stands, Terms, premise_terms}
-use Rattle.derivations.specs.Derivations.{AreDerived, IsDerivation, NoSelection, last_conclusion}
-use Rattle.derivations.specs.Known.{AreLawful, EndsAt}
+use Rattle.derivations.specs.Derivations.{AreDerived, IsDerivation, IsRefuted, NoSelection, last_conclusion}
+use Rattle.derivations.specs.Known.{AreLawful, AreOrdered, EndsAt}
 use Rattle.derivations.specs.Learning.{AllStand, IsLearnt}
 use Rattle.derivations.specs.Stored.{learn_refusal, stored_after}
 use Rattle.derivations.specs.declared.cutting.Known.{Known}
@@ -37,6 +37,11 @@ DerivedPremisesStand = (packages : Packages) (wanted : Wanted) (earlier : List T
 -- in lines that are derived from facts the one without terms is no fact, so it ends what can be cut
 abbrev pub EmptyIsNoFact : Type 0
 EmptyIsNoFact = (packages : Packages) (wanted : Wanted) (known : List Known) (end : ℕ) (line : Known) → AreLawful packages wanted known → slice_get known end ≡ Some line → line.conclusion ≡ [] → EndsAt known end
+
+-- where lines that are facts, or follow from lines before them, have one without terms, there is a derivation, and no selection meets the request
+abbrev pub KeptLinesRefute : Type 0
+KeptLinesRefute = (packages : Packages) (wanted : Wanted) (known : List Known) (end : ℕ) (line : Known) → AreLawful packages wanted known → AreOrdered known
+    → slice_get known end ≡ Some line → line.conclusion ≡ [] → IsRefuted packages wanted
 
 -- ---- what is stored
 

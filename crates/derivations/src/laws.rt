@@ -1,6 +1,6 @@
 // Laws: why derivations and what is learnt can be trusted.
 
-ghost use Rattle.derivations.specs.Laws.{CommandsKeep, CommandsKeepLearnt, DerivationsRefute, DerivedPremisesStand, EmptyIsNoFact, LearningKeeps, LearntHolds, PremisesHold, ResolventsHold};
+ghost use Rattle.derivations.specs.Laws.{CommandsKeep, CommandsKeepLearnt, DerivationsRefute, DerivedPremisesStand, EmptyIsNoFact, KeptLinesRefute, LearningKeeps, LearntHolds, PremisesHold, ResolventsHold};
 
 use registry::{matching_is_what_meets, numbers_last};
 
@@ -38,6 +38,14 @@ pub fn derived_premises_stand()
 pub fn empty_is_no_fact()
     ensures { EmptyIsNoFact }
 {}
+
+/// Where the lines of a search have one without terms, there is a derivation, also where none is cut
+/// from them, and so no selection meets the request. It does nothing when it runs.
+pub fn kept_lines_refute()
+    ensures { KeptLinesRefute }
+{
+    matching_is_what_meets();
+}
 
 /// What stands before an accepted command, and is still stored after it, stands after it; after a yank
 /// or its undoing that is all. It does nothing when it runs.

@@ -31,8 +31,8 @@ pub use derivation::{Derivation, check};
 pub use facts::{Cause, Premise};
 pub use index::{Index, Link};
 pub use laws::{
-    commands_keep, derivations_refute, derived_premises_stand, empty_is_no_fact, learning_keeps,
-    learnt_holds, premises_hold, resolvents_hold,
+    commands_keep, derivations_refute, derived_premises_stand, empty_is_no_fact, kept_lines_refute,
+    learning_keeps, learnt_holds, premises_hold, resolvents_hold,
 };
 pub use learnt::{LINE_LIMIT, Learnt};
 pub use line::Line;

@@ -13,7 +13,7 @@ use crate::line::Line;
 use std::alloc::{AllocError, Global};
 
 /// The most lines that all offers of one search have together.
-const OFFERED_LIMIT: usize = 8_192;
+const OFFERED_LIMIT: usize = 1_024;
 
 /// How many lines one more offer may have behind so many lines of others: as many as are left, but for
 /// those that are kept for the last one.
@@ -155,7 +155,7 @@ fn count_lines(found: &Option<Learnt>) -> usize {
 
 /// What may be learnt of the lines at these places, each with its whole derivation: of those that
 /// rest on premises alone, by no more than [`LINE_LIMIT`](crate::LINE_LIMIT) lines, and by no more than
-/// 8,192 lines all together. Those that come first are offered first; for the last one there is always
+/// 1,024 lines all together. Those that come first are offered first; for the last one there is always
 /// room. Places that hold a fact, or nothing, are passed over.
 ///
 /// What a search's lines say is taken on its word, which a caller proves: they are cut and looked

@@ -1,12 +1,12 @@
 -- Slots that stand beside what is asked, and which of them are free.
-use Rattle.std.proofs.Common.{◌≡◌, ℕ, zero, suc, ◌+◌, ◌<◌, ◌≤◌, List, [], ◌∷◌, ◌++◌, Global, Option, Result, Some, None, Vec, length, replicate, take, drop, set, vec_capacity, vec_len, refl, sym, ap, ◌∙◌, subst, arith}
+use Rattle.std.proofs.Common.{◌≡◌, ℕ, Bool, zero, suc, ◌+◌, ◌<◌, ◌≤◌, List, [], ◌∷◌, ◌++◌, Global, Option, Result, Some, None, Vec, length, replicate, take, drop, set, vec_capacity, vec_len, refl, sym, ap, ◌∙◌, subst, arith}
 use Rattle.std.proofs.lemmas.Bool.Decides.{nat_tests}
 use Rattle.std.specs.Prelude.{slice_get}
 use Rattle.std.specs.List.{AllZip}
 use Rattle.versions.specs.declared.refusal.Refusal.{Refusal}
 use Rattle.registry.specs.Registry.{Packages}
 use Rattle.registry.specs.Requests.{Wanted}
-use Rattle.solver.specs.declared.solving.Outcome.{Outcome}
+use Rattle.solver.specs.declared.verdict.Verdict.{Verdict}
 use Rattle.pool.specs.Answering.{AreAnswers, AreBegun, IsAnswerAt, IsAnswerTo}
 use Rattle.pool.specs.Sharing.{once, times}
 use Rattle.pool.specs.Finding.{free}
@@ -102,16 +102,16 @@ times_here i xs = grind (arith, nat_tests)
 -- ---- the answers to the first requests
 
 -- one answer more
-pub begun_more : (packages : Packages) (asked : List (Wanted × Option ℕ)) (answers answers' : Vec (Result Outcome Refusal) Global) (answer : Result Outcome Refusal) → AreBegun packages asked answers
+pub begun_more : (packages : Packages) (asked : List (Wanted × Option ℕ × Bool)) (answers answers' : Vec (Result Verdict Refusal) Global) (answer : Result Verdict Refusal) → AreBegun packages asked answers
     → vec_len answers < length asked → IsAnswerAt packages asked (vec_len answers) answer
     → answers'.items ≡ answers.items ++ answer ∷ [] → suc (vec_len answers) ≡ vec_len answers' → vec_capacity answers' ≡ vec_capacity answers → AreBegun packages asked answers'
 begun_more packages asked answers answers' answer begun inside here items longer capacity = record {
-  done = subst (λ (x : ℕ × List (Result Outcome Refusal)). AreAnswers packages (take x.0 asked) x.1) (λ i. (longer i, sym items i))
+  done = subst (λ (x : ℕ × List (Result Verdict Refusal)). AreAnswers packages (take x.0 asked) x.1) (λ i. (longer i, sym items i))
       (zip_more (IsAnswerTo packages) asked (vec_len answers) answers.items answer begun.done inside here);
   fits = omega arith;
   room = let r = begun.room in omega arith;
 }
 
 -- all are answered
-pub begun_whole : (packages : Packages) (asked : List (Wanted × Option ℕ)) (answers : Vec (Result Outcome Refusal) Global) → AreBegun packages asked answers → length asked ≤ vec_len answers → AreAnswers packages asked answers.items
+pub begun_whole : (packages : Packages) (asked : List (Wanted × Option ℕ × Bool)) (answers : Vec (Result Verdict Refusal) Global) → AreBegun packages asked answers → length asked ≤ vec_len answers → AreAnswers packages asked answers.items
 begun_whole packages asked answers begun over = zip_whole (IsAnswerTo packages) asked (vec_len answers) answers.items begun.done over

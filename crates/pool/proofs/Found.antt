@@ -1,5 +1,5 @@
 -- What was found, one after another.
-use Rattle.std.proofs.Common.{◌≡◌, ℕ, suc, ◌+◌, ◌≤◌, List, [], ◌∷◌, ◌++◌, Option, true, All, length, refl, sym, ap, ◌∙◌, subst, append_assoc, replicate, arith}
+use Rattle.std.proofs.Common.{◌≡◌, ℕ, Bool, suc, ◌+◌, ◌≤◌, List, [], ◌∷◌, ◌++◌, Option, true, All, length, refl, sym, ap, ◌∙◌, subst, append_assoc, replicate, arith}
 use Rattle.std.proofs.Common.{Vec, Global}
 use Rattle.std.proofs.lemmas.List.Elements.{All-push}
 use Rattle.registry.specs.Registry.{Packages}
@@ -47,14 +47,14 @@ indexes_more : (found : List Found) (one : Found) → indexes_of (found ++ one �
 indexes_more [] one = refl
 indexes_more (x ∷ found) one = ap (λ l. x.index ∷ l) (indexes_more found one)
 
-pub answered_none : (packages : Packages) (asked : List (Wanted × Option ℕ)) (jobs : Dealt) (taker : Took) (found : List Found) → taker ≡ fresh jobs → found ≡ [] → AreAnswered packages asked jobs taker found
+pub answered_none : (packages : Packages) (asked : List (Wanted × Option ℕ × Bool)) (jobs : Dealt) (taker : Took) (found : List Found) → taker ≡ fresh jobs → found ≡ [] → AreAnswered packages asked jobs taker found
 answered_none packages asked jobs taker found e none = record {
   own = ap (λ t. t.jobs) e;
   tied = ap indexes_of none ∙ sym (ap (λ t. t.taken) e);
   each = subst (λ (l : List Found). All (IsFound packages asked) l) (sym none) (λ k d short. absurd (omega arith));
 }
 
-module _ (packages : Packages) (asked : List (Wanted × Option ℕ)) (jobs : Dealt) (taker : Took) (found : List Found) (so_far : AreAnswered packages asked jobs taker found) where
+module _ (packages : Packages) (asked : List (Wanted × Option ℕ × Bool)) (jobs : Dealt) (taker : Took) (found : List Found) (so_far : AreAnswered packages asked jobs taker found) where
   pub answered_more : (one : Found) (now : Took) → IsFound packages asked one → now ≡ record taker { taken = taker.taken ++ one.index ∷ [] } → AreAnswered packages asked jobs now (found ++ one ∷ [])
   answered_more one now is e = record {
     own = ap (λ t. t.jobs) e ∙ so_far.own;

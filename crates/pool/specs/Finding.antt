@@ -1,5 +1,5 @@
 -- What the workers found, and which slots are free for it.
-use Rattle.std.specs.Prelude.{◌≡◌, ℕ, zero, suc, ◌++◌, All, List, [], ◌∷◌, map, Option, None, Some, Vec}
+use Rattle.std.specs.Prelude.{◌≡◌, ℕ, Bool, zero, suc, ◌++◌, All, List, [], ◌∷◌, map, Option, None, Some, Vec}
 use Rattle.std.specs.Global.{Global}
 use Rattle.registry.specs.Registry.{Packages}
 use Rattle.registry.specs.Requests.{Wanted}
@@ -9,13 +9,13 @@ use Rattle.pool.specs.declared.desk.Desk.{Desk}
 use Rattle.pool.specs.declared.slots.Found.{Found}
 
 -- an answer to the request with this index
-abbrev pub IsFound : Packages → List (Wanted × Option ℕ) → Found → Type 0
+abbrev pub IsFound : Packages → List (Wanted × Option ℕ × Bool) → Found → Type 0
 IsFound packages asked found = IsAnswerAt packages asked found.index found.answer
 
-abbrev pub AreFound : Packages → List (Wanted × Option ℕ) → List Found → Type 0
+abbrev pub AreFound : Packages → List (Wanted × Option ℕ × Bool) → List Found → Type 0
 AreFound packages asked = All (IsFound packages asked)
 
-abbrev pub AreAllFound : Packages → List (Wanted × Option ℕ) → List (Vec Found Global) → Type 0
+abbrev pub AreAllFound : Packages → List (Wanted × Option ℕ × Bool) → List (Vec Found Global) → Type 0
 AreAllFound packages asked = All (λ found. AreFound packages asked found.items)
 
 -- the indexes of what was found, in order
@@ -28,15 +28,15 @@ indexes_in [] = []
 indexes_in (found ∷ rest) = indexes_of found.items ++ indexes_in rest
 
 -- answers to the jobs that a taker of these took, in order
-pub record AreAnswered (packages : Packages) (asked : List (Wanted × Option ℕ)) (jobs : Dealt) (taker : Took) (found : List Found) : Type 0 where
+pub record AreAnswered (packages : Packages) (asked : List (Wanted × Option ℕ × Bool)) (jobs : Dealt) (taker : Took) (found : List Found) : Type 0 where
   pub own : IsTakerOf jobs taker
   pub tied : indexes_of found ≡ taker.taken
   pub each : AreFound packages asked found
 
-abbrev pub IsDesk : Packages → List (Wanted × Option ℕ) → Dealt → Desk → Type 0
+abbrev pub IsDesk : Packages → List (Wanted × Option ℕ × Bool) → Dealt → Desk → Type 0
 IsDesk packages asked jobs desk = AreAnswered packages asked jobs desk.taker desk.found.items
 
-abbrev pub AreDesks : Packages → List (Wanted × Option ℕ) → Dealt → List Desk → Type 0
+abbrev pub AreDesks : Packages → List (Wanted × Option ℕ × Bool) → Dealt → List Desk → Type 0
 AreDesks packages asked jobs = All (IsDesk packages asked jobs)
 
 -- 1 where the slot at i is there and empty, else 0

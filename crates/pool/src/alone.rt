@@ -7,12 +7,16 @@ use crate::gate::Gate;
 use crate::work::{Answer, Asked, Work, answer, answer_at};
 use derivations::Store;
 use registry::Registry;
-use solver::{Outcome, solve_within};
+use solver::{Verdict, decide_under};
 use std::alloc::Global;
 use versions::Refusal;
 
 /// The effort in which a thread is started, in the packages and lines that answers have.
 const THREAD: usize = 64;
+
+/// How much there was to do for a refusal that is not shown and led to nothing that may be learnt: as much as
+/// for one by a few lines.
+const REFUSED: usize = 4;
 
 /// With how many conflicts a request is still answered before any thread is started.
 const FEW: u32 = 8;
@@ -77,8 +81,8 @@ fn soon(alloc: Global, registry: &Registry, store: &Store, asked: &Asked) -> Opt
     if asked.1.is_some_and(|budget| budget <= FEW) {
         return Some(answer(alloc, registry, store, asked));
     }
-    match solve_within(alloc, registry, &asked.0, store, FEW) {
-        Ok(outcome) => Some(Ok(outcome)),
+    match decide_under(alloc, registry, &asked.0, store, Some(FEW), asked.2) {
+        Ok(verdict) => Some(Ok(verdict)),
         Err(Refusal::NoMemory) => Some(Err(Refusal::NoMemory)),
         Err(_) => None,
     }
@@ -88,8 +92,9 @@ fn soon(alloc: Global, registry: &Registry, store: &Store, asked: &Asked) -> Opt
 /// as starting a thread takes.
 fn effort_of(answer: &Answer) -> usize {
     match answer {
-        Ok(Outcome::Selection(list, offered)) if offered.is_empty() => list.len().saturating_add(1),
-        Ok(Outcome::Refused(derivation, offered)) if offered.is_empty() => {
+        Ok(Verdict::Selection(list, offered)) if offered.is_empty() => list.len().saturating_add(1),
+        Ok(Verdict::NoSelection(offered)) if offered.is_empty() => REFUSED,
+        Ok(Verdict::Refused(derivation, offered)) if offered.is_empty() => {
             derivation.lines().len().saturating_add(1)
         }
         _ => THREAD,

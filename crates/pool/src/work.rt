@@ -6,15 +6,15 @@ ghost use Rattle.pool.specs.Answering.{IsAnswerAt, IsAnswerTo};
 use crate::gate::Gate;
 use derivations::Store;
 use registry::{Registry, Request};
-use solver::{Outcome, solve_under};
+use solver::{Verdict, decide_under};
 use std::alloc::Global;
 use versions::Refusal;
 
-/// A request, with its budget of conflicts where it has one.
-pub type Asked = (Request, Option<u32>);
+/// A request, with its budget of conflicts where it has one, and whether a refusal of it is to be explained.
+pub type Asked = (Request, Option<u32>, bool);
 
 /// What a request is answered, or why it is left without an answer.
-pub type Answer = Result<Outcome, Refusal>;
+pub type Answer = Result<Verdict, Refusal>;
 
 /// What the threads share: the requests, and what they are answered from.
 #[derive(Drop)]
@@ -43,5 +43,5 @@ pub(crate) fn answer(alloc: Global, registry: &Registry, store: &Store, asked: &
     requires { All (AllStand registry.now.packages) store.now.members }
     ensures { IsAnswerTo registry.now.packages asked.now result }
 {
-    solve_under(alloc, registry, &asked.0, store, asked.1)
+    decide_under(alloc, registry, &asked.0, store, asked.1, asked.2)
 }

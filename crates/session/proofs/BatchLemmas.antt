@@ -1,7 +1,7 @@
 -- Requests that wait together, and the replies to them.
-use Rattle.std.proofs.Common.{◌≡◌, ◌⊎◌, Bool, false, ℕ, zero, suc, ◌+◌, ◌<◌, ◌≤◌, List, [], ◌∷◌, ◌++◌, length, take, drop, get_or, map, refl, sym, ap, subst, ◌∙◌, inl, inr, arith, Option, None, Some, Result, Ok, Err}
+use Rattle.std.proofs.Common.{◌≡◌, ◌⊎◌, Bool, ℕ, ◌+◌, ◌<◌, ◌≤◌, List, [], ◌∷◌, ◌++◌, length, take, drop, get_or, map, refl, sym, ap, subst, ◌∙◌, inl, inr, arith, Option, None, Some, Result, Ok, Err}
 use Rattle.std.proofs.KnownBytes.{Appends-nil}
-use Rattle.std.proofs.lemmas.List.{append-nil, drop_more, take-append-drop, take_all, take_more}
+use Rattle.std.proofs.lemmas.List.{append-nil, drop_more, length-map, map-append, take-append-drop, take_all, take_more}
 use Rattle.std.proofs.lemmas.List.Concat.{flat_map-append}
 use Rattle.std.specs.Prelude.{if◌then◌else◌, is_none, OnOk}
 use Rattle.versions.specs.declared.refusal.Refusal.{Refusal}
@@ -9,7 +9,7 @@ use Rattle.versions.specs.declared.refusal.Refusal.TheVariants.{NoMemory}
 use Rattle.registry.specs.Registry.{Packages}
 use Rattle.registry.specs.Requests.{Wanted}
 use Rattle.derivations.specs.declared.line.Line.{Line}
-use Rattle.solver.specs.declared.solving.Outcome.{Outcome}
+use Rattle.solver.specs.declared.verdict.Verdict.{Verdict}
 use Rattle.book.specs.Items.{Book, after, book_of, packages_of, refusal, stepped}
 use Rattle.book.specs.Laws.{ReplayGrows}
 use Rattle.book.specs.declared.item.Item.{Item}
@@ -25,65 +25,49 @@ use Rattle.answers.specs.Lawful.{AreLawful, Learns, LearnsSome, MayAnswer, Ways,
 use Rattle.session.specs.Session.{session_ways}
 use Rattle.session.proofs.ServeLemmas.{replies_text-more}
 
--- ---- what is asked, beside whether it is to be explained
+-- ---- what is asked
 
-pub requests_of-length : (asked : List (Wanted × Option ℕ)) (explains : List Bool) → length asked ≡ length explains → length (requests_of asked explains) ≡ length asked
-requests_of-length [] explains even = refl
-requests_of-length (one ∷ more) [] even = absurd (omega arith)
-requests_of-length (one ∷ more) (explain ∷ explains) even = let rest = requests_of-length more explains (omega arith) in omega arith
+pub requests_of-length : (asked : List (Wanted × Option ℕ × Bool)) → length (requests_of asked) ≡ length asked
+requests_of-length asked = length-map asked (λ (one : Wanted × Option ℕ × Bool). resolve one.0 one.2 one.1)
 
-pub requests_of-append : (asked : List (Wanted × Option ℕ)) (explains : List Bool) (others : List (Wanted × Option ℕ)) (these : List Bool) → length asked ≡ length explains
-    → requests_of (asked ++ others) (explains ++ these) ≡ requests_of asked explains ++ requests_of others these
-requests_of-append [] [] others these even = refl
-requests_of-append [] (explain ∷ explains) others these even = absurd (omega arith)
-requests_of-append (one ∷ more) [] others these even = absurd (omega arith)
-requests_of-append (one ∷ more) (explain ∷ explains) others these even = ap (λ l. resolve one.0 explain one.1 ∷ l) (requests_of-append more explains others these (omega arith))
+pub requests_of-append : (asked others : List (Wanted × Option ℕ × Bool)) → requests_of (asked ++ others) ≡ requests_of asked ++ requests_of others
+requests_of-append asked others = map-append (λ (one : Wanted × Option ℕ × Bool). resolve one.0 one.2 one.1) asked others
 
-pub requests_of-none : (asked : List (Wanted × Option ℕ)) (explains : List Bool) → asked ≡ [] → requests_of asked explains ≡ []
-requests_of-none asked explains none = ap (λ l. requests_of l explains) none
+pub requests_of-none : (asked : List (Wanted × Option ℕ × Bool)) → asked ≡ [] → requests_of asked ≡ []
+requests_of-none asked none = ap requests_of none
 
-take_even : {A B : Type 0} (k : ℕ) (xs : List A) (ys : List B) → length xs ≡ length ys → length (take k xs) ≡ length (take k ys)
-take_even zero xs ys even = refl
-take_even (suc k) [] [] even = refl
-take_even (suc k) [] (y ∷ ys) even = absurd (omega arith)
-take_even (suc k) (x ∷ xs) [] even = absurd (omega arith)
-take_even (suc k) (x ∷ xs) (y ∷ ys) even = let rest = take_even k xs ys (omega arith) in omega arith
-
-module _ (asked : List (Wanted × Option ℕ)) (explains : List Bool) (even : length asked ≡ length explains) where
+module _ (asked : List (Wanted × Option ℕ × Bool)) where
   -- one request more
-  pub requests_of-more : (k : ℕ) (one : Wanted × Option ℕ) → k < length asked → one ≡ get_or asked k one
-      → requests_of (take (k + 1) asked) (take (k + 1) explains) ≡ requests_of (take k asked) (take k explains) ++ resolve one.0 (get_or explains k false) one.1 ∷ []
+  pub requests_of-more : (k : ℕ) (one : Wanted × Option ℕ × Bool) → k < length asked → one ≡ get_or asked k one
+      → requests_of (take (k + 1) asked) ≡ requests_of (take k asked) ++ resolve one.0 one.2 one.1 ∷ []
   requests_of-more k one within here =
-      ap (λ l. requests_of l (take (k + 1) explains)) (take_more asked k one within ∙ ap (λ (x : Wanted × Option ℕ). take k asked ++ x ∷ []) (sym here))
-      ∙ ap (λ l. requests_of (take k asked ++ one ∷ []) l) (take_more explains k false (omega (arith, within, even)))
-      ∙ requests_of-append (take k asked) (take k explains) (one ∷ []) (get_or explains k false ∷ []) (take_even k asked explains even)
+      ap requests_of (take_more asked k one within ∙ ap (λ (x : Wanted × Option ℕ × Bool). take k asked ++ x ∷ []) (sym here))
+      ∙ requests_of-append (take k asked) (one ∷ [])
 
   -- the first ones and the others
-  pub requests_of-split : (k : ℕ) → requests_of asked explains ≡ requests_of (take k asked) (take k explains) ++ requests_of (drop k asked) (drop k explains)
-  requests_of-split k =
-      ap (λ l. requests_of l explains) (sym (take-append-drop k asked)) ∙ ap (λ l. requests_of (take k asked ++ drop k asked) l) (sym (take-append-drop k explains))
-      ∙ requests_of-append (take k asked) (take k explains) (drop k asked) (drop k explains) (take_even k asked explains even)
+  pub requests_of-split : (k : ℕ) → requests_of asked ≡ requests_of (take k asked) ++ requests_of (drop k asked)
+  requests_of-split k = ap requests_of (sym (take-append-drop k asked)) ∙ requests_of-append (take k asked) (drop k asked)
 
   -- all of them
-  pub requests_of-all : (k : ℕ) → length asked ≤ k → requests_of (take k asked) (take k explains) ≡ requests_of asked explains
-  requests_of-all k end = ap (λ l. requests_of l (take k explains)) (take_all k asked end) ∙ ap (λ l. requests_of asked l) (take_all k explains (omega (arith, end, even)))
+  pub requests_of-all : (k : ℕ) → length asked ≤ k → requests_of (take k asked) ≡ requests_of asked
+  requests_of-all k end = ap requests_of (take_all k asked end)
 
 -- ---- answers
 
 -- want of memory may be told to any request
-no_answer : (packages : Packages) (one : Wanted × Option ℕ) → IsAnswerTo packages one (Err NoMemory)
-no_answer packages (wanted, None) = record { lawful = refl; preferred = λ s is meets. tt }
-no_answer packages (wanted, Some budget) = record { lawful = inl refl; preferred = λ s is meets. tt }
+no_answer : (packages : Packages) (one : Wanted × Option ℕ × Bool) → IsAnswerTo packages one (Err NoMemory)
+no_answer packages (wanted, None, explain) = record { lawful = refl; preferred = λ s is meets. tt }
+no_answer packages (wanted, Some budget, explain) = record { lawful = inl refl; preferred = λ s is meets. tt }
 
 -- the next answer is to the next request
-pub next_answers : (packages : Packages) (asked : List (Wanted × Option ℕ)) (k : ℕ) (one : Wanted × Option ℕ) (answers after : List (Result Outcome Refusal)) (answer : Result Outcome Refusal)
+pub next_answers : (packages : Packages) (asked : List (Wanted × Option ℕ × Bool)) (k : ℕ) (one : Wanted × Option ℕ × Bool) (answers after : List (Result Verdict Refusal)) (answer : Result Verdict Refusal)
     → k < length asked → one ≡ get_or asked k one → MayBeAnswers packages (drop k asked) answers
     → (answers ≡ answer ∷ after) ⊎ ((answers ≡ []) × (after ≡ []) × (answer ≡ Err NoMemory))
     → IsAnswerTo packages one answer × MayBeAnswers packages (drop (k + 1) asked) after
 next_answers packages asked k one answers after answer within here (inl none) (inl more) = absurd (let is : [] ≡ answer ∷ after = sym none ∙ more in cc)
 next_answers packages asked k one answers after answer within here (inr all) (inl more) =
-    let both = subst (λ (l : List (Wanted × Option ℕ)). AreAnswers packages l (answer ∷ after)) (drop_more asked k one within) (subst (AreAnswers packages (drop k asked)) more all) in
-    (subst (λ (x : Wanted × Option ℕ). IsAnswerTo packages x answer) (sym here) both.0, inr both.1)
+    let both = subst (λ (l : List (Wanted × Option ℕ × Bool)). AreAnswers packages l (answer ∷ after)) (drop_more asked k one within) (subst (AreAnswers packages (drop k asked)) more all) in
+    (subst (λ (x : Wanted × Option ℕ × Bool). IsAnswerTo packages x answer) (sym here) both.0, inr both.1)
 next_answers packages asked k one answers after answer within here may (inr (none, left, wanting)) =
     (subst (IsAnswerTo packages one) (sym wanting) (no_answer packages one), inl left)
 

@@ -1,10 +1,10 @@
 -- Requests of neighbouring lines, which are answered together.
-use Rattle.std.specs.Prelude.{◌≡◌, ◌⊎◌, Bool, ℕ, List, [], ◌∷◌, ◌++◌, OnOk, Option, Result, Ok}
+use Rattle.std.specs.Prelude.{◌≡◌, ◌⊎◌, Bool, ℕ, List, [], ◌∷◌, ◌++◌, map, OnOk, Option, Result, Ok}
 use Rattle.std.specs.List.{AllZip}
 use Rattle.versions.specs.declared.refusal.Refusal.{Refusal}
 use Rattle.registry.specs.Registry.{Packages}
 use Rattle.registry.specs.Requests.{Wanted}
-use Rattle.solver.specs.declared.solving.Outcome.{Outcome}
+use Rattle.solver.specs.declared.verdict.Verdict.{Verdict}
 use Rattle.pool.specs.Answering.{AreAnswers}
 use Rattle.lines.specs.Texts.{Puts}
 use Rattle.wire.specs.Shapes.{Request, resolve}
@@ -13,11 +13,9 @@ use Rattle.book.specs.declared.item.Item.{Item}
 use Rattle.answers.specs.Lawful.{AreLawful, MayAnswer, Ways, asked}
 use Rattle.session.specs.Session.{session_ways}
 
--- what is asked, where it stands beside whether a refusal is to be explained
-abbrev pub requests_of : List (Wanted × Option ℕ) → List Bool → List Request
-requests_of [] explains = []
-requests_of (one ∷ more) [] = []
-requests_of (one ∷ more) (explain ∷ explains) = resolve one.0 explain one.1 ∷ requests_of more explains
+-- what each of these asks: a request, its budget or none, and whether a refusal is to be explained
+abbrev pub requests_of : List (Wanted × Option ℕ × Bool) → List Request
+requests_of = map (λ one. resolve one.0 one.2 one.1)
 
 -- each of these lines asks what stands at its place
 abbrev pub AreAsked : List (List ℕ) → List Request → Type 0
@@ -31,7 +29,7 @@ AreReplied {S} w [] old (reply ∷ replies) new = ⊥
 AreReplied {S} w (request ∷ requests) old [] new = ⊥
 
 -- each request is answered at its place, or there was no room to keep the answers
-abbrev pub MayBeAnswers : Packages → List (Wanted × Option ℕ) → List (Result Outcome Refusal) → Type 0
+abbrev pub MayBeAnswers : Packages → List (Wanted × Option ℕ × Bool) → List (Result Verdict Refusal) → Type 0
 MayBeAnswers packages asked answers = (answers ≡ []) ⊎ AreAnswers packages asked answers
 
 -- The first of these requests were replied to, and what was put are the texts of the replies. The others are left.

@@ -36,25 +36,20 @@ pub const BATCH_LIMIT: usize = 256;
 #[derive(Drop)]
 pub struct Batch {
     asked: Vec<Asked>,
-    // whether a refusal of the request at this place is to be explained
-    explains: Vec<bool>,
     workers: usize,
 }
 
 impl Model for Batch {
-    ghost use Rattle.std.specs.Prelude.{◌≡◌, ◌≤◌, List, length, vec_capacity};
+    ghost use Rattle.std.specs.Prelude.{◌≤◌, List, vec_capacity};
     ghost use Rattle.wire.specs.Shapes.{Request};
     ghost use Rattle.session.specs.Batches.{requests_of};
     ghost use Rattle.session.specs.declared.batch.TheConstants.{BATCH_LIMIT};
 
     ghost Value = { List Request };
 
-    ghost view = { λ b. requests_of b.asked.items b.explains.items };
+    ghost view = { λ b. requests_of b.asked.items };
 
-    ghost invariant = { λ b. record {
-      even : length b.asked.items ≡ length b.explains.items;
-      room : (BATCH_LIMIT ≤ vec_capacity b.asked) × (BATCH_LIMIT ≤ vec_capacity b.explains);
-    } };
+    ghost invariant = { λ b. BATCH_LIMIT ≤ vec_capacity b.asked };
 }
 
 impl Batch {
@@ -64,7 +59,6 @@ impl Batch {
     {
         Ok(Batch {
             asked: Vec::with_capacity(alloc, BATCH_LIMIT)?,
-            explains: Vec::with_capacity(alloc, BATCH_LIMIT)?,
             workers,
         })
     }
@@ -92,8 +86,7 @@ impl Batch {
         requires { length self.old < BATCH_LIMIT }
         ensures { self.new ≡ self.old ++ resolve request explain budget ∷ [] }
     {
-        self.asked.push_reserved((request, budget));
-        self.explains.push_reserved(explain);
+        self.asked.push_reserved((request, budget, explain));
     }
 
     /// Replies to the requests, in order. Then none waits. Where no line waits behind them either, all replies are
@@ -121,12 +114,10 @@ impl Batch {
             outbox,
             writer,
             self.asked.as_slice(),
-            self.explains.as_slice(),
             answers.into_iter(),
             none_behind,
         );
         self.asked.clear();
-        self.explains.clear();
         put
     }
 }
@@ -160,29 +151,18 @@ fn put_answers<W: Write>(
     outbox: &mut Outbox,
     writer: &mut W,
     asked: &[Asked],
-    explains: &[bool],
     mut answers: IntoIter<Answer>,
     none_behind: bool,
 ) -> io::Result<()>
-    requires even { length asked.now ≡ length explains.now }
-    requires answers { MayBeAnswers (packages_of served.old) asked.now (into_iter_items answers) }
-    ensures { PutsReplies (λ replies. AreReplied session_ways (requests_of asked.now explains.now) served.old replies served.new)
+    requires { MayBeAnswers (packages_of served.old) asked.now (into_iter_items answers) }
+    ensures { PutsReplies (λ replies. AreReplied session_ways (requests_of asked.now) served.old replies served.new)
         (W.contents writer.old) (W.contents writer.new) outbox.old outbox.new result }
 {
     puts_add_up();
     for at in 0..asked.len() {
         let answer = next_answer(&mut answers);
         let at_once = is_last(none_behind, at, asked.len());
-        put_answer(
-            alloc,
-            served,
-            outbox,
-            writer,
-            &asked[at],
-            explains[at],
-            answer,
-            at_once,
-        )?;
+        put_answer(alloc, served, outbox, writer, &asked[at], answer, at_once)?;
     }
     Ok(())
 }
@@ -205,19 +185,18 @@ fn put_answer<W: Write>(
     outbox: &mut Outbox,
     writer: &mut W,
     asked: &Asked,
-    explain: bool,
     answer: Answer,
     at_once: bool,
 ) -> io::Result<()>
     requires { IsAnswerTo (packages_of served.old) asked.now answer }
-    ensures replied { PutsReply (λ reply. MayAnswer session_ways (resolve asked.now.0 explain asked.now.1) served.old reply served.new)
+    ensures replied { PutsReply (λ reply. MayAnswer session_ways (resolve asked.now.0 asked.now.2 asked.now.1) served.old reply served.new)
         (W.contents writer.old) (W.contents writer.new) outbox.old outbox.new result }
     // What is learnt publishes nothing.
     ensures packages { packages_of served.new ≡ packages_of served.old }
 {
     journals_grow();
     lawful_replies_add_up::<Served>();
-    match told_to(alloc, served.registry(), asked, explain, answer) {
+    match told_to(alloc, served.registry(), asked, answer) {
         Ok((told, offered)) => {
             let put = put_or_send(outbox, writer, served.standing(), &told, at_once);
             learn_all(served, offered);
@@ -238,13 +217,12 @@ fn told_to(
     alloc: Global,
     registry: &Registry,
     asked: &Asked,
-    explain: bool,
     answer: Answer,
 ) -> Result<(Told, Vec<Learnt>), Refusal>
     requires { IsAnswerTo registry.now.packages asked.now answer }
-    ensures told { IfOk result (λ r. TellsFound registry.now.packages asked.now.0 explain (told_body r.0)) }
+    ensures told { IfOk result (λ r. TellsFound registry.now.packages asked.now.0 asked.now.2 (told_body r.0)) }
     ensures only { IfErr result (MayStop registry.now.packages asked.now.0 asked.now.1) }
 {
-    let outcome = answer?;
-    Ok(told_of(alloc, registry, &asked.0, explain, outcome)?)
+    let verdict = answer?;
+    Ok(told_of(alloc, registry, &asked.0, asked.2, verdict)?)
 }

@@ -6,3 +6,5 @@ pub mod Picking
 pub mod Answering
 pub mod Reusing
 pub mod Outcomes
+pub mod Finding
+pub mod Verdicts

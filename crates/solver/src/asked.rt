@@ -17,8 +17,8 @@ const LOOKS_A_LINE: usize = 16;
 /// Which members of the store a search asked and used.
 #[derive(Drop)]
 pub(crate) struct Asked {
-    /// Packages that no member names.
-    unnamed: VSet,
+    /// By number of the package, up to the highest that no member names: whether none does.
+    unnamed: Vec<bool>,
     /// The members that were found last, by their places in the store, newest first.
     found: Vec<u32>,
     /// Those whose lines are among the lines of the search.
@@ -46,10 +46,21 @@ fn is_acting(conclusion: &Incompat, partial: &Partial) -> bool {
     }
 }
 
+/// Notes that no member names a package.
+fn note_unnamed(unnamed: &mut Vec<bool>, pkg: Pkg) -> Result<(), AllocError> {
+    for _ in unnamed.len()..pkg as usize + 1 {
+        unnamed.push(false)?;
+    }
+    if let Some(own) = unnamed.as_mut_slice().get_mut(pkg as usize) {
+        *own = true;
+    }
+    Ok(())
+}
+
 impl Asked {
     pub fn new(alloc: Global) -> Asked {
         Asked {
-            unnamed: VSet::new(alloc),
+            unnamed: Vec::new(alloc),
             found: Vec::new(alloc),
             taken: VSet::new(alloc),
             lines: 0,
@@ -83,14 +94,13 @@ impl Asked {
         pkg: Pkg,
     ) -> Result<(), AllocError> {
         self.found.clear();
-        if self.unnamed.has(pkg) {
+        if self.unnamed.as_slice().get(pkg as usize).copied() == Some(true) {
             return Ok(());
         }
         let naming = task.store.naming();
         let mut at = naming.first(u64::from(pkg));
         if at == 0 {
-            self.unnamed.insert(pkg)?;
-            return Ok(());
+            return note_unnamed(&mut self.unnamed, pkg);
         }
         for _ in 0..self.looks_left(lines) {
             let Some(link) = naming.link(at) else {

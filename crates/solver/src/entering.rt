@@ -55,11 +55,10 @@ pub(crate) fn enter_alike(
     ensures changed { OnOk result (worklist.new.changed.items ≡ worklist.old.changed.items) }
 {
     ordinals_are_below_the_count();
-    if !is_open(partial, pkg) {
+    if !is_open(partial, pkg) || !worklist.agenda.enters_alike(&task.question(), pkg) {
         return Ok(());
     }
-    let count = task.registry.version_count(pkg);
-    if count == 0 || !worklist.agenda.enters_alike(&task.question(), pkg) {
+    if task.registry.version_count(pkg) == 0 {
         return Ok(());
     }
     add_dependencies(task, known, worklist, pkg, 0)

@@ -5,11 +5,11 @@ ghost use Rattle.walk.specs.Choosing.{choice_of};
 ghost use Rattle.solver.specs.Answering.{IsAnswer};
 
 use crate::task::Task;
-use heuristics::{Obstacle, decide_greedily};
+use heuristics::{Obstacle, decide_greedily, obstacle_at};
 use indexmap::IndexMap;
 use std::alloc::AllocError;
 use terms::Pkg;
-use walk::{Chooser, Reached, reach};
+use walk::{Asker, Chooser, Reached, reach};
 
 /// Chooses what is decided.
 #[derive(Clone, Copy)]
@@ -25,19 +25,44 @@ impl Chooser for Decisions<'_> {
     }
 }
 
-/// A selection that is found without a conflict, if there is one.
-pub(crate) fn search_greedily(
+/// What the greedy search minds of what the preferred walk ended at, if anything.
+pub(crate) fn obstacle_in(
     task: &Task<'_>,
-    obstacle: Option<Obstacle>,
+    asker: Asker,
+    index: usize,
+) -> Result<Option<Obstacle>, AllocError> {
+    match asker {
+        Asker::Request => Ok(None),
+        Asker::Version(pkg, ordinal) => obstacle_at(&task.question(), pkg, ordinal, index),
+    }
+}
+
+/// The selection that these decisions make, if they do.
+fn selection_of(
+    task: &Task<'_>,
+    decided: &IndexMap<Pkg, u32>,
 ) -> Result<Option<Vec<(Pkg, u32)>>, AllocError>
     ensures { IfOk result (λ found. IfSome found (λ list. IsAnswer task.now list.items)) }
 {
-    let Some(decided) = decide_greedily(&task.question(), obstacle)? else {
-        return Ok(None);
-    };
-    let chooser = Decisions { decided: &decided };
+    let chooser = Decisions { decided };
     match reach(task.alloc, task.registry, task.request, &chooser)? {
         Reached::Selection(list) => Ok(Some(list)),
         Reached::Unmet(_, _) | Reached::NotAllowed(_, _) => Ok(None),
     }
+}
+
+/// A selection that is found without a conflict, if there is one, and for how many packages room is made
+/// in a search for one with conflicts.
+pub(crate) fn search_greedily(
+    task: &Task<'_>,
+    obstacle: Option<Obstacle>,
+) -> Result<(Option<Vec<(Pkg, u32)>>, usize), AllocError>
+    ensures { IfOk result (λ found. IfSome found.0 (λ list. IsAnswer task.now list.items)) }
+{
+    let attempt = decide_greedily(&task.question(), obstacle)?;
+    let found = match &attempt.decided {
+        None => None,
+        Some(decided) => selection_of(task, decided)?,
+    };
+    Ok((found, attempt.room))
 }

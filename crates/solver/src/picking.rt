@@ -56,8 +56,8 @@ fn is_to_decide(task: &Task<'_>, partial: &Partial, pkg: Pkg) -> bool
     is_package(task, pkg) && is_open(partial, pkg)
 }
 
-/// The package to decide with the fewest versions to choose from, of several the one with the lowest
-/// number.
+/// The package to decide with the fewest versions to choose from, of several the one that the agenda puts
+/// first.
 pub(crate) fn choose_package(
     task: &Task<'_>,
     partial: &Partial,

@@ -5,23 +5,23 @@ ghost use Rattle.std.specs.List.{IsDistinct};
 ghost use Rattle.std.specs.Map.{keys_of};
 ghost use Rattle.derivations.specs.Learning.{AllStand};
 ghost use Rattle.registry.specs.Registry.{is_published};
-ghost use Rattle.registry.specs.Selections.{IsSelection};
+ghost use Rattle.registry.specs.Selections.{Choices, IsSelection};
 ghost use Rattle.walk.specs.Choosing.{choice_of};
 ghost use Rattle.walk.specs.Preferring.{IfPreferredServes};
-ghost use Rattle.solver.specs.Answering.{EndsBy};
+ghost use Rattle.solver.specs.Finding.{Finds, IsFound};
 ghost use Rattle.solver.specs.Outcomes.{told, Answers, IsLawful, MayStop, Tells};
 ghost use Rattle.solver.specs.Reusing.{StoreStands};
 ghost use Rattle.solver.specs.Searching.{MayRefuse};
 
-use crate::greedy::search_greedily;
-use crate::offering::offered_of;
+use crate::found::{Found, found_of};
+use crate::greedy::{obstacle_in, search_greedily};
 use crate::search::Search;
 use crate::starting::start;
 use crate::task::Task;
-use crate::turns::{Ended, run};
+use crate::turns::run;
 use crate::worklist::Worklist;
-use derivations::{Derivation, Known, Learnt, Store, cut};
-use heuristics::{Obstacle, obstacle_at};
+use derivations::{Derivation, Learnt, Store, cut};
+use heuristics::Obstacle;
 use registry::{Registry, Request, ordinals_are_below_the_count};
 use std::alloc::{AllocError, Global};
 use terms::Pkg;
@@ -68,7 +68,7 @@ fn named_all(
 }
 
 /// What a list selects, by names and versions in the order of the names.
-fn tell(
+pub(crate) fn tell(
     alloc: Global,
     registry: &Registry,
     chosen: Vec<(Pkg, u32)>,
@@ -82,43 +82,18 @@ fn tell(
     Ok(named_all(alloc, registry, &list)?)
 }
 
-/// What a search that ended answers, with what it offers of the lines at these places and of a refusal.
-fn outcome_of(
-    task: &Task<'_>,
-    ended: Ended,
-    known: Vec<Known>,
-    learnt: &[usize],
-) -> Result<Outcome, Refusal>
-    requires { EndsBy task.now known.items ended }
-    ensures lawful { IfOk result (IsLawful task.now.registry.now.packages task.now.request.now) }
-    ensures only { IfErr result (MayRefuse task.now.budget) }
-{
-    match ended {
-        Ended::Selected(list) => {
-            let pairs = tell(task.alloc, task.registry, list)?;
-            let offered = offered_of(task, &known, learnt, None);
-            Ok(Outcome::Selection(pairs, offered))
-        }
-        Ended::Refused(end) => {
-            let offered = offered_of(task, &known, learnt, Some(end));
-            let derivation = cut(task.alloc, known, end)?;
-            Ok(Outcome::Refused(derivation, offered))
-        }
-    }
-}
-
-/// Searches for an answer from the start of a search on, with backjumps.
-fn search_from(task: &Task<'_>, worklist: &mut Worklist) -> Result<Outcome, Refusal>
+/// Searches for an answer from the start of a search on, with backjumps and with room for so many packages.
+fn search_from(task: &Task<'_>, worklist: &mut Worklist, room: usize) -> Result<Found, Refusal>
     requires { StoreStands task.now }
-    ensures lawful { IfOk result (IsLawful task.now.registry.now.packages task.now.request.now) }
+    ensures found { IfOk result (IsFound task.now) }
     ensures only { IfErr result (MayRefuse task.now.budget) }
 {
-    let mut search = start(task, worklist)?;
+    let mut search = start(task, worklist, room)?;
     match run(task, &mut search, worklist) {
         Ok(ended) => {
             let Search { partial, known, .. } = search;
             drop(partial);
-            outcome_of(task, ended, known, &worklist.learnt)
+            Ok(found_of(task, ended, known, &worklist.learnt))
         }
         Err(refusal) => {
             drop(search);
@@ -127,32 +102,68 @@ fn search_from(task: &Task<'_>, worklist: &mut Worklist) -> Result<Outcome, Refu
     }
 }
 
-/// Searches for an answer, with backjumps. What conflicts led to is offered to be learnt.
-fn search_fully(task: &Task<'_>) -> Result<Outcome, Refusal>
+/// Searches for an answer, with backjumps and with room for so many packages. What conflicts led to is
+/// offered to be learnt.
+fn search_fully(task: &Task<'_>, room: usize) -> Result<Found, Refusal>
     requires { StoreStands task.now }
-    ensures lawful { IfOk result (IsLawful task.now.registry.now.packages task.now.request.now) }
+    ensures found { IfOk result (IsFound task.now) }
     ensures only { IfErr result (MayRefuse task.now.budget) }
 {
-    let mut worklist = Worklist::new(task.alloc)?;
-    search_from(task, &mut worklist)
+    let mut worklist = Worklist::new(task.alloc, room)?;
+    search_from(task, &mut worklist, room)
 }
 
-/// Answers a task by a search, first by the one that does not jump back, which minds an obstacle.
-fn search_for(task: &Task<'_>, obstacle: Option<Obstacle>) -> Result<Outcome, Refusal>
+/// Finds what answers a task by a search, first by the one that does not jump back, which minds an obstacle.
+fn search_for(task: &Task<'_>, obstacle: Option<Obstacle>) -> Result<Found, Refusal>
     requires { StoreStands task.now }
-    ensures lawful { IfOk result (IsLawful task.now.registry.now.packages task.now.request.now) }
+    ensures found { IfOk result (IsFound task.now) }
     ensures only { IfErr result (MayRefuse task.now.budget) }
 {
-    match search_greedily(task, obstacle)? {
-        Some(list) => {
-            let pairs = tell(task.alloc, task.registry, list)?;
-            Ok(Outcome::Selection(pairs, Vec::new(task.alloc)))
-        }
-        None => Ok(search_fully(task)?),
+    let (found, room) = search_greedily(task, obstacle)?;
+    match found {
+        Some(list) => Ok(Found::Selected(list, Vec::new(task.alloc))),
+        None => Ok(search_fully(task, room)?),
     }
 }
 
-/// Answers a task: by the preferred selection where it serves, else by a search.
+/// Finds what answers a task: the preferred selection where it serves, else by a search.
+pub(crate) fn find(task: &Task<'_>) -> Result<Found, Refusal>
+    requires { StoreStands task.now }
+    ensures found { IfOk result (IsFound task.now) }
+    ensures preferred { IfPreferredServes task.now.registry.now.packages task.now.request.now (λ s. IfOk result (Finds s)) }
+    ensures unspent { IfPreferredServes task.now.registry.now.packages task.now.request.now (λ s. IfErr result (λ e. e ≡ Refusal.NoMemory)) }
+    ensures only { IfErr result (MayRefuse task.now.budget) }
+{
+    match reach_preferred(task.alloc, task.registry, task.request)? {
+        Reached::Selection(list) => Ok(Found::Selected(list, Vec::new(task.alloc))),
+        Reached::Unmet(asker, index) => {
+            let obstacle = obstacle_in(task, asker, index)?;
+            Ok(search_for(task, obstacle)?)
+        }
+        Reached::NotAllowed(_, _) => Ok(search_for(task, None)?),
+    }
+}
+
+/// What is answered of what was found: where no selection meets the request, the derivation.
+fn outcome_of(task: &Task<'_>, found: Found) -> Result<Outcome, Refusal>
+    requires { IsFound task.now found }
+    ensures lawful { IfOk result (IsLawful task.now.registry.now.packages task.now.request.now) }
+    ensures answers { (s : Choices) → Finds s found → IfOk result (Answers task.now.registry.now.packages s) }
+    ensures only { IfErr result (λ e. e ≡ Refusal.NoMemory) }
+{
+    match found {
+        Found::Selected(list, offered) => {
+            let pairs = tell(task.alloc, task.registry, list)?;
+            Ok(Outcome::Selection(pairs, offered))
+        }
+        Found::Refused(known, end, offered) => {
+            let derivation = cut(task.alloc, known, end)?;
+            Ok(Outcome::Refused(derivation, offered))
+        }
+    }
+}
+
+/// Answers a task.
 fn answer(task: &Task<'_>) -> Result<Outcome, Refusal>
     requires { StoreStands task.now }
     ensures lawful { IfOk result (IsLawful task.now.registry.now.packages task.now.request.now) }
@@ -160,17 +171,8 @@ fn answer(task: &Task<'_>) -> Result<Outcome, Refusal>
     ensures unspent { IfPreferredServes task.now.registry.now.packages task.now.request.now (λ s. IfErr result (λ e. e ≡ Refusal.NoMemory)) }
     ensures only { IfErr result (MayRefuse task.now.budget) }
 {
-    match reach_preferred(task.alloc, task.registry, task.request)? {
-        Reached::Selection(list) => {
-            let pairs = tell(task.alloc, task.registry, list)?;
-            Ok(Outcome::Selection(pairs, Vec::new(task.alloc)))
-        }
-        Reached::Unmet(asker, index) => {
-            let obstacle = obstacle_at(&task.question(), asker, index)?;
-            Ok(search_for(task, obstacle)?)
-        }
-        Reached::NotAllowed(_, _) => Ok(search_for(task, None)?),
-    }
+    let found = find(task)?;
+    outcome_of(task, found)
 }
 
 /// Answers a request: a selection that meets it, or the derivation that none does. Where the

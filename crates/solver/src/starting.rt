@@ -10,7 +10,6 @@ use crate::search::Search;
 use crate::task::Task;
 use crate::worklist::Worklist;
 use derivations::{Cause, Known, ROOT, Reason};
-use heuristics::ROOM;
 use partial::Partial;
 use std::alloc::AllocError;
 use terms::{Incompat, Term, VSet};
@@ -26,13 +25,14 @@ fn root_line(task: &Task<'_>) -> Result<Known, AllocError>
     })
 }
 
-/// Puts the root's fact, its derivation and its decision into a search that has nothing.
-fn put_root(task: &Task<'_>, search: &mut Search) -> Result<(), AllocError>
+/// Puts the root's fact, its derivation and its decision into a search that has nothing, with room for the
+/// lines of so many packages.
+fn put_root(task: &Task<'_>, search: &mut Search, room: usize) -> Result<(), AllocError>
     requires partial { search.old.partial ≡ [] }
     requires known { search.old.known.items ≡ [] }
     ensures { OnOk result (Searches task.now search.new) }
 {
-    search.known.reserve(2 * ROOM)?;
+    search.known.reserve(room.saturating_mul(2))?;
     let line = root_line(task)?;
     search.known.push(line)?;
     let root = Term::In(VSet::single(task.alloc, 0)?);
@@ -42,17 +42,17 @@ fn put_root(task: &Task<'_>, search: &mut Search) -> Result<(), AllocError>
 }
 
 /// The root alone: its fact, its derivation and its decision.
-fn begin(task: &Task<'_>) -> Result<Search, AllocError>
+fn begin(task: &Task<'_>, room: usize) -> Result<Search, AllocError>
     ensures { IfOk result (Searches task.now) }
 {
-    let partial = Partial::with_room(task.alloc, 2 * ROOM)?;
+    let partial = Partial::with_room(task.alloc, room.saturating_mul(2))?;
     let mut search = Search {
         partial,
         known: Vec::new(task.alloc),
         conflicts: 0,
         stride: 1,
     };
-    match put_root(task, &mut search) {
+    match put_root(task, &mut search, room) {
         Ok(()) => Ok(search),
         Err(error) => {
             drop(search);
@@ -76,12 +76,16 @@ fn add_needs(
     Ok(())
 }
 
-/// A search that has met nothing but the request.
-pub(crate) fn start(task: &Task<'_>, worklist: &mut Worklist) -> Result<Search, AllocError>
+/// A search that has met nothing but the request, with room for so many packages.
+pub(crate) fn start(
+    task: &Task<'_>,
+    worklist: &mut Worklist,
+    room: usize,
+) -> Result<Search, AllocError>
     ensures { IfOk result (Searches task.now) }
 {
     worklist.changed.push(ROOT)?;
-    let mut search = begin(task)?;
+    let mut search = begin(task, room)?;
     match add_needs(task, &mut search.known, worklist) {
         Ok(()) => Ok(search),
         Err(error) => {

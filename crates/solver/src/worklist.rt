@@ -8,8 +8,8 @@ ghost use Rattle.std.specs.Prelude.{◌≡◌};
 use crate::acting::Acted;
 use crate::asked::Asked;
 use crate::task::Task;
-use derivations::Known;
-use heuristics::{Agenda, ROOM, Sharing};
+use derivations::{Known, Reason};
+use heuristics::{Agenda, Sharing};
 use partial::Partial;
 use std::alloc::{AllocError, Global};
 use terms::{Incompat, Pkg};
@@ -30,11 +30,12 @@ pub(crate) struct Worklist {
 }
 
 impl Worklist {
-    pub fn new(alloc: Global) -> Result<Worklist, AllocError> {
+    /// With room for so many packages.
+    pub fn new(alloc: Global, room: usize) -> Result<Worklist, AllocError> {
         Ok(Worklist {
-            changed: Vec::with_capacity(alloc, ROOM)?,
+            changed: Vec::with_capacity(alloc, room)?,
             learnt: Vec::new(alloc),
-            agenda: Agenda::new(alloc)?,
+            agenda: Agenda::new(alloc, room)?,
             sharing: Sharing::new(alloc),
             asked: Asked::new(alloc),
         })
@@ -102,10 +103,29 @@ impl Worklist {
                 self.changed.clear();
                 self.changed.push(pkg)?;
                 if let Some(line) = known.get(at) {
-                    self.jump_back(task, partial, &line.conclusion, before, at)?;
+                    self.jump_back(task, partial, known, &line.conclusion, before, at)?;
                 }
             }
             Acted::Refused(_) | Acted::Neither => {}
+        }
+        Ok(())
+    }
+
+    /// Notes on which packages the lines were resolved that are behind so many.
+    fn note_pivots(
+        &mut self,
+        task: &Task<'_>,
+        partial: &Partial,
+        known: &[Known],
+        before: usize,
+    ) -> Result<(), AllocError> {
+        for line in known.iter().skip(before) {
+            match line.reason {
+                Reason::Fact(_) => {}
+                Reason::Resolved(_, _, pivot) => {
+                    self.agenda.resolve_on(&task.question(), partial, pivot)?;
+                }
+            }
         }
         Ok(())
     }
@@ -116,10 +136,12 @@ impl Worklist {
         &mut self,
         task: &Task<'_>,
         partial: &Partial,
+        known: &[Known],
         conclusion: &Incompat,
         before: usize,
         at: usize,
     ) -> Result<(), AllocError> {
+        self.note_pivots(task, partial, known, before)?;
         self.agenda
             .backjump(&task.question(), partial, conclusion, at)?;
         if at >= before && self.asked.is_behind(at) {

@@ -1,5 +1,5 @@
-use Rattle.std.proofs.Common.{inr}
-use Rattle.answers.proofs.OutcomeLemmas.{found_selection}
+use Rattle.std.proofs.Common.{inr, refl}
+use Rattle.answers.proofs.OutcomeLemmas.{found_selection, told_explained}
 use Rattle.answers.proofs.told.told_of.Goals as goal
 
 pub returns-in-Selection : goal.returns-in-Selection
@@ -8,8 +8,15 @@ returns-in-Selection c =
     found_selection c.args.registry.now.packages c.args.request.now c.args.explain c.in-Selection.list.items lawful.0
     (λ s is meets. rw c.in-Selection.is at (c.requires.preferred s is meets))
 
-pub told_refused-requires : goal.told_refused-requires
-told_refused-requires c = let lawful = rw c.in-Refused.is at c.requires.lawful in lawful.0
+pub returns-in-NoSelection : goal.returns-in-NoSelection
+returns-in-NoSelection c = let lawful = rw c.in-NoSelection.is at c.requires.lawful in rw lawful.0 (inr (lawful.1, refl))
 
-pub returns-in_ok-told-in-Refused : goal.returns-in_ok-told-in-Refused
-returns-in_ok-told-in-Refused c = inr c.in_ok-told-in-Refused.ensures
+pub explained-requires : goal.explained-requires
+explained-requires c = let lawful = rw c.in-Refused.is at c.requires.lawful in lawful.1
+
+pub returns-in_ok-reason-in-Refused : goal.returns-in_ok-reason-in-Refused
+returns-in_ok-reason-in-Refused c =
+    let lawful = rw c.in-Refused.is at c.requires.lawful in
+    let reason = c.in_ok-reason-in-Refused.reason in
+    let ensures = c.in_ok-reason-in-Refused.ensures in
+    rw lawful.0 (inr (told_explained c.derivations_refute.ensures c.args.registry.now.packages c.args.request.now c.in-Refused.derivation reason.lines reason.texts lawful.1 ensures.named ensures.told))

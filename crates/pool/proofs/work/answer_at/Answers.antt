@@ -1,4 +1,4 @@
-use Rattle.std.proofs.Common.{◌≡◌, ◌∙◌, ℕ, get_or, refl, subst, sym}
+use Rattle.std.proofs.Common.{◌≡◌, ◌∙◌, ℕ, Bool, get_or, refl, subst, sym}
 use Rattle.std.specs.Prelude.{Option}
 use Rattle.std.proofs.lemmas.Option.{same_Some, slice_get_read}
 use Rattle.registry.specs.Requests.{Wanted}
@@ -11,4 +11,4 @@ returns g c = λ one at.
     let read = c.index-work-index.result in
     let here = slice_get_read asked _ c.args.index read refl c.requires.inside c.index-work-index.is in
     let same : get_or asked c.args.index read ≡ one = sym c.index-work-index.is ∙ same_Some read one (sym here ∙ at) in
-    subst (λ (a : Wanted × Option ℕ). IsAnswerTo c.args.work.now.registry.now.packages a c.answer-answer.result) same c.answer-answer.ensures
+    subst (λ (a : Wanted × Option ℕ × Bool). IsAnswerTo c.args.work.now.registry.now.packages a c.answer-answer.result) same c.answer-answer.ensures

@@ -12,7 +12,7 @@ pub returns-in-Ok-clause-replied : goal.returns-in-Ok-clause-replied
 returns-in-Ok-clause-replied g c =
     let asked = c.args.asked.now in
     let tells = rw c.registry.ensures at c.in-Ok.ensures.told in
-    (_, c.lawful_replies_add_up.ensures.found asked.0 c.args.explain asked.1 _ _ (told_body c.in-Ok.told) refl tells _ c.learn_all.ensures, rw c.standing.ensures at c.put_or_send-put.ensures)
+    (_, c.lawful_replies_add_up.ensures.found asked.0 asked.2 asked.1 _ _ (told_body c.in-Ok.told) refl tells _ c.learn_all.ensures, rw c.standing.ensures at c.put_or_send-put.ensures)
 
 pub returns-in-Ok-clause-packages : goal.returns-in-Ok-clause-packages
 returns-in-Ok-clause-packages g c = learning_keeps c.journals_grow.ensures.replay _ _ c.learn_all.ensures
@@ -21,4 +21,4 @@ pub returns-in-Err-clause-replied : goal.returns-in-Err-clause-replied
 returns-in-Err-clause-replied g c =
     let asked = c.args.asked.now in
     let stops = rw c.registry.ensures at c.in-Err.ensures.only in
-    (_, c.lawful_replies_add_up.ensures.stopped asked.0 c.args.explain asked.1 _ _ c.in-Err.e refl stops, rw c.standing-in-Err.ensures at c.put_told-told_put.ensures)
+    (_, c.lawful_replies_add_up.ensures.stopped asked.0 asked.2 asked.1 _ _ c.in-Err.e refl stops, rw c.standing-in-Err.ensures at c.put_told-told_put.ensures)

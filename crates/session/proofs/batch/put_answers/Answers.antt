@@ -9,7 +9,7 @@ use Rattle.session.proofs.BatchLemmas.{HasCut, HasPut, next_answers, put_fails, 
 use Rattle.session.proofs.batch.put_answers.Goals as goal
 
 pub loop-at-init : goal.loop-at-init
-loop-at-init g c = record { to_do = c.requires.answers; packages = refl; put = put_none _ _ _ }
+loop-at-init g c = record { to_do = c.requires; packages = refl; put = put_none _ _ _ }
 
 pub put_answer-requires : goal.put_answer-requires
 put_answer-requires g c =
@@ -28,7 +28,7 @@ loop-at-preserved g c =
       to_do = next.1;
       packages = c.put_answer.ensures.packages ∙ at.invariant.packages;
       put = subst (λ (requests : List Request). HasPut (g.W.Write.contents c.args.writer.now) (g.W.Write.contents c.put_answer.new.writer) c.args.outbox.now c.put_answer.new.outbox requests c.args.served.now c.put_answer.new.served)
-          (sym (requests_of-more c.args.asked.now c.args.explains.now c.requires.even at.at one.result c.loop-at-test.true one.is))
+          (sym (requests_of-more c.args.asked.now at.at one.result c.loop-at-test.true one.is))
           (put_more c.puts_add_up.ensures _ _ _ _ _ _ _ _ _ _ replied.0 at.invariant.put replied.1 _ replied.2);
     }
 
@@ -37,9 +37,9 @@ returns-in_err-put_answer g c =
     let at = c.loop-at in
     let one = c.index-asked-at in
     let replied = c.in_err-put_answer.ensures.replied in
-    let others = requests_of (drop (at.at + 1) c.args.asked.now) (drop (at.at + 1) c.args.explains.now) in
-    let all = requests_of-split c.args.asked.now c.args.explains.now c.requires.even (at.at + 1)
-    ∙ ap (λ (requests : List Request). requests ++ others) (requests_of-more c.args.asked.now c.args.explains.now c.requires.even at.at one.result c.loop-at-test.true one.is) in
+    let others = requests_of (drop (at.at + 1) c.args.asked.now) in
+    let all = requests_of-split c.args.asked.now (at.at + 1)
+    ∙ ap (λ (requests : List Request). requests ++ others) (requests_of-more c.args.asked.now at.at one.result c.loop-at-test.true one.is) in
     let err = err_from_is_err_and c.from_residual.result c.from_residual.ensures.1 in
     rw err.1 (subst (λ (requests : List Request). HasCut (g.W.Write.contents c.args.writer.now) (g.W.Write.contents c.put_answer.new.writer) c.args.outbox.now requests c.args.served.now c.put_answer.new.served) (sym all)
     (put_fails c.puts_add_up.ensures _ _ _ _ _ _ _ _ _ _ replied.0 at.invariant.put replied.1 others replied.2))
@@ -48,4 +48,4 @@ pub returns : goal.returns
 returns g c =
     let at = c.loop-at in
     subst (λ (requests : List Request). HasPut (g.W.Write.contents c.args.writer.now) (g.W.Write.contents at.writer) c.args.outbox.now at.outbox requests c.args.served.now at.served)
-    (requests_of-all c.args.asked.now c.args.explains.now c.requires.even at.at c.loop-at-test.false) at.invariant.put
+    (requests_of-all c.args.asked.now at.at c.loop-at-test.false) at.invariant.put

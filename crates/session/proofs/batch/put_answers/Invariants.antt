@@ -9,5 +9,5 @@ abbrev pub invariant-loop-at : goal.invariant-loop-at
 invariant-loop-at g l = record {
   to_do : MayBeAnswers (packages_of l.initial.served) (drop l.at l.asked) (into_iter_items l.answers);
   packages : packages_of l.served ≡ packages_of l.initial.served;
-  put : HasPut (g.W.Write.contents l.initial.writer) (g.W.Write.contents l.writer) l.initial.outbox l.outbox (requests_of (take l.at l.asked) (take l.at l.explains)) l.initial.served l.served;
+  put : HasPut (g.W.Write.contents l.initial.writer) (g.W.Write.contents l.writer) l.initial.outbox l.outbox (requests_of (take l.at l.asked)) l.initial.served l.served;
 }

@@ -1,46 +1,34 @@
-use Rattle.std.proofs.Common.{List, subst, sym}
-use Rattle.derivations.specs.Known.{AreLawful}
-use Rattle.derivations.specs.declared.cutting.Known.{Known}
+use Rattle.std.proofs.Common.{subst}
+use Rattle.registry.specs.Selections.{Choices}
+use Rattle.solver.specs.Outcomes.{Tells}
 use Rattle.solver.proofs.solving.outcome_of.Goals as goal
 
-pub offered_of-offered-requires-clause-lawful : goal.offered_of-offered-requires-clause-lawful
-offered_of-offered-requires-clause-lawful c =
-    let packages = c.args.task.now.registry.now.packages in
-    let wanted = c.args.task.now.request.now in
-    let ends = rw c.in-Selected.is at c.requires in
-    subst (λ (lines : List Known). AreLawful packages wanted lines) (sym c.deref.ensures.value) ends.0.lawful
+pub tell-requires-clause-once : goal.tell-requires-clause-once
+tell-requires-clause-once c = (rw c.in-Selected.is at c.requires).0.once
 
-pub offered_of-offered-requires-in-Refused-clause-lawful : goal.offered_of-offered-requires-in-Refused-clause-lawful
-offered_of-offered-requires-in-Refused-clause-lawful c =
-    let packages = c.args.task.now.registry.now.packages in
-    let wanted = c.args.task.now.request.now in
-    let ends = rw c.in-Refused.is at c.requires in
-    subst (λ (lines : List Known). AreLawful packages wanted lines) (sym c.deref-in-Refused.ensures.value) ends.lawful
+pub tell-requires-clause-selection : goal.tell-requires-clause-selection
+tell-requires-clause-selection c = (rw c.in-Selected.is at c.requires).0.meets.selection
 
 pub returns-in_ok-pairs-in-Selected-clause-lawful : goal.returns-in_ok-pairs-in-Selected-clause-lawful
 returns-in_ok-pairs-in-Selected-clause-lawful c =
-    let ends = rw c.in-Selected.is at c.requires in (
-      record { selection = _; meets = ends.1.meets; tells = c.in_ok-pairs-in-Selected.ensures },
-      c.offered_of-offered.ensures,
-    )
+    let found = rw c.in-Selected.is at c.requires in
+    (record { selection = _; meets = found.0.meets; tells = c.in_ok-pairs-in-Selected.ensures }, found.1)
+
+pub returns-in_ok-pairs-in-Selected-clause-answers : goal.returns-in_ok-pairs-in-Selected-clause-answers
+returns-in_ok-pairs-in-Selected-clause-answers c s finds =
+    let same = rw c.in-Selected.is at finds in
+    subst (λ (chosen : Choices). Tells c.args.task.now.registry.now.packages chosen c.in_ok-pairs-in-Selected.pairs.items) same c.in_ok-pairs-in-Selected.ensures
+
+pub cut-requires-clause-ordered : goal.cut-requires-clause-ordered
+cut-requires-clause-ordered c = (rw c.in-Refused.is at c.requires).0.ordered
+
+pub cut-requires-clause-end : goal.cut-requires-clause-end
+cut-requires-clause-end c = (rw c.in-Refused.is at c.requires).0.ends
 
 pub returns-in_ok-derivation-in-Refused-clause-lawful : goal.returns-in_ok-derivation-in-Refused-clause-lawful
 returns-in_ok-derivation-in-Refused-clause-lawful c =
-    let packages = c.args.task.now.registry.now.packages in
-    let wanted = c.args.task.now.request.now in
-    let ends = rw c.in-Refused.is at c.requires in (
-      c.in_ok-derivation-in-Refused.ensures.derived packages wanted ends.lawful,
-      c.offered_of-offered-in-Refused.ensures,
-    )
+    let found = rw c.in-Refused.is at c.requires in
+    (c.in_ok-derivation-in-Refused.ensures.derived c.args.task.now.registry.now.packages c.args.task.now.request.now found.0.lawful, found.1)
 
-pub tell-requires-clause-once : goal.tell-requires-clause-once
-tell-requires-clause-once c = (rw c.in-Selected.is at c.requires).1.once
-
-pub tell-requires-clause-selection : goal.tell-requires-clause-selection
-tell-requires-clause-selection c = (rw c.in-Selected.is at c.requires).1.meets.selection
-
-pub cut-requires-clause-ordered : goal.cut-requires-clause-ordered
-cut-requires-clause-ordered c = (rw c.in-Refused.is at c.requires).ordered
-
-pub cut-requires-clause-end : goal.cut-requires-clause-end
-cut-requires-clause-end c = (rw c.in-Refused.is at c.requires).ends
+pub returns-in_ok-derivation-in-Refused-clause-answers : goal.returns-in_ok-derivation-in-Refused-clause-answers
+returns-in_ok-derivation-in-Refused-clause-answers c s finds = absurd (rw c.in-Refused.is at finds)

@@ -1,7 +1,5 @@
+use Rattle.std.proofs.Common.{ap, arith, length}
 use Rattle.solver.proofs.solving.search_for.Goals as goal
 
-pub tell-requires-clause-once : goal.tell-requires-clause-once
-tell-requires-clause-once c = (rw c.in-Some.is at c.in_ok-list.ensures).once
-
-pub tell-requires-clause-selection : goal.tell-requires-clause-selection
-tell-requires-clause-selection c = (rw c.in-Some.is at c.in_ok-list.ensures).meets.selection
+pub returns-in-Some-clause-found : goal.returns-in-Some-clause-found
+returns-in-Some-clause-found c = (rw c.in-Some.is at c.in_ok-found.ensures, λ k d lt. absurd (omega (arith, ap length c.new.ensures.items, lt)))

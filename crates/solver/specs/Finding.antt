@@ -1,0 +1,20 @@
+-- What a search finds, before it is told.
+use Rattle.std.specs.Prelude.{◌≡◌, All}
+use Rattle.registry.specs.Selections.{Choices}
+use Rattle.derivations.specs.Learning.{AllStand}
+use Rattle.walk.specs.Choosing.{choice_of}
+use Rattle.solver.specs.declared.task.Task.{Task}
+use Rattle.solver.specs.declared.found.Found.{Found}
+use Rattle.solver.specs.declared.found.Found.TheVariants as found
+use Rattle.solver.specs.Answering.{IsAnswer}
+use Rattle.solver.specs.Searching.{Refuses}
+
+-- a selection that meets the task's request, or lines that show that none does; what is offered to be learnt stands
+abbrev pub IsFound : Task → Found → Type 0
+IsFound task (found.Selected list offered) = IsAnswer task list.items × All (AllStand task.registry.now.packages) offered.items
+IsFound task (found.Refused known end offered) = Refuses task known.items end × All (AllStand task.registry.now.packages) offered.items
+
+-- it is this selection
+abbrev pub Finds : Choices → Found → Type 0
+Finds s (found.Selected list offered) = choice_of list.items ≡ s
+Finds s (found.Refused known end offered) = ⊥
