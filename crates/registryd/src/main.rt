@@ -49,7 +49,7 @@ fn main(rt: HostRuntime) -> ExitCode {
 
 // Settles what is done with freed memory, and gives the words of the command line.
 fn begin<R: Env + AllocGlobal>(rt: &R) -> io::Result<Vec<String>> {
-    keep_what_is_freed(rt.alloc())?;
+    keep_what_is_freed(rt.alloc());
     words_given(rt)
 }
 
