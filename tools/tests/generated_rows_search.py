@@ -114,9 +114,9 @@ def _tops(count, length):
 
 
 @rows_of("high")
-def offers_have_8192_lines_together():
-    # 31 times 256 lines, and 256 for the last one
-    for count, offered in [(32, 32), (33, 32), (36, 32)]:
+def offers_have_1024_lines_together():
+    # three times 256 lines, and 256 for the last one
+    for count, offered in [(4, 4), (5, 4), (8, 4)]:
         rows = _published(*_tops(count, 255))
         needs = [[f"t{number}", "*"] for number in range(count)]
         rows.append({"of": "solver", "call": "solve", "needs": needs, "lock": [], "by": _counts, "gives": [256] * offered})

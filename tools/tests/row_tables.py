@@ -1,9 +1,8 @@
 """Tables of rows: each row names one public call of a crate, what it is given and what it is to give. rows/README.md
 says how they are written.
 
-The calls are made by two programs, `probe_low` and `probe_high`, as the gate built them. While a crate is not proved
-yet, the environment variable PROBES may name a folder with programs of these names to be run instead: unproved builds,
-or scripts that run `rt try` in the crate's folder.
+The calls are made by the program `probe`, as the gate built it. While it is not proved yet, the environment variable
+PROBE may name another program to be run instead: an unproved build, or a script that runs `rt try` in the crate's folder.
 """
 import glob
 import json
@@ -14,8 +13,8 @@ import tempfile
 from program import TOP
 
 ROWS = os.path.join(TOP, "rows")
-# The program that makes the calls of each folder of rows.
-PROGRAMS = {"low": "probe_low", "texts": "probe_high", "search": "probe_low", "high": "probe_high"}
+# The word by which the program makes the calls of each folder of rows.
+WORDS = {"low": "low", "texts": "texts", "search": "low", "high": "high"}
 # At each table the program begins anew, so that no table rests on another one.
 BEGIN = '{"of":"session","call":"new"}'
 # How much of a long row or answer is shown, and how many rows of a table.
@@ -146,11 +145,9 @@ def files(folder):
     return [(path, os.path.relpath(path, TOP)) for path in found]
 
 
-def program(folder):
-    """The program that makes the calls of a folder of rows."""
-    name = PROGRAMS[folder]
-    unproved = os.environ.get("PROBES")
-    return os.path.join(unproved, name) if unproved else os.path.join(TOP, "crates", name, "out", name)
+def probe(folder):
+    """The program that makes the calls of a folder of rows, with its word."""
+    return [os.environ.get("PROBE") or os.path.join(TOP, "crates", "probe", "out", "probe"), WORDS[folder]]
 
 
 def answers(command, lines, **more):
@@ -158,10 +155,10 @@ def answers(command, lines, **more):
     with tempfile.TemporaryFile() as asked:
         asked.write("".join(line + "\n" for line in lines).encode())
         asked.seek(0)
-        done = subprocess.run([command], stdin=asked, stdout=subprocess.PIPE, stderr=subprocess.PIPE, timeout=LIMIT, **more)
+        done = subprocess.run(command, stdin=asked, stdout=subprocess.PIPE, stderr=subprocess.PIPE, timeout=LIMIT, **more)
     told = done.stdout.decode().splitlines()
     if done.returncode or len(told) != len(lines):
-        raise BadRows(f"{command}: {len(told)} answers to {len(lines)} rows, and then status {done.returncode}\n"
+        raise BadRows(f"{' '.join(command)}: {len(told)} answers to {len(lines)} rows, and then status {done.returncode}\n"
                       f"{done.stderr.decode(errors='replace')}")
     return [json.loads(line) for line in told]
 

@@ -42,8 +42,9 @@ def asked_one_by_one(workers, lines):
     return replies
 
 
-# Packages none of which can be chosen in its higher version, as conflicts show, by 256 lines each: so much is learnt of a request.
-TOPS, ROW = 33, 255
+# Packages none of which can be chosen in its higher version, as conflicts show, by 256 lines each: so much is learnt of a request,
+# as much as may be learnt of one.
+TOPS, ROW = 4, 255
 CLASHING = [publish("x", "1.0.0"), publish("x", "2.0.0"), *(publish(f"p{i}", "1.0.0", [f"p{i + 1} *"]) for i in range(1, ROW)), publish(f"p{ROW}", "1.0.0", ["x ^2"]),
             *(publish(f"t{i}", *version) for i in range(TOPS) for version in (["0.9.0"], ["1.0.0", ["x ^1", "p1 *"]]))]
 # The least that a pipe holds.

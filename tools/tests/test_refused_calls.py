@@ -14,22 +14,22 @@ import generated_rows_store
 from preloaded import REFUSE_MEMORY, built, each_refused
 from program import TOP
 from public_calls import that_take_memory
-from row_tables import BEGIN, generated, program, tables_in
+from row_tables import BEGIN, generated, probe, tables_in
 
 ROWS = os.path.join(TOP, "rows", "refused")
 SHORT = {"refused": 18}
 
 
 class Session:
-    """Runs a probe on rows with a request for memory refused, or none."""
+    """Runs the probe on rows with a request for memory refused, or none."""
 
-    def __init__(self, program, library):
-        self.program, self.library = program, library
+    def __init__(self, command, library):
+        self.command, self.library = command, library
 
     def each(self, rows, numbers):
         """What each run of these numbers left."""
         given = "".join(json.dumps(row) + "\n" for row in rows).encode()
-        return map(Answers, each_refused(self.library, [self.program], given, numbers))
+        return map(Answers, each_refused(self.library, self.command, given, numbers))
 
     def run(self, rows):
         """What a run left that is refused nothing."""
@@ -91,7 +91,7 @@ class RefusedCalls(unittest.TestCase):
     def refuse_last(self, made, count, step):
         """Refuses one in so many of the last requests of a long row: what is met there is answered as ever, after one more try."""
         (title, (row,)), = made
-        session, asked = Session(program("high"), self.library), {name: value for name, value in row.items() if name != "gives"}
+        session, asked = Session(probe("high"), self.library), {name: value for name, value in row.items() if name != "gives"}
         rows = [json.loads(BEGIN), asked]
         ample = session.run(rows)
         self.assertEqual(ample.answers, [None, row["gives"]], title)
@@ -134,7 +134,7 @@ class RefusedCalls(unittest.TestCase):
         self.refuse_last(generated_rows_store.a_seat_stores_at_most_4096(), 300, 300)
 
     def test_requirements_beyond_those_whose_sets_are_kept(self):
-        session = Session(program("low"), self.library)
+        session = Session(probe("low"), self.library)
         for table in generated(generated_rows.refused_beyond_the_kept_sets()):
             with self.subTest(table.title):
                 self.assertGreater(self.refuse_each(session, table), 0, f"{table.title}: no request was refused")
@@ -142,7 +142,7 @@ class RefusedCalls(unittest.TestCase):
     def test_each_request_of_each_call(self):
         count = refused = 0
         for file in sorted(os.listdir(ROWS)):
-            session = Session(program(file.removesuffix(".rows")), self.library)
+            session = Session(probe(file.removesuffix(".rows")), self.library)
             for table in tables_of(file):
                 with self.subTest(table.title):
                     short = self.refuse_each(session, table)

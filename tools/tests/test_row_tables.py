@@ -23,13 +23,13 @@ class Rows(unittest.TestCase):
     """One test for each file of rows, and for each function that makes rows."""
 
     def ask(self, folder, tables):
-        for title, told in row_tables.faults(tables, row_tables.program(folder)).items():
+        for title, told in row_tables.faults(tables, row_tables.probe(folder)).items():
             with self.subTest(title):
                 self.fail(told)
         print(f"({len(tables)} tables, {sum(len(table.rows) for table in tables)} rows) ", end="")
 
     def test_every_file_is_asked(self):
-        for folder in row_tables.PROGRAMS:
+        for folder in row_tables.WORDS:
             below = os.path.join(row_tables.ROWS, folder)
             asked = [os.path.basename(path) for path, _ in row_tables.files(folder)]
             self.assertEqual(asked, sorted(os.listdir(below)))
@@ -54,7 +54,7 @@ def add_test(name, test):
     setattr(Rows, name, test)
 
 
-for a_folder in row_tables.PROGRAMS:
+for a_folder in row_tables.WORDS:
     for a_path, a_name in row_tables.files(a_folder):
         a_test = of_file(a_folder, a_path, a_name)
         add_test(f"test_{a_folder}_{os.path.basename(a_path).removesuffix('.rows')}", a_test)
@@ -115,14 +115,14 @@ class Reading(unittest.TestCase):
         self.assertIn('"by":1', row_tables.Row("it", {"of": "set", "call": "it", "by": 1}).asked)
 
     def answering(self, script):
-        """A program that runs these shell commands."""
+        """A command that runs these shell commands."""
         folder = tempfile.TemporaryDirectory()
         self.addCleanup(folder.cleanup)
         path = os.path.join(folder.name, "program")
         with open(path, "w", encoding="utf-8") as out:
             out.write(f"#!/bin/sh\n{script}\n")
         os.chmod(path, stat.S_IRWXU)
-        return path
+        return [path]
 
     def test_too_few_or_too_many_answers(self):
         tables = tables_in(GOOD, "it.rows")

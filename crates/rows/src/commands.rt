@@ -13,7 +13,10 @@ pub fn command_call(
     name: &str,
     row: &Value,
 ) -> Result<Answer, Unread> {
-    enter(registry, &command_of(alloc, name, row)?)
+    let command = command_of(alloc, name, row)?;
+    let answer = enter(registry, &command);
+    drop(command);
+    answer
 }
 
 /// The command of a row that names it by its member `do`.

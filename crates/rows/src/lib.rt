@@ -27,5 +27,5 @@ pub use reading::{
 };
 pub use refusals::refusal;
 pub use serving::{row_of, tell};
-pub use showing::{Shows, given, shown};
+pub use showing::{Shows, done, given, given_if, shown};
 pub use stored::{all_stand, count};

@@ -7,6 +7,7 @@ use derivations::{Cause, Derivation, Known, Learnt, Line, Premise, Reason, check
 use registry::{Registry, Request};
 use serde_json::Value;
 use std::alloc::Global;
+use terms::Incompat;
 
 /// What is learnt of the lines of a row.
 pub fn learnt_at(alloc: Global, row: &Value) -> Result<Learnt, Unread> {
@@ -15,7 +16,10 @@ pub fn learnt_at(alloc: Global, row: &Value) -> Result<Learnt, Unread> {
 
 /// Whether the lines of a row are a derivation for its request.
 pub fn derivation_check(alloc: Global, registry: &Registry, row: &Value) -> Result<Answer, Unread> {
-    lines_check(alloc, registry, &request_at(alloc, row)?, row)
+    let request = request_at(alloc, row)?;
+    let answer = lines_check(alloc, registry, &request, row);
+    drop(request);
+    answer
 }
 
 fn lines_check(
@@ -25,7 +29,9 @@ fn lines_check(
     row: &Value,
 ) -> Result<Answer, Unread> {
     let derivation = Derivation::new(at(alloc, row, "lines")?);
-    Ok(Answer::Bool(check(alloc, registry, request, &derivation)?))
+    let is_derived = check(alloc, registry, request, &derivation);
+    drop(derivation);
+    Ok(Answer::Bool(is_derived?))
 }
 
 /// A line of a derivation, as `{"conclusion":[..],"causes":[..,..],"pivot":1}`.
@@ -87,11 +93,14 @@ impl Given for Premise {
 /// from 0.
 impl Given for Known {
     fn of(alloc: Global, value: &Value) -> Result<Known, Unread> {
-        let conclusion = at(alloc, value, "conclusion")?;
-        Ok(Known {
-            conclusion,
-            reason: Reason::of(alloc, value)?,
-        })
+        let conclusion = at::<Incompat>(alloc, value, "conclusion")?;
+        match Reason::of(alloc, value) {
+            Ok(reason) => Ok(Known { conclusion, reason }),
+            Err(why) => {
+                drop(conclusion);
+                Err(why)
+            }
+        }
     }
 }
 

@@ -101,11 +101,25 @@ pub fn three<A: Given + Drop, B: Given + Drop, C: Given>(
 impl<T: Given + Drop> Given for Vec<T> {
     fn of(alloc: Global, value: &Value) -> Result<Vec<T>, Unread> {
         let mut all = Vec::new(alloc);
-        for item in items(value)? {
-            all.push(T::of(alloc, item)?)?;
+        match put_items(alloc, value, &mut all) {
+            Ok(()) => Ok(all),
+            Err(why) => {
+                drop(all);
+                Err(why)
+            }
         }
-        Ok(all)
     }
+}
+
+fn put_items<T: Given + Drop>(
+    alloc: Global,
+    value: &Value,
+    all: &mut Vec<T>,
+) -> Result<(), Unread> {
+    for item in items(value)? {
+        all.push(T::of(alloc, item)?)?;
+    }
+    Ok(())
 }
 
 /// A pair, as `["a","^1"]`.
@@ -132,7 +146,10 @@ impl Given for String {
 
 impl Given for VSet {
     fn of(alloc: Global, value: &Value) -> Result<VSet, Unread> {
-        Ok(VSet::of(alloc, &<Vec<u32>>::of(alloc, value)?)?)
+        let ordinals = <Vec<u32>>::of(alloc, value)?;
+        let set = VSet::of(alloc, &ordinals);
+        drop(ordinals);
+        Ok(set?)
     }
 }
 

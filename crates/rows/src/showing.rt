@@ -24,6 +24,23 @@ pub fn given<T: Shows + Drop>(alloc: Global, value: T) -> Result<Answer, Unread>
     shown(alloc, &value)
 }
 
+/// As `given`, of a value that may be refused. A call with a way out costs a proof more than a call.
+pub fn given_if<T: Shows + Drop, E>(alloc: Global, outcome: Result<T, E>) -> Result<Answer, Unread>
+where
+    Unread: From<E>,
+{
+    given(alloc, outcome?)
+}
+
+/// The answer of what gives nothing, and may be refused.
+pub fn done<E>(outcome: Result<(), E>) -> Result<Answer, Unread>
+where
+    Unread: From<E>,
+{
+    outcome?;
+    Ok(Answer::None)
+}
+
 // ---- many and few
 
 impl<T: Shows> Shows for &[T] {

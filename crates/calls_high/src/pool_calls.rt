@@ -1,0 +1,146 @@
+//! Calls that answer many requests.
+
+use crate::order::InOrder;
+use crate::outcomes::{budget_at, explains, put_verdict};
+use derivations::Store;
+use pool::{Asked, answer_all, answer_all_with, answer_lent};
+use registry::Registry;
+use rows::{Answer, AnswerText, Shows, Unread, items, member, request_at, size_at, whole_at};
+use serde_json::Value;
+use solver::Verdict;
+use std::alloc::{AllocError, Global};
+use std::sync::Wait;
+use std::thread::Threads;
+
+/// `"workers":2,"requests":[{"needs":[["a","^1"]],"lock":[],"budget":3}]`: the answers, in order.
+pub fn pool_call<R: Threads + Wait + Sync>(
+    rt: &R,
+    alloc: Global,
+    registry: &Registry,
+    name: &str,
+    row: &Value,
+) -> Result<Answer, Unread> {
+    match name {
+        "answer_all" => all_answered(rt, alloc, registry, row),
+        "answer_lent" => lent_answered(rt, alloc, registry, row),
+        "answer_all_with" => in_order(rt, alloc, registry, row),
+        _ => Err(Unread::Row),
+    }
+}
+
+fn all_answered<R: Threads + Wait + Sync>(
+    rt: &R,
+    alloc: Global,
+    registry: &Registry,
+    row: &Value,
+) -> Result<Answer, Unread> {
+    let workers = size_at(row, "workers")?;
+    let requests = requests_at(alloc, row)?;
+    let store = Store::new(alloc);
+    let answers = answer_all(rt, alloc, registry, &store, requests, workers);
+    drop(store);
+    if_answered(alloc, true, answers)
+}
+
+fn lent_answered<R: Threads + Wait + Sync>(
+    rt: &R,
+    alloc: Global,
+    registry: &Registry,
+    row: &Value,
+) -> Result<Answer, Unread> {
+    let workers = size_at(row, "workers")?;
+    let requests = requests_at(alloc, row)?;
+    let store = Store::new(alloc);
+    let answers = answer_lent(rt, alloc, registry, &store, &requests, workers);
+    drop(store);
+    drop(requests);
+    if_answered(alloc, true, answers)
+}
+
+/// With `"first":1,"later":0,"turns":1000` the request at 0 is begun once the one at 1 was answered, or
+/// after so many turns in vain.
+fn in_order<R: Threads + Wait + Sync>(
+    rt: &R,
+    alloc: Global,
+    registry: &Registry,
+    row: &Value,
+) -> Result<Answer, Unread> {
+    let workers = size_at(row, "workers")?;
+    let order = order_at(row)?;
+    let requests = requests_at(alloc, row)?;
+    let store = Store::new(alloc);
+    let answers = answer_all_with(rt, alloc, registry, &store, requests, workers, &order);
+    drop(store);
+    if_answered(alloc, order.is_kept(), answers)
+}
+
+/// The answers, if there is memory for them and nobody waited in vain.
+fn if_answered(
+    alloc: Global,
+    is_kept: bool,
+    answers: Result<Vec<pool::Answer>, AllocError>,
+) -> Result<Answer, Unread> {
+    let answers = answers?;
+    let answer = if is_kept {
+        answers_told(alloc, &answers)
+    } else {
+        Ok(Answer::Word("waited in vain"))
+    };
+    drop(answers);
+    answer
+}
+
+/// The answers in order, each `{"selected":[["a","1.0.0"]]}`, `{"selected":null}`, `{"derivation":[..]}` or
+/// `{"refused":22}`.
+fn answers_told(alloc: Global, answers: &[pool::Answer]) -> Result<Answer, Unread> {
+    let mut is_first = true;
+    let mut text = AnswerText::new(alloc);
+    text.put("[");
+    for answer in answers {
+        text.put_between(is_first);
+        put_answer(&mut text, answer);
+        is_first = false;
+    }
+    text.put("]");
+    text.answer()
+}
+
+fn put_answer(text: &mut AnswerText, answer: &pool::Answer) {
+    match answer {
+        Ok(verdict) => put_lawful(text, verdict),
+        Err(refusal) => Answer::Refused(*refusal).show(text),
+    }
+}
+
+fn put_lawful(text: &mut AnswerText, verdict: &Verdict) {
+    put_verdict(text, verdict);
+    text.put("}");
+}
+
+fn order_at(row: &Value) -> Result<InOrder, Unread> {
+    let (first, later) = (size_at(row, "first")?, size_at(row, "later")?);
+    Ok(InOrder::new(first, later, whole_at(row, "turns")?))
+}
+
+fn requests_at(alloc: Global, row: &Value) -> Result<Vec<Asked>, Unread> {
+    let mut requests = Vec::new(alloc);
+    match put_requests(alloc, row, &mut requests) {
+        Ok(()) => Ok(requests),
+        Err(why) => {
+            drop(requests);
+            Err(why)
+        }
+    }
+}
+
+fn put_requests(alloc: Global, row: &Value, requests: &mut Vec<Asked>) -> Result<(), Unread> {
+    for one in items(member(row, "requests")?)? {
+        requests.push(asked(alloc, one)?)?;
+    }
+    Ok(())
+}
+
+fn asked(alloc: Global, one: &Value) -> Result<Asked, Unread> {
+    let budget = budget_at(one)?;
+    Ok((request_at(alloc, one)?, budget, explains(one)))
+}

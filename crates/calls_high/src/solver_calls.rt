@@ -1,0 +1,156 @@
+//! Calls of the solver.
+
+use crate::outcomes::{budget_at, explains, offered, offered_with, put_outcome, put_verdict};
+use derivations::{Learnt, Store, check};
+use registry::{Registry, Request};
+use rows::{Answer, AnswerText, Shows, Unread, request_at, shown};
+use serde_json::Value;
+use solver::{Outcome, Verdict, decide_under, solve_under};
+use std::alloc::Global;
+use versions::Refusal;
+
+/// Each call tells something of what the request of a row is answered.
+pub fn solver_call(
+    alloc: Global,
+    registry: &Registry,
+    name: &str,
+    row: &Value,
+) -> Result<Answer, Unread> {
+    let request = request_at(alloc, row)?;
+    let answer = answered(alloc, registry, &request, name, row);
+    drop(request);
+    answer
+}
+
+fn answered(
+    alloc: Global,
+    registry: &Registry,
+    request: &Request,
+    name: &str,
+    row: &Value,
+) -> Result<Answer, Unread> {
+    let budget = budget_at(row)?;
+    if name == "decide" {
+        return decided(alloc, registry, request, budget, explains(row));
+    }
+    let outcome = solved(alloc, registry, request, budget)?;
+    let answer = told(alloc, registry, request, &outcome, name);
+    drop(outcome);
+    answer
+}
+
+/// What a request is answered, within the budget of conflicts that there may be.
+fn solved(
+    alloc: Global,
+    registry: &Registry,
+    request: &Request,
+    budget: Option<u32>,
+) -> Result<Outcome, Refusal> {
+    let store = Store::new(alloc);
+    let outcome = solve_under(alloc, registry, request, &store, budget);
+    drop(store);
+    outcome
+}
+
+/// What a request is answered that asks why there is no selection, or doesn't, and the conclusions of what
+/// is offered: `{"selected":null,"offered":[[[1,{"in":[0]}]]]}`.
+fn decided(
+    alloc: Global,
+    registry: &Registry,
+    request: &Request,
+    budget: Option<u32>,
+    explain: bool,
+) -> Result<Answer, Unread> {
+    let store = Store::new(alloc);
+    let verdict = decide_under(alloc, registry, request, &store, budget, explain);
+    drop(store);
+    verdict_told(alloc, verdict?)
+}
+
+fn verdict_told(alloc: Global, verdict: Verdict) -> Result<Answer, Unread> {
+    let mut text = AnswerText::new(alloc);
+    put_verdict(&mut text, &verdict);
+    text.put(",\"offered\":");
+    offered_with(&verdict).show(&mut text);
+    drop(verdict);
+    text.put("}");
+    text.answer()
+}
+
+fn told(
+    alloc: Global,
+    registry: &Registry,
+    request: &Request,
+    outcome: &Outcome,
+    name: &str,
+) -> Result<Answer, Unread> {
+    match name {
+        "solve" => outcome_told(alloc, outcome),
+        "judge" => judged(alloc, registry, request, outcome),
+        "offered" => shown(alloc, &offered(outcome)),
+        _ => Err(Unread::Row),
+    }
+}
+
+/// The selection, or whether the derivation is one, and whether all that is offered stands.
+fn judged(
+    alloc: Global,
+    registry: &Registry,
+    request: &Request,
+    outcome: &Outcome,
+) -> Result<Answer, Unread> {
+    let stand = all_stand(registry, offered(outcome));
+    match outcome {
+        Outcome::Selection(list, _) => judged_told(alloc, "{\"selected\":", list, stand),
+        Outcome::Refused(derivation, _) => {
+            let derived = check(alloc, registry, request, derivation)?;
+            judged_told(alloc, "{\"derived\":", &derived, stand)
+        }
+    }
+}
+
+fn judged_told<T: Shows>(
+    alloc: Global,
+    kind: &str,
+    told: &T,
+    stand: bool,
+) -> Result<Answer, Unread> {
+    let mut text = AnswerText::new(alloc);
+    text.put(kind);
+    told.show(&mut text);
+    text.put(",\"offers_stand\":");
+    text.put_plain(stand);
+    text.put("}");
+    text.answer()
+}
+
+fn all_stand(registry: &Registry, offered: &[Learnt]) -> bool {
+    for learnt in offered {
+        if !learnt.stands(registry) {
+            return false;
+        }
+    }
+    true
+}
+
+// ---- texts
+
+/// `{"selected":[["a","1.0.0"]],"offered":[..]}` or `{"derivation":[..],"offered":[..]}`.
+fn outcome_told(alloc: Global, outcome: &Outcome) -> Result<Answer, Unread> {
+    let mut text = AnswerText::new(alloc);
+    put_outcome(&mut text, outcome);
+    text.put(",\"offered\":[");
+    put_offers(&mut text, offered(outcome));
+    text.put("]}");
+    text.answer()
+}
+
+/// The lines of each that is offered.
+fn put_offers(text: &mut AnswerText, offered: &[Learnt]) {
+    let mut is_first = true;
+    for learnt in offered {
+        text.put_between(is_first);
+        learnt.lines().show(text);
+        is_first = false;
+    }
+}

@@ -1,0 +1,116 @@
+//! Calls of the lines of a search, which a row gives.
+
+ghost use Rattle.std.specs.Prelude.{◌≡◌, ◌↔◌, [], IsTrue};
+ghost use Rattle.std.specs.Bool.{OnTrue};
+ghost use Rattle.derivations.specs.Known.{AreOrdered, EndsAt, IsBefore, IsResolved, IsResolvedAt};
+
+use derivations::{Derivation, Known, Learnt, Line, Reason, cut, lines_of};
+use rows::{Answer, Unread, at, given, shown, size_at};
+use serde_json::Value;
+use std::alloc::Global;
+
+pub fn search_call(alloc: Global, name: &str, row: &Value) -> Result<Answer, Unread> {
+    let place = size_at(row, "place")?;
+    match name {
+        "cut" => cut_at(alloc, row, place),
+        "lines_of" => lines_at_place(alloc, row, place, false),
+        "learn" => lines_at_place(alloc, row, place, true),
+        _ => Err(Unread::Row),
+    }
+}
+
+fn is_before(line: &Known, place: usize) -> bool
+    ensures { IsTrue result ↔ IsBefore place line.now.reason }
+{
+    match line.reason {
+        Reason::Fact(_) => true,
+        Reason::Resolved(i, j, _) => i < place && j < place,
+    }
+}
+
+/// Whether each line cites only lines before it.
+fn are_ordered(known: &[Known]) -> bool
+    ensures { OnTrue result (AreOrdered known.now) }
+{
+    for place in 0..known.len() {
+        if !is_before(&known[place], place) {
+            return false;
+        }
+    }
+    true
+}
+
+fn is_resolved(line: &Known) -> bool
+    ensures { IsTrue result ↔ IsResolved line.now.reason }
+{
+    match line.reason {
+        Reason::Fact(_) => false,
+        Reason::Resolved(_, _, _) => true,
+    }
+}
+
+/// Whether the line at the place, if there is one, follows from others.
+fn is_resolved_at(known: &[Known], place: usize) -> bool
+    ensures { OnTrue result (IsResolvedAt known.now place) }
+{
+    place < known.len() && is_resolved(&known[place])
+}
+
+fn is_empty_end(line: &Known) -> bool
+    ensures { IsTrue result ↔ (IsResolved line.now.reason × (line.now.conclusion ≡ [])) }
+{
+    match line.reason {
+        Reason::Fact(_) => false,
+        Reason::Resolved(_, _, _) => line.conclusion.terms().is_empty(),
+    }
+}
+
+/// Whether the line at the place, if there is one, follows from others and has no terms.
+fn ends_at(known: &[Known], place: usize) -> bool
+    ensures { OnTrue result (EndsAt known.now place) }
+{
+    place < known.len() && is_empty_end(&known[place])
+}
+
+fn cut_at(alloc: Global, row: &Value, place: usize) -> Result<Answer, Unread> {
+    let known = at::<Vec<Known>>(alloc, row, "known")?;
+    if !are_ordered(&known) || !ends_at(&known, place) {
+        drop(known);
+        return Ok(Answer::Skipped);
+    }
+    let derivation = cut(alloc, known, place)?;
+    let answer = cut_told(alloc, &derivation);
+    drop(derivation);
+    answer
+}
+
+fn cut_told(alloc: Global, derivation: &Derivation) -> Result<Answer, Unread> {
+    shown(alloc, &derivation.lines())
+}
+
+/// The lines that show the line at a place, or how many of them are learnt.
+fn lines_at_place(
+    alloc: Global,
+    row: &Value,
+    place: usize,
+    learns: bool,
+) -> Result<Answer, Unread> {
+    let known = at::<Vec<Known>>(alloc, row, "known")?;
+    if !are_ordered(&known) || !is_resolved_at(&known, place) {
+        drop(known);
+        return Ok(Answer::Skipped);
+    }
+    let lines = lines_of(alloc, &known, place);
+    drop(known);
+    told(alloc, lines?, learns)
+}
+
+fn told(alloc: Global, lines: Vec<Line>, learns: bool) -> Result<Answer, Unread> {
+    if learns {
+        let learnt = Learnt::new(alloc, lines)?;
+        let count = learnt.lines().len();
+        drop(learnt);
+        return Ok(Answer::Number(count));
+    }
+    given(alloc, lines)
+}

@@ -1,0 +1,192 @@
+//! Calls of walks.
+
+ghost use Rattle.std.specs.Ordering.{nat_cmp};
+ghost use Rattle.std.specs.BTreeMap.{get};
+
+use registry::{Pkg, Registry, Request};
+use rows::{Answer, AnswerText, Given, Shows, Unread, items, member, request_at, whole_at};
+use serde_json::Value;
+use std::alloc::Global;
+use std::collections::BTreeMap;
+use versions::{Name, Need, Published};
+use walk::{
+    Asker, Chooser, Preferred, Reached, preferred_version, reach, reach_preferred, sort_by_name,
+};
+
+pub fn walk_call(
+    alloc: Global,
+    registry: &Registry,
+    name: &str,
+    row: &Value,
+) -> Result<Answer, Unread> {
+    let request = request_at(alloc, row)?;
+    let answer = about(alloc, registry, name, row, &request);
+    drop(request);
+    answer
+}
+
+fn about(
+    alloc: Global,
+    registry: &Registry,
+    name: &str,
+    row: &Value,
+    request: &Request,
+) -> Result<Answer, Unread> {
+    match name {
+        "reach" => reach_chosen(alloc, registry, row, request),
+        "reach_by_preferred" => walked(alloc, registry, request, &Preferred { registry, request }),
+        "reach_preferred" => reach_by_itself(alloc, registry, request),
+        "preferred_version" => {
+            let pkg = whole_at(row, "pkg")?;
+            Ok(Answer::choice(preferred_version(registry, request, pkg)))
+        }
+        _ => Err(Unread::Row),
+    }
+}
+
+/// Chooses the ordinals that a row gives by package, and none of other packages.
+#[derive(Clone, Copy)]
+struct Chosen<'a> {
+    choices: &'a BTreeMap<Pkg, u32>,
+}
+
+impl Chooser for Chosen<'_> {
+    ghost chooses = { λ c p. get nat_cmp c.choices.now p };
+
+    fn choose(&self, pkg: Pkg) -> Option<u32> {
+        self.choices.get(&pkg).copied()
+    }
+}
+
+fn put_choices(alloc: Global, row: &Value, choices: &mut BTreeMap<Pkg, u32>) -> Result<(), Unread> {
+    for item in items(member(row, "choose")?)? {
+        let (pkg, ordinal) = <(Pkg, u32)>::of(alloc, item)?;
+        choices.insert(pkg, ordinal)?;
+    }
+    Ok(())
+}
+
+/// What a row chooses, as `[[1,0],[2,1]]`.
+fn choices_at(alloc: Global, row: &Value) -> Result<BTreeMap<Pkg, u32>, Unread> {
+    let mut choices = BTreeMap::new(alloc);
+    match put_choices(alloc, row, &mut choices) {
+        Ok(()) => Ok(choices),
+        Err(why) => {
+            drop(choices);
+            Err(why)
+        }
+    }
+}
+
+fn reach_chosen(
+    alloc: Global,
+    registry: &Registry,
+    row: &Value,
+    request: &Request,
+) -> Result<Answer, Unread> {
+    let choices = choices_at(alloc, row)?;
+    let answer = walked(alloc, registry, request, &Chosen { choices: &choices });
+    drop(choices);
+    answer
+}
+
+/// What a walk answers, a selection in the order of names: `{"selected":[["a","1.0.0"]]}`,
+/// `{"not_allowed":["a","1.0.0"]}`, `{"asks":"request","for":["a","^1"]}`, or by a version,
+/// `{"asks":["b","1.0.0"],"for":["a","^1"]}`.
+fn walked<C: Chooser>(
+    alloc: Global,
+    registry: &Registry,
+    request: &Request,
+    chooser: &C,
+) -> Result<Answer, Unread> {
+    match reach(alloc, registry, request, chooser)? {
+        Reached::Selection(mut list) => {
+            sort_by_name(registry, &mut list);
+            selected(alloc, registry, &list)
+        }
+        Reached::Unmet(asker, index) => unmet(alloc, registry, request, asker, index),
+        Reached::NotAllowed(pkg, ordinal) => not_allowed(alloc, registry, pkg, ordinal),
+    }
+}
+
+fn reach_by_itself(
+    alloc: Global,
+    registry: &Registry,
+    request: &Request,
+) -> Result<Answer, Unread> {
+    match reach_preferred(alloc, registry, request)? {
+        Reached::Selection(mut list) => {
+            sort_by_name(registry, &mut list);
+            selected(alloc, registry, &list)
+        }
+        Reached::Unmet(asker, index) => unmet(alloc, registry, request, asker, index),
+        Reached::NotAllowed(pkg, ordinal) => not_allowed(alloc, registry, pkg, ordinal),
+    }
+}
+
+fn selected(alloc: Global, registry: &Registry, list: &[(Pkg, u32)]) -> Result<Answer, Unread> {
+    let mut is_first = true;
+    let mut text = AnswerText::new(alloc);
+    text.put("{\"selected\":[");
+    for (pkg, ordinal) in list {
+        text.put_between(is_first);
+        version_of(registry, *pkg, *ordinal).show(&mut text);
+        is_first = false;
+    }
+    text.put("]}");
+    text.answer()
+}
+
+fn not_allowed(
+    alloc: Global,
+    registry: &Registry,
+    pkg: Pkg,
+    ordinal: u32,
+) -> Result<Answer, Unread> {
+    let mut text = AnswerText::new(alloc);
+    text.put("{\"not_allowed\":");
+    version_of(registry, pkg, ordinal).show(&mut text);
+    text.put("}");
+    text.answer()
+}
+
+fn unmet(
+    alloc: Global,
+    registry: &Registry,
+    request: &Request,
+    asker: Asker,
+    index: usize,
+) -> Result<Answer, Unread> {
+    match asker.needs(registry, request).get(index) {
+        Some(need) => asked(alloc, registry, asker, need),
+        None => Ok(Answer::Word("nothing")),
+    }
+}
+
+fn asked(
+    alloc: Global,
+    registry: &Registry,
+    asker: Asker,
+    need: &(Name, Need),
+) -> Result<Answer, Unread> {
+    let mut text = AnswerText::new(alloc);
+    text.put("{\"asks\":");
+    put_asker(&mut text, registry, asker);
+    text.put(",\"for\":");
+    need.show(&mut text);
+    text.put("}");
+    text.answer()
+}
+
+fn put_asker(text: &mut AnswerText, registry: &Registry, asker: Asker) {
+    match asker {
+        Asker::Request => text.put("\"request\""),
+        Asker::Version(pkg, ordinal) => version_of(registry, pkg, ordinal).show(text),
+    }
+}
+
+/// A version by its package's name and its own text.
+fn version_of(registry: &Registry, pkg: Pkg, ordinal: u32) -> Option<(&Name, &Published)> {
+    let name = registry.name_at(pkg)?;
+    Some((name, registry.facts_at(pkg, ordinal)?.version))
+}
