@@ -47,7 +47,7 @@ def build(number, progress):
         return False, said
     said, stands = [], False
     # what is left is proved in the order of the crates; the words that are passed end the new program at once
-    for line in lines_of(["rt", "run", "--jobs", "1", "--", "--help"], os.path.dirname(os.path.dirname(PROGRAM))):
+    for line in lines_of(["rt", "run", "--jobs", str(number), "--", "--help"], os.path.dirname(os.path.dirname(PROGRAM))):
         said.append(line)
         stands = stands or line.startswith(f"rt: running out/{NAME}")
         follow(line, progress)

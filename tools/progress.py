@@ -8,8 +8,8 @@ import time
 TOP = os.path.dirname(os.path.dirname(os.path.abspath(__file__)))
 # What a crate that the file of seconds doesn't name takes, for each byte of its text.
 SECONDS_A_BYTE = 0.001
-# How much sooner several processors are done than one: crates stand on one another.
-GAIN = {1: 1.0, 2: 1.7, 3: 2.0, 4: 2.1}
+# How much sooner several jobs are done than one: they wait for one another.
+GAIN = {1: 1.0, 2: 1.7, 3: 2.2, 4: 2.6}
 # A line is rewritten this often.
 TICK = 1.0
 

@@ -15,6 +15,9 @@ from importlib.util import module_from_spec, spec_from_loader
 
 from progress import TOP, seconds_of
 
+# More jobs than these gain nothing at one crate.
+MOST = 4
+
 
 def kit():
     """The kit's module of its commands."""
@@ -36,18 +39,23 @@ def chains(below, weights):
 
 
 def side_by_side(below, weights, processors, prove):
-    """Proves crates, each after all those below it, as many at once as there are processors, those with the longest chain above
-    them first. `prove` gets a name; once it answers that one failed, no other begins."""
+    """Proves crates, each after all those below it, those with the longest chain above them first, with as many jobs each as
+    processors are idle for it, and half of all where so many are. `prove` gets a name and a number of jobs; once it answers that one failed, no other begins."""
     first = chains(below, weights)
     left, running, proved, is_well = sorted(below, key=lambda name: -first[name]), {}, set(), True
     with ThreadPoolExecutor(processors) as pool:
         while running or is_well and left:
-            ready = [name for name in left if below[name] <= proved] if is_well else []
-            for name in ready[:processors - len(running)]:
-                running[pool.submit(prove, name)] = name
+            ready = [name for name in left if below[name] <= proved]
+            idle = processors - sum(jobs for _, jobs in running.values())
+            while is_well and ready and idle:
+                # half of the processors for one crate keep all of them at work as long as two crates can be proved
+                name, jobs = ready[0], min(MOST, idle, max(processors // 2, -(-idle // len(ready))))
+                running[pool.submit(prove, name, jobs)] = name, jobs
+                ready, idle = ready[1:], idle - jobs
                 left.remove(name)
             for of in wait(running, return_when=FIRST_COMPLETED).done:
-                proved.add(running.pop(of))
+                name, _ = running.pop(of)
+                proved.add(name)
                 is_well = of.result() and is_well
     return is_well
 
@@ -83,12 +91,11 @@ def main(name, processors):
     for name in crates.keys() - left.keys():
         Said(name).write("stands")
 
-    def prove(name):
+    def prove(name, jobs):
         crate = left[name]
         crate.out = Said(name)
         crate.out.write("begins")
-        # a second job at one crate takes a third more of the processors, and no less time
-        status = crate.build_rlib(["--jobs", "1"], anew=False)
+        status = crate.build_rlib(["--jobs", str(jobs)], anew=False)
         crate.out.write("failed" if status else "proved")
         return not status
 
