@@ -18,35 +18,40 @@ def lines_of(words, folder):
         yield from running.stdout
 
 
-def prove_below(number, progress):
-    """Proves the libraries below; answers what was said of one that is not proved, or nothing."""
-    said, failed = {}, ""
-    for line in lines_of([sys.executable, os.path.join(TOP, "tools", "prove_below.py"), NAME, str(number)], TOP):
+def prove(number, progress):
+    """Proves the crates side by side and builds the program; answers whether it stands, what was said of the crate that is not
+    proved, and whether another way is left."""
+    said, failed, stands = {}, "", False
+    running = lines_of([sys.executable, os.path.join(TOP, "tools", "prove_program.py"), NAME, str(number)], TOP)
+    for line in running:
         crate, behind, text = line.partition("> ")
         if behind and text == "failed\n":
             failed = failed or crate
-        elif behind and not follow_below(crate, text.rstrip("\n"), progress):
+        elif behind and not follow_crate(crate, text.rstrip("\n"), progress):
             said.setdefault(crate, []).append(text)
-    return said.get(failed)
+        stands = stands or (crate, text.rstrip("\n")) in ((NAME, "proved"), (NAME, "stands"), (NAME, "is kept"))
+    return stands, said.get(failed, []), not failed
 
 
-def follow_below(crate, text, progress):
+def follow_crate(crate, text, progress):
     """Notes what is said of a crate that is proved beside others; answers whether that says where it stands."""
-    counted = re.match(r"so far: (\d+) of (\d+) functions checked", text)
+    begun = re.fullmatch(r"begins with (\d+)", text)
     if text in ("proved", "stands"):
         progress.finish(crate, is_kept=text == "stands")
-    elif text == "begins" or counted:
-        progress.note(crate, int(counted[1]) / max(1, int(counted[2])) if counted else 0.0)
-    return text in ("begins", "proved", "stands")
+    elif text == "is kept":
+        progress.end()
+        print(f"{NAME}: just these files were proved on this machine before, and the program was kept", file=sys.stderr)
+    elif begun:
+        progress.begin(crate, int(begun[1]))
+    return bool(begun) or text in ("proved", "stands", "is kept")
 
 
 def build(number, progress):
     """Runs the proof; answers whether the program stands, and what was said."""
-    said = prove_below(number, progress)
-    if said:
-        return False, said
-    said, stands = [], False
-    # what is left is proved in the order of the crates; the words that are passed end the new program at once
+    stands, said, may_go_on = prove(number, progress)
+    if stands or not may_go_on:
+        return stands, said
+    # this kit has other calls: its command takes the crates in order; the words that are passed end the new program at once
     for line in lines_of(["rt", "run", "--jobs", str(number), "--", "--help"], os.path.dirname(os.path.dirname(PROGRAM))):
         said.append(line)
         stands = stands or line.startswith(f"rt: running out/{NAME}")

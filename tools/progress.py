@@ -8,8 +8,11 @@ import time
 TOP = os.path.dirname(os.path.dirname(os.path.abspath(__file__)))
 # What a crate that the file of seconds doesn't name takes, for each byte of its text.
 SECONDS_A_BYTE = 0.001
-# How much sooner several jobs are done than one: they wait for one another.
+# How much sooner all crates are proved on several processors than on one: crates wait for those below them.
 GAIN = {1: 1.0, 2: 1.7, 3: 2.2, 4: 2.6}
+# How much sooner one crate is with several jobs, which wait for one another, and which part of it is taken to be proved at most.
+GAIN_OF_JOBS = {1: 1.0, 2: 1.4, 3: 1.7, 4: 1.9}
+MOST_GUESSED = 0.9
 # A line is rewritten this often.
 TICK = 1.0
 
@@ -62,7 +65,7 @@ class Progress:
         self.weights = {crate: seconds_of(crate) for crate in crates}
         self.rate = GAIN.get(jobs, GAIN[4])
         self.begun = time.monotonic()
-        # those that are proved, those that are being proved, each with which part of it is, and the time of what was kept
+        # those that are proved, those that are being proved, each with a call for which part of it is, and the time of what was kept
         self.done, self.parts, self.skipped = set(), {}, 0.0
         self.rewrites, self.lock, self.is_over = out.isatty(), threading.RLock(), threading.Event()
         if self.rewrites:
@@ -87,13 +90,20 @@ class Progress:
         """Notes that a crate is being proved, and which part of it is."""
         with self.lock:
             if crate in self.weights and crate not in self.done:
-                self.parts[crate] = part
+                self.parts[crate] = lambda: part
+
+    def begin(self, crate, jobs):
+        """Notes that the proof of a crate begins, of which nothing is told before its end: which part of it is proved is guessed."""
+        at, rate = time.monotonic(), GAIN_OF_JOBS.get(jobs, GAIN_OF_JOBS[4]) / max(1.0, self.weights.get(crate, 1.0))
+        with self.lock:
+            if crate in self.weights and crate not in self.done:
+                self.parts[crate] = lambda: min(MOST_GUESSED, (time.monotonic() - at) * rate)
 
     def left(self, elapsed):
         """About how many seconds are left: by what was measured, and more and more by what this run took so far."""
         whole = sum(self.weights.values()) - self.skipped
         done = sum(self.weights[crate] for crate in self.done) - self.skipped
-        done += sum(part * self.weights[crate] for crate, part in self.parts.items())
+        done += sum(part() * self.weights[crate] for crate, part in self.parts.items())
         measured = (whole - done) / self.rate
         if done <= 0:
             return measured

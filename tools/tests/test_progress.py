@@ -2,6 +2,7 @@
 import io
 import os
 import sys
+import time
 import unittest
 from unittest import mock
 
@@ -40,20 +41,39 @@ class Lines(unittest.TestCase):
             self.assertRegex(line, fr"^registryd: crate {number} of {len(crates)}( \(\w+\))?, \d+ s so far, about .* left$")
         self.assertRegex(lines[-1], fr"^registryd: all {len(crates)} crates are proved, ")
 
+    def told(self, lines, progress):
+        """What the program is told to be where the proof writes these lines; no second way is tried."""
+        with mock.patch.object(build_program, "lines_of", lambda words, folder: (line + "\n" for line in lines)):
+            return build_program.prove(4, progress)
+
     def test_crates_side_by_side(self):
         crates = crates_below("registryd")
-        lines = [*(f"{crate}> stands" for crate in crates[:4]), "of no crate", f"{crates[4]}> begins", f"{crates[5]}> begins",
-                 f"{crates[4]}> so far: 30 of 60 functions checked; the verdict comes last", f"{crates[5]}> proved"]
+        lines = [*(f"{crate}> stands" for crate in crates[:4]), "of no crate", f"{crates[4]}> begins with 2", f"{crates[5]}> begins with 1",
+                 f"{crates[5]}> proved"]
         progress = Progress("registryd", crates, 4, out=io.StringIO())
-        with mock.patch.object(build_program, "lines_of", lambda words, folder: (line + "\n" for line in lines)):
-            self.assertIsNone(build_program.prove_below(4, progress))
+        self.assertEqual(self.told(lines, progress), (False, [], True))
         self.assertEqual(progress.done, {*crates[:4], crates[5]})
         self.assertEqual(progress.skipped, sum(progress.weights[crate] for crate in crates[:4]))
-        self.assertEqual(progress.parts, {crates[4]: 0.5})
+        self.assertEqual([*progress.parts], [crates[4]])
         self.assertRegex(progress.text(), fr"^registryd: crate 6 of {len(crates)} \({crates[4]}\), ")
 
+    def test_which_part_is_proved_is_guessed_by_the_time(self):
+        progress = Progress("registryd", ["solver"], 4, out=io.StringIO())
+        with mock.patch.object(time, "monotonic", lambda: 100.0):
+            progress.begin("solver", 2)
+        for seconds, part in ((0, 0.0), (progress.weights["solver"] / 2.8, 0.5), (10 * progress.weights["solver"], 0.9)):
+            with mock.patch.object(time, "monotonic", lambda: 100.0 + seconds):
+                self.assertAlmostEqual(progress.parts["solver"](), part)
+
+    def test_the_program_stands_where_it_is_proved_or_was_kept(self):
+        for text in ("proved", "stands", "is kept"):
+            progress = Progress("registryd", crates_below("registryd"), 4, out=io.StringIO())
+            with mock.patch("sys.stderr", io.StringIO()) as told:
+                self.assertEqual(self.told([f"registryd> {text}"], progress), (True, [], True))
+            self.assertEqual("proved on this machine before" in told.getvalue(), text == "is kept")
+
     def test_what_was_said_of_a_crate_that_failed(self):
-        lines = ["low> begins", "high> begins", "low> wrong", "high> right", "low> failed", "high> proved"]
+        lines = ["low> begins with 2", "high> begins with 1", "low> wrong", "high> right", "low> failed", "high> proved"]
         progress = Progress("registryd", crates_below("registryd"), 4, out=io.StringIO())
         with mock.patch.object(build_program, "lines_of", lambda words, folder: (line + "\n" for line in lines)):
             self.assertEqual(build_program.build(4, progress), (False, ["wrong\n"]))

@@ -1,0 +1,188 @@
+#!/usr/bin/env python3
+"""Proves a program and the libraries that it stands on, side by side, builds it, and says of each crate on standard output
+where it stands.
+
+The kit's commands `rt lib` and `rt run` take one crate after another, and keep of a library its whole proofs, which each
+crate above reads. Here it goes as in the kit's gate: libraries side by side, and of each no more is kept than what it
+states. They stand in the program's own folder, apart from those of the kit's commands. It ends with 0 where the program
+is built, with 1 where a crate is not proved, and else with 2: then this kit has other calls, and its commands have to do."""
+import hashlib
+import os
+import shutil
+import subprocess
+import sys
+import threading
+from concurrent.futures import FIRST_COMPLETED, ThreadPoolExecutor, wait
+from importlib.machinery import SourceFileLoader
+from importlib.util import module_from_spec, spec_from_loader
+
+from kept_program import take
+from progress import TOP, seconds_of
+
+# More jobs than these gain nothing at one crate.
+MOST = 4
+# A crate counts as on the longest chain where its own is as long as this part of it.
+NEAR = 0.9
+# What the others give way by, in steps of `nice`.
+GIVES_WAY = 5
+
+
+def kit():
+    """The kit's module of its commands; its `rtlib` has those that prove crates."""
+    page = subprocess.run(["rt", "doc"], stdout=subprocess.PIPE, text=True, check=True).stdout.strip()
+    loader = SourceFileLoader("rt_of_kit", os.path.join(os.path.dirname(page), "bin", "rt"))
+    sys.modules["rt_of_kit"] = made = module_from_spec(spec_from_loader("rt_of_kit", loader))
+    sys.dont_write_bytecode = True
+    loader.exec_module(made)
+    return made
+
+
+def chains(below, weights):
+    """How long the longest chain of crates is that ends with what stands on each: the crate itself is in it."""
+    above = {name: [other for other in below if name in below[other]] for name in below}
+    found = {}
+    for name in sorted(below, key=lambda name: -len(below[name])):
+        found[name] = weights[name] + max((found[other] for other in above[name]), default=0)
+    return found
+
+
+def share(ready, running, first, processors):
+    """Which crates begin, each with how many jobs, and whether it gives way to others. Several jobs at one crate wait for one
+    another, and all together take a third more time of the processors: so only those whose chain is about the longest get
+    several, and go before the others, which take what is left idle."""
+    every = [*ready, *running]
+    near = [name for name in every if first[name] >= NEAR * max(first[other] for other in every)]
+    jobs = max(1, min(MOST, processors // max(1, len(near))))
+    # one more than there are processors, since jobs wait for one another
+    for name in ready[:max(0, processors + 1 - len(running))]:
+        yield name, jobs if name in near else 1, name not in near
+
+
+def side_by_side(below, weights, processors, prove):
+    """Proves crates, each after all those below it, those with the longest chain above them first. `prove` gets a name, a
+    number of jobs and whether it gives way; once it answers that one failed, no other begins."""
+    first = chains(below, weights)
+    left, running, proved, is_well = sorted(below, key=lambda name: -first[name]), {}, set(), True
+    with ThreadPoolExecutor(processors + 1) as pool:
+        while running or is_well and left:
+            ready = [name for name in left if below[name] <= proved]
+            for begun in [*share(ready, running.values(), first, processors)] if is_well else ():
+                running[pool.submit(prove, *begun)] = begun[0]
+                left.remove(begun[0])
+            for of in wait(running, return_when=FIRST_COMPLETED).done:
+                proved.add(running.pop(of))
+                is_well = of.result() and is_well
+    return is_well
+
+
+class Said:
+    """Where a crate's lines go: to standard output, each behind the crate's name."""
+    lock = threading.Lock()
+
+    def __init__(self, name):
+        self.name = name
+
+    def write(self, text):
+        for line in text.splitlines():
+            with self.lock:
+                print(f"{self.name}> {line}", flush=True)
+
+    def flush(self):
+        pass
+
+
+class Program:
+    """A program and the libraries below it, each with where it is kept."""
+
+    def __init__(self, rtlib, name):
+        self.rtlib, self.top = rtlib, rtlib.Crate(os.path.join(TOP, "crates", name), TOP, {})
+        self.crates = {it.name: it for it in [*self.top.below(), self.top]}
+        self.kept = os.path.join(self.top.folder, "out", "below")
+        os.makedirs(self.kept, exist_ok=True)
+        for name in set(os.listdir(self.kept)) - self.crates.keys():
+            shutil.rmtree(os.path.join(self.kept, name))
+        for it in self.top.below():
+            it.rlib = os.path.join(self.kept, it.name, f"{it.name}.rlib")
+
+    def made(self, crate):
+        """Where the program stands, or the library."""
+        return os.path.join(crate.folder, "out", crate.name) if crate is self.top else crate.rlib
+
+    def stamp(self, crate):
+        """Where the sum of what a crate was made from is kept."""
+        return os.path.join(self.kept, crate.name, "stamp")
+
+    def sum(self, crate):
+        """A sum of all that a crate is made from: its files, the kit, and the libraries below as they were built."""
+        files = [(os.path.relpath(it, crate.folder), self.rtlib.sum_of(it)) for it in self.rtlib.files_of(crate.folder)]
+        # a library's format holds the sum of its files
+        below = [self.rtlib.sum_of(os.path.join(it.rlib, "format")) for it in crate.below()]
+        kit = self.rtlib.sum_of(os.path.join(self.rtlib.KIT, "WHAT"))
+        return hashlib.sha256(repr((kit, crate.said, files, below)).encode()).hexdigest()
+
+    def stands(self, crate):
+        return os.path.exists(self.made(crate)) and self.rtlib.text_of(self.stamp(crate)) == self.sum(crate)
+
+    def prove(self, name, jobs, gives_way):
+        """Proves and builds one crate, those below it being built; answers whether that went well."""
+        crate = self.crates[name]
+        crate.out = Said(name)
+        if self.stands(crate):
+            crate.out.write("stands")
+            return True
+        crate.out.write(f"begins with {jobs}")
+        prover = ["nice", "-n", str(GIVES_WAY if gives_way else 0), self.rtlib.RATTLE, "build"]
+        shutil.rmtree(os.path.dirname(self.stamp(crate)), ignore_errors=True)
+        os.makedirs(os.path.dirname(self.stamp(crate)))
+        of = self.sum(crate)
+        words = [*prover, *crate.words(["--jobs", str(jobs)], keeps=False)]
+        status = (self.build if crate is self.top else self.build_library)(crate, words)
+        # a source that was changed meanwhile may be in it or not
+        if not status and of == self.sum(crate):
+            with open(self.stamp(crate), "w", encoding="ascii") as kept:
+                kept.write(of)
+        crate.out.write("failed" if status else "proved")
+        return not status
+
+    def build_library(self, crate, words):
+        return crate.call(*words, "--statements", "-o", crate.rlib)
+
+    def build(self, crate, words):
+        to, kit = self.made(crate), self.rtlib.KIT
+        toolchain = ["--toolchain", os.path.join(kit, "toolchain")]
+        status = crate.call(*words, *toolchain, "--backend", "llvm", "-o", f"{to}.o")
+        libraries = [os.path.join(kit, "c", it) for it in ("libos_c.a", "liblibc_c.a")]
+        link = [os.path.join(kit, "bin", "rattle-link"), "--target", "x86_64-unknown-linux-gnu"]
+        status = status or crate.call(*link, *toolchain, "-o", f"{to}.new", f"{to}.o", *libraries)
+        if not status:
+            # the program that stood there may be running
+            os.replace(f"{to}.new", to)
+        return status
+
+
+def main(name, processors):
+    rt = kit()
+    rtlib = rt.rtlib
+    # an interrupt ends this and, by the kit's guard, what it has begun
+    rtlib.guarded()
+    rtlib.signal.signal(rtlib.signal.SIGINT, rtlib.signal.SIG_DFL)
+    program = Program(rtlib, name)
+    held = rtlib.lock(program.crates.values())
+    if not program.stands(program.top) and take(rt, program.top, program.made(program.top)):
+        Said(name).write("is kept")
+        return 0
+    for it in program.crates.values():
+        rtlib.stop_on_links(it.folder)
+    below = {name: {it.name for it in crate.below()} for name, crate in program.crates.items()}
+    is_well = side_by_side(below, {name: seconds_of(name) for name in below}, processors, program.prove)
+    for it in held:
+        os.close(it)
+    return 0 if is_well else 1
+
+
+if __name__ == "__main__":
+    try:
+        sys.exit(main(sys.argv[1], int(sys.argv[2])))
+    except Exception as fault:
+        print(f"the kit's own commands have to do: {type(fault).__name__}: {fault}", flush=True)
+        sys.exit(2)
