@@ -4,7 +4,7 @@ where it stands.
 
 The kit's commands `rt lib` and `rt run` take one crate after another, and keep of a library its whole proofs, which each
 crate above reads. Here it goes as in the kit's gate: libraries side by side, and of each no more is kept than what it
-states. They stand in the program's own folder, apart from those of the kit's commands. It ends with 0 where the program
+states. They stand in the program's own folder, apart from those that the kit's commands keep. It ends with 0 where the program
 is built, with 1 where a crate is not proved, and else with 2: then this kit has other calls, and its commands have to do."""
 import hashlib
 import os
@@ -97,7 +97,8 @@ class Program:
     def __init__(self, rtlib, name):
         self.rtlib, self.top = rtlib, rtlib.Crate(os.path.join(TOP, "crates", name), TOP, {})
         self.crates = {it.name: it for it in [*self.top.below(), self.top]}
-        self.kept = os.path.join(self.top.folder, "out", "below")
+        # the one folder of a program that the gate gives back and in which the kit's commands look for no source
+        self.kept = os.path.join(self.top.folder, "out", "rlib")
         os.makedirs(self.kept, exist_ok=True)
         for name in set(os.listdir(self.kept)) - self.crates.keys():
             shutil.rmtree(os.path.join(self.kept, name))

@@ -1,13 +1,19 @@
-"""In what order, and with how many jobs, crates are proved side by side. The prover is a stub here."""
+"""In what order, and with how many jobs, crates are proved side by side, and which of them stand. The prover is a stub here."""
+import hashlib
+import io
 import os
 import sys
+import tempfile
 import threading
 import unittest
+from types import SimpleNamespace
+from unittest import mock
 
 from program import TOP
 
 sys.path.insert(0, os.path.join(TOP, "tools"))
-from prove_program import MOST, chains, share, side_by_side
+import prove_program
+from prove_program import MOST, Program, chains, share, side_by_side
 
 # left and right stand on low, top on both; small stands on nothing and nothing stands on it
 BELOW = {"small": set(), "low": set(), "left": {"low"}, "right": {"low"}, "top": {"low", "left", "right"}}
@@ -63,6 +69,129 @@ class Order(unittest.TestCase):
 
     def test_nothing_to_prove_is_well(self):
         self.assertTrue(side_by_side({}, {}, 4, None))
+
+
+class Kit:
+    """Its crates, below a folder: `top` on `left` and `right`, both on `low`. A crate's file says what is built of it."""
+    NEEDS = {"low": [], "left": ["low"], "right": ["low"], "top": ["low", "left", "right"]}
+    RATTLE, KIT = "rattle", "kit"
+
+    def __init__(self, folder):
+        self.folder, self.built, self.number = folder, [], 0
+        for name in self.NEEDS:
+            os.makedirs(os.path.join(folder, "crates", name))
+            self.write(name, name)
+
+    def file(self, name):
+        return os.path.join(self.folder, "crates", name, "lib.rt")
+
+    def write(self, name, text):
+        with open(self.file(name), "w", encoding="ascii") as file:
+            file.write(text)
+
+    def crate(self, name, made):
+        """A crate and those below it, each made once."""
+        if name not in made:
+            below = [self.crate(other, made) for other in self.NEEDS[name]]
+            made[name] = SimpleNamespace(name=name, folder=os.path.dirname(self.file(name)), said={"name": name}, below=lambda: below,
+                                         words=lambda flags, keeps: [name, *flags], call=self.call)
+        return made[name]
+
+    def Crate(self, folder, top, known):
+        return self.crate(os.path.basename(folder), {})
+
+    def files_of(self, folder):
+        return [os.path.join(folder, "lib.rt")]
+
+    def text_of(self, file):
+        if not os.path.isfile(file):
+            return None
+        with open(file, encoding="ascii") as read:
+            return read.read()
+
+    def sum_of(self, file):
+        return hashlib.sha256((self.text_of(file) or "").encode()).hexdigest()
+
+    def call(self, *words):
+        """Builds what is named behind -o, of the crate's text and of how much was built before."""
+        to = words[words.index("-o") + 1]
+        if "build" not in words:
+            os.replace(to.replace(".new", ".o"), to)
+            return 0
+        name = words[words.index("build") + 1]
+        if "wrong" in self.text_of(self.file(name)):
+            return 1
+        self.built.append(name)
+        self.number += 1
+        if not to.endswith(".o"):
+            os.makedirs(to)
+            to = os.path.join(to, "format")
+        with open(to, "w", encoding="ascii") as file:
+            file.write(f"{self.text_of(self.file(name))} {self.number}")
+        return 0
+
+
+class Standing(unittest.TestCase):
+    def setUp(self):
+        room = tempfile.TemporaryDirectory()
+        self.addCleanup(room.cleanup)
+        self.kit = Kit(room.name)
+
+    def prove(self, expected=True):
+        """Proves the program; answers which crates were built, in order."""
+        self.kit.built.clear()
+        with mock.patch.object(prove_program, "TOP", self.kit.folder), mock.patch("sys.stdout", io.StringIO()):
+            program = Program(self.kit, "top")
+            well = all(program.prove(name, 1, False) for name in ("low", "left", "right", "top"))
+        self.assertEqual(well, expected)
+        return [*self.kit.built]
+
+    def program(self):
+        return self.kit.text_of(os.path.join(self.kit.folder, "crates", "top", "out", "top"))
+
+    def test_what_stands_is_not_proved_again(self):
+        self.assertEqual(self.prove(), ["low", "left", "right", "top"])
+        self.assertEqual(self.prove(), [])
+        self.assertTrue(self.program().startswith("top "))
+
+    def test_a_change_is_proved_and_what_stands_on_it(self):
+        self.prove()
+        self.kit.write("left", "left anew")
+        self.assertEqual(self.prove(), ["left", "top"])
+        self.kit.write("left", "left")
+        self.assertEqual(self.prove(), ["left", "top"])
+
+    def test_a_library_that_was_built_anew_has_all_above_it_built_anew(self):
+        self.prove()
+        # of the same text: what a library states fits only the libraries that it was built over
+        os.remove(os.path.join(self.kit.folder, "crates", "top", "out", "rlib", "low", "stamp"))
+        self.assertEqual(self.prove(), ["low", "left", "right", "top"])
+
+    def test_what_was_proved_before_one_failed_stands(self):
+        self.kit.write("right", "wrong")
+        self.assertEqual(self.prove(expected=False), ["low", "left"])
+        self.assertIsNone(self.program())
+        self.kit.write("right", "right")
+        self.assertEqual(self.prove(), ["right", "top"])
+
+    def test_a_file_that_changed_meanwhile_is_proved_again(self):
+        call = self.kit.call
+
+        def late(*words):
+            if "top" in words:
+                self.kit.write("top", "top anew")
+            return call(*words)
+
+        with mock.patch.object(self.kit, "call", late):
+            self.prove()
+        self.assertEqual(self.prove(), ["top"])
+
+    def test_what_stood_there_of_a_crate_that_is_no_more_goes(self):
+        self.prove()
+        gone = os.path.join(self.kit.folder, "crates", "top", "out", "rlib", "gone")
+        os.makedirs(gone)
+        self.assertEqual(self.prove(), [])
+        self.assertFalse(os.path.exists(gone))
 
 
 if __name__ == "__main__":
