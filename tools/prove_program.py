@@ -48,14 +48,13 @@ def chains(below, weights):
 
 def share(ready, running, first, processors):
     """Which crates begin, each with how many jobs, and whether it gives way to others. Several jobs at one crate wait for one
-    another, and all together take a third more time of the processors: so only those whose chain is about the longest get
-    several, and go before the others, which take what is left idle."""
+    another, and together take more time of the processors: so only those whose chain is about the longest get several, and
+    go before the others, which take what these leave idle."""
     every = [*ready, *running]
     near = [name for name in every if first[name] >= NEAR * max(first[other] for other in every)]
-    jobs = max(1, min(MOST, processors // max(1, len(near))))
     # one more than there are processors, since jobs wait for one another
     for name in ready[:max(0, processors + 1 - len(running))]:
-        yield name, jobs if name in near else 1, name not in near
+        yield name, min(MOST, processors) if name in near else 1, name not in near
 
 
 def side_by_side(below, weights, processors, prove):

@@ -55,11 +55,12 @@ class Order(unittest.TestCase):
         for processors, jobs in ((1, 1), (2, 2), (3, 3), (4, 4), (16, 4)):
             self.assertEqual(self.prove(processors)[1][:2], [("low", jobs, False), ("small", 1, True)])
 
-    def test_of_two_chains_of_about_one_length_each_gets_half(self):
+    def test_chains_of_about_the_longest_length_go_first(self):
         first = {"a": 100, "b": 95, "c": 80, "d": 70, "e": 60, "f": 50}
         self.assertEqual([*share([*"abcdef"], [], first, 4)],
-                         [("a", 2, False), ("b", 2, False), ("c", 1, True), ("d", 1, True), ("e", 1, True)])
-        self.assertEqual([*share(["b", "c"], ["a"], first, 4)], [("b", 2, False), ("c", 1, True)])
+                         [("a", 4, False), ("b", 4, False), ("c", 1, True), ("d", 1, True), ("e", 1, True)])
+        self.assertEqual([*share(["b", "c"], ["a"], first, 2)], [("b", 2, False), ("c", 1, True)])
+        self.assertEqual([*share(["b", "f"], ["c"], first, 1)], [("b", 1, False)])
         self.assertEqual([*share(["f"], [*"abcde"], first, 4)], [])
 
     def test_nothing_begins_once_one_failed(self):
