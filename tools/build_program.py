@@ -30,7 +30,8 @@ def prove(number, progress):
         elif behind and not follow_crate(crate, text.rstrip("\n"), progress):
             said.setdefault(crate, []).append(text)
         stands = stands or (crate, text.rstrip("\n")) in ((NAME, "proved"), (NAME, "stands"), (NAME, "is kept"))
-    return stands, said.get(failed, []), not failed
+    told = [*said.get(failed, []), f"the crate {failed} is not proved\n"] if failed else []
+    return stands, told, not failed
 
 
 def follow_crate(crate, text, progress):

@@ -144,10 +144,10 @@ class Progress:
             self.clear()
 
 
-def jobs():
-    """How many checks run at once: one a processor, as far as the memory that is free serves."""
+def jobs(more=0):
+    """How many checks run at once: one a processor, or some more, as far as the memory that is free serves."""
     # what a check takes at most, in kB: 3 GB, and a third more for what runs beside it
     memory_of_a_check = 4_000_000
     with open("/proc/meminfo", encoding="ascii") as lines:
         free = int(re.search(r"MemAvailable:\s+(\d+)", lines.read())[1])
-    return max(1, min(len(os.sched_getaffinity(0)), free // memory_of_a_check))
+    return max(1, min(len(os.sched_getaffinity(0)) + more, free // memory_of_a_check))

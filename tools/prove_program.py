@@ -17,7 +17,7 @@ from importlib.machinery import SourceFileLoader
 from importlib.util import module_from_spec, spec_from_loader
 
 from kept_program import take
-from progress import TOP, seconds_of
+from progress import TOP, jobs, seconds_of
 
 # More jobs than these gain nothing at one crate.
 MOST = 4
@@ -46,26 +46,25 @@ def chains(below, weights):
     return found
 
 
-def share(ready, running, first, processors):
+def share(ready, running, first, processors, at_once):
     """Which crates begin, each with how many jobs, and whether it gives way to others. Several jobs at one crate wait for one
     another, and together take more time of the processors: so only those whose chain is about the longest get several, and
     go before the others, which take what these leave idle."""
     every = [*ready, *running]
     near = [name for name in every if first[name] >= NEAR * max(first[other] for other in every)]
-    # one more than there are processors, since jobs wait for one another
-    for name in ready[:max(0, processors + 1 - len(running))]:
+    for name in ready[:max(0, at_once - len(running))]:
         yield name, min(MOST, processors) if name in near else 1, name not in near
 
 
-def side_by_side(below, weights, processors, prove):
-    """Proves crates, each after all those below it, those with the longest chain above them first. `prove` gets a name, a
-    number of jobs and whether it gives way; once it answers that one failed, no other begins."""
+def side_by_side(below, weights, processors, at_once, prove):
+    """Proves crates, so many at once, each after all those below it, those with the longest chain above them first. `prove` gets
+    a name, a number of jobs and whether it gives way; once it answers that one failed, no other begins."""
     first = chains(below, weights)
     left, running, proved, is_well = sorted(below, key=lambda name: -first[name]), {}, set(), True
-    with ThreadPoolExecutor(processors + 1) as pool:
+    with ThreadPoolExecutor(at_once) as pool:
         while running or is_well and left:
             ready = [name for name in left if below[name] <= proved]
-            for begun in [*share(ready, running.values(), first, processors)] if is_well else ():
+            for begun in [*share(ready, running.values(), first, processors, at_once)] if is_well else ():
                 running[pool.submit(prove, *begun)] = begun[0]
                 left.remove(begun[0])
             for of in wait(running, return_when=FIRST_COMPLETED).done:
@@ -123,19 +122,19 @@ class Program:
     def stands(self, crate):
         return os.path.exists(self.made(crate)) and self.rtlib.text_of(self.stamp(crate)) == self.sum(crate)
 
-    def prove(self, name, jobs, gives_way):
+    def prove(self, name, number, gives_way):
         """Proves and builds one crate, those below it being built; answers whether that went well."""
         crate = self.crates[name]
         crate.out = Said(name)
         if self.stands(crate):
             crate.out.write("stands")
             return True
-        crate.out.write(f"begins with {jobs}")
+        crate.out.write(f"begins with {number}")
         prover = ["nice", "-n", str(GIVES_WAY if gives_way else 0), self.rtlib.RATTLE, "build"]
         shutil.rmtree(os.path.dirname(self.stamp(crate)), ignore_errors=True)
         os.makedirs(os.path.dirname(self.stamp(crate)))
         of = self.sum(crate)
-        words = [*prover, *crate.words(["--jobs", str(jobs)], keeps=False)]
+        words = [*prover, *crate.words(["--jobs", str(number)], keeps=False)]
         status = (self.build if crate is self.top else self.build_library)(crate, words)
         # a source that was changed meanwhile may be in it or not
         if not status and of == self.sum(crate):
@@ -174,7 +173,9 @@ def main(name, processors):
     for it in program.crates.values():
         rtlib.stop_on_links(it.folder)
     below = {name: {it.name for it in crate.below()} for name, crate in program.crates.items()}
-    is_well = side_by_side(below, {name: seconds_of(name) for name in below}, processors, program.prove)
+    # one more than there are processors, since jobs wait for one another, where there is memory for it
+    at_once = max(processors, jobs(more=1))
+    is_well = side_by_side(below, {name: seconds_of(name) for name in below}, processors, at_once, program.prove)
     for it in held:
         os.close(it)
     return 0 if is_well else 1

@@ -76,7 +76,7 @@ class Lines(unittest.TestCase):
         lines = ["low> begins with 2", "high> begins with 1", "low> wrong", "high> right", "low> failed", "high> proved"]
         progress = Progress("registryd", crates_below("registryd"), 4, out=io.StringIO())
         with mock.patch.object(build_program, "lines_of", lambda words, folder: (line + "\n" for line in lines)):
-            self.assertEqual(build_program.build(4, progress), (False, ["wrong\n"]))
+            self.assertEqual(build_program.build(4, progress), (False, ["wrong\n", "the crate low is not proved\n"]))
 
     def test_less_is_left_as_it_goes_on(self):
         crates = crates_below("registryd")

@@ -21,7 +21,7 @@ WEIGHTS = {"small": 60, "low": 50, "left": 10, "right": 20, "top": 5}
 
 
 class Order(unittest.TestCase):
-    def prove(self, processors, failing=()):
+    def prove(self, processors, failing=(), at_once=None):
         """Runs it; answers whether all was well, and what was begun, each with its jobs and whether it gives way."""
         begun, proved, lock, now, most = [], set(), threading.Lock(), [0], [0]
 
@@ -36,8 +36,8 @@ class Order(unittest.TestCase):
                 proved.add(name)
             return name not in failing
 
-        is_well = side_by_side(BELOW, WEIGHTS, processors, prove)
-        self.assertLessEqual(most[0], processors + 1)
+        is_well = side_by_side(BELOW, WEIGHTS, processors, at_once or processors, prove)
+        self.assertLessEqual(most[0], at_once or processors)
         return is_well, begun
 
     def test_the_longest_chain(self):
@@ -53,23 +53,23 @@ class Order(unittest.TestCase):
 
     def test_only_those_with_the_longest_chain_get_several_jobs(self):
         for processors, jobs in ((1, 1), (2, 2), (3, 3), (4, 4), (16, 4)):
-            self.assertEqual(self.prove(processors)[1][:2], [("low", jobs, False), ("small", 1, True)])
+            self.assertEqual(self.prove(processors, at_once=processors + 1)[1][:2], [("low", jobs, False), ("small", 1, True)])
 
     def test_chains_of_about_the_longest_length_go_first(self):
         first = {"a": 100, "b": 95, "c": 80, "d": 70, "e": 60, "f": 50}
-        self.assertEqual([*share([*"abcdef"], [], first, 4)],
+        self.assertEqual([*share([*"abcdef"], [], first, 4, 5)],
                          [("a", 4, False), ("b", 4, False), ("c", 1, True), ("d", 1, True), ("e", 1, True)])
-        self.assertEqual([*share(["b", "c"], ["a"], first, 2)], [("b", 2, False), ("c", 1, True)])
-        self.assertEqual([*share(["b", "f"], ["c"], first, 1)], [("b", 1, False)])
-        self.assertEqual([*share(["f"], [*"abcde"], first, 4)], [])
+        self.assertEqual([*share(["b", "c"], ["a"], first, 2, 3)], [("b", 2, False), ("c", 1, True)])
+        self.assertEqual([*share(["b", "f"], ["c"], first, 1, 2)], [("b", 1, False)])
+        self.assertEqual([*share(["f"], [*"abcde"], first, 4, 5)], [])
 
     def test_nothing_begins_once_one_failed(self):
-        is_well, begun = self.prove(1, failing=("low", "small"))
+        is_well, begun = self.prove(1, failing=("low",))
         self.assertFalse(is_well)
-        self.assertEqual({name for name, *_ in begun}, {"low", "small"})
+        self.assertEqual([name for name, *_ in begun], ["low"])
 
     def test_nothing_to_prove_is_well(self):
-        self.assertTrue(side_by_side({}, {}, 4, None))
+        self.assertTrue(side_by_side({}, {}, 4, 5, None))
 
 
 class Kit:
