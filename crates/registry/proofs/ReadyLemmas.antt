@@ -1,5 +1,5 @@
 -- What is made ready for a publication.
-use Rattle.std.proofs.Common.{◌≡◌, ◌<◌, ◌+◌, ◌∙◌, ℕ, suc, List, [], ◌∷◌, ◌++◌, Bool, true, false, if◌then◌else◌, add-one, ap, drop, get_or, length, take, refl, subst, sym}
+use Rattle.std.proofs.Common.{◌≡◌, ◌<◌, ◌+◌, ◌∙◌, ℕ, suc, List, [], ◌∷◌, ◌++◌, Result, Ok, Err, OnOk, Bool, true, false, if◌then◌else◌, add-one, ap, drop, get_or, length, take, refl, subst, sym}
 use Rattle.std.specs.Borrow.{Bor}
 use Rattle.std.specs.List.{find, list_any}
 use Rattle.std.specs.Option.{option_map}
@@ -35,6 +35,11 @@ module _ (known : Text → Bool) (needs : List (Text × Text)) (i : ℕ) (d : Te
       either : (b : Bool) (name : Text) (rest : List Text) → (if b then [] else name ∷ []) ++ rest ≡ (if b then rest else name ∷ rest)
       either true name rest = refl
       either false name rest = refl
+
+-- what holds anyway holds where a call succeeds
+pub on_ok : {T E : Type 0} (r : Result T E) (P : Type 0) → P → OnOk r P
+on_ok (Ok x) P p = p
+on_ok (Err e) P p = tt
 
 pub AreEmpty-push : (added : List (Text × PublicationList)) (new : Text × PublicationList) → AreEmpty added → new.1.publications ≡ [] → AreEmpty (added ++ new ∷ [])
 AreEmpty-push added new all empty =

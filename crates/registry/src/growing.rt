@@ -44,7 +44,11 @@ pub fn enter_name(
     ensures room { slice_index (rooms_of lists.new.items) result ≡ room_where (rooms_of lists.old.items) own.room place }
 {
     match place {
-        Some(index) => index,
+        Some(index) => {
+            drop(own);
+            drop(name);
+            index
+        }
         None => {
             let last = lists.len();
             names.insert(name).unwrap();
@@ -73,6 +77,8 @@ fn add_name(
 {
     if names.insert(name).unwrap() {
         lists.push(publications).unwrap();
+    } else {
+        drop(publications);
     }
 }
 

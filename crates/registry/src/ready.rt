@@ -15,6 +15,9 @@ use indexmap::IndexSet;
 use std::alloc::{AllocError, Global};
 use versions::{Name, Need};
 
+// What was made so far is dropped by a call where memory is refused. Else what dropping it does would stand in the proof
+// of each way out of each function.
+
 /// What is made ready for a publication: where its package stands, and the names to be numbered,
 /// each with its list of publications, which keeps the matching sets of what the publication needs.
 #[derive(Drop)]
@@ -52,9 +55,14 @@ fn new_package(alloc: Global, need: &(Name, Need)) -> Result<(Name, Publications
     ensures name { IfOk result (λ new. new.0 ≡ need.now.0) }
     ensures empty { IfOk result (λ new. new.1.publications ≡ []) }
 {
+    let name = need.0.clone()?;
     let mut publications = Publications::new(alloc);
-    publications.name_need(&need.1)?;
-    Ok((need.0.clone()?, publications))
+    if let Err(error) = publications.name_need(&need.1) {
+        drop(publications);
+        drop(name);
+        return Err(error);
+    }
+    Ok((name, publications))
 }
 
 /// What the needs of a publication come to.
@@ -326,12 +334,20 @@ pub fn make_ready(
     let (place, name) = kept_name(names, name)?;
     let (needs, added) = named_needs(alloc, names, lists, needs, place)?;
     let mut own = Publications::new(alloc);
-    make_room(names, lists, &mut own, place, added.len() + 1)?;
-    Ok(Ready {
-        name,
-        needs,
-        place,
-        own,
-        added,
-    })
+    match make_room(names, lists, &mut own, place, added.len() + 1) {
+        Ok(()) => Ok(Ready {
+            name,
+            needs,
+            place,
+            own,
+            added,
+        }),
+        Err(error) => {
+            drop(own);
+            drop(added);
+            drop(needs);
+            drop(name);
+            Err(error)
+        }
+    }
 }

@@ -1,15 +1,11 @@
-use Rattle.std.proofs.Common.{◌≡◌, ◌∙◌, ◌∷◌, ◌++◌, [], ap, List, Result, Ok, Err, OnOk}
+use Rattle.std.proofs.Common.{◌≡◌, ◌∙◌, ◌∷◌, ◌++◌, [], ap, List}
 use Rattle.std.proofs.lemmas.List.{map-append}
 use Rattle.std.proofs.lemmas.Result.{IfOk-equal}
 use Rattle.versions.specs.Words.{Text}
 use Rattle.registry.specs.Publications.{PublicationList}
 use Rattle.registry.specs.Rooms.{AreEmpty, names_in}
-use Rattle.registry.proofs.ReadyLemmas.{AreEmpty-push}
+use Rattle.registry.proofs.ReadyLemmas.{AreEmpty-push, on_ok}
 use Rattle.registry.proofs.ready.add_new.Goals as goal
-
-on_ok : {T E : Type 0} (r : Result T E) (P : Type 0) → P → OnOk r P
-on_ok (Ok x) P p = p
-on_ok (Err e) P p = tt
 
 pub returns-clause-empty : goal.returns-clause-empty
 returns-clause-empty c =

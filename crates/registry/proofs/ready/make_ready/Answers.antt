@@ -1,12 +1,21 @@
-use Rattle.std.proofs.Common.{◌∙◌, ap, arith, sym}
-use Rattle.std.specs.Prelude.{position}
+use Rattle.std.proofs.Common.{◌∙◌, List, [], ap, arith, sym}
+use Rattle.std.specs.Prelude.{Some, position}
+use Rattle.std.proofs.lemmas.List.Quantifiers.{position-Some}
+use Rattle.versions.specs.Words.{Text}
 use Rattle.std.specs.List.{list_any}
 use Rattle.std.specs.Str.{bytes_eq}
 use Rattle.registry.specs.Rooms.{unknown_names}
 use Rattle.registry.proofs.ready.make_ready.Goals as goal
 
-pub returns-clause-ready : goal.returns-clause-ready
-returns-clause-ready c = record {
+pub make_room-requires : goal.make_room-requires
+make_room-requires c = record {
+  within = λ i is.
+      let stands = position-Some (bytes_eq c.args.name.now) c.args.names.now.keys i [] (sym c.in_ok-place.ensures.place ∙ is) in
+      omega (arith, stands.0, c.requires.paired, c.named_needs.ensures.length);
+}
+
+pub returns-in-Ok-clause-ready : goal.returns-in-Ok-clause-ready
+returns-in-Ok-clause-ready c = record {
   placed =
       c.in_ok-place.ensures.place ∙ ap (λ ks. position (bytes_eq c.args.name.now) ks) (sym c.make_room.ensures.keys)
       ∙ ap (λ n. position (bytes_eq n) c.make_room.new.names.keys) (sym c.in_ok-place.ensures.same);
@@ -14,21 +23,32 @@ returns-clause-ready c = record {
       c.in_ok-needs.ensures.named
       ∙ ap (λ ks. unknown_names (λ name. list_any (bytes_eq name) ks) c.args.needs.now) (sym c.make_room.ensures.keys)
       ∙ ap (λ needs. unknown_names (λ name. list_any (bytes_eq name) c.make_room.new.names.keys) needs) (sym c.in_ok-needs.ensures.same);
-  names_fit = omega (arith, c.in_ok-make_room.ensures.names_room, c.len.ensures, c.in_ok-needs.added.ok.0);
-  lists_fit = omega (arith, c.in_ok-make_room.ensures.lists_room, c.len.ensures, c.in_ok-needs.added.ok.0);
+  names_fit = omega (arith, c.in-Ok.ensures.names_room, c.len.ensures, c.in_ok-needs.added.ok.0);
+  lists_fit = omega (arith, c.in-Ok.ensures.lists_room, c.len.ensures, c.in_ok-needs.added.ok.0);
   own = c.make_room.ensures.own ∙ c.new-own.ensures;
   empty = c.in_ok-needs.ensures.empty;
-  room = c.in_ok-make_room.ensures.room;
+  room = c.in-Ok.ensures.room;
 }
 
-pub returns-in_err-make_room-clause-lists : goal.returns-in_err-make_room-clause-lists
-returns-in_err-make_room-clause-lists c = c.make_room.ensures.lists ∙ c.named_needs.ensures.lists
+pub returns-in-Err-clause-lists : goal.returns-in-Err-clause-lists
+returns-in-Err-clause-lists c = c.make_room.ensures.lists ∙ c.named_needs.ensures.lists
 
-pub returns-in_err-make_room-clause-length : goal.returns-in_err-make_room-clause-length
-returns-in_err-make_room-clause-length c = c.make_room.ensures.length ∙ c.named_needs.ensures.length
+pub returns-in-Err-clause-length : goal.returns-in-Err-clause-length
+returns-in-Err-clause-length c = c.make_room.ensures.length ∙ c.named_needs.ensures.length
 
-pub returns-clause-lists : goal.returns-clause-lists
-returns-clause-lists c = c.make_room.ensures.lists ∙ c.named_needs.ensures.lists
+pub returns-in-Ok-clause-lists : goal.returns-in-Ok-clause-lists
+returns-in-Ok-clause-lists c = c.make_room.ensures.lists ∙ c.named_needs.ensures.lists
 
-pub returns-clause-length : goal.returns-clause-length
-returns-clause-length c = c.make_room.ensures.length ∙ c.named_needs.ensures.length
+pub returns-in-Ok-clause-length : goal.returns-in-Ok-clause-length
+returns-in-Ok-clause-length c = c.make_room.ensures.length ∙ c.named_needs.ensures.length
+
+pub returns-in-Ok-clause-publication : goal.returns-in-Ok-clause-publication
+returns-in-Ok-clause-publication c =
+    ap (λ (name : Text). Some (name, c.in_ok-needs.needs)) c.in_ok-place.ensures.same
+    ∙ ap (λ (needs : List (Text × Text)). Some (c.args.name.now, needs)) c.in_ok-needs.ensures.same
+
+pub returns-in-Ok-clause-keys : goal.returns-in-Ok-clause-keys
+returns-in-Ok-clause-keys c = c.make_room.ensures.keys
+
+pub returns-in-Err-clause-keys : goal.returns-in-Err-clause-keys
+returns-in-Err-clause-keys c = c.make_room.ensures.keys

@@ -42,3 +42,9 @@ returns-else-yanked c =
     (record { found = c.in-Some.ensures.found; only = c.in-Some.ensures.only })
     ∙ ap (λ b. set_yanked c.args.version.now b (publications_of c.self.inside.releases.releases c.self.inside.needs.items)) (sym c.if-yanked.false)
     ∙ ap (λ (l : PublicationList). set_yanked c.args.version.now c.args.yanked l.publications) c.self.view_is
+
+pub yank-requires : goal.yank-requires
+yank-requires c = omega (arith, c.in-Some.ensures.found.0, length-map c.self.inside.releases.releases (λ (r : Release). r.version))
+
+pub unyank-requires : goal.unyank-requires
+unyank-requires c = omega (arith, c.in-Some.ensures.found.0, length-map c.self.inside.releases.releases (λ (r : Release). r.version))

@@ -1,5 +1,6 @@
-use Rattle.std.proofs.Common.{◌∙◌, ap, get_or, sym}
+use Rattle.std.proofs.Common.{◌∙◌, ap, arith, get_or, length, sym}
 use Rattle.std.specs.Prelude.{Some}
+use Rattle.std.proofs.lemmas.List.{length-map}
 use Rattle.releases.specs.declared.release.Release.{Release}
 use Rattle.std.proofs.Common.{List}
 use Rattle.registry.specs.Publications.{PublicationList}
@@ -12,6 +13,10 @@ returns-in_err-ordinal c =
     c.from_residual.ensures
     ∙ sym (yank_of-none c.self.inside.releases.releases c.self.inside.needs.items c.args.version.now (sym c.in_err-ordinal.ensures.there))
     ∙ ap (λ (l : PublicationList). yank_of l.publications c.args.version.now) c.self.view_is
+
+pub bounds-as_slice-ordinal : goal.bounds-as_slice-ordinal
+bounds-as_slice-ordinal c =
+    omega (arith, c.in_ok-ordinal.ensures.found.0, length-map c.self.inside.releases.releases (λ (r : Release). r.version), ap length c.as_slice.ensures)
 
 pub returns : goal.returns
 returns c =

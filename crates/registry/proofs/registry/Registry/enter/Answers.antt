@@ -1,12 +1,14 @@
-use Rattle.std.proofs.Common.{◌∙◌, ◌≡◌, ◌<◌, ◌≤◌, ◌-◌, ℕ, ◌+◌, ◌++◌, ◌∷◌, [], ap, sym, subst, arith, rules, set, false, length, List, vec_capacity, vec_len}
-use Rattle.std.specs.Prelude.{None, Some, position}
+use Rattle.std.proofs.Common.{◌∙◌, ◌≡◌, ◌<◌, ◌≤◌, ◌-◌, ℕ, ◌+◌, ◌++◌, ◌∷◌, [], ap, sym, subst, arith, get_or, rules, set, false, length, List, vec_capacity, vec_len}
+use Rattle.std.specs.Prelude.{None, Some, position, slice_index}
+use Rattle.std.proofs.lemmas.List.{get_or-map}
+use Rattle.std.proofs.lemmas.Option.{none-some}
 use Rattle.std.specs.List.{list_any}
 use Rattle.std.specs.Str.{bytes_eq}
 use Rattle.versions.specs.Words.{Text}
 use Rattle.registry.specs.Lawful.{IsRegistry}
-use Rattle.registry.specs.Publications.{packages_in}
+use Rattle.registry.specs.Publications.{PublicationList, packages_in, rooms_of}
 use Rattle.registry.specs.Registry.{Packages, Publication, has_version, number_of, versions_of}
-use Rattle.registry.specs.Rooms.{State, names_in, unknown_names}
+use Rattle.registry.specs.Rooms.{State, names_in, publication_for, unknown_names}
 use Rattle.registry.specs.Step.{publish, publish_refusal, with_listed, with_name, with_versions}
 use Rattle.registry.proofs.GrowthLemmas.{new_names, new_names-packages_in, number_of-with_listed, packages-changed, versions_of-placed, with_named-new}
 use Rattle.registry.proofs.Lawfulness.{accepted_by, lawful-publish, versions-named}
@@ -25,6 +27,10 @@ fits_behind n m k fits more = omega arith
 
 fits_lists : (n room held room' held' : ℕ) → n < room - held → room ≤ room' → held' ≤ held + 1 → held' + n ≤ room'
 fits_lists n room held room' held' fits more grown = omega arith
+
+-- the room of the list at a place
+room-at : (lists : List PublicationList) (i : ℕ) (list : PublicationList) → i < length lists → list ≡ get_or lists i list → slice_index (rooms_of lists) i ≡ list.room
+room-at lists i list within at = get_or-map (λ (l : PublicationList). l.room) lists i list 0 within ∙ ap (λ (l : PublicationList). l.room) (sym at)
 
 -- the packages before
 abbrev before : After-index_mut-list → Packages
@@ -50,6 +56,15 @@ listed c =
     sym (versions_of-placed c.add_names.new.names.keys c.add_names.new.lists.items c.args.name c.enter_name-index.result c.index_mut-list.result.now
     c.add_names.ensures.paired (number c) stay.0 c.index_mut-list.ensures.value)
     ∙ ap (λ (ps : Packages). versions_of ps c.args.name) (named c) ∙ versions-named (before c) c.args.name (names_in c.in-Some.ready.added.items) c.args.name
+
+pub unreachable-requires : goal.unreachable-requires
+unreachable-requires c =
+    none-some (c.args.name, c.args.needs) (ap publication_for (sym c.in_default.is ∙ c.take.ensures.value) ∙ ap (λ (s : State). s.ready) c.self.view_is ∙ c.requires.ready)
+
+pub index_mut-list-requires : goal.index_mut-list-requires
+index_mut-list-requires c =
+    let stay = c.add_names.ensures.stay c.enter_name-index.result c.enter_name-index.ensures.place in
+    omega (arith, stay.0, c.add_names.new.lists.ok.0)
 
 pub enter_name-index-requires-clause-paired : goal.enter_name-index-requires-clause-paired
 enter_name-index-requires-clause-paired c = c.self.invariant.0
@@ -92,6 +107,13 @@ pub add_names-requires-clause-empty : goal.add_names-requires-clause-empty
 add_names-requires-clause-empty c =
     let ready = ready-taken c.self.inside.names.keys _ c.self.inside.lists.items _ c.self.inside.ready c.in-Some.ready c.self.invariant.2 (sym c.take.ensures.value ∙ c.in-Some.is) in
     ready.empty
+
+pub push-requires-clause-room : goal.push-requires-clause-room
+push-requires-clause-room c =
+    let ready = ready-taken c.self.inside.names.keys _ c.self.inside.lists.items _ c.self.inside.ready c.in-Some.ready c.self.invariant.2 (sym c.take.ensures.value ∙ c.in-Some.is) in
+    let stay = c.add_names.ensures.stay c.enter_name-index.result c.enter_name-index.ensures.place in
+    let room = room-at c.add_names.new.lists.items c.enter_name-index.result c.index_mut-list.result.now stay.0 c.index_mut-list.ensures.value in
+    omega (arith, ready.room, c.enter_name-index.ensures.room, stay.1, room)
 
 pub push-requires-clause-new : goal.push-requires-clause-new
 push-requires-clause-new c =
