@@ -1,6 +1,19 @@
 use Rattle.std.proofs.Common.{sym, ◌∙◌, ◌+◌, ◌-◌, ◌/◌, ◌<◌, arith, refl, length}
-use Rattle.releases.proofs.Searching.{gap-top, is_lt-Less, read-compared, searching-down, searching-up, tied-place}
+use Rattle.std.proofs.lemmas.List.{length-map}
+use Rattle.releases.specs.declared.release.Release.{Release}
+use Rattle.releases.proofs.Searching.{gap-top, is_lt-Less, read-compared, searching-begin, searching-down, searching-up, tied-place}
 use Rattle.releases.proofs.rising.place_of.Goals as goal
+
+pub bounds-releases-top : goal.bounds-releases-top
+bounds-releases-top c = omega (arith, c.requires.within (length c.args.rising.now - 1) (omega arith), length-map c.args.releases.now (λ (r : Release). r.version))
+
+pub bounds-releases-rising : goal.bounds-releases-rising
+bounds-releases-rising c =
+    let middle = c.halve.low + (c.halve.high - c.halve.low) / 2 in
+    omega (arith, c.requires.within middle (omega (arith, c.halve.invariant.within)), length-map c.args.releases.now (λ (r : Release). r.version))
+
+pub halve-init : goal.halve-init
+halve-init c = searching-begin _ _ _
 
 pub halve-preserved-in-Less : goal.halve-preserved-in-Less
 halve-preserved-in-Less c =

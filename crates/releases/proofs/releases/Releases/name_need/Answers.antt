@@ -1,4 +1,4 @@
-use Rattle.std.proofs.Common.{◌≡◌, ◌∙◌, ◌++◌, ◌∷◌, [], ℕ, List, if◌then◌else◌, ap, arith, false, get_or, length, length-append, sym}
+use Rattle.std.proofs.Common.{◌≡◌, ◌∙◌, ◌++◌, ◌∷◌, [], ℕ, List, if◌then◌else◌, ap, arith, false, get_or, length, length-append, sym, true, true≢false}
 use Rattle.std.specs.Prelude.{Some, position, slice_get}
 use Rattle.std.specs.List.{list_any}
 use Rattle.std.specs.Str.{bytes_eq}
@@ -8,6 +8,8 @@ use Rattle.std.proofs.Math.Seq.{get_or-append_seam}
 use Rattle.versions.specs.NameLaws.{same_name}
 use Rattle.versions.specs.Words.{Text}
 use Rattle.versions.specs.Bounds.{Reach}
+use Rattle.releases.specs.Kept.{Listing}
+use Rattle.releases.specs.Releases.{is_named, with_need}
 use Rattle.releases.proofs.MatchingLemmas.{IsKept-named}
 use Rattle.releases.proofs.releases.Releases.name_need.Goals as goal
 
@@ -31,6 +33,36 @@ last needs after need copy n same end new is =
     (grown needs after need copy same new is)
     ∙ slice_get-get_or (needs ++ need ∷ []) n [] (omega (arith, length-append needs (need ∷ []), end))
     ∙ ap (λ (t : Text). Some t) (ap (λ i. get_or (needs ++ need ∷ []) i []) end ∙ get_or-append_seam needs need [] [])
+
+-- a requirement that is named stays where it is
+kept : (needs : List Text) (need : Text) → true ≡ is_named needs need → needs ≡ with_need needs need
+kept needs need named = sym (ap (λ b. if b then needs else needs ++ need ∷ []) (sym named))
+
+-- one that is not found among those that are stored is not named
+unnamed : (stored seen : Listing) (need : Text) → stored ≡ seen → false ≡ is_named stored.needs need → is_named seen.needs need ≡ true → ⊥
+unnamed stored seen need same missed named = true≢false (sym (missed ∙ ap (λ (l : Listing). is_named l.needs need) same ∙ named))
+
+pub returns-in-Some-clause-ok : goal.returns-in-Some-clause-ok
+returns-in-Some-clause-ok c = rw (← c.self.view_is) (kept c.self.inside.needs.keys c.args.need.now c.in-Some.ensures.found)
+
+pub returns-in_err-reserve-clause-succeeds : goal.returns-in_err-reserve-clause-succeeds
+returns-in_err-reserve-clause-succeeds c = λ named. absurd (unnamed _ _ c.args.need.now c.self.view_is c.in_default.ensures.found named)
+
+pub returns-in_err-reserve-2-clause-succeeds : goal.returns-in_err-reserve-2-clause-succeeds
+returns-in_err-reserve-2-clause-succeeds c = λ named. absurd (unnamed _ _ c.args.need.now c.self.view_is c.in_default.ensures.found named)
+
+pub returns-in_err-named-clause-succeeds : goal.returns-in_err-named-clause-succeeds
+returns-in_err-named-clause-succeeds c = λ named. absurd (unnamed _ _ c.args.need.now c.self.view_is c.in_default.ensures.found named)
+
+pub returns-in_err-keep_set-clause-succeeds : goal.returns-in_err-keep_set-clause-succeeds
+returns-in_err-keep_set-clause-succeeds c = λ named. absurd (unnamed _ _ c.args.need.now c.self.view_is c.in_default.ensures.found named)
+
+pub returns-clause-ok : goal.returns-clause-ok
+returns-clause-ok c =
+    let keys = rw c.unwrap.ensures at c.insert.ensures.keys in
+    let same : c.reserve.new.self.keys ≡ c.self.inside.needs.keys = c.in_ok-reserve.ensures.keys in
+    rw (← c.self.view_is) (grown c.self.inside.needs.keys _ c.args.need.now c.in_ok-named.named c.in_ok-named.ensures.cases (sym c.in_default.ensures.found) (rw same at keys)
+    ∙ sym (ap (λ b. if b then c.self.inside.needs.keys else c.self.inside.needs.keys ++ c.args.need.now ∷ []) (sym c.in_default.ensures.found)))
 
 pub returns-in-Some-clause-place : goal.returns-in-Some-clause-place
 returns-in-Some-clause-place c = rw (← c.self.view_is) (known c.self.inside.needs.keys c.args.need.now c.in-Some.place (sym c.in-Some.ensures.index))

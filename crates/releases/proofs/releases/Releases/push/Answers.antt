@@ -1,11 +1,26 @@
-use Rattle.std.proofs.Common.{◌-◌, ◌<◌, arith, min, vec_capacity, vec_len}
+use Rattle.std.proofs.Common.{◌-◌, ◌<◌, ◌∙◌, ap, arith, min, vec_capacity, vec_len}
+use Rattle.releases.specs.Kept.{Listing}
+use Rattle.releases.specs.Releases.{has_version, versions_of}
 use Rattle.releases.proofs.Room.{least_room-each, least_room-start}
 use Rattle.releases.proofs.releases.Releases.push.Goals as goal
+
+pub keep_up-requires-clause-matching : goal.keep_up-requires-clause-matching
+keep_up-requires-clause-matching c = rw (c.deref.ensures.value, c.as_slice.ensures.keys, c.deref_mut.ensures.value) c.self.invariant.matching
+
+pub keep_up-requires-clause-bounds : goal.keep_up-requires-clause-bounds
+keep_up-requires-clause-bounds c = rw (c.as_slice.ensures.keys, c.deref-2.ensures.value) c.self.invariant.bounded
 
 pub keep_up-requires-clause-room : goal.keep_up-requires-clause-room
 keep_up-requires-clause-room c =
     let pos = rw (← c.self.view_is) at c.requires.room in
     rw c.deref_mut.ensures.value (least_room-each _ c.self.inside.sets.items pos)
+
+pub raise-requires-clause-in_order : goal.raise-requires-clause-in_order
+raise-requires-clause-in_order c = rw c.deref-3.ensures.value c.self.invariant.in_order
+
+pub raise-requires-clause-new : goal.raise-requires-clause-new
+raise-requires-clause-new c =
+    ap (λ l. has_version (versions_of l) c.args.version) (c.deref-3.ensures.value ∙ ap (λ (l : Listing). l.releases) c.self.view_is) ∙ c.requires.new
 
 pub raise-requires-clause-room : goal.raise-requires-clause-room
 raise-requires-clause-room c =
