@@ -1,7 +1,10 @@
 use Rattle.std.proofs.Common.{sym, ◌∙◌, ap}
-use Rattle.std.proofs.lemmas.Option.{get_or_from_slice_get}
+use Rattle.std.proofs.lemmas.Option.{get_or_from_slice_get, slice_get_within}
 use Rattle.terms.proofs.Inserting.{bits_of-at, bits_of-none}
 use Rattle.terms.proofs.words.bits_of.Goals as goal
+
+pub bounds-words-place : goal.bounds-words-place
+bounds-words-place c = let p = c.in-Ok.ensures in slice_get_within c.args.words.now c.in-Ok.place p.0 p.1
 
 pub returns-in-Ok : goal.returns-in-Ok
 returns-in-Ok c =
