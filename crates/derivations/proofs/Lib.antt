@@ -12,6 +12,8 @@ pub mod Sound
 pub mod Ends
 pub mod Refuting
 pub mod Offered
+pub mod Behind
+pub mod Written
 pub mod Clearing
 pub mod Tested
 pub mod Grown

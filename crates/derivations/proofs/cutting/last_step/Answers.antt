@@ -1,7 +1,42 @@
-use Rattle.std.proofs.Common.{inl}
+use Rattle.std.proofs.Common.{◌≡◌, ◌∙◌, ◌<◌, ℕ, List, arith, get_or, inl, inr, length, refl, subst, sym}
 use Rattle.std.proofs.lemmas.Bool.{iff_false}
+use Rattle.std.proofs.lemmas.Option.{get_or_from_slice_get, slice_get_read, slice_get_within}
+use Rattle.derivations.specs.Known.{AreOrdered, EndsAt, IsResolved}
+use Rattle.derivations.specs.declared.cutting.Known.{Known}
+use Rattle.derivations.specs.declared.cutting.Reason.TheVariants.{Resolved}
 use Rattle.derivations.proofs.Early.{early}
+use Rattle.derivations.proofs.Walking.{before_by}
 use Rattle.derivations.proofs.cutting.last_step.Goals as goal
+
+-- the first line that the end cites stands among the lines
+first_within : (known : List Known) (end i j pivot : ℕ) (own : Known) → AreOrdered known → EndsAt known end → own ≡ get_or known end own → own.reason ≡ Resolved i j pivot → i < length known
+first_within known end i j pivot own ordered ends is reason =
+    let within = slice_get_within known end ends.line ends.at in
+    omega (arith, within, (before_by known end i j pivot own ordered within is reason).0)
+
+pub bounds-known-end : goal.bounds-known-end
+bounds-known-end c = slice_get_within c.args.known.now c.args.end c.requires.end.line c.requires.end.at
+
+pub cites-i-requires : goal.cites-i-requires
+cites-i-requires c =
+    let ends = c.requires.end in
+    subst (λ (line : Known). IsResolved line.reason) (sym (c.index-known-end.is ∙ get_or_from_slice_get c.args.known.now c.args.end ends.line c.index-known-end.result ends.at)) ends.resolved
+
+pub bounds-known-i : goal.bounds-known-i
+bounds-known-i c =
+    first_within c.args.known.now c.args.end c.cites-i.result.0 c.cites-i.result.1 c.cites-i.result.2 c.index-known-end.result c.requires.ordered c.requires.end c.index-known-end.is c.cites-i.ensures
+
+pub returns-then-says_root_alone-clause-ends : goal.returns-then-says_root_alone-clause-ends
+returns-then-says_root_alone-clause-ends c =
+    let known = c.args.known.now in
+    let within = first_within known c.args.end c.cites-i.result.0 c.cites-i.result.1 c.cites-i.result.2 c.index-known-end.result c.requires.ordered c.requires.end c.index-known-end.is c.cites-i.ensures in
+    let says = c.says_root_alone.ensures.0 c.if-says_root_alone.true in
+    record {
+      line = c.index-known-i.result;
+      at = slice_get_read known (length known) c.cites-i.result.0 c.index-known-i.result refl within c.index-known-i.is;
+      resolved = says.0;
+      ended = inr says.1;
+    }
 
 pub returns-then-says_root_alone-clause-early : goal.returns-then-says_root_alone-clause-early
 returns-then-says_root_alone-clause-early c = λ t.

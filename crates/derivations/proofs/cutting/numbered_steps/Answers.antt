@@ -1,7 +1,11 @@
-use Rattle.std.proofs.Common.{◌∙◌, sym, ap, arith, length}
+use Rattle.std.proofs.Common.{◌≡◌, ◌∙◌, ℕ, List, [], ap, arith, inl, length, refl, reverse, subst, sym, true≢false}
+use Rattle.std.proofs.Math.ListN.{length-set}
+use Rattle.derivations.specs.Known.{IsOpen, IsReady}
 use Rattle.derivations.specs.Taking.{line_at, lines_at}
-use Rattle.derivations.proofs.Taken.{lines_counted, lines_pushed, one_more}
-use Rattle.derivations.proofs.Walking.{ends, falls_up, goes_down, goes_up, open_within, some_pushed}
+use Rattle.derivations.specs.declared.line.Line.{Line}
+use Rattle.derivations.specs.declared.taking.Step.{Step}
+use Rattle.derivations.proofs.Taken.{AreStepsTo, lines_counted, lines_pushed, one_more}
+use Rattle.derivations.proofs.Walking.{IsWalk, ends, falls_down, falls_up, goes_down, goes_up, open_within, some_pushed, start}
 use Rattle.derivations.proofs.cutting.numbered_steps.Goals as goal
 
 pub returns-in-None-pop-clause-shows : goal.returns-in-None-pop-clause-shows
@@ -56,3 +60,45 @@ returns-in-None-pop-clause-numbered c =
     let step = c.in_ok-step-in-None.step in
     let some = some_pushed steps step c.as_slice-in-None.result.now (c.as_slice-in-None.ensures.value ∙ c.in_ok-push-in-None.ensures.items) in
     (one_more c.args.known.now c.walk.numbers.items steps c.walk.at (length c.as_slice-in-None.result.now) step c.push-in-None.new.self.items c.walk.invariant.1 c.walk.invariant.0.here c.walk.invariant.0.lengths c.in_ok-step-in-None.ensures.here some c.in_ok-push-in-None.ensures.items).numbered
+
+pub walk-init : goal.walk-init
+walk-init c =
+    let known = c.args.known.now in
+    let zeros = c.args.zeros.items in
+    let lines : lines_at known c.in_ok-steps.steps.items ≡ [] = ap (lines_at known) c.in_ok-steps.ensures.items in
+    let users : reverse c.in_ok-users.users.items ≡ [] = ap reverse c.in_ok-users.ensures.items in (
+      subst (λ (all : List Line). IsWalk known c.args.place zeros all (reverse c.in_ok-users.users.items) c.args.place) (sym lines)
+          (subst (λ (all : List ℕ). IsWalk known c.args.place zeros [] all c.args.place) (sym users) (start known c.args.place zeros c.requires.clear.lengths c.requires.clear.zeros c.requires.resolved)),
+      subst (λ (steps : List Step). AreStepsTo known zeros steps) (sym c.in_ok-steps.ensures.items) (record { numbered = λ k. inl (c.requires.clear.zeros k); have = tt; placed = tt }),
+    )
+
+pub walk-smaller-in-Some : goal.walk-smaller-in-Some
+walk-smaller-in-Some c = falls_down c.args.known.now c.walk.numbers.items c.walk.at c.in-Some.cause c.in-Some.ensures.below
+
+pub open_cause-requires : goal.open_cause-requires
+open_cause-requires c = record {
+  ordered = c.requires.ordered;
+  lengths = ap length c.deref.ensures.value ∙ c.walk.invariant.0.lengths;
+  here = subst (λ numbers. IsOpen c.args.known.now numbers c.walk.at) (sym c.deref.ensures.value) c.walk.invariant.0.here;
+}
+
+pub step_for-requires : goal.step_for-requires
+step_for-requires c = record {
+  lengths = ap length c.deref-in-None.ensures.value ∙ c.walk.invariant.0.lengths;
+  ready = subst (λ numbers. IsReady c.args.known.now numbers c.walk.at) (c.deref.ensures.value ∙ sym c.deref-in-None.ensures.value) c.in-None.ensures.ready;
+}
+
+pub returns-then-is_beyond : goal.returns-then-is_beyond
+returns-then-is_beyond c = record {
+  shows = λ whole. absurd (true≢false (sym whole));
+  whole = λ none. absurd (true≢false (sym c.if-is_beyond.true ∙ c.is_beyond.ensures none));
+  placed = c.walk.invariant.1.placed;
+  length = c.walk.invariant.0.lengths;
+  numbered = c.walk.invariant.1.numbered;
+}
+
+pub returns-in-None-pop-clause-whole : goal.returns-in-None-pop-clause-whole
+returns-in-None-pop-clause-whole c = λ none. refl
+
+pub returns-in-None-pop-clause-length : goal.returns-in-None-pop-clause-length
+returns-in-None-pop-clause-length c = length-set c.walk.numbers.items c.walk.at (length c.as_slice-in-None.result.now) ∙ c.walk.invariant.0.lengths

@@ -1,4 +1,4 @@
-use Rattle.std.proofs.Common.{◌∙◌, ap, get_or, subst, sym}
+use Rattle.std.proofs.Common.{◌∙◌, ap, arith, get_or, length, subst, sym}
 use Rattle.std.specs.Prelude.{All, IfSome}
 use Rattle.derivations.specs.Known.{ShowsLine}
 use Rattle.derivations.specs.Offering.{ShowsOne}
@@ -20,3 +20,12 @@ loop-at-preserved c = record {
     | in_default w ↦ subst (λ v. All (ShowsOne c.args.known.now c.args.places.now) v.items) (sym w.offered-is) c.loop-at.invariant.shown
   ];
 }
+
+pub loop-at-init : goal.loop-at-init
+loop-at-init c = record {
+  clear = record { lengths = c.in_ok-numbers.ensures.length; zeros = c.in_ok-numbers.ensures.zeros };
+  shown = λ k d lt. absurd (omega (arith, lt, ap length c.new-offered.ensures.items));
+}
+
+pub returns-clause-from : goal.returns-clause-from
+returns-clause-from c = c.loop-at.invariant.shown

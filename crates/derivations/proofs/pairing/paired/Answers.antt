@@ -41,3 +41,14 @@ returns c =
     subst (λ n. IsSameSearch known c.args.place at.lines.items n)
     (get_or_default places c.args.place 0 c.index-at.result.now (all_moved known places c.args.place c.requires.resolved all) ∙ sym c.index-at.ensures)
     (moved_search known at.lines.items places c.args.place at.invariant.moved all)
+
+pub index-at-requires : goal.index-at-requires
+index-at-requires c =
+    let at = c.loop-line in
+    let known = c.args.known.items in
+    let places = at.places.items in
+    let all = nothing_left known (into_iter_items at.line-iterator) (length places) at.invariant.left (sym at.line-iterator.rest.ok.0 ∙ c.in-None.ensures.steps.0) in
+    omega (arith, all_moved known places c.args.place c.requires.resolved all, at.places.ok.0)
+
+pub loop-line-smaller : goal.loop-line-smaller
+loop-line-smaller c = omega (arith, c.in-Some.ensures.steps.1)
