@@ -25,3 +25,10 @@ returns-in-Premise c = rw c.in-Premise.is c.put_premise.ensures
 
 pub returns-in_ok-push_str-in-Line : goal.returns-in_ok-push_str-in-Line
 returns-in_ok-push_str-in-Line c = rw c.in-Line.is (IfOk-equal c.put_number.result _ _ _ c.put_number.ensures (search (rules, append_assoc)))
+
+pub returns-in_ok-push_str-in-NotAllowed : goal.returns-in_ok-push_str-in-NotAllowed
+returns-in_ok-push_str-in-NotAllowed c =
+    rw (c.in-NotAllowed.is, c.in_ok-push_str-in-NotAllowed.ensures.bytes, c.in_ok-put_choice-in-NotAllowed.ensures) (simp append_assoc)
+
+pub returns-in_ok-push_str-in-Root : goal.returns-in_ok-push_str-in-Root
+returns-in_ok-push_str-in-Root c = rw (c.in-Root.is, c.in_ok-push_str-in-Root.ensures.bytes)
