@@ -1,7 +1,10 @@
-use Rattle.std.proofs.Common.{ap, ap₂, codes, ◌≡◌, ◌∙◌}
+use Rattle.std.proofs.Common.{ap, ap₂, codes, false, ◌≡◌, ◌∙◌, ◌||◌}
 use Rattle.std.proofs.lemmas.Result.{IfOk-weaker}
 use Rattle.clap.specs.Simple.{app_of_fields}
 use Rattle.clap.specs.Words.{app_of, new_app, with_rule}
+use Rattle.clap.specs.declared.Command.{Command}
+use Rattle.clap.specs.declared.Command.TheOpen.{Command-F}
+use Rattle.clap.specs.declared.Command.TheViews.{out-Command as fields_of}
 use Rattle.command_line.proofs.command_line.serve_command.Goals as goal
 
 pub returns-clause-app : goal.returns-clause-app
@@ -11,3 +14,12 @@ returns-clause-app c =
     (λ whole adds. adds.shape c.file_option-2.ensures.local ∙ ap₂ with_rule (c.in_ok-with_load.ensures.shape c.file_option.ensures.local
     ∙ ap₂ with_rule (c.in_ok-with_workers.ensures.shape c.workers_option.ensures.local
     ∙ ap₂ with_rule bare c.workers_option.ensures.rule) c.file_option.ensures.rule) c.file_option-2.ensures.rule) c.arg-3.ensures
+
+-- no argument is global
+pub returns-clause-local : goal.returns-clause-local
+returns-clause-local c =
+    let bare : (fields_of c.after_help-bare.result).has_globals ≡ false =
+    ap (λ (f : Command-F Command). f.has_globals) c.after_help-bare.ensures ∙ ap (λ (f : Command-F Command). f.has_globals) c.about.ensures ∙ c.new.ensures.local in
+    let workers : (fields_of c.in_ok-with_workers.with_workers).has_globals ≡ false = c.in_ok-with_workers.ensures.globals ∙ ap₂ ◌||◌ bare c.workers_option.ensures.local in
+    let load : (fields_of c.in_ok-with_load.with_load).has_globals ≡ false = c.in_ok-with_load.ensures.globals ∙ ap₂ ◌||◌ workers c.file_option.ensures.local in
+    IfOk-weaker c.arg-3.result _ _ (λ whole adds. adds.globals ∙ ap₂ ◌||◌ load c.file_option-2.ensures.local) c.arg-3.ensures
