@@ -2,6 +2,7 @@
 
 use indexmap::IndexMap;
 use std::alloc::{AllocError, Global};
+use std::mem;
 use terms::{Pkg, Term};
 
 /// How many targets of a package stand in the list. Hardly any package has more; those beyond stand in
@@ -142,10 +143,11 @@ impl Covered {
         versions: &Term,
     ) -> Result<(), AllocError> {
         match self.beyond.get_mut(&at) {
-            Some(before) => *before = before.or(alloc, versions)?,
-            None => {
-                self.beyond.insert(at, versions.copy(alloc)?)?;
+            Some(before) => {
+                let both = before.or(alloc, versions)?;
+                drop(mem::replace(before, both));
             }
+            None => drop(self.beyond.insert(at, versions.copy(alloc)?)?),
         }
         Ok(())
     }

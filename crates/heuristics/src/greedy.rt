@@ -13,6 +13,7 @@ use crate::question::{Question, ROOM, locked_version, needs, room_for};
 use indexmap::IndexMap;
 use registry::Matching;
 use std::alloc::AllocError;
+use std::mem;
 use terms::{Pkg, Term, VSet};
 use versions::{Name, Need};
 
@@ -67,9 +68,14 @@ fn allowed_of(question: &Question<'_>, pkg: Pkg, versions: VSet) -> Result<VSet,
     let mut allowed = VSet::new(question.alloc);
     for ordinal in versions.iter() {
         if question.registry.allowed(question.request, pkg, ordinal) {
-            allowed.insert(ordinal)?;
+            if let Err(error) = allowed.insert(ordinal) {
+                drop(allowed);
+                drop(versions);
+                return Err(error);
+            }
         }
     }
+    drop(versions);
     Ok(allowed)
 }
 
@@ -174,12 +180,16 @@ impl Greedy {
             }
             Some(needed) => match needed.decided {
                 Some(ordinal) => return Ok(matching.has(ordinal)),
-                None => needed
-                    .left
-                    .and(question.alloc, &Term::In(matching.set(question.alloc)?))?,
+                None => {
+                    let within = Term::In(matching.set(question.alloc)?);
+                    let both = needed.left.and(question.alloc, &within);
+                    drop(within);
+                    both?
+                }
             },
         };
         if count_of(&left) == 0 {
+            drop(left);
             return Ok(false);
         }
         self.beside.push((pkg, left))?;
@@ -221,7 +231,9 @@ impl Greedy {
         self.beside.clear();
         for index in 0..needs(question.registry, pkg, ordinal).len() {
             let (target, matching) = question.registry.dependency(pkg, ordinal, index)?;
-            if !self.meet(question, target, &matching)? {
+            let met = self.meet(question, target, &matching);
+            drop(matching);
+            if !met? {
                 return Ok(false);
             }
         }
@@ -387,7 +399,8 @@ impl Greedy {
         }
         if self.is_misled() {
             // The obstacle's package is not needed, so it must not bind another one.
-            *self = Greedy::new(question, None)?;
+            let unminding = Greedy::new(question, None)?;
+            drop(mem::replace(self, unminding));
             return self.decide_all(question);
         }
         Ok(true)

@@ -27,9 +27,11 @@ pub fn obstacle_at(
         return Ok(None);
     }
     let (target, matching) = question.registry.dependency(pkg, ordinal, index)?;
+    let set = matching.set(question.alloc);
+    drop(matching);
     Ok(Some(Obstacle {
         pkg,
         target,
-        within: Term::In(matching.set(question.alloc)?),
+        within: Term::In(set?),
     }))
 }
