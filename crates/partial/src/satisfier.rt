@@ -144,7 +144,10 @@ fn reach_of(ledger: &Ledger, terms: &[(Pkg, Term)]) -> Reach
 fn rest_of(alloc: Global, assigned: &Term, term: &Term) -> Result<Term, AllocError>
     ensures { IfOk result (λ rest. (choice : Option ℕ) → true_of rest choice ≡ (not (true_of assigned.now choice) || true_of term.now choice)) }
 {
-    Ok(assigned.copy(alloc)?.negate().or(alloc, term)?)
+    let negated = assigned.copy(alloc)?.negate();
+    let rest = negated.or(alloc, term);
+    drop(negated);
+    rest
 }
 
 /// The satisfier's place and the previous level.
@@ -165,6 +168,7 @@ pub(crate) fn satisfier_of(
     let own = &terms[reach.own];
     let rest = (own.0, rest_of(alloc, &ledger.made[index].term, &own.1)?);
     let alone = shortest_on(ledger, ledger.notes[index].earlier, &rest, 0);
+    drop(rest);
     let before = alone.max(reach.others);
     let level = level_of(&ledger.made[..before]);
     Ok((index, level.max(1)))

@@ -183,7 +183,13 @@ impl Partial {
     {
         let level = self.level();
         let last = last_on(&self.ledger, pkg);
-        let said = said_at(&self.ledger, last).and(self.alloc, &term)?;
+        let said = match said_at(&self.ledger, last).and(self.alloc, &term) {
+            Ok(said) => said,
+            Err(error) => {
+                drop(term);
+                return Err(error);
+            }
+        };
         let derivation = Assignment {
             pkg,
             term,
@@ -204,7 +210,13 @@ impl Partial {
     {
         let level = self.level() + 1;
         let term = only(self.alloc, ordinal)?;
-        let said = only(self.alloc, ordinal)?;
+        let said = match only(self.alloc, ordinal) {
+            Ok(said) => said,
+            Err(error) => {
+                drop(term);
+                return Err(error);
+            }
+        };
         let last = last_on(&self.ledger, pkg);
         let decision = Assignment {
             pkg,

@@ -1,5 +1,6 @@
 use Rattle.std.proofs.Common.{arith, refl, slice_get}
 use Rattle.std.specs.Prelude.{Some}
+use Rattle.std.proofs.lemmas.Option.{slice_get_within}
 use Rattle.partial.proofs.Satisfiers.{step-within, step-falls, step-on, step-holds, step-ends}
 use Rattle.partial.proofs.satisfier.step_back.Goals as goal
 
@@ -24,3 +25,12 @@ returns-else-implies-clause-none c =
     let l = c.args.ledger.now in
     step-ends l.made.items l.notes.items (λ p. slice_get l.heads.items p) c.requires.kept.0 c.args.entry.now.0 c.args.entry.now.1 (Some c.args.at) c.requires.on c.args.at refl c.index.result.now c.index.ensures
     c.said_at.result.now c.said_at.ensures c.requires.holds (c.if-implies.ensures.no refl)
+
+pub index-requires : goal.index-requires
+index-requires c =
+    let l = c.args.ledger.now in
+    let within = slice_get_within l.made.items c.args.at c.requires.on.0 c.requires.on.1 in
+    omega (arith, within, c.requires.kept.0.lengths, l.notes.ok.0)
+
+pub returns-in-Some-clause-some : goal.returns-in-Some-clause-some
+returns-in-Some-clause-some c = c.in-Some.ensures

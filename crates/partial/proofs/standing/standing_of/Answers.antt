@@ -1,3 +1,5 @@
+use Rattle.std.proofs.Common.{refl}
+use Rattle.std.proofs.lemmas.List.{take_all}
 use Rattle.partial.proofs.TermsSeen.{seen_implied, seen_excluded, seen_left_out, seen_second}
 use Rattle.partial.proofs.standing.standing_of.Goals as goal
 use Rattle.partial.proofs.standing.standing_of.Goals.{in-Satisfies, in-Inconclusive+else-is_some}
@@ -22,3 +24,16 @@ loop-entry-preserved c =
           seen_left_out c.args.ledger.now.made.items c.args.terms.now c.requires.lawful c.loop-entry.entry-index c.entry-item.result c.loop-entry-test.true c.entry-item.is
           c.said_on-said.result.now c.said_on-said.ensures c.loop-entry.out c.match-relation.out w.is_some.result c.loop-entry.invariant w.if-is_some.false w.is_some.ensures w.out-is w.in-Inconclusive.ensures
     ]
+
+pub loop-entry-init : goal.loop-entry-init
+loop-entry-init c = λ _ _ _. refl
+
+pub returns-in-None : goal.returns-in-None
+returns-in-None c =
+    let all = take_all c.loop-entry.entry-index c.args.terms.now c.loop-entry-test.false in
+    rw (all, c.in-None.is) at c.loop-entry.invariant
+
+pub returns-in-Some : goal.returns-in-Some
+returns-in-Some c =
+    let all = take_all c.loop-entry.entry-index c.args.terms.now c.loop-entry-test.false in
+    rw (all, c.in-Some.is) at c.loop-entry.invariant

@@ -1,5 +1,6 @@
-use Rattle.std.proofs.Common.{arith, refl, sym, subst, true≢false}
+use Rattle.std.proofs.Common.{arith, refl, sym, subst, true≢false, ◌∙◌}
 use Rattle.partial.specs.Assignments.{IsPartial}
+use Rattle.std.proofs.lemmas.Result.{IfOk-from_err, err_from_is_err_and}
 use Rattle.partial.proofs.Deciding.{said-derived, IsPartial-push}
 use Rattle.partial.proofs.Places.{last-within, said-up_to}
 use Rattle.partial.proofs.Falling.{rank-falls, rank-falls_from}
@@ -7,8 +8,8 @@ use Rattle.partial.proofs.solution.Partial.derive.Goals as goal
 
 pub add-requires-clause-said : goal.add-requires-clause-said
 add-requires-clause-said c =
-    said-derived c.self.inside.ledger.made.items _ c.said_at.result.now c.in_ok-said.said
-    (said-up_to c.self.inside.ledger.made.items c.args.pkg c.last_on-last.result c.said_at.result.now c.last_on-last.ensures c.said_at.ensures) c.in_ok-said.ensures.exact
+    said-derived c.self.inside.ledger.made.items _ c.said_at.result.now c.in-Ok.said
+    (said-up_to c.self.inside.ledger.made.items c.args.pkg c.last_on-last.result c.said_at.result.now c.last_on-last.ensures c.said_at.ensures) c.in-Ok.ensures.exact
 
 pub said_at-requires-clause-within : goal.said_at-requires-clause-within
 said_at-requires-clause-within c = rw c.last_on-last.ensures (last-within c.self.inside.ledger.made.items c.args.pkg)
@@ -28,3 +29,34 @@ returns-clause-falls c = λ away.
 pub returns-clause-falls_back : goal.returns-clause-falls_back
 returns-clause-falls_back c = λ away before level whole opened is.
     rw (c.in_ok-add.ensures.ok, c.self.view_is) (rank-falls_from c.args.self.now before level _ whole opened is c.level-level.ensures refl (omega arith) away)
+
+pub returns-clause-ok : goal.returns-clause-ok
+returns-clause-ok c = rw (c.in_ok-add.ensures.ok, c.self.view_is, c.level-level.ensures) refl
+
+pub add-requires-clause-kept : goal.add-requires-clause-kept
+add-requires-clause-kept c = c.self.invariant.1
+
+pub add-requires-clause-last : goal.add-requires-clause-last
+add-requires-clause-last c = c.last_on-last.ensures
+
+pub add-requires-clause-once : goal.add-requires-clause-once
+add-requires-clause-once c = λ e. absurd (true≢false (sym e))
+
+-- where memory is refused
+
+pub returns-in_err-add-clause-ok : goal.returns-in_err-add-clause-ok
+returns-in_err-add-clause-ok c = IfOk-from_err c.from_residual.result _ c.from_residual.ensures.0
+
+pub returns-in_err-add-clause-err : goal.returns-in_err-add-clause-err
+returns-in_err-add-clause-err c =
+    let err = err_from_is_err_and c.from_residual.result c.from_residual.ensures.1 in
+    rw err.1 (c.in_err-add.ensures.err ∙ c.self.view_is)
+
+pub returns-in_err-add-clause-falls : goal.returns-in_err-add-clause-falls
+returns-in_err-add-clause-falls c = IfOk-from_err c.from_residual.result _ c.from_residual.ensures.0
+
+pub invariant_of-self : goal.invariant_of-self
+invariant_of-self c = (rw c.in_err-add.ensures.err c.self.invariant.0, c.add.ensures.kept)
+
+pub returns-in_err-add-clause-falls_back : goal.returns-in_err-add-clause-falls_back
+returns-in_err-add-clause-falls_back c = IfOk-from_err c.from_residual.result _ c.from_residual.ensures.0

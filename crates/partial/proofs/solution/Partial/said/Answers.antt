@@ -1,5 +1,5 @@
-use Rattle.std.proofs.Common.{◌∙◌, ap, sym}
-use Rattle.partial.specs.Assignments.{says}
+use Rattle.std.proofs.Common.{◌∙◌, ap, sym, subst}
+use Rattle.partial.specs.Assignments.{says, IsPartial}
 use Rattle.partial.proofs.Places.{last-within, said-up_to, says-nothing}
 use Rattle.partial.proofs.solution.Partial.said.Goals as goal
 
@@ -13,3 +13,9 @@ returns-in-None-clause-none c = λ choice.
 pub returns-in-Some-clause-some : goal.returns-in-Some-clause-some
 returns-in-Some-clause-some c = λ choice.
     said-up_to c.self.inside.ledger.made.items c.args.pkg c.last_on-last.result c.said_at.result.now c.last_on-last.ensures c.said_at.ensures choice ∙ ap (λ xs. says xs c.args.pkg choice) c.self.view_is
+
+pub returns-in-None-clause-lawful : goal.returns-in-None-clause-lawful
+returns-in-None-clause-lawful c = subst IsPartial c.self.view_is c.self.invariant.0
+
+pub returns-in-Some-clause-lawful : goal.returns-in-Some-clause-lawful
+returns-in-Some-clause-lawful c = subst IsPartial c.self.view_is c.self.invariant.0

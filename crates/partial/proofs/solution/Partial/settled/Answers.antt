@@ -34,3 +34,9 @@ returns-in-Some-clause-only c =
     decided_if c.args.self.now c.args.pkg c.decided_at-decision.result whole.assignments
     (decided-up_to c.self.inside.ledger.made.items c.args.pkg c.last_on-last.result c.decided_at-decision.result c.last_on-last.ensures c.decided_at-decision.ensures
     ∙ ap (λ xs. decided xs c.args.pkg) c.self.view_is)
+
+pub returns-in-None-clause-lawful : goal.returns-in-None-clause-lawful
+returns-in-None-clause-lawful c = subst IsPartial c.self.view_is c.self.invariant.0
+
+pub returns-in-Some-clause-lawful : goal.returns-in-Some-clause-lawful
+returns-in-Some-clause-lawful c = subst IsPartial c.self.view_is c.self.invariant.0
