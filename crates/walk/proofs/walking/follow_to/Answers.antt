@@ -1,10 +1,13 @@
-use Rattle.std.proofs.Common.{◌≡◌, ◌∙◌, ◌++◌, [], ◌∷◌, ℕ, List, inl, inr, nat_eq, rules, subst, sym}
+use Rattle.std.proofs.Common.{◌≡◌, ◌∙◌, ◌++◌, [], ◌∷◌, ℕ, List, inl, inr, nat_eq, rules, subst, sym, ap, false}
 use Rattle.std.proofs.lemmas.List.{append-nil}
-use Rattle.std.specs.Prelude.{None}
+use Rattle.std.specs.Prelude.{None, Some}
 use Rattle.indexmap.proofs.CallerLemmas.{insert_entry-new}
 use Rattle.walk.specs.Choosing.{choice_of, Follows}
 use Rattle.walk.specs.Walks.{ComesAs}
-use Rattle.walk.proofs.Lists.{choice-push_cases}
+use Rattle.std.proofs.lemmas.Bool.{OnFalse_from, OnTrue_from}
+use Rattle.std.proofs.lemmas.Option.{none-some, same_Some}
+use Rattle.std.proofs.lemmas.Result.{IfOk-from_err}
+use Rattle.walk.proofs.Lists.{choice-push_cases, choice-push_here}
 use Rattle.walk.proofs.Steps.{follows_push}
 use Rattle.walk.proofs.walking.follow_to.Goals as goal
 
@@ -59,3 +62,51 @@ returns-then-not-passes-clause-grown g c = ([], sym (append-nil c.args.found.now
 
 pub returns-then-not-passes-clause-comes : goal.returns-then-not-passes-clause-comes
 returns-then-not-passes-clause-comes g c p k h = inl h
+
+-- what the test says of the package's version
+
+pub returns-clause-passed : goal.returns-clause-passed
+returns-clause-passed g c =
+    let target = c.args.target in
+    let ordinal = c.in-Some-choose.ordinal in
+    let old = c.args.found.now.entries in
+    let new : choice_of old target ≡ None = search rules in
+    let grown = c.in_ok-insert.ensures.entries ∙ insert_entry-new nat_eq c.args.found.now target ordinal new in
+    (ordinal, ap (λ (l : List (ℕ × ℕ)). choice_of l target) grown ∙ choice-push_here old target ordinal new, rw c.if-not-passes.false at c.passes-2.ensures)
+
+pub returns-then-not-passes-clause-failed : goal.returns-then-not-passes-clause-failed
+returns-then-not-passes-clause-failed g c = λ k chosen.
+    let same = same_Some c.in-Some-choose.ordinal k (sym (sym c.choose.ensures ∙ c.in-Some-choose.is) ∙ chosen) in
+    subst (λ i. g.F.Fn.post c.args.passes (i, tt) false) same (rw c.if-not-passes.true at c.passes-2.ensures)
+
+pub returns-in_default-choose-clause-failed : goal.returns-in_default-choose-clause-failed
+returns-in_default-choose-clause-failed g c = λ k chosen. absurd (none-some k (sym c.in_default-choose.is ∙ c.choose.ensures ∙ chosen))
+
+pub returns-in-Some-clause-passed : goal.returns-in-Some-clause-passed
+returns-in-Some-clause-passed g c =
+    let here : choice_of c.args.found.now.entries c.args.target ≡ Some c.in-Some.ordinal = search rules in
+    OnTrue_from c.passes.result _ (λ passed. (c.in-Some.ordinal, here, rw passed at c.passes.ensures))
+
+pub returns-in-Some-clause-failed : goal.returns-in-Some-clause-failed
+returns-in-Some-clause-failed g c =
+    let here : choice_of c.args.found.now.entries c.args.target ≡ Some c.in-Some.ordinal = search rules in
+    OnFalse_from c.passes.result _ (λ failed k chosen.
+    let same = same_Some c.in-Some.ordinal k (sym (c.requires.follows c.args.target c.in-Some.ordinal here) ∙ chosen) in
+    subst (λ i. g.F.Fn.post c.args.passes (i, tt) false) same (rw failed at c.passes.ensures))
+
+-- where memory is refused
+
+pub returns-in_err-insert-clause-follows : goal.returns-in_err-insert-clause-follows
+returns-in_err-insert-clause-follows g c = IfOk-from_err c.from_residual.result _ c.from_residual.ensures.0
+
+pub returns-in_err-insert-clause-grown : goal.returns-in_err-insert-clause-grown
+returns-in_err-insert-clause-grown g c = IfOk-from_err c.from_residual.result _ c.from_residual.ensures.0
+
+pub returns-in_err-insert-clause-comes : goal.returns-in_err-insert-clause-comes
+returns-in_err-insert-clause-comes g c = IfOk-from_err c.from_residual.result _ c.from_residual.ensures.0
+
+pub returns-in_err-insert-clause-passed : goal.returns-in_err-insert-clause-passed
+returns-in_err-insert-clause-passed g c = IfOk-from_err c.from_residual.result _ c.from_residual.ensures.0
+
+pub returns-in_err-insert-clause-failed : goal.returns-in_err-insert-clause-failed
+returns-in_err-insert-clause-failed g c = IfOk-from_err c.from_residual.result _ c.from_residual.ensures.0
