@@ -16,3 +16,4 @@ pub mod Beginning
 pub mod Naming
 pub mod Obstacles
 pub mod Listing
+pub mod Refusing

@@ -30,14 +30,18 @@ fn add_dependency(
 {
     let (target, matching) = task.registry.dependency(pkg, ordinal, index)?;
     if target == pkg {
+        drop(matching);
         return Ok(());
     }
     if !worklist.agenda.is_new(pkg, ordinal, target) {
+        drop(matching);
         return Ok(());
     }
     let entry = &task.registry.facts(pkg, ordinal).needs[index];
+    let members = matching.set(task.alloc);
+    drop(matching);
+    let within = members?;
     let versions = versions_sharing(task, &mut worklist.sharing, pkg, ordinal, entry)?;
-    let within = matching.set(task.alloc)?;
     let at = push_dependency(task, known, pkg, versions, entry, target, within)?;
     worklist.note_dependency(task.alloc, known, at, pkg, target)
 }

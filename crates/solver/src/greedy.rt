@@ -61,8 +61,10 @@ pub(crate) fn search_greedily(
 {
     let attempt = decide_greedily(&task.question(), obstacle)?;
     let found = match &attempt.decided {
-        None => None,
-        Some(decided) => selection_of(task, decided)?,
+        None => Ok(None),
+        Some(decided) => selection_of(task, decided),
     };
-    Ok((found, attempt.room))
+    let room = attempt.room;
+    drop(attempt);
+    Ok((found?, room))
 }

@@ -110,7 +110,10 @@ fn search_fully(task: &Task<'_>, room: usize) -> Result<Found, Refusal>
     ensures only { IfErr result (MayRefuse task.now.budget) }
 {
     let mut worklist = Worklist::new(task.alloc, room)?;
-    search_from(task, &mut worklist, room)
+    let found = search_from(task, &mut worklist, room);
+    // By a call, so that what dropping it does stands in no proof here.
+    drop(worklist);
+    found
 }
 
 /// Finds what answers a task by a search, first by the one that does not jump back, which minds an obstacle.

@@ -32,10 +32,12 @@ pub(crate) struct Worklist {
 impl Worklist {
     /// With room for so many packages.
     pub fn new(alloc: Global, room: usize) -> Result<Worklist, AllocError> {
+        let changed = Vec::with_capacity(alloc, room)?;
+        let agenda = Agenda::new(alloc, room)?;
         Ok(Worklist {
-            changed: Vec::with_capacity(alloc, room)?,
+            changed,
             learnt: Vec::new(alloc),
-            agenda: Agenda::new(alloc, room)?,
+            agenda,
             sharing: Sharing::new(alloc),
             asked: Asked::new(alloc),
         })

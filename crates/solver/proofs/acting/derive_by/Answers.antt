@@ -1,5 +1,7 @@
 use Rattle.std.proofs.Common.{ap, get_or}
-use Rattle.solver.proofs.Kept.{derive_search, derive_takes_away}
+use Rattle.std.proofs.lemmas.Option.{slice_get_within}
+use Rattle.std.proofs.lemmas.Result.{IfOk-from_err}
+use Rattle.solver.proofs.Kept.{derive_search, derive_takes_away, derive_open}
 use Rattle.solver.proofs.acting.derive_by.Goals as goal
 
 pub returns-clause-search : goal.returns-clause-search
@@ -17,3 +19,31 @@ pub returns-clause-falls_back : goal.returns-clause-falls_back
 returns-clause-falls_back c =
     c.in_ok-derive.ensures.falls_back (derive_takes_away c.args.partial.now c.args.known.now c.args.at c.args.pkg c.in_ok-term.term c.requires.almost
     (get_or c.args.known.now c.args.at c.index-known-at.result) (ap (λ d. get_or c.args.known.now c.args.at d) c.index-known-at.is) c.in_ok-term.ensures)
+
+pub derive-requires : goal.derive-requires
+derive-requires c =
+    derive_open c.args.partial.now c.args.known.now c.args.at c.args.pkg c.in_ok-term.term c.requires.almost
+    (get_or c.args.known.now c.args.at c.index-known-at.result) (ap (λ d. get_or c.args.known.now c.args.at d) c.index-known-at.is) c.in_ok-term.ensures
+
+pub bounds-known-at : goal.bounds-known-at
+bounds-known-at c = slice_get_within c.args.known.now c.args.at c.requires.almost.0 c.requires.almost.1
+
+-- where memory is refused
+
+pub returns-in_err-derive-clause-search : goal.returns-in_err-derive-clause-search
+returns-in_err-derive-clause-search c = IfOk-from_err c.from_residual-in_err-derive.result _ c.from_residual-in_err-derive.ensures.0
+
+pub returns-in_err-term-clause-search : goal.returns-in_err-term-clause-search
+returns-in_err-term-clause-search c = IfOk-from_err c.from_residual.result _ c.from_residual.ensures.0
+
+pub returns-in_err-derive-clause-falls : goal.returns-in_err-derive-clause-falls
+returns-in_err-derive-clause-falls c = IfOk-from_err c.from_residual-in_err-derive.result _ c.from_residual-in_err-derive.ensures.0
+
+pub returns-in_err-term-clause-falls : goal.returns-in_err-term-clause-falls
+returns-in_err-term-clause-falls c = IfOk-from_err c.from_residual.result _ c.from_residual.ensures.0
+
+pub returns-in_err-derive-clause-falls_back : goal.returns-in_err-derive-clause-falls_back
+returns-in_err-derive-clause-falls_back c = IfOk-from_err c.from_residual-in_err-derive.result _ c.from_residual-in_err-derive.ensures.0
+
+pub returns-in_err-term-clause-falls_back : goal.returns-in_err-term-clause-falls_back
+returns-in_err-term-clause-falls_back c = IfOk-from_err c.from_residual.result _ c.from_residual.ensures.0

@@ -1,4 +1,7 @@
-use Rattle.std.proofs.Common.{inl, inr}
+use Rattle.std.proofs.Common.{inl, inr, arith}
+use Rattle.std.proofs.lemmas.Option.{slice_get_within}
+use Rattle.std.proofs.lemmas.Result.{IfOk-from_err, err_from_is_err_and}
+use Rattle.solver.proofs.Refusing.{may_lack_memory}
 use Rattle.solver.proofs.GoingBack.{back_place, back_search, not_satisfied, not_neither, back_falls}
 use Rattle.solver.proofs.acting.meet_conflict.Goals as goal
 
@@ -23,3 +26,44 @@ returns-in_ok-derive_by-in-Almost-clause-acts c = (
   back_falls c.args.search.now.partial c.back_to.new.self c.resolve_conflict.new.known.items c.in-Back.line c.in-Back.level (rw c.in-Back.is at c.in_ok-end.ensures.resolved) c.index.result.now c.index.ensures c.back_to.ensures
       c.derive_by.new.partial c.in_ok-end.ensures.lawful c.in_ok-derive_by-in-Almost.ensures.falls_back,
 )
+
+pub resolve_conflict-requires-clause-search : goal.resolve_conflict-requires-clause-search
+resolve_conflict-requires-clause-search c = c.requires.search
+
+pub resolve_conflict-requires-clause-satisfied : goal.resolve_conflict-requires-clause-satisfied
+resolve_conflict-requires-clause-satisfied c = c.requires.satisfied
+
+pub returns-in-Refused-clause-acts : goal.returns-in-Refused-clause-acts
+returns-in-Refused-clause-acts c = rw c.in-Refused.is at c.in_ok-end.ensures.resolved
+
+pub index-requires : goal.index-requires
+index-requires c =
+    let there = rw c.in-Back.is at c.in_ok-end.ensures.resolved in
+    let within = slice_get_within c.resolve_conflict.new.known.items c.in-Back.line there.0 there.1 in
+    omega (arith, within, c.resolve_conflict.new.known.ok.0)
+
+-- where it is refused
+
+pub returns-in_err-count_conflict-clause-acts : goal.returns-in_err-count_conflict-clause-acts
+returns-in_err-count_conflict-clause-acts c = IfOk-from_err c.from_residual.result _ c.from_residual.ensures.0
+
+pub returns-in_err-derive_by-in-Almost-clause-acts : goal.returns-in_err-derive_by-in-Almost-clause-acts
+returns-in_err-derive_by-in-Almost-clause-acts c = IfOk-from_err c.from_residual-in_err-derive_by-in-Almost.result _ c.from_residual-in_err-derive_by-in-Almost.ensures.0
+
+pub returns-in_err-end-clause-acts : goal.returns-in_err-end-clause-acts
+returns-in_err-end-clause-acts c = IfOk-from_err c.from_residual-in_err-end.result _ c.from_residual-in_err-end.ensures.0
+
+pub returns-in_err-count_conflict-clause-only : goal.returns-in_err-count_conflict-clause-only
+returns-in_err-count_conflict-clause-only c =
+    let err = err_from_is_err_and c.from_residual.result c.from_residual.ensures.1 in
+    rw (err.1, err.2) c.in_err-count_conflict.ensures.only
+
+pub returns-in_err-derive_by-in-Almost-clause-only : goal.returns-in_err-derive_by-in-Almost-clause-only
+returns-in_err-derive_by-in-Almost-clause-only c =
+    let err = err_from_is_err_and c.from_residual-in_err-derive_by-in-Almost.result c.from_residual-in_err-derive_by-in-Almost.ensures.1 in
+    rw (err.1, err.2) (may_lack_memory c.args.task.now.budget)
+
+pub returns-in_err-end-clause-only : goal.returns-in_err-end-clause-only
+returns-in_err-end-clause-only c =
+    let err = err_from_is_err_and c.from_residual-in_err-end.result c.from_residual-in_err-end.ensures.1 in
+    rw (err.1, err.2) (may_lack_memory c.args.task.now.budget)

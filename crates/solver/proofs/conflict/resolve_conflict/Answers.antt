@@ -2,6 +2,7 @@ use Rattle.std.proofs.Common.{◌≡◌, ◌∙◌, sym, ap, refl, subst, arith,
 use Rattle.std.proofs.lemmas.Bool.{eqb-true}
 use Rattle.std.proofs.lemmas.List.{nil_from_length}
 use Rattle.derivations.specs.Known.{FollowsFrom}
+use Rattle.std.proofs.lemmas.Result.{IfOk-from_err}
 use Rattle.solver.proofs.Turn.{at_within, satisfied_early, satisfied, refused_empty, back, no_decision, cause_second, next_search, refused_root, turn}
 use Rattle.solver.proofs.conflict.resolve_conflict.Goals as goal
 
@@ -58,3 +59,76 @@ resolution-preserved c =
     rw (c.in_ok-push-in-Derived.ensures.items, c.as_slice-at-in-Derived.ensures.value) (turn c.args.task.now.registry.now.packages c.args.task.now.request.now c.args.partial.now c.resolution.known.items c.resolution.at c.resolution.bound c.resolution.invariant c.index.result.now c.index.ensures c.in_ok-index.index c.in_ok-index.level c.in_ok-index.ensures.satisfier
     c.in_ok-line-in-Derived.line c.in-Derived.cause c.index-made-index.result.pkg c.in_ok-line-in-Derived.ensures.reason (subst (λ xs. FollowsFrom xs c.in_ok-line-in-Derived.line.conclusion c.resolution.at c.in-Derived.cause c.index-made-index.result.pkg) c.deref-in-Derived.ensures.value c.in_ok-line-in-Derived.ensures.follows) c.in_ok-line-in-Derived.ensures.lawful
     c.index-made-index.result (subst (λ xs. c.index-made-index.result ≡ get_or xs c.in_ok-index.index c.index-made-index.result) c.assignments-made.ensures.same c.index-made-index.is) c.in-Derived.is refl)
+
+pub index-requires : goal.index-requires
+index-requires c =
+    let within = at_within c.args.task.now.registry.now.packages c.args.task.now.request.now c.args.partial.now c.resolution.known.items c.resolution.at c.resolution.bound c.resolution.invariant in
+    omega (arith, within, c.resolution.known.ok.0)
+
+pub returns-then-is_empty-clause-search : goal.returns-then-is_empty-clause-search
+returns-then-is_empty-clause-search c = c.resolution.invariant.search
+
+pub returns-then-level-satisfier-clause-search : goal.returns-then-level-satisfier-clause-search
+returns-then-level-satisfier-clause-search c = c.resolution.invariant.search
+
+pub returns-then-is_empty-clause-lawful : goal.returns-then-is_empty-clause-lawful
+returns-then-is_empty-clause-lawful c = c.assignments-made.ensures.lawful
+
+pub returns-then-index-lt2-clause-lawful : goal.returns-then-index-lt2-clause-lawful
+returns-then-index-lt2-clause-lawful c = c.assignments-made.ensures.lawful
+
+pub returns-then-level-satisfier-clause-lawful : goal.returns-then-level-satisfier-clause-lawful
+returns-then-level-satisfier-clause-lawful c = c.assignments-made.ensures.lawful
+
+pub returns-in_err-index-clause-lawful : goal.returns-in_err-index-clause-lawful
+returns-in_err-index-clause-lawful c = c.assignments-made.ensures.lawful
+
+pub returns-in_err-line-clause-lawful : goal.returns-in_err-line-clause-lawful
+returns-in_err-line-clause-lawful c = c.assignments-made.ensures.lawful
+
+pub returns-in_err-push-clause-lawful : goal.returns-in_err-push-clause-lawful
+returns-in_err-push-clause-lawful c = c.assignments-made.ensures.lawful
+
+pub returns-in_err-line-in-Derived-clause-lawful : goal.returns-in_err-line-in-Derived-clause-lawful
+returns-in_err-line-in-Derived-clause-lawful c = c.assignments-made.ensures.lawful
+
+pub returns-in_err-push-in-Derived-clause-lawful : goal.returns-in_err-push-in-Derived-clause-lawful
+returns-in_err-push-in-Derived-clause-lawful c = c.assignments-made.ensures.lawful
+
+-- where memory is refused
+
+pub returns-in_err-index-clause-search : goal.returns-in_err-index-clause-search
+returns-in_err-index-clause-search c = IfOk-from_err c.from_residual.result _ c.from_residual.ensures.0
+
+pub returns-in_err-line-clause-search : goal.returns-in_err-line-clause-search
+returns-in_err-line-clause-search c = IfOk-from_err c.from_residual-in_err-line.result _ c.from_residual-in_err-line.ensures.0
+
+pub returns-in_err-line-in-Derived-clause-search : goal.returns-in_err-line-in-Derived-clause-search
+returns-in_err-line-in-Derived-clause-search c = IfOk-from_err c.from_residual-in_err-line-in-Derived.result _ c.from_residual-in_err-line-in-Derived.ensures.0
+
+pub returns-in_err-push-clause-search : goal.returns-in_err-push-clause-search
+returns-in_err-push-clause-search c = IfOk-from_err c.from_residual-in_err-push.result _ c.from_residual-in_err-push.ensures.0
+
+pub returns-in_err-push-in-Derived-clause-search : goal.returns-in_err-push-in-Derived-clause-search
+returns-in_err-push-in-Derived-clause-search c = IfOk-from_err c.from_residual-in_err-push-in-Derived.result _ c.from_residual-in_err-push-in-Derived.ensures.0
+
+pub returns-in_err-index-clause-resolved : goal.returns-in_err-index-clause-resolved
+returns-in_err-index-clause-resolved c = IfOk-from_err c.from_residual.result _ c.from_residual.ensures.0
+
+pub returns-in_err-line-clause-resolved : goal.returns-in_err-line-clause-resolved
+returns-in_err-line-clause-resolved c = IfOk-from_err c.from_residual-in_err-line.result _ c.from_residual-in_err-line.ensures.0
+
+pub returns-in_err-line-in-Derived-clause-resolved : goal.returns-in_err-line-in-Derived-clause-resolved
+returns-in_err-line-in-Derived-clause-resolved c = IfOk-from_err c.from_residual-in_err-line-in-Derived.result _ c.from_residual-in_err-line-in-Derived.ensures.0
+
+pub returns-in_err-push-clause-resolved : goal.returns-in_err-push-clause-resolved
+returns-in_err-push-clause-resolved c = IfOk-from_err c.from_residual-in_err-push.result _ c.from_residual-in_err-push.ensures.0
+
+pub returns-in_err-push-in-Derived-clause-resolved : goal.returns-in_err-push-in-Derived-clause-resolved
+returns-in_err-push-in-Derived-clause-resolved c = IfOk-from_err c.from_residual-in_err-push-in-Derived.result _ c.from_residual-in_err-push-in-Derived.ensures.0
+
+-- the root's fact has the root's term
+pub line_from-requires-clause-second : goal.line_from-requires-clause-second
+line_from-requires-clause-second c =
+    let root = c.resolution.invariant.search.lines.root in
+    rw c.deref.ensures.value (root.0, root.1, rw root.2 refl)

@@ -1,6 +1,8 @@
 use Rattle.std.proofs.Common.{[], ◌∷◌, refl}
 use Rattle.std.proofs.lemmas.Option.{slice_get_within}
 use Rattle.terms.specs.declared.term.Term.TheVariants.{In}
+use Rattle.std.proofs.lemmas.Result.{IfOk-from_err, err_from_is_err_and}
+use Rattle.solver.proofs.Refusing.{may_lack_memory}
 use Rattle.solver.specs.declared.search.Search.{Search}
 use Rattle.solver.specs.Searching.{IsUnused}
 use Rattle.solver.proofs.Decisions.{acts_as, not_neither_alone, unused_says}
@@ -19,3 +21,29 @@ returns-clause-acts c =
     acts_as c.args.task.now old mid c.act.new.search (IsUnused mid c.act.new.search c.in_ok-at.at) ⊥ c.in_ok-act.field-0 refl
     (λ unused. not_neither_alone old.partial c.args.pkg c.args.versions c.requires.left (unused_says mid c.act.new.search ((c.args.pkg, In c.args.versions) ∷ []) c.in_ok-at.at c.in_ok-at.ensures.place unused))
     c.in_ok-act.ensures.acts
+
+-- where it is refused
+
+pub returns-in_err-act-clause-acts : goal.returns-in_err-act-clause-acts
+returns-in_err-act-clause-acts c = IfOk-from_err c.from_residual-in_err-act.result _ c.from_residual-in_err-act.ensures.0
+
+pub returns-in_err-at-clause-acts : goal.returns-in_err-at-clause-acts
+returns-in_err-at-clause-acts c = IfOk-from_err c.from_residual.result _ c.from_residual.ensures.0
+
+pub returns-in_err-note-clause-acts : goal.returns-in_err-note-clause-acts
+returns-in_err-note-clause-acts c = IfOk-from_err c.from_residual-in_err-note.result _ c.from_residual-in_err-note.ensures.0
+
+pub returns-in_err-act-clause-only : goal.returns-in_err-act-clause-only
+returns-in_err-act-clause-only c =
+    let err = err_from_is_err_and c.from_residual-in_err-act.result c.from_residual-in_err-act.ensures.1 in
+    rw (err.1, err.2) c.in_err-act.ensures.only
+
+pub returns-in_err-at-clause-only : goal.returns-in_err-at-clause-only
+returns-in_err-at-clause-only c =
+    let err = err_from_is_err_and c.from_residual.result c.from_residual.ensures.1 in
+    rw (err.1, err.2) (may_lack_memory c.args.task.now.budget)
+
+pub returns-in_err-note-clause-only : goal.returns-in_err-note-clause-only
+returns-in_err-note-clause-only c =
+    let err = err_from_is_err_and c.from_residual-in_err-note.result c.from_residual-in_err-note.ensures.1 in
+    rw (err.1, err.2) (may_lack_memory c.args.task.now.budget)

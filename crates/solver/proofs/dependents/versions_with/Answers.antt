@@ -1,5 +1,6 @@
 use Rattle.std.proofs.Common.{◌∙◌, ◌<◌, arith, sym, true≢false}
 use Rattle.versions.specs.Words.{Text}
+use Rattle.std.proofs.lemmas.Result.{IfOk-from_err}
 use Rattle.solver.proofs.Publishing.{count, have_all, have_more, have_same, one_last}
 use Rattle.solver.proofs.dependents.versions_with.Goals as goal
 use Rattle.solver.proofs.dependents.versions_with.Goals.{then-is_one+in_ok-insert, else-is_one}
@@ -28,3 +29,8 @@ loop-ordinal-preserved c =
       ];
       last = one_last packages p entry c.has_dependency-is_one.result n has;
     }
+
+-- where memory is refused
+
+pub returns-in_err-insert : goal.returns-in_err-insert
+returns-in_err-insert c = IfOk-from_err c.from_residual.result _ c.from_residual.ensures.0

@@ -3,6 +3,7 @@ use Rattle.std.specs.Prelude.{Contains, None, Option, Some, is_some}
 use Rattle.terms.specs.Sets.{has}
 use Rattle.versions.specs.Words.{Text}
 use Rattle.registry.specs.Registry.{Packages, Publication, is_published, meets_at, needs_of, needs_or_none, number_of, publication_at}
+use Rattle.std.proofs.lemmas.Result.{IfOk-from_err, IfOk-at_ok}
 use Rattle.solver.proofs.Decisions.{entry_there, entry_used, index_read}
 use Rattle.solver.proofs.entering.add_dependency.Goals as goal
 
@@ -39,10 +40,44 @@ push_dependency-requires-clause-within c k =
     let packages = c.args.task.now.registry.now.packages in
     let found = c.in_ok-target.ensures in
     let there = entry_there packages c.args.pkg c.args.ordinal _ c.args.index c.index-facts-index.result (found.name, found.need) c.facts.ensures found.at in
-    ap (λ (s : List ℕ). has s k) c.in_ok-within.ensures.same ∙ found.members k ∙ ap (λ (x : Text × Text). meets_at packages c.in_ok-target.target k x.1) (sym there)
+    ap (λ (s : List ℕ). has s k) (IfOk-at_ok _ c.in_ok-within.was c.set-members.ensures.same) ∙ found.members k ∙ ap (λ (x : Text × Text). meets_at packages c.in_ok-target.target k x.1) (sym there)
 
 pub push_dependency-requires-clause-dependents : goal.push_dependency-requires-clause-dependents
 push_dependency-requires-clause-dependents c = c.in_ok-versions.ensures
 
 pub push_dependency-requires-clause-apart : goal.push_dependency-requires-clause-apart
 push_dependency-requires-clause-apart c = λ same. c.if-target-pkg.false (sym same)
+
+-- where nothing is added
+
+pub returns-then-target-pkg-clause-extends : goal.returns-then-target-pkg-clause-extends
+returns-then-target-pkg-clause-extends c = λ made search. search
+
+pub returns-then-not-is_new-clause-extends : goal.returns-then-not-is_new-clause-extends
+returns-then-not-is_new-clause-extends c = λ made search. search
+
+-- where memory is refused
+
+pub returns-in_err-at-clause-extends : goal.returns-in_err-at-clause-extends
+returns-in_err-at-clause-extends c = IfOk-from_err c.from_residual-in_err-at.result _ c.from_residual-in_err-at.ensures.0
+
+pub returns-in_err-target-clause-extends : goal.returns-in_err-target-clause-extends
+returns-in_err-target-clause-extends c = IfOk-from_err c.from_residual.result _ c.from_residual.ensures.0
+
+pub returns-in_err-versions-clause-extends : goal.returns-in_err-versions-clause-extends
+returns-in_err-versions-clause-extends c = IfOk-from_err c.from_residual-in_err-versions.result _ c.from_residual-in_err-versions.ensures.0
+
+pub returns-in_err-within-clause-extends : goal.returns-in_err-within-clause-extends
+returns-in_err-within-clause-extends c = IfOk-from_err c.from_residual-in_err-within.result _ c.from_residual-in_err-within.ensures.0
+
+pub returns-in_err-at-clause-changed : goal.returns-in_err-at-clause-changed
+returns-in_err-at-clause-changed c = IfOk-from_err c.from_residual-in_err-at.result _ c.from_residual-in_err-at.ensures.0
+
+pub returns-in_err-target-clause-changed : goal.returns-in_err-target-clause-changed
+returns-in_err-target-clause-changed c = IfOk-from_err c.from_residual.result _ c.from_residual.ensures.0
+
+pub returns-in_err-versions-clause-changed : goal.returns-in_err-versions-clause-changed
+returns-in_err-versions-clause-changed c = IfOk-from_err c.from_residual-in_err-versions.result _ c.from_residual-in_err-versions.ensures.0
+
+pub returns-in_err-within-clause-changed : goal.returns-in_err-within-clause-changed
+returns-in_err-within-clause-changed c = IfOk-from_err c.from_residual-in_err-within.result _ c.from_residual-in_err-within.ensures.0

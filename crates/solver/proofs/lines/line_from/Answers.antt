@@ -4,6 +4,7 @@ use Rattle.std.proofs.lemmas.Option.{get_or_from_slice_get, slice_get_read}
 use Rattle.std.specs.Prelude.{Some}
 use Rattle.terms.specs.Incompats.{has_term}
 use Rattle.derivations.specs.declared.cutting.Known.{Known}
+use Rattle.std.proofs.lemmas.Result.{IfOk-from_err}
 use Rattle.solver.proofs.lines.line_from.Goals as goal
 
 pub returns-clause-follows : goal.returns-clause-follows
@@ -22,3 +23,14 @@ returns-clause-follows c =
       on_pivot = or_right (has_term one.conclusion c.args.pivot) (has_term two.conclusion c.args.pivot) has;
       follows = c.in_ok-conclusion.ensures.follows;
     }
+
+-- where memory is refused
+
+pub returns-in_err-conclusion-clause-follows : goal.returns-in_err-conclusion-clause-follows
+returns-in_err-conclusion-clause-follows c = IfOk-from_err c.from_residual.result _ c.from_residual.ensures.0
+
+pub returns-in_err-conclusion-clause-reason : goal.returns-in_err-conclusion-clause-reason
+returns-in_err-conclusion-clause-reason c = IfOk-from_err c.from_residual.result _ c.from_residual.ensures.0
+
+pub returns-in_err-conclusion-clause-lawful : goal.returns-in_err-conclusion-clause-lawful
+returns-in_err-conclusion-clause-lawful c = IfOk-from_err c.from_residual.result _ c.from_residual.ensures.0

@@ -1,5 +1,7 @@
 use Rattle.std.proofs.Common.{◌∙◌, sym}
 use Rattle.std.proofs.lemmas.Option.{none-some, slice_get_within}
+use Rattle.std.proofs.lemmas.Result.{IfOk-from_err, err_from_is_err_and}
+use Rattle.solver.proofs.Refusing.{may_lack_memory}
 use Rattle.solver.proofs.Decisions.{acts_as}
 use Rattle.solver.proofs.Naming.{dependency_apart, dependency_numbered}
 use Rattle.solver.proofs.Obstacles.{dependency_decides, entry_contained, entry_unmet}
@@ -50,3 +52,53 @@ pub returns-in_ok-decide_on-in-Neither-clause-acts : goal.returns-in_ok-decide_o
 returns-in_ok-decide_on-in-Neither-clause-acts c =
     let unused = rw c.in-Neither.is at c.in_ok-acted.ensures.acts in
     acts_as c.args.task.now c.args.search.now c.act.new.search c.decide_on.new.search ⊥ ⊥ c.in_ok-decide_on-in-Neither.field-0 unused.0.0 (λ none. none) c.in_ok-decide_on-in-Neither.ensures.acts
+
+-- where it is refused
+
+pub returns-in_err-acted-clause-acts : goal.returns-in_err-acted-clause-acts
+returns-in_err-acted-clause-acts c = IfOk-from_err c.from_residual-in_err-acted.result _ c.from_residual-in_err-acted.ensures.0
+
+pub returns-in_err-at-clause-acts : goal.returns-in_err-at-clause-acts
+returns-in_err-at-clause-acts c = IfOk-from_err c.from_residual-in_err-at.result _ c.from_residual-in_err-at.ensures.0
+
+pub returns-in_err-decide_on-in-Neither-clause-acts : goal.returns-in_err-decide_on-in-Neither-clause-acts
+returns-in_err-decide_on-in-Neither-clause-acts c = IfOk-from_err c.from_residual-in_err-decide_on-in-Neither.result _ c.from_residual-in_err-decide_on-in-Neither.ensures.0
+
+pub returns-in_err-note-clause-acts : goal.returns-in_err-note-clause-acts
+returns-in_err-note-clause-acts c = IfOk-from_err c.from_residual-in_err-note.result _ c.from_residual-in_err-note.ensures.0
+
+pub returns-in_err-versions-clause-acts : goal.returns-in_err-versions-clause-acts
+returns-in_err-versions-clause-acts c = IfOk-from_err c.from_residual.result _ c.from_residual.ensures.0
+
+pub returns-in_err-within-clause-acts : goal.returns-in_err-within-clause-acts
+returns-in_err-within-clause-acts c = IfOk-from_err c.from_residual-in_err-within.result _ c.from_residual-in_err-within.ensures.0
+
+pub returns-in_err-acted-clause-only : goal.returns-in_err-acted-clause-only
+returns-in_err-acted-clause-only c =
+    let err = err_from_is_err_and c.from_residual-in_err-acted.result c.from_residual-in_err-acted.ensures.1 in
+    rw (err.1, err.2) c.in_err-acted.ensures.only
+
+pub returns-in_err-at-clause-only : goal.returns-in_err-at-clause-only
+returns-in_err-at-clause-only c =
+    let err = err_from_is_err_and c.from_residual-in_err-at.result c.from_residual-in_err-at.ensures.1 in
+    rw (err.1, err.2) (may_lack_memory c.args.task.now.budget)
+
+pub returns-in_err-decide_on-in-Neither-clause-only : goal.returns-in_err-decide_on-in-Neither-clause-only
+returns-in_err-decide_on-in-Neither-clause-only c =
+    let err = err_from_is_err_and c.from_residual-in_err-decide_on-in-Neither.result c.from_residual-in_err-decide_on-in-Neither.ensures.1 in
+    rw (err.1, err.2) c.in_err-decide_on-in-Neither.ensures.only
+
+pub returns-in_err-note-clause-only : goal.returns-in_err-note-clause-only
+returns-in_err-note-clause-only c =
+    let err = err_from_is_err_and c.from_residual-in_err-note.result c.from_residual-in_err-note.ensures.1 in
+    rw (err.1, err.2) (may_lack_memory c.args.task.now.budget)
+
+pub returns-in_err-versions-clause-only : goal.returns-in_err-versions-clause-only
+returns-in_err-versions-clause-only c =
+    let err = err_from_is_err_and c.from_residual.result c.from_residual.ensures.1 in
+    rw (err.1, err.2) (may_lack_memory c.args.task.now.budget)
+
+pub returns-in_err-within-clause-only : goal.returns-in_err-within-clause-only
+returns-in_err-within-clause-only c =
+    let err = err_from_is_err_and c.from_residual-in_err-within.result c.from_residual-in_err-within.ensures.1 in
+    rw (err.1, err.2, c.in_err-within.ensures.only) (may_lack_memory c.args.task.now.budget)

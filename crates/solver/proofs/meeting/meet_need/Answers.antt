@@ -1,5 +1,9 @@
-use Rattle.std.proofs.Common.{◌≡◌, ◌∙◌, sym, subst, get_or, List}
+use Rattle.std.proofs.Common.{◌≡◌, ◌∙◌, sym, subst, get_or, List, ap, arith, length}
 use Rattle.versions.specs.Words.{Text}
+use Rattle.std.proofs.lemmas.Option.{slice_get_within}
+use Rattle.std.proofs.lemmas.Result.{IfOk-from_err, err_from_is_err_and}
+use Rattle.solver.proofs.Refusing.{may_lack_memory}
+use Rattle.solver.proofs.Decisions.{acts_as}
 use Rattle.solver.proofs.Obstacles.{need_decides, need_numbered}
 use Rattle.solver.proofs.meeting.meet_need.Goals as goal
 
@@ -16,3 +20,61 @@ decide_on-requires-clause-decide c =
     need_decides c.args.task.now c.args.search.now.partial c.push_need.new.known.items c.in_ok-at.at c.args.index c.args.task.now.request.now.needs c.index-needs-index.result c.requires.search.begins
     c.in_ok-at.ensures.place c.requires.unmet unused.1 (subst (λ (ns : List (Text × Text)). c.index-needs-index.result ≡ get_or ns c.args.index c.index-needs-index.result) c.needs.ensures.needs c.index-needs-index.is)
     c.matching_is_what_meets.ensures c.act.new.search.partial c.in-Some.target c.assignments-made.ensures.lawful (sym c.number.ensures ∙ c.in-Some.is) unused.0.0
+
+pub push_need-requires : goal.push_need-requires
+push_need-requires c = slice_get_within c.args.task.now.request.now.needs c.args.index (c.requires.unmet.name, c.requires.unmet.need) c.requires.unmet.at
+
+pub bounds-needs-index : goal.bounds-needs-index
+bounds-needs-index c =
+    let within = slice_get_within c.args.task.now.request.now.needs c.args.index (c.requires.unmet.name, c.requires.unmet.need) c.requires.unmet.at in
+    omega (arith, within, ap length c.needs.ensures.needs)
+
+pub act-requires-clause-within : goal.act-requires-clause-within
+act-requires-clause-within c = slice_get_within c.push_need.new.known.items c.in_ok-at.at c.in_ok-at.ensures.place.line.0 c.in_ok-at.ensures.place.line.1
+
+pub act-requires-clause-search : goal.act-requires-clause-search
+act-requires-clause-search c = c.in_ok-at.ensures.extends c.args.search.now.partial c.requires.search
+
+pub decide_on-requires-clause-search : goal.decide_on-requires-clause-search
+decide_on-requires-clause-search c =
+    let unused = rw c.in-Neither.is at c.in_ok-acted.ensures.acts in
+    rw (unused.0.0, unused.0.1) (c.in_ok-at.ensures.extends c.args.search.now.partial c.requires.search)
+
+pub returns-in_ok-decide_on-in-Some-clause-acts : goal.returns-in_ok-decide_on-in-Some-clause-acts
+returns-in_ok-decide_on-in-Some-clause-acts c =
+    let unused = rw c.in-Neither.is at c.in_ok-acted.ensures.acts in
+    acts_as c.args.task.now c.args.search.now c.act.new.search c.decide_on.new.search ⊥ ⊥ c.in_ok-decide_on-in-Some.field-0 unused.0.0 (λ none. none) c.in_ok-decide_on-in-Some.ensures.acts
+
+-- where it is refused
+
+pub returns-in_err-acted-clause-acts : goal.returns-in_err-acted-clause-acts
+returns-in_err-acted-clause-acts c = IfOk-from_err c.from_residual-in_err-acted.result _ c.from_residual-in_err-acted.ensures.0
+
+pub returns-in_err-at-clause-acts : goal.returns-in_err-at-clause-acts
+returns-in_err-at-clause-acts c = IfOk-from_err c.from_residual.result _ c.from_residual.ensures.0
+
+pub returns-in_err-decide_on-in-Some-clause-acts : goal.returns-in_err-decide_on-in-Some-clause-acts
+returns-in_err-decide_on-in-Some-clause-acts c = IfOk-from_err c.from_residual-in_err-decide_on-in-Some.result _ c.from_residual-in_err-decide_on-in-Some.ensures.0
+
+pub returns-in_err-note-clause-acts : goal.returns-in_err-note-clause-acts
+returns-in_err-note-clause-acts c = IfOk-from_err c.from_residual-in_err-note.result _ c.from_residual-in_err-note.ensures.0
+
+pub returns-in_err-acted-clause-only : goal.returns-in_err-acted-clause-only
+returns-in_err-acted-clause-only c =
+    let err = err_from_is_err_and c.from_residual-in_err-acted.result c.from_residual-in_err-acted.ensures.1 in
+    rw (err.1, err.2) c.in_err-acted.ensures.only
+
+pub returns-in_err-at-clause-only : goal.returns-in_err-at-clause-only
+returns-in_err-at-clause-only c =
+    let err = err_from_is_err_and c.from_residual.result c.from_residual.ensures.1 in
+    rw (err.1, err.2) (may_lack_memory c.args.task.now.budget)
+
+pub returns-in_err-decide_on-in-Some-clause-only : goal.returns-in_err-decide_on-in-Some-clause-only
+returns-in_err-decide_on-in-Some-clause-only c =
+    let err = err_from_is_err_and c.from_residual-in_err-decide_on-in-Some.result c.from_residual-in_err-decide_on-in-Some.ensures.1 in
+    rw (err.1, err.2) c.in_err-decide_on-in-Some.ensures.only
+
+pub returns-in_err-note-clause-only : goal.returns-in_err-note-clause-only
+returns-in_err-note-clause-only c =
+    let err = err_from_is_err_and c.from_residual-in_err-note.result c.from_residual-in_err-note.ensures.1 in
+    rw (err.1, err.2) (may_lack_memory c.args.task.now.budget)

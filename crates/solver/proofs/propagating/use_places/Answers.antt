@@ -1,3 +1,6 @@
+use Rattle.std.proofs.lemmas.Result.{IfOk-from_err, err_from_is_err_and}
+use Rattle.std.proofs.Common.{◌∙◌, sym}
+use Rattle.solver.proofs.Refusing.{may_lack_memory}
 use Rattle.solver.proofs.Using.{fell_on, fell_still, same_still}
 use Rattle.solver.proofs.propagating.use_places.Goals as goal
 
@@ -44,3 +47,47 @@ returns-in-None-clause-acts c = rw c.in-None.is at c.loop-i.invariant.same
 
 pub returns-in-Some-last-clause-acts : goal.returns-in-Some-last-clause-acts
 returns-in-Some-last-clause-acts c = (c.loop-i.invariant.search, rw c.in-Some-last.is at c.loop-i.invariant.fell)
+
+-- where it is refused
+
+pub returns-in_err-act-clause-acts : goal.returns-in_err-act-clause-acts
+returns-in_err-act-clause-acts c = IfOk-from_err c.from_residual.result _ c.from_residual.ensures.0
+
+pub returns-in_err-push-in-Derived-2-clause-acts : goal.returns-in_err-push-in-Derived-2-clause-acts
+returns-in_err-push-in-Derived-2-clause-acts c = IfOk-from_err c.from_residual-in_err-push-in-Derived-2.result _ c.from_residual-in_err-push-in-Derived-2.ensures.0
+
+pub returns-in_err-push-in-Derived-clause-acts : goal.returns-in_err-push-in-Derived-clause-acts
+returns-in_err-push-in-Derived-clause-acts c = IfOk-from_err c.from_residual-in_err-push-in-Derived.result _ c.from_residual-in_err-push-in-Derived.ensures.0
+
+pub returns-in_err-act-clause-left : goal.returns-in_err-act-clause-left
+returns-in_err-act-clause-left c = λ neither.
+    let err = err_from_is_err_and c.from_residual.result c.from_residual.ensures.1 in
+    let wrong = sym err.1 ∙ neither in
+    cc
+
+pub returns-in_err-act-clause-only : goal.returns-in_err-act-clause-only
+returns-in_err-act-clause-only c =
+    let err = err_from_is_err_and c.from_residual.result c.from_residual.ensures.1 in
+    rw (err.1, err.2) c.in_err-act.ensures.only
+
+pub returns-in_err-push-in-Derived-2-clause-left : goal.returns-in_err-push-in-Derived-2-clause-left
+returns-in_err-push-in-Derived-2-clause-left c = λ neither.
+    let err = err_from_is_err_and c.from_residual-in_err-push-in-Derived-2.result c.from_residual-in_err-push-in-Derived-2.ensures.1 in
+    let wrong = sym err.1 ∙ neither in
+    cc
+
+pub returns-in_err-push-in-Derived-2-clause-only : goal.returns-in_err-push-in-Derived-2-clause-only
+returns-in_err-push-in-Derived-2-clause-only c =
+    let err = err_from_is_err_and c.from_residual-in_err-push-in-Derived-2.result c.from_residual-in_err-push-in-Derived-2.ensures.1 in
+    rw (err.1, err.2) (may_lack_memory c.args.task.now.budget)
+
+pub returns-in_err-push-in-Derived-clause-left : goal.returns-in_err-push-in-Derived-clause-left
+returns-in_err-push-in-Derived-clause-left c = λ neither.
+    let err = err_from_is_err_and c.from_residual-in_err-push-in-Derived.result c.from_residual-in_err-push-in-Derived.ensures.1 in
+    let wrong = sym err.1 ∙ neither in
+    cc
+
+pub returns-in_err-push-in-Derived-clause-only : goal.returns-in_err-push-in-Derived-clause-only
+returns-in_err-push-in-Derived-clause-only c =
+    let err = err_from_is_err_and c.from_residual-in_err-push-in-Derived.result c.from_residual-in_err-push-in-Derived.ensures.1 in
+    rw (err.1, err.2) (may_lack_memory c.args.task.now.budget)

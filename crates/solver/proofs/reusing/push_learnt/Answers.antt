@@ -2,6 +2,7 @@ use Rattle.std.proofs.Common.{◌≡◌, ◌≤◌, List, Some, ap, arith, lengt
 use Rattle.std.specs.List.{slice_get}
 use Rattle.std.proofs.lemmas.Option.{slice_get_read}
 use Rattle.derivations.specs.declared.line.Line.{Line}
+use Rattle.std.proofs.lemmas.Result.{IfOk-from_err}
 use Rattle.solver.proofs.Reused.{AreLeft-at, AreLeft-end, AreLeft-more, AreLeft-start}
 use Rattle.solver.proofs.reusing.push_learnt.Goals as goal
 
@@ -33,3 +34,23 @@ pub returns-clause-place : goal.returns-clause-place
 returns-clause-place c =
     let le : length c.args.learnt.now ≤ c.loop-line.line-index = omega (arith, c.loop-line-test.false, ap length c.lines-lines.ensures.same) in
     AreLeft-end c.args.task.now.registry.now.packages c.loop-line.known.items c.loop-line.places.items c.loop-line.at c.loop-line.line-index c.args.learnt.now le c.loop-line.invariant.left
+
+-- where memory is refused
+
+pub returns-in_err-at-clause-extends : goal.returns-in_err-at-clause-extends
+returns-in_err-at-clause-extends c = IfOk-from_err c.from_residual-in_err-at.result _ c.from_residual-in_err-at.ensures.0
+
+pub returns-in_err-places-clause-extends : goal.returns-in_err-places-clause-extends
+returns-in_err-places-clause-extends c = IfOk-from_err c.from_residual.result _ c.from_residual.ensures.0
+
+pub returns-in_err-push-clause-extends : goal.returns-in_err-push-clause-extends
+returns-in_err-push-clause-extends c = IfOk-from_err c.from_residual-in_err-push.result _ c.from_residual-in_err-push.ensures.0
+
+pub returns-in_err-at-clause-place : goal.returns-in_err-at-clause-place
+returns-in_err-at-clause-place c = IfOk-from_err c.from_residual-in_err-at.result _ c.from_residual-in_err-at.ensures.0
+
+pub returns-in_err-places-clause-place : goal.returns-in_err-places-clause-place
+returns-in_err-places-clause-place c = IfOk-from_err c.from_residual.result _ c.from_residual.ensures.0
+
+pub returns-in_err-push-clause-place : goal.returns-in_err-push-clause-place
+returns-in_err-push-clause-place c = IfOk-from_err c.from_residual-in_err-push.result _ c.from_residual-in_err-push.ensures.0

@@ -1,4 +1,5 @@
 use Rattle.std.proofs.Common.{ap, length}
+use Rattle.std.proofs.lemmas.Result.{IfOk-from_err}
 use Rattle.solver.proofs.Reused.{AreAt-later, line_extends, line_keeps, line_place}
 use Rattle.solver.proofs.reusing.push_line.Goals as goal
 
@@ -30,3 +31,41 @@ place_of-requires-2-clause-given c =
     let d = c.requires in
     let said = AreAt-later c.args.known.now.items c.place_of.new.known.items d.earlier c.args.places.now c.in_ok-first.ensures.keeps d.said in
     (d.derived.two, record { earlier = d.earlier; said = said; offers = d.derived.gives_two })
+
+-- where memory is refused
+
+pub returns-in_err-conclusion-clause-extends : goal.returns-in_err-conclusion-clause-extends
+returns-in_err-conclusion-clause-extends c = IfOk-from_err c.from_residual-in_err-conclusion.result _ c.from_residual-in_err-conclusion.ensures.0
+
+pub returns-in_err-first-clause-extends : goal.returns-in_err-first-clause-extends
+returns-in_err-first-clause-extends c = IfOk-from_err c.from_residual.result _ c.from_residual.ensures.0
+
+pub returns-in_err-push-clause-extends : goal.returns-in_err-push-clause-extends
+returns-in_err-push-clause-extends c = IfOk-from_err c.from_residual-in_err-push.result _ c.from_residual-in_err-push.ensures.0
+
+pub returns-in_err-second-clause-extends : goal.returns-in_err-second-clause-extends
+returns-in_err-second-clause-extends c = IfOk-from_err c.from_residual-in_err-second.result _ c.from_residual-in_err-second.ensures.0
+
+pub returns-in_err-conclusion-clause-keeps : goal.returns-in_err-conclusion-clause-keeps
+returns-in_err-conclusion-clause-keeps c = IfOk-from_err c.from_residual-in_err-conclusion.result _ c.from_residual-in_err-conclusion.ensures.0
+
+pub returns-in_err-first-clause-keeps : goal.returns-in_err-first-clause-keeps
+returns-in_err-first-clause-keeps c = IfOk-from_err c.from_residual.result _ c.from_residual.ensures.0
+
+pub returns-in_err-push-clause-keeps : goal.returns-in_err-push-clause-keeps
+returns-in_err-push-clause-keeps c = IfOk-from_err c.from_residual-in_err-push.result _ c.from_residual-in_err-push.ensures.0
+
+pub returns-in_err-second-clause-keeps : goal.returns-in_err-second-clause-keeps
+returns-in_err-second-clause-keeps c = IfOk-from_err c.from_residual-in_err-second.result _ c.from_residual-in_err-second.ensures.0
+
+pub returns-in_err-conclusion-clause-place : goal.returns-in_err-conclusion-clause-place
+returns-in_err-conclusion-clause-place c = IfOk-from_err c.from_residual-in_err-conclusion.result _ c.from_residual-in_err-conclusion.ensures.0
+
+pub returns-in_err-first-clause-place : goal.returns-in_err-first-clause-place
+returns-in_err-first-clause-place c = IfOk-from_err c.from_residual.result _ c.from_residual.ensures.0
+
+pub returns-in_err-push-clause-place : goal.returns-in_err-push-clause-place
+returns-in_err-push-clause-place c = IfOk-from_err c.from_residual-in_err-push.result _ c.from_residual-in_err-push.ensures.0
+
+pub returns-in_err-second-clause-place : goal.returns-in_err-second-clause-place
+returns-in_err-second-clause-place c = IfOk-from_err c.from_residual-in_err-second.result _ c.from_residual-in_err-second.ensures.0

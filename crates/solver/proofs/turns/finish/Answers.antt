@@ -1,3 +1,4 @@
+use Rattle.std.proofs.lemmas.Result.{IfOk-from_err}
 use Rattle.solver.proofs.turns.finish.Goals as goal
 
 pub returns-in-Selection-clause-turns : goal.returns-in-Selection-clause-turns
@@ -10,3 +11,17 @@ exclude-requires-clause-forbidden c = rw c.in-NotAllowed.is at c.in_ok-list.ensu
 
 pub returns-in_ok-exclude-in-NotAllowed-clause-turns : goal.returns-in_ok-exclude-in-NotAllowed-clause-turns
 returns-in_ok-exclude-in-NotAllowed-clause-turns c = c.in_ok-exclude-in-NotAllowed.ensures.acts
+
+-- where memory is refused
+
+pub returns-in_err-exclude-in-NotAllowed-clause-turns : goal.returns-in_err-exclude-in-NotAllowed-clause-turns
+returns-in_err-exclude-in-NotAllowed-clause-turns c = IfOk-from_err c.from_residual-in_err-exclude-in-NotAllowed.result _ c.from_residual-in_err-exclude-in-NotAllowed.ensures.0
+
+pub returns-in_err-list-clause-turns : goal.returns-in_err-list-clause-turns
+returns-in_err-list-clause-turns c = IfOk-from_err c.from_residual.result _ c.from_residual.ensures.0
+
+pub returns-in_err-meet_dependency-in-Unmet-Version-default-clause-turns : goal.returns-in_err-meet_dependency-in-Unmet-Version-default-clause-turns
+returns-in_err-meet_dependency-in-Unmet-Version-default-clause-turns c = IfOk-from_err c.from_residual-in_err-meet_dependency-in-Unmet-Version-default.result _ c.from_residual-in_err-meet_dependency-in-Unmet-Version-default.ensures.0
+
+pub returns-in_err-meet_need-in-Unmet-Request-default-clause-turns : goal.returns-in_err-meet_need-in-Unmet-Request-default-clause-turns
+returns-in_err-meet_need-in-Unmet-Request-default-clause-turns c = IfOk-from_err c.from_residual-in_err-meet_need-in-Unmet-Request-default.result _ c.from_residual-in_err-meet_need-in-Unmet-Request-default.ensures.0

@@ -1,0 +1,16 @@
+use Rattle.std.proofs.lemmas.Result.{IfOk-from_err}
+use Rattle.solver.proofs.facts.push_barred.Goals as goal
+
+-- where memory is refused
+
+pub returns-in_err-conclusion-clause-extends : goal.returns-in_err-conclusion-clause-extends
+returns-in_err-conclusion-clause-extends c = IfOk-from_err c.from_residual-in_err-conclusion.result _ c.from_residual-in_err-conclusion.ensures.0
+
+pub returns-in_err-copy-clause-extends : goal.returns-in_err-copy-clause-extends
+returns-in_err-copy-clause-extends c = IfOk-from_err c.from_residual.result _ c.from_residual.ensures.0
+
+pub returns-in_err-conclusion-clause-place : goal.returns-in_err-conclusion-clause-place
+returns-in_err-conclusion-clause-place c = IfOk-from_err c.from_residual-in_err-conclusion.result _ c.from_residual-in_err-conclusion.ensures.0
+
+pub returns-in_err-copy-clause-place : goal.returns-in_err-copy-clause-place
+returns-in_err-copy-clause-place c = IfOk-from_err c.from_residual.result _ c.from_residual.ensures.0

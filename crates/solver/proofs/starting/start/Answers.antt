@@ -1,0 +1,10 @@
+use Rattle.std.proofs.lemmas.Result.{IfOk-from_err}
+use Rattle.solver.proofs.starting.start.Goals as goal
+
+-- where memory is refused
+
+pub returns-in_err-push : goal.returns-in_err-push
+returns-in_err-push c = IfOk-from_err c.from_residual.result _ c.from_residual.ensures.0
+
+pub returns-in_err-search : goal.returns-in_err-search
+returns-in_err-search c = IfOk-from_err c.from_residual-in_err-search.result _ c.from_residual-in_err-search.ensures.0
