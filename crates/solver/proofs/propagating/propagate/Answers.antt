@@ -1,4 +1,4 @@
-use Rattle.std.proofs.Common.{◌∙◌, ◌<◌, List, subst}
+use Rattle.std.proofs.Common.{◌∙◌, ◌<◌, List, subst, refl}
 use Rattle.partial.specs.declared.assignment.Assignment.{Assignment}
 use Rattle.partial.specs.Rank.{rank}
 use Rattle.std.proofs.lemmas.Result.{IfOk-from_err, err_from_is_err_and}
@@ -68,3 +68,29 @@ pub returns-in_err-use_stored-clause-only : goal.returns-in_err-use_stored-claus
 returns-in_err-use_stored-clause-only c =
     let err = err_from_is_err_and c.from_residual-in_err-use_stored.result c.from_residual-in_err-use_stored.ensures.1 in
     rw (err.1, err.2) c.in_err-use_stored.ensures.only
+
+-- what each turn of the loop keeps
+
+pub packages-init : goal.packages-init
+packages-init c = record { search = c.requires.search; same = refl }
+
+pub use_stored-requires-clause-search : goal.use_stored-requires-clause-search
+use_stored-requires-clause-search c = c.in_ok-enter_alike.ensures.extends c.packages.search.partial c.packages.invariant.search
+
+pub use_places-requires : goal.use_places-requires
+use_places-requires c = (rw c.in-Neither.is at c.in_ok-use_stored.ensures.acts).1
+
+pub packages-preserved : goal.packages-preserved
+packages-preserved c =
+    let idle = rw c.in-Neither.is at c.in_ok-use_stored.ensures.acts in
+    let still = rw c.in-Neither-2.is at c.in_ok-use_places.ensures.acts in
+    record { search = rw (still.0, still.1) idle.1; same = still.0 ∙ idle.0 ∙ c.packages.invariant.same }
+
+pub returns-in_default-clause-acts : goal.returns-in_default-clause-acts
+returns-in_default-clause-acts c = (c.packages.invariant.same, c.packages.invariant.search)
+
+pub returns-in-Refused-clause-acts : goal.returns-in-Refused-clause-acts
+returns-in-Refused-clause-acts c = rw c.in-Refused.is at c.in_ok-use_stored.ensures.acts
+
+pub returns-in-Refused-2-clause-acts : goal.returns-in-Refused-2-clause-acts
+returns-in-Refused-2-clause-acts c = rw c.in-Refused-2.is at c.in_ok-use_places.ensures.acts

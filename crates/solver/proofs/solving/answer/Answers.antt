@@ -1,4 +1,10 @@
+use Rattle.std.proofs.lemmas.Result.{IfOk-from_err}
 use Rattle.solver.proofs.solving.answer.Goals as goal
 
 pub returns-clause-preferred : goal.returns-clause-preferred
 returns-clause-preferred c s preferred meets = c.outcome_of.ensures.answers s (c.in_ok-found.ensures.preferred s preferred meets)
+
+-- where memory is refused
+
+pub returns-in_err-found-clause-lawful : goal.returns-in_err-found-clause-lawful
+returns-in_err-found-clause-lawful c = IfOk-from_err c.from_residual.result _ c.from_residual.ensures.0

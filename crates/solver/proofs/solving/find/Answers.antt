@@ -1,4 +1,6 @@
-use Rattle.std.proofs.Common.{ap, arith, length}
+use Rattle.std.proofs.Common.{ap, arith, length, refl}
+use Rattle.std.proofs.lemmas.Result.{IfOk-from_err, err_from_is_err_and}
+use Rattle.solver.proofs.Refusing.{may_lack_memory}
 use Rattle.solver.proofs.solving.find.Goals as goal
 
 pub returns-in-Selection-clause-found : goal.returns-in-Selection-clause-found
@@ -20,3 +22,59 @@ returns-in_err-search_for-in-Unmet-clause-unspent c s preferred meets = absurd (
 
 pub returns-in_err-search_for-in-NotAllowed-clause-unspent : goal.returns-in_err-search_for-in-NotAllowed-clause-unspent
 returns-in_err-search_for-in-NotAllowed-clause-unspent c s preferred meets = absurd (rw c.in-NotAllowed.is at c.in_ok-list.ensures.exactly s preferred meets)
+
+-- where it is refused
+
+pub returns-in_err-list-clause-found : goal.returns-in_err-list-clause-found
+returns-in_err-list-clause-found c = IfOk-from_err c.from_residual.result _ c.from_residual.ensures.0
+
+pub returns-in_err-obstacle-in-Unmet-clause-found : goal.returns-in_err-obstacle-in-Unmet-clause-found
+returns-in_err-obstacle-in-Unmet-clause-found c = IfOk-from_err c.from_residual-in_err-obstacle-in-Unmet.result _ c.from_residual-in_err-obstacle-in-Unmet.ensures.0
+
+pub returns-in_err-search_for-in-NotAllowed-clause-found : goal.returns-in_err-search_for-in-NotAllowed-clause-found
+returns-in_err-search_for-in-NotAllowed-clause-found c = IfOk-from_err c.from_residual-in_err-search_for-in-NotAllowed.result _ c.from_residual-in_err-search_for-in-NotAllowed.ensures.0
+
+pub returns-in_err-search_for-in-Unmet-clause-found : goal.returns-in_err-search_for-in-Unmet-clause-found
+returns-in_err-search_for-in-Unmet-clause-found c = IfOk-from_err c.from_residual-in_err-search_for-in-Unmet.result _ c.from_residual-in_err-search_for-in-Unmet.ensures.0
+
+pub returns-in_err-list-clause-only : goal.returns-in_err-list-clause-only
+returns-in_err-list-clause-only c =
+    let err = err_from_is_err_and c.from_residual.result c.from_residual.ensures.1 in
+    rw (err.1, err.2) (may_lack_memory c.args.task.now.budget)
+
+pub returns-in_err-obstacle-in-Unmet-clause-only : goal.returns-in_err-obstacle-in-Unmet-clause-only
+returns-in_err-obstacle-in-Unmet-clause-only c =
+    let err = err_from_is_err_and c.from_residual-in_err-obstacle-in-Unmet.result c.from_residual-in_err-obstacle-in-Unmet.ensures.1 in
+    rw (err.1, err.2) (may_lack_memory c.args.task.now.budget)
+
+pub returns-in_err-search_for-in-NotAllowed-clause-only : goal.returns-in_err-search_for-in-NotAllowed-clause-only
+returns-in_err-search_for-in-NotAllowed-clause-only c =
+    let err = err_from_is_err_and c.from_residual-in_err-search_for-in-NotAllowed.result c.from_residual-in_err-search_for-in-NotAllowed.ensures.1 in
+    rw (err.1, err.2) c.in_err-search_for-in-NotAllowed.ensures.only
+
+pub returns-in_err-search_for-in-Unmet-clause-only : goal.returns-in_err-search_for-in-Unmet-clause-only
+returns-in_err-search_for-in-Unmet-clause-only c =
+    let err = err_from_is_err_and c.from_residual-in_err-search_for-in-Unmet.result c.from_residual-in_err-search_for-in-Unmet.ensures.1 in
+    rw (err.1, err.2) c.in_err-search_for-in-Unmet.ensures.only
+
+pub returns-in_err-list-clause-unspent : goal.returns-in_err-list-clause-unspent
+returns-in_err-list-clause-unspent c = λ s preferred meets.
+    let err = err_from_is_err_and c.from_residual.result c.from_residual.ensures.1 in
+    rw (err.1, err.2) refl
+
+pub returns-in_err-obstacle-in-Unmet-clause-unspent : goal.returns-in_err-obstacle-in-Unmet-clause-unspent
+returns-in_err-obstacle-in-Unmet-clause-unspent c = λ s preferred meets.
+    let err = err_from_is_err_and c.from_residual-in_err-obstacle-in-Unmet.result c.from_residual-in_err-obstacle-in-Unmet.ensures.1 in
+    rw (err.1, err.2) refl
+
+pub returns-in_err-list-clause-preferred : goal.returns-in_err-list-clause-preferred
+returns-in_err-list-clause-preferred c = λ s preferred meets. IfOk-from_err c.from_residual.result _ c.from_residual.ensures.0
+
+pub returns-in_err-obstacle-in-Unmet-clause-preferred : goal.returns-in_err-obstacle-in-Unmet-clause-preferred
+returns-in_err-obstacle-in-Unmet-clause-preferred c = λ s preferred meets. IfOk-from_err c.from_residual-in_err-obstacle-in-Unmet.result _ c.from_residual-in_err-obstacle-in-Unmet.ensures.0
+
+pub returns-in_err-search_for-in-Unmet-clause-preferred : goal.returns-in_err-search_for-in-Unmet-clause-preferred
+returns-in_err-search_for-in-Unmet-clause-preferred c = λ s preferred meets. IfOk-from_err c.from_residual-in_err-search_for-in-Unmet.result _ c.from_residual-in_err-search_for-in-Unmet.ensures.0
+
+pub returns-in_err-search_for-in-NotAllowed-clause-preferred : goal.returns-in_err-search_for-in-NotAllowed-clause-preferred
+returns-in_err-search_for-in-NotAllowed-clause-preferred c = λ s preferred meets. IfOk-from_err c.from_residual-in_err-search_for-in-NotAllowed.result _ c.from_residual-in_err-search_for-in-NotAllowed.ensures.0

@@ -2,6 +2,7 @@ use Rattle.std.proofs.Common.{◌≡◌, ◌∙◌, ◌++◌, ℕ, List, ap, dro
 use Rattle.std.proofs.Math.Seq.{take-append_seam}
 use Rattle.registry.specs.Selections.{Choices}
 use Rattle.walk.specs.Choosing.{choice_of}
+use Rattle.std.proofs.lemmas.Result.{IfOk-from_err}
 use Rattle.solver.proofs.solving.tell.Goals as goal
 
 pub named_all-requires-clause-selection : goal.named_all-requires-clause-selection
@@ -14,3 +15,8 @@ named_all-requires-clause-selection c p k chosen =
     c.requires.selection p k
     (ap (λ (xs : List (ℕ × ℕ)). choice_of xs p) (sym before) ∙ sym (ap (λ (s : Choices). s p) c.sort_by_name.ensures.same)
     ∙ ap (λ (xs : List (ℕ × ℕ)). choice_of xs p) (sym after) ∙ chosen)
+
+-- where memory is refused
+
+pub returns-in_err-named_all : goal.returns-in_err-named_all
+returns-in_err-named_all c = IfOk-from_err c.from_residual.result _ c.from_residual.ensures.0

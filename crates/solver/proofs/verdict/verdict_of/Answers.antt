@@ -1,5 +1,6 @@
 use Rattle.std.proofs.Common.{subst}
 use Rattle.registry.specs.Selections.{Choices}
+use Rattle.std.proofs.lemmas.Result.{IfOk-from_err}
 use Rattle.solver.specs.Outcomes.{Tells}
 use Rattle.solver.proofs.verdict.verdict_of.Goals as goal
 
@@ -23,3 +24,11 @@ pub returns-in_ok-derivation-in-Refused-clause-lawful : goal.returns-in_ok-deriv
 returns-in_ok-derivation-in-Refused-clause-lawful c =
     let found = rw c.in-Refused.is at c.requires in
     (c.if-not-explain.false, c.in_ok-derivation-in-Refused.ensures.derived c.args.task.now.registry.now.packages c.args.task.now.request.now found.0.lawful, found.1)
+
+-- where memory is refused
+
+pub returns-in_err-derivation-in-Refused-clause-lawful : goal.returns-in_err-derivation-in-Refused-clause-lawful
+returns-in_err-derivation-in-Refused-clause-lawful c = IfOk-from_err c.from_residual-in_err-derivation-in-Refused.result _ c.from_residual-in_err-derivation-in-Refused.ensures.0
+
+pub returns-in_err-pairs-in-Selected-clause-lawful : goal.returns-in_err-pairs-in-Selected-clause-lawful
+returns-in_err-pairs-in-Selected-clause-lawful c = IfOk-from_err c.from_residual.result _ c.from_residual.ensures.0
