@@ -1,8 +1,8 @@
 -- Arrays of which each item is read, place by place.
-use Rattle.std.proofs.Common.{◌≡◌, ℕ, zero, suc, ◌+◌, ◌<◌, List, [], ◌∷◌, ◌++◌, length, get_or, take, drop, true, true≢false, Option, Some, None, IsSome, is_some, unwrap_or, option_map, refl, sym, ap, ◌∙◌, arith}
+use Rattle.std.proofs.Common.{◌≡◌, ℕ, zero, suc, ◌+◌, ◌<◌, ◌≤◌, List, [], ◌∷◌, ◌++◌, length, get_or, take, drop, true, false, true≢false, Option, Some, None, IsSome, is_some, unwrap_or, option_map, refl, sym, ap, ◌∙◌, arith}
 use Rattle.std.specs.Option.{option_and_then}
 use Rattle.std.specs.List.{slice_get}
-use Rattle.std.proofs.lemmas.List.{at_drop_more, take_more}
+use Rattle.std.proofs.lemmas.List.{at_drop_all, at_drop_more, take_more}
 use Rattle.std.proofs.lemmas.Option.{slice_get_within, get_or_from_slice_get}
 use Rattle.serde_json.specs.Data.{Data}
 use Rattle.serde_json.specs.View.{items_view, view}
@@ -69,3 +69,16 @@ module _ {A : Type 0} (read : Data → Option A) where
       let here : read (view (get_or vs i v)) ≡ Some (said x) = ap (λ (w : Value). read (view w)) (sym is) ∙ sym same in
       let step = at_drop_more (λ l. each_of read (items_view l)) vs i v h ∙ after (λ y. option_map (λ ys. y ∷ ys) rest) (read (view (get_or vs i v))) (said x) here in
       sym (ap is_some step ∙ stands (said x) rest)
+
+  -- one value that isn't read stops the reading
+  pub each_stops : {B : Type 0} (said : B → A) (found : Option B) (vs : List Value) (i : ℕ) (v : Value) → i < length vs → v ≡ get_or vs i v → option_map said found ≡ read (view v)
+      → is_some found ≡ false → is_some (each_of read (items_view (drop i vs))) ≡ false
+  each_stops said (Some x) vs i v h is same missing = absurd (true≢false missing)
+  each_stops said None vs i v h is same missing =
+      let rest = each_of read (items_view (drop (i + 1) vs)) in
+      let here : read (view (get_or vs i v)) ≡ None = ap (λ (w : Value). read (view w)) (sym is) ∙ sym same in
+      ap is_some (at_drop_more (λ l. each_of read (items_view l)) vs i v h ∙ ap (option_and_then (λ y. option_map (λ ys. y ∷ ys) rest)) here)
+
+  -- all values are read
+  pub each_read : (vs : List Value) (i : ℕ) → length vs ≤ i → is_some (each_of read (items_view (drop i vs))) ≡ true
+  each_read vs i past = at_drop_all (λ l. is_some (each_of read (items_view l))) vs i past

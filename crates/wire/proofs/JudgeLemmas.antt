@@ -1,5 +1,5 @@
 -- Texts that are judged one after another.
-use Rattle.std.proofs.Common.{◌≡◌, ℕ, zero, suc, ◌+◌, add-one, List, [], ◌∷◌, ◌++◌, take, drop, map, arith, length, Bool, true, false, ◌&&◌, if◌then◌else◌, Option, Some, None, Result, Ok, Err, refl, sym, ap, ◌∙◌, subst}
+use Rattle.std.proofs.Common.{◌≡◌, ℕ, zero, suc, ◌+◌, ◌<◌, add-one, List, [], ◌∷◌, ◌++◌, take, drop, map, arith, length, Bool, true, false, ◌&&◌, if◌then◌else◌, Option, Some, None, Result, Ok, Err, refl, sym, ap, ◌∙◌, subst}
 use Rattle.std.specs.List.{flat_map, list_all, slice_get}
 use Rattle.std.proofs.lemmas.List.Concat.{flat_map-append}
 use Rattle.wire.proofs.ItemLemmas.{take_one_more}
@@ -86,6 +86,21 @@ pub record Read (test : Text → Bool) (pairs : List (Text × Text)) (left : Lis
   pub done_is : done ≡ take n pairs
   pub good : list_all test (map (λ (d : Text × Text). d.1) (take n pairs)) ≡ true
 
+-- nothing is read yet
+pub read_none : (test : Text → Bool) (pairs : List (Text × Text)) (left : List Text) (done : List (Text × Text)) (n : ℕ) → left ≡ names_of pairs → done ≡ [] → n ≡ 0 → Read test pairs left done n
+read_none test pairs left done n all none start = rw (none, start) record { left_is = all; done_is = refl; good = refl }
+
+-- where a name is left, so is its pair
+pub read_within : (test : Text → Bool) (pairs : List (Text × Text)) (left later : List Text) (done : List (Text × Text)) (n : ℕ) (name : Text)
+    → Read test pairs left done n → left ≡ name ∷ later → n < length pairs
+read_within test pairs left later done n name before taken = within pairs n (sym before.left_is ∙ taken)
+  where
+    within : (ps : List (Text × Text)) (k : ℕ) → names_of (drop k ps) ≡ name ∷ later → k < length ps
+    within [] zero is = absurd (cc)
+    within [] (suc k) is = absurd (cc)
+    within (p ∷ ps) zero is = omega arith
+    within (p ∷ ps) (suc k) is = let rest = within ps k is in omega arith
+
 -- one more pair is read
 pub read_more : (test : Text → Bool) (pairs : List (Text × Text)) (left later : List Text) (done : List (Text × Text)) (n : ℕ) (name other : Text) (pair : Text × Text)
     → Read test pairs left done n → left ≡ name ∷ later → slice_get pairs n ≡ Some pair → other ≡ pair.1 → test pair.1 ≡ true
@@ -133,6 +148,14 @@ pub refuses_marking : (named : Bool) (versioned : Bool) (marking : Text × Text)
 refuses_marking false versioned marking request e refuses = refuses_alike _ _ BadName e refuses
 refuses_marking true false marking request e refuses = refuses_alike _ _ BadVersion e refuses
 refuses_marking true true marking request e refuses = refuses_none _ e marking _ refuses
+
+-- a yank or an unyank of texts that are as they should be
+pub gives_marking : (named : Bool) (versioned : Bool) (marking given : Text × Text) (ask : Text × Text → Request)
+    → (if named then checked versioned marking BadVersion else Err BadName) ≡ Ok given
+    → (if named && true then (if versioned && true then checked true (ask marking) BadRequirement else Err BadVersion) else Err BadName) ≡ Ok (ask given)
+gives_marking false versioned marking given ask is = absurd (cc)
+gives_marking true false marking given ask is = absurd (cc)
+gives_marking true true marking given ask is = let same : marking ≡ given = cc in ap (λ (p : Text × Text). Ok (ask p)) same
 
 -- ---- the requests of resolve and check lines
 

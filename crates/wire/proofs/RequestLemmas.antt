@@ -1,22 +1,27 @@
 -- Lines that ask nothing, and arrays of another length.
 use Rattle.std.proofs.Common.{◌≡◌, ◌≢◌, ℕ, ◌+◌, List, Bool, true, false, refl, Option, None, Some, Err, length, ◌==◌, if◌then◌else◌, nat_le, ne_eqb, codes, rules}
-use Rattle.std.proofs.Common.{◌∙◌, [], ◌∷◌, get_or, option_map, ap, arith}
+use Rattle.std.proofs.Common.{◌∙◌, [], ◌∷◌, ◌<◌, get_or, option_map, ap, arith, sym}
 use Rattle.std.specs.Option.{option_and_then, option_zip}
 use Rattle.std.specs.Str.{IsUtf8, is_utf8}
 use Rattle.std.proofs.lemmas.Str.{IsUtf8-from_is_utf8, is_utf8-from_IsUtf8}
 use Rattle.serde_json.specs.Data.{Data}
+use Rattle.serde_json.specs.Find.{as_bool, as_str, get_item}
 use Rattle.serde_json.specs.Read.{read}
 use Rattle.serde_json.specs.Events.{items_len}
 use Rattle.serde_json.specs.View.{items_view, view}
-use Rattle.serde_json.proofs.Views.{items_len-items_view}
+use Rattle.serde_json.proofs.Views.{get_item_within, items_len-items_view}
 use Rattle.serde_json.specs.declared.value.Value.{Value}
 use Rattle.versions.specs.declared.refusal.Refusal.TheVariants.{BadLine}
 use Rattle.versions.specs.Words.{Text}
-use Rattle.wire.specs.Members.{has_member, member_count}
-use Rattle.wire.specs.NamedShapes.{cause_in, causes_of, derivation_at}
+use Rattle.wire.specs.Members.{has_member, member_count, text_at}
+use Rattle.wire.specs.NamedShapes.{cause_in, causes_at, causes_of, derivation_at, line_in, name_at, ordinals_at, ordinals_in, premise_in, term_of, term_of_items, terms_at, whose_at, whose_in}
 use Rattle.by_name.specs.declared.derivation.NamedCause.{NamedCause}
+use Rattle.by_name.specs.declared.derivation.NamedPremise.{NamedPremise}
 use Rattle.by_name.specs.declared.derivation.NamedLine.{NamedLine}
-use Rattle.wire.specs.Shapes.{budget_in, check, checking_in, explain_in, lock_in, pairs_at, resolution_in, resolve}
+use Rattle.registry.specs.Requests.{Wanted}
+use Rattle.registry.specs.Step.{Publish}
+use Rattle.terms.specs.declared.term.Term.{Term}
+use Rattle.wire.specs.Shapes.{budget_in, check, checking_in, command, explain_in, lock_in, listing, listing_in, pair_of_items, pairs_at, publication_in, resolution_in, resolution_with, shape_by, shape_of}
 use Rattle.wire.specs.Requests.{request_in, request_of}
 use Rattle.wire.specs.Learn.{judged_learn, learn_in, learn_of}
 use Rattle.wire.specs.Locks.{lock_in as lock_list_in, lock_of, lock_of_text}
@@ -34,6 +39,10 @@ request_of-bad line none = bad_by line _ refl none
 -- nothing is read of an array of another length
 pub other_length : {A : Type 0} (n : ℕ) (vs : List Value) (found : Option A) → length vs ≢ n → None ≡ (if items_len (items_view vs) == n then found else None)
 other_length n vs found other = rw items_len-items_view (let no : (length vs == n) ≡ false = ne_eqb (length vs) n other in rw no refl)
+
+-- nothing is read of an object with another number of members
+pub other_count : {A : Type 0} (n m : ℕ) (found : Option A) → n ≢ m → None ≡ (if n == m then found else None)
+other_count n m found other = let no : (n == m) ≡ false = ne_eqb n m other in rw no refl
 
 -- a line that is JSON
 pub request_of-read : (line : List ℕ) (d : Data) → IsUtf8 line → read line ≡ Some d → request_of line ≡ request_in d
@@ -75,22 +84,115 @@ lock_of-read text d fits utf8 is = rw (fits, is_utf8-from_IsUtf8 text utf8, is) 
 
 -- ---- resolve and check lines
 
--- where the members are counted, and a lock, needs, whether to explain and a budget are found, they are asked
-pub resolution_of : (d : Data) (lock needs : List (Text × Text)) (explain : Bool) (budget : Option ℕ)
+-- what is wanted, of what was found of a lock and needs
+abbrev wanted_by : Option (List (Text × Text)) → Option (List (Text × Text)) → Option Wanted
+wanted_by lock needs = option_and_then (λ lines. option_map (λ found. record { needs = found; lock = lines }) needs) lock
+
+-- where the members are counted, what is found of a lock, needs, whether to explain and a budget is asked
+pub resolution_of : (d : Data) (lock needs : Option (List (Text × Text))) (explain : Option Bool) (budget : Option (Option ℕ))
     → member_count d ≡ 2 + has_member (codes "lock") d + has_member (codes "budget") d + has_member (codes "explain") d
-    → Some lock ≡ lock_in d → Some needs ≡ pairs_at (codes "needs") d → Some explain ≡ explain_in d → Some budget ≡ budget_in d
-    → Some (resolve (record { needs = needs; lock = lock }) explain budget) ≡ resolution_in d
+    → lock ≡ lock_in d → needs ≡ pairs_at (codes "needs") d → explain ≡ explain_in d → budget ≡ budget_in d
+    → resolution_with (wanted_by lock needs) explain budget ≡ resolution_in d
 resolution_of d lock needs explain budget counted locked needed told limited =
     let same : (member_count d == 2 + has_member (codes "lock") d + has_member (codes "budget") d + has_member (codes "explain") d) ≡ true = search rules in
     rw (same, ← locked, ← needed, ← told, ← limited) refl
 
--- where the members are counted, and a lock, needs and a derivation are found, that is to be checked
-pub checking_of : (d : Data) (lock needs : List (Text × Text)) (lines : List NamedLine) → member_count d ≡ 3 + has_member (codes "lock") d
-    → Some lock ≡ lock_in d → Some needs ≡ pairs_at (codes "needs") d → Some lines ≡ derivation_at (codes "derivation") d
-    → Some (check (record { needs = needs; lock = lock }) lines) ≡ checking_in d
+-- where the members are counted, what is found of a lock, needs and a derivation is to be checked
+pub checking_of : (d : Data) (lock needs : Option (List (Text × Text))) (lines : Option (List NamedLine)) → member_count d ≡ 3 + has_member (codes "lock") d
+    → lock ≡ lock_in d → needs ≡ pairs_at (codes "needs") d → lines ≡ derivation_at (codes "derivation") d
+    → option_and_then (λ wanted. option_map (λ found. check wanted found) lines) (wanted_by lock needs) ≡ checking_in d
 checking_of d lock needs lines counted locked needed derived =
     let same : (member_count d == 3 + has_member (codes "lock") d) ≡ true = search rules in
     rw (same, ← locked, ← needed, ← derived) refl
+
+-- ---- what a line is by its `op`
+
+-- a line whose `op` is this word
+pub shape_said : (d : Data) (op word : Text) → Some op ≡ text_at (codes "op") d → op ≡ word → shape_by word d ≡ shape_of d
+shape_said d op word is same = ap (λ (o : Option Text). option_and_then (λ (said : Text). shape_by said d) o) (ap Some (sym same) ∙ is)
+
+-- a line without one
+pub shape_unsaid : (d : Data) → None ≡ text_at (codes "op") d → None ≡ shape_of d
+shape_unsaid d is = ap (λ (o : Option Text). option_and_then (λ (said : Text). shape_by said d) o) is
+
+-- a list line has its `op` alone
+pub listing_of : (d : Data) → member_count d ≡ 1 → Some listing ≡ listing_in d
+listing_of d counted = let same : (member_count d == 1) ≡ true = search rules in rw same refl
+
+-- ---- arrays of so many values
+
+-- a value at its place
+item_at : (vs : List Value) (i : ℕ) (v : Value) → i < length vs → v ≡ get_or vs i v → get_item i (items_view vs) ≡ Some (view v)
+item_at vs i v within here = sym (get_item_within vs i v within) ∙ ap (λ (w : Value). Some (view w)) (sym here)
+
+-- the first of two values is no text
+pub unread_pair : (vs : List Value) (v : Value) → length vs ≡ 2 → v ≡ get_or vs 0 v → None ≡ as_str (view v) → None ≡ pair_of_items (items_view vs)
+unread_pair vs v len at_v first =
+    let same : (length vs == 2) ≡ true = search rules in
+    rw (items_len-items_view, same, item_at vs 0 v (omega (arith, len)) at_v, ← first) refl
+
+-- the first of two values is a text, and whether the second is one decides
+pub pair_read : (vs : List Value) (v w : Value) (one : Text) (two : Option Text) → length vs ≡ 2 → v ≡ get_or vs 0 v → w ≡ get_or vs 1 w
+    → Some one ≡ as_str (view v) → two ≡ as_str (view w) → option_map (λ (other : Text). (one, other)) two ≡ pair_of_items (items_view vs)
+pair_read vs v w one two len at_v at_w first second =
+    let same : (length vs == 2) ≡ true = search rules in
+    rw (items_len-items_view, same, item_at vs 0 v (omega (arith, len)) at_v, item_at vs 1 w (omega (arith, len)) at_w, ← first, ← second) refl
+
+module _ (vs : List Value) (v : Value) (len : length vs ≡ 3) (at_v : v ≡ get_or vs 0 v) where
+  -- the first value of a term is no text
+  pub unread_term : None ≡ as_str (view v) → None ≡ term_of_items (items_view vs)
+  unread_term first =
+      let same : (length vs == 3) ≡ true = search rules in
+      rw (items_len-items_view, same, item_at vs 0 v (omega (arith, len)) at_v, ← first) refl
+
+  module _ (text : Text) (is_text : Some text ≡ as_str (view v)) where
+    -- or it is no name
+    pub unnamed_term : None ≡ whose_in text → None ≡ term_of_items (items_view vs)
+    unnamed_term named =
+        let same : (length vs == 3) ≡ true = search rules in
+        rw (items_len-items_view, same, item_at vs 0 v (omega (arith, len)) at_v, ← is_text, ← named) refl
+
+    module _ (name : Option Text) (w : Value) (named : Some name ≡ whose_in text) (at_w : w ≡ get_or vs 1 w) where
+      -- the second is no truth value
+      pub unmarked_term : None ≡ as_bool (view w) → None ≡ term_of_items (items_view vs)
+      unmarked_term second =
+          let same : (length vs == 3) ≡ true = search rules in
+          rw (items_len-items_view, same, item_at vs 0 v (omega (arith, len)) at_v, ← is_text, ← named, item_at vs 1 w (omega (arith, len)) at_w, ← second) refl
+
+      -- or it is one, and whether the third is a set decides
+      pub term_read : (positive : Bool) (u : Value) (set : Option (List ℕ)) → Some positive ≡ as_bool (view w) → u ≡ get_or vs 2 u → set ≡ ordinals_in (view u)
+          → option_map (λ (found : List ℕ). (name, term_of positive found)) set ≡ term_of_items (items_view vs)
+      term_read positive u set second at_u third =
+          let same : (length vs == 3) ≡ true = search rules in
+          rw (items_len-items_view, same, item_at vs 0 v (omega (arith, len)) at_v, ← is_text, ← named, item_at vs 1 w (omega (arith, len)) at_w, ← second, item_at vs 2 u (omega (arith, len)) at_u, ← third) refl
+
+-- ---- objects of so many members
+
+-- what is found of a line's causes, its conclusion and its pivot makes it
+pub line_of : (d : Data) (causes : Option (NamedCause × NamedCause)) (conclusion : Option (List (Option Text × Term))) (pivot : Option (Option Text)) → member_count d ≡ 3
+    → causes ≡ causes_at (codes "causes") d → conclusion ≡ terms_at (codes "conclusion") d → pivot ≡ whose_at (codes "pivot") d
+    → ◌≡◌ {A = Option NamedLine} (option_and_then (λ two. option_and_then (λ terms. option_map (λ whose. record { conclusion = terms; causes = two; pivot = whose }) pivot) conclusion) causes) (line_in d)
+line_of d causes conclusion pivot counted first second third =
+    let same : (member_count d == 3) ≡ true = search rules in
+    rw (same, ← first, ← second, ← third) refl
+
+-- what is found of a premise's texts and sets makes it
+pub premise_of : (d : Data) (name need : Option Text) (target : Option (Option Text)) (versions within : Option (List ℕ)) → member_count d ≡ 6
+    → name ≡ name_at (codes "name") d → need ≡ text_at (codes "need") d → target ≡ whose_at (codes "target") d
+    → versions ≡ ordinals_at (codes "versions") d → within ≡ ordinals_at (codes "within") d
+    → ◌≡◌ {A = Option NamedPremise} (option_and_then (λ called. option_and_then (λ text. option_and_then (λ whose. option_and_then (λ set. option_map (λ inside.
+    record { «package» = called; versions = set; target = whose; need = text; within = inside }) within) versions) target) need) name) (premise_in d)
+premise_of d name need target versions within counted first second third fourth fifth =
+    let same : (member_count d == 6) ≡ true = search rules in
+    rw (same, ← first, ← second, ← third, ← fourth, ← fifth) refl
+
+-- what is found of a publication's texts and needs makes it
+pub publication_of : (d : Data) (name version : Option Text) (needs : Option (List (Text × Text))) → member_count d ≡ 4
+    → name ≡ text_at (codes "name") d → version ≡ text_at (codes "version") d → needs ≡ pairs_at (codes "needs") d
+    → option_and_then (λ called. option_and_then (λ text. option_map (λ lines. command (Publish called text lines)) needs) version) name ≡ publication_in d
+publication_of d name version needs counted first second third =
+    let same : (member_count d == 4) ≡ true = search rules in
+    rw (same, ← first, ← second, ← third) refl
 
 -- ---- two causes
 

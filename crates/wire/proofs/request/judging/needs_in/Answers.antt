@@ -3,8 +3,15 @@ use Rattle.std.proofs.lemmas.Result.{err_from_is_err_and}
 use Rattle.std.specs.List.{slice_get}
 use Rattle.versions.specs.Words.{Text, is_requirement}
 use Rattle.versions.specs.declared.refusal.Refusal.TheVariants.{BadRequirement}
-use Rattle.wire.proofs.JudgeLemmas.{refuses_by, given_by, fails_at, read_all, read_more}
+use Rattle.wire.proofs.JudgeLemmas.{refuses_by, given_by, fails_at, read_all, read_more, read_none, read_within}
 use Rattle.wire.proofs.request.judging.needs_in.Goals as goal
+
+pub loop-name-init : goal.loop-name-init
+loop-name-init c =
+    read_none _ c.args.needs.now _ _ _ (c.into_iter-name-iterator.ensures.into_iter_gives.0 ∙ c.requires) c.in_ok-read.ensures.items c.in_ok-read.ensures.len
+
+pub at-requires : goal.at-requires
+at-requires c = rw c.len-in-loop-name.ensures (read_within _ _ _ _ _ _ _ c.loop-name.invariant c.in-Some.ensures.steps.0)
 
 pub returns-in_err-read-2 : goal.returns-in_err-read-2
 returns-in_err-read-2 c =
