@@ -8,7 +8,7 @@ use Rattle.std.proofs.lemmas.Str.{is_utf8-from_IsUtf8}
 use Rattle.json.specs.Json as json
 use Rattle.json.specs.Json.{Items, no_items, item, member, no_members}
 use Rattle.json.specs.Lex.{tokens}
-use Rattle.json.specs.Token.{Token, begin_array, end_array, string}
+use Rattle.json.specs.Token.{Token, begin_array, begin_object, end_array, key, string}
 use Rattle.json.specs.Tree as tree
 use Rattle.json.specs.Tree.{items_tokens, json_tokens}
 use Rattle.json.proofs.Printed.Trees.{value-json_tokens}
@@ -16,11 +16,36 @@ use Rattle.serde_json.specs.Data as kept
 use Rattle.serde_json.specs.Data.{Data}
 use Rattle.serde_json.specs.Read.{max_depth, of_items, of_json, read}
 use Rattle.serde_json.proofs.OnLiterals.{serde_json_on_literals}
+use Rattle.versions.specs.Readings.{version_in}
+use Rattle.versions.specs.declared.refusal.Refusal.TheVariants.{BadVersion}
 use Rattle.versions.specs.Words.{Text, is_name, is_requirement, is_version}
 use Rattle.registry.specs.Step.{Publish}
 use Rattle.wire.specs.Requests.{request_of}
 use Rattle.wire.specs.Shapes.{command, pairs_of, shape_of}
+use Rattle.intake.proofs.WrittenLemmas.{version_is}
 use Rattle.intake.specs.Publications.{AreNeeds, pair_tokens, publication_tokens}
+
+-- ---- what stands before the needs, and a need
+
+-- the tokens up to the needs, of those that were read one after another
+pub head_told : (all begun behind_op behind_name behind_version behind_key rest : List Token) (op name version : Text) → all ≡ begin_object ∷ begun → begun ≡ key (codes "op") ∷ string op ∷ behind_op
+    → op ≡ codes "publish" → behind_op ≡ key (codes "name") ∷ string name ∷ behind_name → behind_name ≡ key (codes "version") ∷ string version ∷ behind_version
+    → behind_version ≡ key (codes "needs") ∷ behind_key → behind_key ≡ begin_array ∷ rest
+    → all ≡ begin_object ∷ key (codes "op") ∷ string (codes "publish") ∷ key (codes "name") ∷ string name ∷ key (codes "version") ∷ string version ∷ key (codes "needs") ∷ begin_array ∷ rest
+head_told all begun behind_op behind_name behind_version behind_key rest op name version one two publish three four five six =
+    rw (one, two, publish, three, four, five, six) refl
+
+-- the tokens of a need, and the texts that were read of it
+pub need_told : (all second third rest : List Token) (first other name need : Text) → all ≡ string first ∷ second → second ≡ string other ∷ third → third ≡ end_array ∷ rest
+    → name ≡ first → need ≡ other → all ≡ string name ∷ string need ∷ end_array ∷ rest
+need_told all second third rest first other name need one two three named required = rw (one, two, three, named, required) refl
+
+-- the tokens of a line, and the texts that were read of it
+pub line_tokens : (all reader list end : List Token) (first name second version : Text) (listed needs : List (Text × Text)) → reader ≡ all
+    → reader ≡ begin_object ∷ key (codes "op") ∷ string (codes "publish") ∷ key (codes "name") ∷ string first ∷ key (codes "version") ∷ string second ∷ key (codes "needs") ∷ begin_array ∷ list
+    → list ≡ pair_tokens listed (end_array ∷ end) → end ≡ Token.end_object ∷ [] → name ≡ first → version_in second ≡ Ok version → needs ≡ listed → all ≡ publication_tokens name version needs
+line_tokens all reader list end first name second version listed needs whole head middle last named read are =
+    sym whole ∙ rw (head, middle, last, named, are, version_is (is_version second) second version BadVersion read) refl
 
 -- ---- one need more
 
