@@ -254,3 +254,9 @@ found_parts before after between stamp revision = record { whole = refl }
 pub found_nowhere : (stamp : Option Spot) (revision : ℕ) (between text digits : List ℕ) → stamp ≡ None → text ≡ between → digits ≡ decimal revision
     → text ++ (codes "\"revision\":" ++ (digits ++ [])) ≡ found_text stamp revision between
 found_nowhere stamp revision between text digits nowhere text_is digits_is = rw (nowhere, text_is, digits_is, append-nil) refl
+
+-- what is put of a place and a seat
+pub found_somewhere : (stamp : Option Spot) (spot : Spot) (revision : ℕ) (between place text digits seat : List ℕ) → stamp ≡ Some spot → place ≡ decimal spot.place → text ≡ between
+    → digits ≡ decimal revision → seat ≡ decimal spot.seat
+    → codes "\"place\":" ++ (place ++ (codes "," ++ (text ++ (codes "\"revision\":" ++ (digits ++ (codes ",\"seat\":" ++ (seat ++ []))))))) ≡ found_text stamp revision between
+found_somewhere stamp spot revision between place text digits seat at place_is text_is digits_is seat_is = rw (at, place_is, text_is, digits_is, seat_is, append-nil) refl
