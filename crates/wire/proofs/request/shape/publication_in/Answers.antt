@@ -1,4 +1,4 @@
-use Rattle.std.proofs.Common.{◌≡◌, ◌∙◌, None, Some, arith, refl, sym}
+use Rattle.std.proofs.Common.{◌∙◌, None, Some, arith, refl, sym}
 use Rattle.serde_json.specs.View.{view}
 use Rattle.wire.specs.Members.{member_count}
 use Rattle.wire.proofs.RequestLemmas.{other_count, publication_of}

@@ -1,4 +1,4 @@
-use Rattle.std.proofs.Common.{◌≡◌, ◌∙◌, Option, ap, codes, option_map, sym}
+use Rattle.std.proofs.Common.{◌∙◌, Option, ap, codes, option_map, sym}
 use Rattle.serde_json.specs.View.{view}
 use Rattle.versions.specs.Words.{Text}
 use Rattle.registry.specs.Step.{Unyank, Yank}
