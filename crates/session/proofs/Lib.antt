@@ -5,3 +5,4 @@ pub mod LoadedLemmas
 pub mod SessionLemmas
 pub mod SessionRows
 pub mod WaitLemmas
+pub mod FaultLemmas
