@@ -1,6 +1,7 @@
 use Rattle.std.proofs.Common.{◌≡◌, ◌∙◌, ℕ, Global, Vec, ap, arith, length, replicate, sym}
 use Rattle.std.specs.Prelude.{vec_len}
 use Rattle.std.proofs.lemmas.List.{length-replicate}
+use Rattle.std.proofs.lemmas.Result.{IfOk-from_err}
 use Rattle.pool.specs.Taking.{fresh}
 use Rattle.pool.proofs.answers.found_at_desks.Goals as goal
 
@@ -30,3 +31,43 @@ gather-requires-clause-room g c =
 
 pub returns-clause-once : goal.returns-clause-once
 returns-clause-once g c = λ i. rw (← c.in_ok-jobs.ensures.jobs.0) (c.gather.ensures.once i)
+
+pub set_up-requires-clause-room : goal.set_up-requires-clause-room
+set_up-requires-clause-room g c =
+    let count = counted c.in_ok-jobs.takers c.args.threads (fresh c.in_ok-jobs.jobs) c.in_ok-jobs.ensures.takers in
+    (c.in_ok-desks.ensures.items, omega (arith, count, c.in_ok-desks.ensures.capacity))
+
+pub work_at-requires-clause-jobs : goal.work_at-requires-clause-jobs
+work_at-requires-clause-jobs g c = λ κs lives. c.in_ok-jobs.ensures.jobs.0
+
+pub work_at-requires-clause-desks : goal.work_at-requires-clause-desks
+work_at-requires-clause-desks g c = λ κs lives. rw c.as_mut_slice.ensures.value c.set_up.ensures.desks
+
+pub returns-clause-found : goal.returns-clause-found
+returns-clause-found g c = c.gather.ensures.found
+
+-- ---- no memory
+
+pub returns-in_err-all-clause-found : goal.returns-in_err-all-clause-found
+returns-in_err-all-clause-found g c = IfOk-from_err _ _ c.from_residual.ensures.0
+
+pub returns-in_err-all-clause-once : goal.returns-in_err-all-clause-once
+returns-in_err-all-clause-once g c = IfOk-from_err _ _ c.from_residual.ensures.0
+
+pub returns-in_err-desks-clause-found : goal.returns-in_err-desks-clause-found
+returns-in_err-desks-clause-found g c = IfOk-from_err _ _ c.from_residual-in_err-desks.ensures.0
+
+pub returns-in_err-desks-clause-once : goal.returns-in_err-desks-clause-once
+returns-in_err-desks-clause-once g c = IfOk-from_err _ _ c.from_residual-in_err-desks.ensures.0
+
+pub returns-in_err-back-clause-found : goal.returns-in_err-back-clause-found
+returns-in_err-back-clause-found g c = IfOk-from_err _ _ c.from_residual-in_err-back.ensures.0
+
+pub returns-in_err-back-clause-once : goal.returns-in_err-back-clause-once
+returns-in_err-back-clause-once g c = IfOk-from_err _ _ c.from_residual-in_err-back.ensures.0
+
+pub returns-in_err-jobs-clause-found : goal.returns-in_err-jobs-clause-found
+returns-in_err-jobs-clause-found g c = IfOk-from_err _ _ c.from_residual-in_err-jobs.ensures.0
+
+pub returns-in_err-jobs-clause-once : goal.returns-in_err-jobs-clause-once
+returns-in_err-jobs-clause-once g c = IfOk-from_err _ _ c.from_residual-in_err-jobs.ensures.0

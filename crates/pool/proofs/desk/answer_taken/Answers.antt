@@ -18,3 +18,12 @@ loop-preserved g c =
 pub returns-in_default : goal.returns-in_default
 returns-in_default g c =
     answered_told c.args.work.now.registry.now.packages c.args.work.now.asked.now c.args.jobs.now c.loop.taker c.reserve.new.self.items (before g (goal.at.returns-in_default g c).After-reserve) c.take.new.taker c.in_default.ensures.none
+
+pub loop-init : goal.loop-init
+loop-init g c = c.requires.before
+
+pub answer_at-answer-requires-clause-inside : goal.answer_at-answer-requires-clause-inside
+answer_at-answer-requires-clause-inside g c = rw (← c.requires.jobs) c.in-Some-take.ensures.some.0
+
+pub returns-then-is_err : goal.returns-then-is_err
+returns-then-is_err g c = before g (goal.at.returns-then-is_err g c).After-reserve

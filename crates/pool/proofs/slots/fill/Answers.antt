@@ -40,3 +40,6 @@ returns g c =
     let none = none_there c.loop-slot.slot-iterator.rest.items (sym c.loop-slot.slot-iterator.rest.ok.0 ∙ c.in-None.ensures.steps.0) in
     begun_whole packages asked c.loop-slot.answers c.loop-slot.invariant.begun (zip_none (λ asked slot. IfSome slot (IsAnswerTo packages asked)) asked (vec_len c.loop-slot.answers)
     (subst (λ (l : List (Option (Result Verdict Refusal))). AreSlots packages (drop (vec_len c.loop-slot.answers) asked) l) none c.loop-slot.invariant.to_do))
+
+pub loop-slot-init : goal.loop-slot-init
+loop-slot-init g c = record { begun = c.requires.begun; to_do = rw c.into_iter-slot-iterator.ensures.into_iter_gives.0 c.requires.slots }
