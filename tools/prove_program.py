@@ -22,9 +22,9 @@ from progress import TOP, jobs, seconds_of
 # More jobs than these gain nothing at one crate.
 MOST = 4
 # A crate counts as on the longest chain where its own is as long as this part of it.
-NEAR = 0.9
-# What the others give way by, in steps of `nice`.
-GIVES_WAY = 5
+NEAR = 0.8
+# What the others give way by, in steps of `nice`: from this part of the longest chain on, the first that fits.
+GIVES_WAY = ((NEAR, 0), (0.6, 2), (0.0, 5))
 
 
 def kit():
@@ -46,27 +46,32 @@ def chains(below, weights):
     return found
 
 
-def share(ready, running, first, processors, at_once):
-    """Which crates begin, each with how many jobs, and whether it gives way to others. Several jobs at one crate wait for one
-    another, and together take more time of the processors: so only those whose chain is about the longest get several, and
-    go before the others, which take what these leave idle."""
-    every = [*ready, *running]
-    near = [name for name in every if first[name] >= NEAR * max(first[other] for other in every)]
-    for name in ready[:max(0, at_once - len(running))]:
-        yield name, min(MOST, processors) if name in near else 1, name not in near
+def share(ready, left, processors, at_once):
+    """Which crates begin, each with how many jobs, and by how much it gives way to others; `left` is how long the chain is that is
+    left from each crate that is ready or running. Several jobs at one crate wait for one another, and together take more time
+    of the processors: so only those whose chain is about the longest get several, together about as many as there are
+    processors, and go before the others, which take what these leave idle."""
+    longest = max(left.values())
+    near = [name for name in left if left[name] >= NEAR * longest]
+    # one more job than there are processors, since jobs wait for one another
+    each = min(MOST, processors, -(-(processors + 1) // len(near)))
+    for name in ready[:max(0, at_once - (len(left) - len(ready)))]:
+        yield name, each if name in near else 1, next(by for part, by in GIVES_WAY if left[name] >= part * longest)
 
 
 def side_by_side(below, weights, processors, at_once, prove):
     """Proves crates, so many at once, each after all those below it, those with the longest chain above them first. `prove` gets
-    a name, a number of jobs and whether it gives way; once it answers that one failed, no other begins."""
+    a name, a number of jobs and by how much it gives way; once it answers that one failed, no other begins."""
     first = chains(below, weights)
-    left, running, proved, is_well = sorted(below, key=lambda name: -first[name]), {}, set(), True
+    waiting, running, proved, is_well = sorted(below, key=lambda name: -first[name]), {}, set(), True
     with ThreadPoolExecutor(at_once) as pool:
-        while running or is_well and left:
-            ready = [name for name in left if below[name] <= proved]
-            for begun in [*share(ready, running.values(), first, processors, at_once)] if is_well else ():
+        while running or is_well and waiting:
+            ready = [name for name in waiting if below[name] <= proved]
+            # of those that run, a half is taken to be proved
+            left = {name: first[name] for name in ready} | {name: first[name] - weights[name] / 2 for name in running.values()}
+            for begun in [*share(ready, left, processors, at_once)] if is_well else ():
                 running[pool.submit(prove, *begun)] = begun[0]
-                left.remove(begun[0])
+                waiting.remove(begun[0])
             for of in wait(running, return_when=FIRST_COMPLETED).done:
                 proved.add(running.pop(of))
                 is_well = of.result() and is_well
@@ -122,7 +127,7 @@ class Program:
     def stands(self, crate):
         return os.path.exists(self.made(crate)) and self.rtlib.text_of(self.stamp(crate)) == self.sum(crate)
 
-    def prove(self, name, number, gives_way):
+    def prove(self, name, number, gives_way_by):
         """Proves and builds one crate, those below it being built; answers whether that went well."""
         crate = self.crates[name]
         crate.out = Said(name)
@@ -130,7 +135,7 @@ class Program:
             crate.out.write("stands")
             return True
         crate.out.write(f"begins with {number}")
-        prover = ["nice", "-n", str(GIVES_WAY if gives_way else 0), self.rtlib.RATTLE, "build"]
+        prover = ["nice", "-n", str(gives_way_by), self.rtlib.RATTLE, "build"]
         shutil.rmtree(os.path.dirname(self.stamp(crate)), ignore_errors=True)
         os.makedirs(os.path.dirname(self.stamp(crate)))
         of = self.sum(crate)

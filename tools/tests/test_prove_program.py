@@ -17,17 +17,17 @@ from prove_program import MOST, Program, chains, share, side_by_side
 
 # left and right stand on low, top on both; small stands on nothing and nothing stands on it
 BELOW = {"small": set(), "low": set(), "left": {"low"}, "right": {"low"}, "top": {"low", "left", "right"}}
-WEIGHTS = {"small": 60, "low": 50, "left": 10, "right": 20, "top": 5}
+WEIGHTS = {"small": 44, "low": 50, "left": 10, "right": 20, "top": 5}
 
 
 class Order(unittest.TestCase):
     def prove(self, processors, failing=(), at_once=None):
-        """Runs it; answers whether all was well, and what was begun, each with its jobs and whether it gives way."""
+        """Runs it; answers whether all was well, and what was begun, each with its jobs and by how much it gives way."""
         begun, proved, lock, now, most = [], set(), threading.Lock(), [0], [0]
 
-        def prove(name, jobs, gives_way):
+        def prove(name, jobs, gives_way_by):
             with lock:
-                begun.append((name, jobs, gives_way))
+                begun.append((name, jobs, gives_way_by))
                 now[0] += 1
                 most[0] = max(most[0], now[0])
             self.assertLessEqual(BELOW[name], proved)
@@ -41,7 +41,7 @@ class Order(unittest.TestCase):
         return is_well, begun
 
     def test_the_longest_chain(self):
-        self.assertEqual(chains(BELOW, WEIGHTS), {"small": 60, "low": 75, "left": 15, "right": 25, "top": 5})
+        self.assertEqual(chains(BELOW, WEIGHTS), {"small": 44, "low": 75, "left": 15, "right": 25, "top": 5})
 
     def test_each_comes_after_those_below_it(self):
         for processors in (1, 2, 3, 4, 16):
@@ -49,19 +49,46 @@ class Order(unittest.TestCase):
             self.assertTrue(is_well)
             self.assertEqual(sorted(name for name, *_ in begun), sorted(BELOW))
             self.assertEqual(begun[0][0], "low")
-            self.assertIn(("top", min(processors, MOST), False), begun)
+            self.assertIn(("top", min(processors, MOST), 0), begun)
 
     def test_only_those_with_the_longest_chain_get_several_jobs(self):
         for processors, jobs in ((1, 1), (2, 2), (3, 3), (4, 4), (16, 4)):
-            self.assertEqual(self.prove(processors, at_once=processors + 1)[1][:2], [("low", jobs, False), ("small", 1, True)])
+            self.assertEqual(self.prove(processors, at_once=processors + 1)[1][:2], [("low", jobs, 0), ("small", 1, 5)])
 
     def test_chains_of_about_the_longest_length_go_first(self):
-        first = {"a": 100, "b": 95, "c": 80, "d": 70, "e": 60, "f": 50}
-        self.assertEqual([*share([*"abcdef"], [], first, 4, 5)],
-                         [("a", 4, False), ("b", 4, False), ("c", 1, True), ("d", 1, True), ("e", 1, True)])
-        self.assertEqual([*share(["b", "c"], ["a"], first, 2, 3)], [("b", 2, False), ("c", 1, True)])
-        self.assertEqual([*share(["b", "f"], ["c"], first, 1, 2)], [("b", 1, False)])
-        self.assertEqual([*share(["f"], [*"abcde"], first, 4, 5)], [])
+        left = {"a": 100, "b": 85, "c": 75, "d": 65, "e": 55, "f": 50}
+        self.assertEqual([*share([*"abcdef"], left, 4, 5)], [("a", 3, 0), ("b", 3, 0), ("c", 1, 2), ("d", 1, 2), ("e", 1, 5)])
+        # those that run already count
+        self.assertEqual([*share([*"bcdef"], left, 2, 3)], [("b", 2, 0), ("c", 1, 2)])
+        self.assertEqual([*share([*"cdef"], left, 4, 5)], [("c", 1, 2), ("d", 1, 2), ("e", 1, 5)])
+        self.assertEqual([*share([*"bcdef"], left, 1, 2)], [("b", 1, 0)])
+        self.assertEqual([*share(["f"], left, 4, 5)], [])
+
+    def test_several_long_chains_share_the_processors(self):
+        left = {"a": 100, "b": 95, "c": 90, "d": 85, "e": 80}
+        wanted = ((4, "a", 4), (4, "ab", 3), (4, "abc", 2), (4, "abcde", 1), (2, "ab", 2), (8, "ab", 4), (8, "abcde", 2))
+        for processors, names, jobs in wanted:
+            some = {name: left[name] for name in names}
+            self.assertEqual([*share([*names], some, processors, 5)], [(name, jobs, 0) for name in names])
+            self.assertEqual([*share([*names[1:]], some, processors, 5)], [(name, jobs, 0) for name in names[1:]])
+
+    def test_of_what_runs_a_half_is_taken_to_be_proved(self):
+        asked = []
+        below = {"long": set(), "short": set(), "behind": {"short"}, "beside": {"short"}}
+        weights = {"long": 100, "short": 10, "behind": 45, "beside": 20}
+        ended = threading.Event()
+
+        def prove(name, jobs, gives_way_by):
+            asked.append((name, jobs, gives_way_by))
+            if name == "long":
+                ended.wait(10)
+            if name == "behind":
+                ended.set()
+            return True
+
+        self.assertTrue(side_by_side(below, weights, 4, 3, prove))
+        # beside the 50 that are left of `long`, 45 are about the longest, and 20 are not
+        self.assertEqual(sorted(asked), [("behind", 3, 0), ("beside", 1, 5), ("long", 4, 0), ("short", 1, 5)])
 
     def test_nothing_begins_once_one_failed(self):
         is_well, begun = self.prove(1, failing=("low",))
