@@ -23,8 +23,8 @@ from progress import TOP, jobs, seconds_of
 MOST = 4
 # A crate counts as on the longest chain where its own is as long as this part of it.
 NEAR = 0.8
-# What the others give way by, in steps of `nice`: from this part of the longest chain on, the first that fits.
-GIVES_WAY = ((NEAR, 0), (0.6, 2), (0.0, 5))
+# How many steps of `nice` a crate gives way by for each hundredth that its chain is shorter than the longest, and at most.
+STEPS, MOST_STEPS = 0.8, 19
 
 
 def kit():
@@ -50,13 +50,13 @@ def share(ready, left, processors, at_once):
     """Which crates begin, each with how many jobs, and by how much it gives way to others; `left` is how long the chain is that is
     left from each crate that is ready or running. Several jobs at one crate wait for one another, and together take more time
     of the processors: so only those whose chain is about the longest get several, together about as many as there are
-    processors, and go before the others, which take what these leave idle."""
+    processors. The shorter a chain is, the more its crate gives way: it takes what the longer ones leave idle."""
     longest = max(left.values())
     near = [name for name in left if left[name] >= NEAR * longest]
-    # one more job than there are processors, since jobs wait for one another
-    each = min(MOST, processors, -(-(processors + 1) // len(near)))
+    each = min(MOST, processors, -(-processors // len(near)))
     for name in ready[:max(0, at_once - (len(left) - len(ready)))]:
-        yield name, each if name in near else 1, next(by for part, by in GIVES_WAY if left[name] >= part * longest)
+        shorter = 100 * (longest - left[name]) / longest
+        yield name, each if name in near else 1, min(MOST_STEPS, round(STEPS * shorter))
 
 
 def side_by_side(below, weights, processors, at_once, prove):

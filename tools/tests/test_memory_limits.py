@@ -20,6 +20,8 @@ ALL = resolve(*(f"pigeon-{number} *" for number in range(PIGEONS)))
 # each file may add: two tables of 64, of names and of requirements that were read before.
 LIMIT, MOST_OF_A_RACE, MOST_OF_A_FILE = 16_000, 8_000, 128
 PIPE = 4_096  # bytes
+# More conflicts than that memory has room for, and fewer than twice as much has.
+CONFLICTS = 1_450
 
 
 def holes():
@@ -90,15 +92,12 @@ class Searches(unittest.TestCase):
         self.assertEqual(replies[3:], [""])
 
     def test_it_is_memory_that_the_search_wants(self):
-        # with more of it the same search goes on for longer
+        # with more of it the same search meets more conflicts, until it has met what it may
         published, _ = self.asked()
-        times = []
-        for limit in (LIMIT, 2 * LIMIT):
-            before = resource.getrusage(resource.RUSAGE_CHILDREN).ru_utime
-            done = run(["serve", "--workers", "1"], "".join(line + "\n" for line in [*published, ALL]).encode(), preexec_fn=within(limit))
-            times.append(resource.getrusage(resource.RUSAGE_CHILDREN).ru_utime - before)
-            self.assertIn(b'"error":18', done.stdout.split(b"\n")[-2])
-        self.assertLess(2 * times[0], times[1])
+        asked = resolve(*(f"pigeon-{number} *" for number in range(PIGEONS)), budget=CONFLICTS)
+        for limit, name in ((LIMIT, b"NoMemory"), (2 * LIMIT, b"BudgetSpent")):
+            done = run(["serve", "--workers", "1"], "".join(line + "\n" for line in [*published, asked]).encode(), preexec_fn=within(limit))
+            self.assertIn(b'"name":"' + name + b'"', done.stdout.split(b"\n")[-2])
 
 
 class Peaks(unittest.TestCase):

@@ -53,24 +53,25 @@ class Order(unittest.TestCase):
 
     def test_only_those_with_the_longest_chain_get_several_jobs(self):
         for processors, jobs in ((1, 1), (2, 2), (3, 3), (4, 4), (16, 4)):
-            self.assertEqual(self.prove(processors, at_once=processors + 1)[1][:2], [("low", jobs, 0), ("small", 1, 5)])
+            self.assertEqual(self.prove(processors, at_once=processors + 1)[1][:2], [("low", jobs, 0), ("small", 1, 19)])
 
-    def test_chains_of_about_the_longest_length_go_first(self):
-        left = {"a": 100, "b": 85, "c": 75, "d": 65, "e": 55, "f": 50}
-        self.assertEqual([*share([*"abcdef"], left, 4, 5)], [("a", 3, 0), ("b", 3, 0), ("c", 1, 2), ("d", 1, 2), ("e", 1, 5)])
+    def test_the_shorter_a_chain_is_the_more_it_gives_way(self):
+        left = {"a": 100, "b": 95, "c": 85, "d": 78, "e": 55, "f": 50}
+        wanted = [("a", 2, 0), ("b", 2, 4), ("c", 2, 12), ("d", 1, 18), ("e", 1, 19)]
+        self.assertEqual([*share([*"abcdef"], left, 4, 5)], wanted)
         # those that run already count
-        self.assertEqual([*share([*"bcdef"], left, 2, 3)], [("b", 2, 0), ("c", 1, 2)])
-        self.assertEqual([*share([*"cdef"], left, 4, 5)], [("c", 1, 2), ("d", 1, 2), ("e", 1, 5)])
-        self.assertEqual([*share([*"bcdef"], left, 1, 2)], [("b", 1, 0)])
+        self.assertEqual([*share([*"bcdef"], left, 2, 3)], [("b", 1, 4), ("c", 1, 12)])
+        self.assertEqual([*share([*"cdef"], left, 4, 5)], wanted[2:])
+        self.assertEqual([*share([*"bcdef"], left, 1, 2)], [("b", 1, 4)])
         self.assertEqual([*share(["f"], left, 4, 5)], [])
 
     def test_several_long_chains_share_the_processors(self):
-        left = {"a": 100, "b": 95, "c": 90, "d": 85, "e": 80}
-        wanted = ((4, "a", 4), (4, "ab", 3), (4, "abc", 2), (4, "abcde", 1), (2, "ab", 2), (8, "ab", 4), (8, "abcde", 2))
+        left, steps = {"a": 100, "b": 95, "c": 90, "d": 85, "e": 80}, {"a": 0, "b": 4, "c": 8, "d": 12, "e": 16}
+        wanted = ((4, "a", 4), (4, "ab", 2), (4, "abc", 2), (4, "abcde", 1), (2, "ab", 1), (8, "ab", 4), (8, "abcde", 2))
         for processors, names, jobs in wanted:
             some = {name: left[name] for name in names}
-            self.assertEqual([*share([*names], some, processors, 5)], [(name, jobs, 0) for name in names])
-            self.assertEqual([*share([*names[1:]], some, processors, 5)], [(name, jobs, 0) for name in names[1:]])
+            self.assertEqual([*share([*names], some, processors, 5)], [(name, jobs, steps[name]) for name in names])
+            self.assertEqual([*share([*names[1:]], some, processors, 5)], [(name, jobs, steps[name]) for name in names[1:]])
 
     def test_of_what_runs_a_half_is_taken_to_be_proved(self):
         asked = []
@@ -88,7 +89,7 @@ class Order(unittest.TestCase):
 
         self.assertTrue(side_by_side(below, weights, 4, 3, prove))
         # beside the 50 that are left of `long`, 45 are about the longest, and 20 are not
-        self.assertEqual(sorted(asked), [("behind", 3, 0), ("beside", 1, 5), ("long", 4, 0), ("short", 1, 5)])
+        self.assertEqual(sorted(asked), [("behind", 2, 8), ("beside", 1, 19), ("long", 4, 0), ("short", 1, 19)])
 
     def test_nothing_begins_once_one_failed(self):
         is_well, begun = self.prove(1, failing=("low",))

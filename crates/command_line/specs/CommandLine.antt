@@ -30,13 +30,17 @@ serve_app = with_rule (with_rule (with_rule (new_app (codes "serve")) workers_ru
 abbrev pub race_app : App
 race_app = with_rule (new_app (codes "race")) files_rule
 
--- one of the two, with no word for the program itself
-abbrev pub program_app : App
-program_app = let a = new_app (codes "registryd") in
-    with_subcommand (with_subcommand (record a {
+-- with no word for the program itself, and one of those that are to be its subcommands
+abbrev pub bare_app : App
+bare_app = let a = new_app (codes "registryd") in
+    record a {
       top = record a.top {
         no_binary_name = true;
         disable_help_subcommand = true;
         subcommand_required = true;
       };
-    }) serve_app.top) race_app.top
+    }
+
+-- one of the two
+abbrev pub program_app : App
+program_app = with_subcommand (with_subcommand bare_app serve_app.top) race_app.top

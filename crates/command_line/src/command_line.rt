@@ -1,8 +1,8 @@
 //! The command line of the program, as clap is told of it.
 ghost use Rattle.std.specs.Prelude.{◌≡◌, IfOk, true, false};
-ghost use Rattle.clap.specs.Words.{app_of, rule_of};
+ghost use Rattle.clap.specs.Words.{app_of, rule_of, with_subcommand};
 ghost use Rattle.clap.specs.declared.Command.TheViews.{out-Command as fields_of};
-ghost use Rattle.command_line.specs.CommandLine.{option_rule, workers_rule, files_rule, serve_app, race_app, program_app};
+ghost use Rattle.command_line.specs.CommandLine.{option_rule, workers_rule, files_rule, serve_app, race_app, bare_app, program_app};
 
 use crate::words::MOST_WORKERS;
 use clap::builder::ValueParser;
@@ -20,16 +20,45 @@ const RACE_EXAMPLE: &str = "Example: registryd race first.lines second.lines";
 pub fn program<'a>(alloc: Global) -> Result<Command<'a>, AllocError>
     ensures { IfOk result (λ c. app_of c ≡ program_app) }
 {
-    let serve = serve_command(alloc)?;
+    let serving = with_serve(alloc, bare_program(alloc)?)?;
+    with_race(alloc, serving)
+}
+
+fn bare_program<'a>(alloc: Global) -> Result<Command<'a>, AllocError>
+    ensures { IfOk result (λ c. app_of c ≡ bare_app) }
+{
     let named = Command::new(alloc, "registryd").bin_name("registryd")?;
-    let with_serve = named
-        .about("A package registry that reads request lines and writes reply lines")
-        .no_binary_name(true)
-        .disable_help_subcommand(true)
-        .subcommand_required(true)
-        .subcommand(serve)?;
-    let race = race_command(alloc)?;
-    with_serve.subcommand(race)
+    Ok(
+        named
+            .about("A package registry that reads request lines and writes reply lines")
+            .no_binary_name(true)
+            .disable_help_subcommand(true)
+            .subcommand_required(true),
+    )
+}
+
+fn with_serve<'a>(alloc: Global, program: Command<'a>) -> Result<Command<'a>, AllocError>
+    ensures { IfOk result (λ c. app_of c ≡ with_subcommand (app_of program.entry) serve_app.top) }
+{
+    match serve_command(alloc) {
+        Ok(serve) => program.subcommand(serve),
+        Err(error) => {
+            drop(program);
+            Err(error)
+        }
+    }
+}
+
+fn with_race<'a>(alloc: Global, program: Command<'a>) -> Result<Command<'a>, AllocError>
+    ensures { IfOk result (λ c. app_of c ≡ with_subcommand (app_of program.entry) race_app.top) }
+{
+    match race_command(alloc) {
+        Ok(race) => program.subcommand(race),
+        Err(error) => {
+            drop(program);
+            Err(error)
+        }
+    }
 }
 
 fn serve_command<'a>(alloc: Global) -> Result<Command<'a>, AllocError>

@@ -7,3 +7,4 @@ pub mod Growing
 pub mod Merges
 pub mod Fronts
 pub mod TermLists
+pub mod Stored

@@ -4,8 +4,8 @@ ghost use Rattle.std.specs.Prelude.{◌≡◌, ◌<◌, ◌≤◌, ◌+◌, [], 
 ghost use Rattle.terms.specs.Sets.{has, AddsOrdinal, IsAscending};
 
 use crate::sets::VSet;
-use crate::words::{Words, has_ordinal, insert_ordinal};
-use smallvec::SmallVec;
+use crate::stored::Words;
+use crate::words::{has_ordinal, insert_ordinal};
 use std::alloc::{AllocError, Global};
 use std::marker::Model;
 
@@ -17,8 +17,6 @@ pub struct GrowingSet {
 }
 
 impl Model for GrowingSet {
-    ghost use Rattle.smallvec.specs.SmallVec.{small_vec_len};
-    ghost use Rattle.std.specs.Prelude.{◌-◌};
     ghost use Rattle.terms.specs.Growing.{Growing};
     ghost use Rattle.terms.specs.Words.{AreWords, ordinals_of};
 
@@ -26,7 +24,7 @@ impl Model for GrowingSet {
 
     ghost view = { λ s. record {
       ordinals = ordinals_of s.words.items;
-      room = s.words.capacity - small_vec_len s.words;
+      room = s.words.room;
     } };
 
     ghost invariant = { λ s. AreWords s.words.items };
@@ -38,7 +36,7 @@ impl GrowingSet {
         ensures { result.ordinals ≡ [] }
     {
         GrowingSet {
-            words: SmallVec::new(alloc),
+            words: Words::new(alloc),
         }
     }
 
@@ -49,7 +47,7 @@ impl GrowingSet {
         ensures unchanged { OnErr result (self.new ≡ self.old) }
         ensures succeeds { 0 < self.old.room → IsOk result }
     {
-        self.words.reserve(1)
+        self.words.reserve()
     }
 
     /// Puts an ordinal in. It costs one step where none above it is there.
@@ -67,7 +65,7 @@ impl GrowingSet {
     pub fn has(&self, ordinal: u32) -> bool
         ensures { result ≡ has self.now.ordinals ordinal }
     {
-        has_ordinal(&self.words, ordinal)
+        has_ordinal(self.words.as_slice(), ordinal)
     }
 
     /// The set as it is now.
@@ -75,6 +73,6 @@ impl GrowingSet {
         ensures same { IfOk result (λ set. set ≡ self.now.ordinals) }
         ensures ascending { IfOk result IsAscending }
     {
-        VSet::of_words(alloc, &self.words)
+        VSet::of_words(alloc, self.words.as_slice())
     }
 }

@@ -13,6 +13,7 @@ mod ordinals;
 mod relations;
 mod resolving;
 mod sets;
+mod stored;
 mod term;
 mod term_list;
 mod words;

@@ -7,10 +7,8 @@ ghost use Rattle.terms.specs.Words.{AreWords, ordinals_of};
 
 use crate::merging::{Rule, combined, count_kept, first_kept};
 use crate::ordinals::{Ordinals, ordinals_in};
-use crate::words::{
-    Word, Words, are_same, copied, count, has_ordinal, insert_ordinal, words_of, words_of_one,
-};
-use smallvec::SmallVec;
+use crate::stored::Words;
+use crate::words::{Word, are_same, count, has_ordinal, insert_ordinal, words_of, words_of_one};
 use std::alloc::{AllocError, Global};
 use std::marker::Model;
 
@@ -37,7 +35,7 @@ impl VSet {
         ensures { result ≡ [] }
     {
         VSet {
-            words: SmallVec::new(alloc),
+            words: Words::new(alloc),
         }
     }
 
@@ -77,21 +75,21 @@ impl VSet {
     pub fn has(&self, ordinal: u32) -> bool
         ensures { result ≡ has self.now ordinal }
     {
-        has_ordinal(&self.words, ordinal)
+        has_ordinal(self.words.as_slice(), ordinal)
     }
 
     /// How many ordinals the set has.
     pub fn len(&self) -> usize
         ensures { result ≡ length self.now }
     {
-        count(&self.words)
+        count(self.words.as_slice())
     }
 
     /// Whether the set has no ordinal.
     pub fn is_empty(&self) -> bool
         ensures { IsTrue result ↔ (self.now ≡ []) }
     {
-        self.words.is_empty()
+        self.words.as_slice().is_empty()
     }
 
     /// The ordinals of the set, ascending, without memory.
@@ -99,7 +97,7 @@ impl VSet {
         ensures same { result ≡ self.now }
         ensures ascending { IsAscending self.now }
     {
-        ordinals_in(&self.words)
+        ordinals_in(self.words.as_slice())
     }
 
     /// The ordinals of the set, ascending.
@@ -136,7 +134,7 @@ impl VSet {
     pub fn is_same(&self, other: &VSet) -> bool
         ensures { IsTrue result ↔ (self.now ≡ other.now) }
     {
-        are_same(&self.words, &other.words)
+        are_same(self.words.as_slice(), other.words.as_slice())
     }
 
     /// An equal set.
@@ -145,7 +143,7 @@ impl VSet {
         ensures same { IfOk result (λ set. set ≡ self.now) }
         ensures ascending { IfOk result IsAscending }
     {
-        VSet::of_words(alloc, &self.words)
+        VSet::of_words(alloc, self.words.as_slice())
     }
 
     /// Tells a caller that the set ascends, as each does. It does nothing when it runs.
@@ -170,7 +168,7 @@ impl VSet {
         ensures same { IfOk result (λ set. set ≡ ordinals_of words.now) }
         ensures ascending { IfOk result IsAscending }
     {
-        Ok(VSet::from_words(copied(alloc, words)?))
+        Ok(VSet::from_words(Words::of(alloc, words)?))
     }
 
     /// What the rule keeps of two sets.
@@ -184,7 +182,12 @@ impl VSet {
         ensures exact { IfOk result (IsKept rule first.now second.now) }
         ensures ascending { IfOk result IsAscending }
     {
-        Ok(VSet::from_words(combined(alloc, rule, &first.words, &second.words)?))
+        Ok(VSet::from_words(combined(
+            alloc,
+            rule,
+            first.words.as_slice(),
+            second.words.as_slice(),
+        )?))
     }
 
     /// The lowest ordinal that the rule keeps of this set and another.
@@ -193,7 +196,7 @@ impl VSet {
         ensures none { IfNone result (IsKept rule self.now other.now []) }
         ensures some { IfSome result (λ k. keeps rule (has self.now k) (has other.now k) ≡ true) }
     {
-        first_kept(rule, &self.words, &other.words)
+        first_kept(rule, self.words.as_slice(), other.words.as_slice())
     }
 
     /// How many ordinals of this set are in the other, or are not.
@@ -201,6 +204,6 @@ impl VSet {
         requires { IsWithinFirst rule }
         ensures { result ≡ count_by (λ k. keeps rule true (has other.now k)) self.now }
     {
-        count_kept(rule, &self.words, &other.words)
+        count_kept(rule, self.words.as_slice(), other.words.as_slice())
     }
 }
