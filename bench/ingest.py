@@ -19,7 +19,10 @@ import time
 from lines import publish_lines
 
 HERE = os.path.dirname(os.path.abspath(__file__))
-PROGRAM = os.path.join(os.path.dirname(HERE), "crates", "registryd", "out", "registryd")
+sys.path.insert(0, os.path.join(os.path.dirname(HERE), "tools"))
+from programs import path_for_tests  # noqa: E402
+
+PROGRAM = path_for_tests("registryd")
 
 
 def serve(program, path):

@@ -1,5 +1,4 @@
-#!/usr/bin/env python3
-"""Proves and builds the program, and says on standard error how far it is. `registryd` calls it where it must."""
+"""Proves and builds the program, and says on standard error how far it is, for `tools/build --proved`."""
 import os
 import re
 import subprocess
@@ -15,7 +14,12 @@ def lines_of(words, folder):
     """Runs a command and yields its lines."""
     with subprocess.Popen(words, cwd=folder, stdin=subprocess.DEVNULL, stdout=subprocess.PIPE, stderr=subprocess.STDOUT,
                           text=True, errors="replace") as running:
-        yield from running.stdout
+        try:
+            yield from running.stdout
+        except BaseException:
+            # what it has begun ends with it
+            running.terminate()
+            raise
 
 
 def prove(number, progress):
@@ -92,10 +96,4 @@ def main():
         print(f"{NAME}: it could not be built, for the reason above. What is proved is kept: once that is mended (a source, or "
               "memory or disk that ran out), the same words go on from there", file=sys.stderr)
         return 1
-    # a source of a crate that it does not stand on may be newer
-    os.utime(PROGRAM)
     return 0
-
-
-if __name__ == "__main__":
-    sys.exit(main())

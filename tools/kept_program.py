@@ -3,6 +3,9 @@ import hashlib
 import json
 import os
 import shutil
+from pathlib import Path
+
+import kit_commands
 
 
 def kept(rt, top):
@@ -45,3 +48,15 @@ def take(rt, top, to):
     os.chmod(f"{to}.new", 0o755)
     os.replace(f"{to}.new", to)
     return True
+
+
+def taken(top, name, folder):
+    """The program's file, copied into a folder, if this kit keeps one of just these files."""
+    to = os.path.join(folder, name)
+    try:
+        rt = kit_commands.load()
+        crate = rt.rtlib.Crate(os.path.join(top, "crates", name), str(top), {})
+        return Path(to) if take(rt, crate, to) else None
+    except (Exception, SystemExit):
+        # another kit has no such call, or the sources are not as the kit wants them: whoever builds tells that
+        return None

@@ -57,23 +57,64 @@ def told(seconds):
     return f"{seconds / 60:.0f} min"
 
 
-class Progress:
-    """One line on standard error: rewritten where that is a terminal, else written anew with each crate."""
+class Line:
+    """One line on standard error that says how far something is, rewritten where that is a terminal."""
 
-    def __init__(self, name, crates, jobs, out=sys.stderr):
-        self.name, self.crates, self.out = name, crates, out
-        self.weights = {crate: seconds_of(crate) for crate in crates}
-        self.rate = GAIN.get(jobs, GAIN[4])
-        self.begun = time.monotonic()
-        # those that are proved, those that are being proved, each with a call for which part of it is, and the time of what was kept
-        self.done, self.parts, self.skipped = set(), {}, 0.0
-        self.rewrites, self.lock, self.is_over = out.isatty(), threading.RLock(), threading.Event()
+    def __init__(self, out=None):
+        self.out, self.begun = out or sys.stderr, time.monotonic()
+        self.rewrites, self.lock, self.is_over = self.out.isatty(), threading.RLock(), threading.Event()
         if self.rewrites:
             threading.Thread(target=self.tick, daemon=True).start()
 
     def tick(self):
         while not self.is_over.wait(TICK):
             self.rewrite()
+
+    def rewrite(self):
+        with self.lock:
+            if self.is_over.is_set():
+                return
+            print(f"\r\x1b[K{self.text()}", end="", file=self.out, flush=True)
+
+    def clear(self):
+        """Takes the line away, so that something else can be written there."""
+        if self.rewrites:
+            with self.lock:
+                print("\r\x1b[K", end="", file=self.out, flush=True)
+
+    def end(self):
+        with self.lock:
+            self.is_over.set()
+            self.clear()
+
+    def __enter__(self):
+        return self
+
+    def __exit__(self, *_):
+        self.end()
+
+
+class Counter(Line):
+    """How long something has taken, beside what it takes on an idle machine; where that is no terminal, nothing is said."""
+
+    def __init__(self, doing, seconds, out=None):
+        self.doing, self.seconds = doing, seconds
+        super().__init__(out)
+
+    def text(self):
+        return f"{self.doing}, {told(time.monotonic() - self.begun)} so far, about {told(self.seconds)} on an idle machine"
+
+
+class Progress(Line):
+    """How far a proof is: where standard error is no terminal, the line is written anew with each crate."""
+
+    def __init__(self, name, crates, jobs, out=None):
+        self.name, self.crates = name, crates
+        self.weights = {crate: seconds_of(crate) for crate in crates}
+        self.rate = GAIN.get(jobs, GAIN[4])
+        # those that are proved, those that are being proved, each with a call for which part of it is, and the time of what was kept
+        self.done, self.parts, self.skipped = set(), {}, 0.0
+        super().__init__(out)
 
     def finish(self, crate, is_kept=False):
         """Notes that a crate is proved; one that was kept from earlier took no time."""
@@ -125,23 +166,6 @@ class Progress:
         else:
             with self.lock:
                 print(self.text(), file=self.out, flush=True)
-
-    def rewrite(self):
-        with self.lock:
-            if self.is_over.is_set():
-                return
-            print(f"\r\x1b[K{self.text()}", end="", file=self.out, flush=True)
-
-    def clear(self):
-        """Takes the line away, so that something else can be written there."""
-        if self.rewrites:
-            with self.lock:
-                print("\r\x1b[K", end="", file=self.out, flush=True)
-
-    def end(self):
-        with self.lock:
-            self.is_over.set()
-            self.clear()
 
 
 def jobs(more=0):

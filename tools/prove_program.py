@@ -9,13 +9,11 @@ is built, with 1 where a crate is not proved, and else with 2: then this kit has
 import hashlib
 import os
 import shutil
-import subprocess
 import sys
 import threading
 from concurrent.futures import FIRST_COMPLETED, ThreadPoolExecutor, wait
-from importlib.machinery import SourceFileLoader
-from importlib.util import module_from_spec, spec_from_loader
 
+import kit_commands
 from kept_program import take
 from progress import TOP, jobs, seconds_of
 
@@ -25,16 +23,6 @@ MOST = 4
 NEAR = 0.8
 # How many steps of `nice` a crate gives way by for each hundredth that its chain is shorter than the longest, and at most.
 STEPS, MOST_STEPS = 0.8, 19
-
-
-def kit():
-    """The kit's module of its commands; its `rtlib` has those that prove crates."""
-    page = subprocess.run(["rt", "doc"], stdout=subprocess.PIPE, text=True, check=True).stdout.strip()
-    loader = SourceFileLoader("rt_of_kit", os.path.join(os.path.dirname(page), "bin", "rt"))
-    sys.modules["rt_of_kit"] = made = module_from_spec(spec_from_loader("rt_of_kit", loader))
-    sys.dont_write_bytecode = True
-    loader.exec_module(made)
-    return made
 
 
 def chains(below, weights):
@@ -121,11 +109,15 @@ class Program:
         files = [(os.path.relpath(it, crate.folder), self.rtlib.sum_of(it)) for it in self.rtlib.files_of(crate.folder)]
         # a library's format holds the sum of its files
         below = [self.rtlib.sum_of(os.path.join(it.rlib, "format")) for it in crate.below()]
-        kit = self.rtlib.sum_of(os.path.join(self.rtlib.KIT, "WHAT"))
-        return hashlib.sha256(repr((kit, crate.said, files, below)).encode()).hexdigest()
+        of_kit = self.rtlib.sum_of(os.path.join(self.rtlib.KIT, "WHAT"))
+        return hashlib.sha256(repr((of_kit, crate.said, files, below)).encode()).hexdigest()
+
+    def stamped(self, crate, of):
+        """What a crate's stamp says. The gate leaves its own program in the place of this one: so the sum of its bytes is in it."""
+        return of if crate is not self.top else f"{of} {self.rtlib.sum_of(self.made(crate))}"
 
     def stands(self, crate):
-        return os.path.exists(self.made(crate)) and self.rtlib.text_of(self.stamp(crate)) == self.sum(crate)
+        return os.path.exists(self.made(crate)) and self.rtlib.text_of(self.stamp(crate)) == self.stamped(crate, self.sum(crate))
 
     def prove(self, name, number, gives_way_by):
         """Proves and builds one crate, those below it being built; answers whether that went well."""
@@ -144,7 +136,7 @@ class Program:
         # a source that was changed meanwhile may be in it or not
         if not status and of == self.sum(crate):
             with open(self.stamp(crate), "w", encoding="ascii") as kept:
-                kept.write(of)
+                kept.write(self.stamped(crate, of))
         crate.out.write("failed" if status else "proved")
         return not status
 
@@ -165,7 +157,7 @@ class Program:
 
 
 def main(name, processors):
-    rt = kit()
+    rt = kit_commands.load()
     rtlib = rt.rtlib
     # an interrupt ends this and, by the kit's guard, what it has begun
     rtlib.guarded()

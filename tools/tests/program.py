@@ -1,15 +1,19 @@
-"""The program under test, and short ways to talk to it."""
+"""The programs under test, and short ways to talk to registryd."""
 import contextlib
 import json
 import os
 import resource
 import subprocess
+import sys
 import tempfile
 
 import said
 
 TOP = os.path.dirname(os.path.dirname(os.path.dirname(os.path.abspath(__file__))))
-PROGRAM = os.path.join(TOP, "crates", "registryd", "out", "registryd")
+sys.path.insert(0, os.path.join(TOP, "tools"))
+from programs import path_for_tests
+
+PROGRAM, PROBE = path_for_tests("registryd"), path_for_tests("probe")
 SERVE = ["serve", "--workers", "1"]
 
 

@@ -1,8 +1,8 @@
 """Tables of rows: each row names one public call of a crate, what it is given and what it is to give. rows/README.md
 says how they are written.
 
-The calls are made by the program `probe`, as the gate built it. While it is not proved yet, the environment variable
-PROBE may name another program to be run instead: an unproved build, or a script that runs `rt try` in the crate's folder.
+The calls are made by the program `probe`. The environment variable PROBE may name another program to be run instead, as a script that
+runs `rt try` in the crate's folder.
 """
 import glob
 import json
@@ -10,7 +10,7 @@ import os
 import subprocess
 import tempfile
 
-from program import TOP
+from program import PROBE, TOP
 
 ROWS = os.path.join(TOP, "rows")
 # The word by which the program makes the calls of each folder of rows.
@@ -147,7 +147,7 @@ def files(folder):
 
 def probe(folder):
     """The program that makes the calls of a folder of rows, with its word."""
-    return [os.environ.get("PROBE") or os.path.join(TOP, "crates", "probe", "out", "probe"), WORDS[folder]]
+    return [PROBE, WORDS[folder]]
 
 
 def answers(command, lines, **more):

@@ -9,7 +9,7 @@ use registryd::json::Value;
 use registryd::{Error, Options, Refusal, Registry, Reply, Request, Resolve, Selected};
 
 fn program() -> PathBuf {
-    let built = concat!(env!("CARGO_MANIFEST_DIR"), "/../../crates/registryd/out/registryd");
+    let built = concat!(env!("CARGO_MANIFEST_DIR"), "/../../registryd");
     std::env::var_os("REGISTRYD").map_or(built.into(), PathBuf::from)
 }
 

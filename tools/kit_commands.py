@@ -1,0 +1,20 @@
+"""The kit's folder, and its commands as a module, for what they don't do by themselves."""
+import subprocess
+import sys
+from importlib.machinery import SourceFileLoader
+from importlib.util import module_from_spec, spec_from_loader
+from pathlib import Path
+
+
+def folder():
+    page = subprocess.run(["rt", "doc"], stdin=subprocess.DEVNULL, stdout=subprocess.PIPE, text=True, check=True).stdout.strip()
+    return Path(page).parent
+
+
+def load():
+    """The kit's module of its commands; its `rtlib` has those that prove crates."""
+    loader = SourceFileLoader("rt_of_kit", str(folder() / "bin" / "rt"))
+    sys.modules[loader.name] = made = module_from_spec(spec_from_loader(loader.name, loader))
+    sys.dont_write_bytecode = True
+    loader.exec_module(made)
+    return made
