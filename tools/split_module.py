@@ -1,0 +1,129 @@
+"""Splits a module of LLVM, as text, into some of about equal size that are compiled side by side and linked.
+
+All functions of a module are its own but `main`. Those that are long stand in one part each, by the order in which they are reached
+from `main`, so that most calls stay in their part. Short ones stand in each part that calls them, so that they can be inlined there as
+in the whole. What nothing reaches is left out."""
+import dataclasses
+import re
+
+# A function of more lines than these is long.
+SHORT = 200
+NAME = re.compile(r'@("[^"]*"|[-\w.$]+)')
+TEXT = re.compile(r' c"[^"]*"')
+PIECE = re.compile(r"define .*\n(?:.*\n)*?\}\n|.*\n")
+# A constant that may be a copy in each part: nothing asks for its address.
+IS_COPIED = re.compile(r"@\S+ = private unnamed_addr constant ")
+IS_SHARED = re.compile(r"(@\S+ = )private ((?:constant|global) )")
+# The type of what another part has.
+ELSEWHERE = "%elsewhere = type opaque\n"
+
+
+class Unknown(Exception):
+    """The module is of another form."""
+
+
+@dataclasses.dataclass
+class Module:
+    """The pieces of a module by their names, and those that each part has as they are."""
+    functions: dict = dataclasses.field(default_factory=dict)
+    globals: dict = dataclasses.field(default_factory=dict)
+    declared: dict = dataclasses.field(default_factory=dict)
+    head: list = dataclasses.field(default_factory=list)
+    tail: list = dataclasses.field(default_factory=list)
+
+    def __post_init__(self):
+        self.uses, self.lines = {}, {}
+
+    @classmethod
+    def of(cls, text):
+        module = cls()
+        for found in PIECE.finditer(text):
+            module.add(found[0])
+        defined = {**module.functions, **module.globals}
+        # a text may hold what looks like a name
+        bare = {name: TEXT.sub("", piece) if ' c"' in piece else piece for name, piece in defined.items()}
+        module.uses = {name: {*NAME.findall(piece)} - {name} for name, piece in bare.items()}
+        module.lines = {name: piece.count("\n") for name, piece in module.functions.items()}
+        known = {*defined, *module.declared}
+        if "main" not in module.functions or not all(used <= known for used in module.uses.values()):
+            raise Unknown("it has no main, or names what it does not have")
+        return module
+
+    def add(self, piece):
+        if piece.startswith(("define internal ", "define i32 @main(")):
+            self.functions[NAME.search(piece)[1]] = piece
+        elif IS_COPIED.match(piece) or IS_SHARED.match(piece):
+            self.globals[NAME.match(piece)[1]] = piece
+        elif piece.startswith("declare "):
+            self.declared[NAME.search(piece)[1]] = piece
+        elif piece.startswith(("source_filename", "target ")):
+            self.head.append(piece)
+        elif piece.startswith(("attributes ", "!")):
+            self.tail.append(piece)
+        elif piece.strip() and not piece.startswith(";"):
+            raise Unknown(f"a line of another kind: {piece[:80]}")
+
+    def reached(self):
+        """The functions that `main` reaches, each before those that it is the first to call."""
+        found, waiting = {}, ["main"]
+        while waiting:
+            name = waiting.pop()
+            if name in self.uses and name not in found:
+                found[name] = name in self.functions
+                waiting += sorted(self.uses[name], reverse=True)
+        return [name for name, is_function in found.items() if is_function]
+
+
+def owners(module, order, count):
+    """The part in which each long function stands."""
+    whole, before, found = sum(module.lines[name] for name in order), 0, {}
+    for name in order:
+        if module.lines[name] > SHORT or name == "main":
+            found[name] = before * count // whole
+        before += module.lines[name]
+    return found
+
+
+def stands_in(module, owner, part):
+    """What stands in a part, and what it uses of others."""
+    here, elsewhere, waiting = set(), set(), [name for name, of in owner.items() if of == part]
+    while waiting:
+        name = waiting.pop()
+        if owner.get(name, part) != part or name in module.declared:
+            elsewhere.add(name)
+        elif name not in here:
+            here.add(name)
+            waiting += module.uses[name]
+    return here, elsewhere
+
+
+def written(module, order, parts, number):
+    """The text of a part."""
+    here, elsewhere = parts[number]
+    called = set().union(*(others for _, others in parts))
+    yield from [*module.head, ELSEWHERE]
+    for name, piece in module.globals.items():
+        if name in here and IS_SHARED.match(piece):
+            is_first = not any(name in before for before, _ in parts[:number])
+            yield IS_SHARED.sub(r"\1hidden \2", piece) if is_first else IS_SHARED.match(piece)[1] + \
+                f"external hidden {IS_SHARED.match(piece)[2]}%elsewhere\n"
+        elif name in here:
+            yield piece
+    for name in order:
+        if name in here:
+            yield module.functions[name].replace("define internal ", "define hidden ", 1) if name in called else module.functions[name]
+    for name in sorted(elsewhere):
+        head = module.functions.get(name, "").partition("\n")[0]
+        yield module.declared.get(name) or head.replace("define internal ", "declare hidden ", 1).removesuffix(" {") + "\n"
+    yield from module.tail
+
+
+def split(text, count):
+    """The texts of so many parts."""
+    if count == 1:
+        return [text]
+    module = Module.of(text)
+    order = module.reached()
+    owner = owners(module, order, count)
+    parts = [stands_in(module, owner, part) for part in range(count)]
+    return ["".join(written(module, order, parts, number)) for number in range(count)]
