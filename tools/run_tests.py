@@ -14,7 +14,7 @@ from progress import TOP
 FOLDERS = ("tools/tests", "bench/tests")
 LAST = "test_written_lines.py"
 # The files that take longest: they begin first.
-LONG = ("test_refused_calls.py", "test_row_tables.py", "test_memory.py", "test_etcd.py", "test_journals.py")
+LONG = ("test_refused_calls.py", "test_row_tables.py", "test_memory.py", "test_etcd.py", "test_journals.py", "test_programs.py")
 
 
 def files():

@@ -43,7 +43,7 @@ class Case(unittest.TestCase):
 class Version(Case):
     def test_nothing_is_built(self):
         self.assertEqual(self.state(), NONE)
-        self.assertEqual(self.tree.compilations(), 0)
+        self.assertEqual(self.tree.compilations(), [])
         self.assertFalse((self.tree.top / "out").exists())
 
     def test_it_is_compiled_and_then_its_sources_change(self):
@@ -61,7 +61,7 @@ class Version(Case):
             self.assertEqual(self.state(), COMPILED, name)
         (self.tree.top / "crates/low/src/lib.rt").unlink()
         self.assertEqual(self.state(), OLDER)
-        self.assertEqual(self.tree.compilations(), 1)
+        self.assertEqual(len(self.tree.compilations()), 1)
 
     def test_it_is_proved_and_then_its_sources_change(self):
         self.assertEqual(self.tree.run("tools/build", "--proved")[0], 0)
@@ -143,7 +143,7 @@ class Starts(Case):
                                r"registryd: compiled in \d+ s\n\Z")
         for _ in range(3):
             self.assertEqual(self.says("serve"), "")
-        self.assertEqual((self.tree.compilations(), self.tree.left()), (1, []))
+        self.assertEqual((len(self.tree.compilations()), self.tree.left()), (1, []))
 
     def test_sources_that_changed_are_compiled(self):
         self.says()
@@ -191,7 +191,7 @@ class Starts(Case):
                 self.assertEqual(done.stdout.splitlines(), ["checked", "registryd a", "low a"], done.stderr)
                 told = subprocess.run([*words, "--version"], cwd=folder, env=self.tree.given(), stdout=subprocess.PIPE, text=True)
                 self.assertEqual(told.stdout.splitlines()[1], COMPILED)
-        self.assertEqual(self.tree.compilations(), 1)
+        self.assertEqual(len(self.tree.compilations()), 1)
 
     def test_two_first_starts_at_once(self):
         self.tree.make_kit(seconds="1")
@@ -199,7 +199,7 @@ class Starts(Case):
         said = [running.communicate(timeout=60) for running in both]
         for out, wrong in said:
             self.assertEqual(out.splitlines(), ["checked", "registryd a", "low a"], wrong)
-        self.assertEqual(self.tree.compilations(), 1)
+        self.assertEqual(len(self.tree.compilations()), 1)
         self.assertEqual(sorted("waits for its end" in wrong for _, wrong in said), [False, True])
 
     def test_one_that_cannot_write_starts_what_stands(self):
@@ -238,12 +238,14 @@ class Failures(Case):
         for sent, status in ((signal.SIGINT, 130), (signal.SIGTERM, 143), (signal.SIGHUP, 129)):
             self.tree.make_kit(seconds="30")
             running = self.tree.begin("tools/build")
-            while self.tree.compilations() == 0:
+            while not self.tree.compilations():
                 time.sleep(0.02)
             running.send_signal(sent)
             out, wrong = running.communicate(timeout=10)
             self.assertEqual((running.returncode, out), (status, ""), wrong)
             self.assertEqual(self.tree.left(), [])
+            # what it began has ended too
+            self.assertFalse(Path("/proc", *self.tree.compilations()).exists())
             self.tree.log.unlink()
         self.tree.make_kit()
         self.says()
@@ -314,9 +316,9 @@ PATHS = {name.upper(): path_for_tests(name) for name in ("registryd", "probe")}
         self.assertEqual(lines[-2], "nothing was proved in this run: ./test proves everything")
         self.assertRegex(lines[-1], "^2 passed, 0 failed")
         self.assertEqual(said.count("checked\n"), 2)
-        self.assertEqual((self.state(), self.tree.compilations()), (COMPILED, 2))
+        self.assertEqual((self.state(), len(self.tree.compilations())), (COMPILED, 2))
         self.assertEqual(self.tree.run("test", "--quick")[0], 0)
-        self.assertEqual(self.tree.compilations(), 2)
+        self.assertEqual(len(self.tree.compilations()), 2)
 
     def test_quick_does_not_test_what_has_no_checks(self):
         self.tree.run("tools/build", "--unchecked")
