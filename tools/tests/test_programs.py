@@ -117,13 +117,18 @@ class Version(Case):
         self.assertEqual(self.state(), NONE)
 
     def test_the_commit(self):
-        def git(*words):
+        def git(*words, at=self.tree.top):
             who = {f"GIT_{part}_{what}": "a@b" for part in ("AUTHOR", "COMMITTER") for what in ("NAME", "EMAIL")}
-            return subprocess.run(["git", *words], cwd=self.tree.top, env=self.tree.given(**who), stdout=subprocess.PIPE, text=True, check=True).stdout.strip()
+            return subprocess.run(["git", *words], cwd=at, env=self.tree.given(**who), stdout=subprocess.PIPE, text=True,
+                                  check=True).stdout.strip()
 
         def told():
             return self.tree.run("registryd", "--version", GIT_DIR="/")[1].splitlines()[0].partition("commit ")[2]
 
+        self.assertEqual(told(), "unknown")
+        # the folder that it lies in is of something else
+        git("init", "-q", at=self.tree.kit.parent)
+        git("commit", "-q", "--allow-empty", "-m", "another", at=self.tree.kit.parent)
         self.assertEqual(told(), "unknown")
         git("init", "-q")
         self.assertEqual(told(), "unknown")
@@ -162,6 +167,8 @@ class Starts(Case):
         self.assertIn("its sources have changed", self.says(low="lower"))
 
     def test_a_proved_one_is_taken_from_then_on(self):
+        # no more than its place tells that it is there
+        (self.tree.top / "crates" / "registryd" / "out").mkdir()
         self.says()
         self.says()
         self.tree.run("tools/build", "--proved")
@@ -229,6 +236,11 @@ class Failures(Case):
         (self.tree.kit / "bin" / "rt").unlink()
         self.assertIn("the kit's command rt is not on the path", self.fails())
 
+    def test_a_full_disk(self):
+        for part in ("-emit-llvm", "-O3"):
+            self.tree.make_kit(clang=f'case "$*" in *{part}*) echo "cannot write: No space left on device"; exit 1;; esac')
+            self.assertIn("it was not built: the disk is full", self.fails())
+
     def test_a_source_that_changes_meanwhile(self):
         main = self.tree.top / "crates" / "registryd" / "src" / "main.rt"
         self.tree.make_kit(clang=f"echo '# more' >> {shlex.quote(str(main))}")
@@ -258,7 +270,7 @@ class Failures(Case):
     def test_another_kit_proves_it_and_tells_why(self):
         for change, why in ((lambda: (self.tree.kit / "c" / "asan.a").unlink(), "it has no .*/c/asan.a"),
                             (lambda: (self.tree.kit / "bin" / "rtlib.py").write_text("class Crate:\n    pass\n"), "its module of crates is another"),
-                            (lambda: self.tree.make_kit(clang='case "$*" in *fsanitize*) ;; *) exit 3;; esac'), "gave no module to clang"),
+                            (lambda: self.tree.make_kit(clang='case "$*" in *fsanitize*) ;; *) exit 3;; esac'), "gives no module to clang"),
                             (lambda: self.tree.make_kit(clang='case "$*" in *O3*) echo other; exit 1;; esac'), "does not compile the module: other")):
             with self.subTest(why=why):
                 self.setUp()
