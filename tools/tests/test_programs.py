@@ -8,36 +8,7 @@ import time
 import unittest
 from pathlib import Path
 
-from fake_tree import Tree
-
-PROVED = "The program is proved: it was built from proofs of just these sources."
-COMPILED = "The program is compiled from these sources, with checks as it runs. It is not proved on this machine: ./test does that."
-UNCHECKED = "The program is compiled from these sources without checks as it runs, for measurements. It is not proved on this machine: " \
-            "./test does that."
-NONE = "The program is not built yet: its first use compiles it, which takes minutes."
-OLDER = "The sources have changed since the program was built: its next use compiles it anew, which takes minutes."
-
-
-class Case(unittest.TestCase):
-    def setUp(self):
-        room = tempfile.TemporaryDirectory()
-        self.addCleanup(room.cleanup)
-        self.tree = Tree(room.name)
-
-    def state(self):
-        """What `--version` tells of the program."""
-        status, said, wrong = self.tree.run("registryd", "--version")
-        first, state = said.splitlines()
-        self.assertRegex(first, r"^registryd 0\.\d+\.\d+, commit ")
-        self.assertEqual((status, wrong), (0, ""))
-        return state
-
-    def says(self, *words, first="checked", low="low", **more):
-        """The program runs with these words, and answers what its sources say; gives what is said on standard error."""
-        status, said, wrong = self.tree.run("registryd", *words, **more)
-        wanted = [first, " ".join(["registryd", *words]), " ".join([low, *words])] if first else [" ".join(["proved", *words])]
-        self.assertEqual((status, said.splitlines()), (0, wanted), wrong)
-        return wrong
+from fake_tree import COMPILED, NONE, OLDER, PROVED, UNCHECKED, Case
 
 
 class Version(Case):
@@ -193,11 +164,10 @@ class Starts(Case):
             link = Path(folder, "link")
             link.symlink_to(self.tree.top / "registryd")
             Path(folder, "second").symlink_to("link")
+            how = {"cwd": folder, "env": self.tree.given(), "stdout": subprocess.PIPE, "text": True}
             for words in ([str(link)], ["./second"], ["sh", "link"]):
-                done = subprocess.run([*words, "a"], cwd=folder, env=self.tree.given(), stdout=subprocess.PIPE, stderr=subprocess.PIPE, text=True)
-                self.assertEqual(done.stdout.splitlines(), ["checked", "registryd a", "low a"], done.stderr)
-                told = subprocess.run([*words, "--version"], cwd=folder, env=self.tree.given(), stdout=subprocess.PIPE, text=True)
-                self.assertEqual(told.stdout.splitlines()[1], COMPILED)
+                self.assertEqual(subprocess.run([*words, "a"], **how).stdout.splitlines(), ["checked", "registryd a", "low a"])
+                self.assertEqual(subprocess.run([*words, "--version"], **how).stdout.splitlines()[1], COMPILED)
         self.assertEqual(len(self.tree.compilations()), 1)
 
     def test_two_first_starts_at_once(self):
@@ -268,10 +238,11 @@ class Failures(Case):
         self.assertEqual(self.tree.left(), [])
 
     def test_another_kit_proves_it_and_tells_why(self):
-        for change, why in ((lambda: (self.tree.kit / "c" / "asan.a").unlink(), "it has no .*/c/asan.a"),
-                            (lambda: (self.tree.kit / "bin" / "rtlib.py").write_text("class Crate:\n    pass\n"), "its module of crates is another"),
-                            (lambda: self.tree.make_kit(clang='case "$*" in *fsanitize*) ;; *) exit 3;; esac'), "gives no module to clang"),
-                            (lambda: self.tree.make_kit(clang='case "$*" in *O3*) echo other; exit 1;; esac'), "does not compile the module: other")):
+        changes = ((lambda: (self.tree.kit / "c" / "asan.a").unlink(), "it has no .*/c/asan.a"),
+                   (lambda: (self.tree.kit / "bin" / "rtlib.py").write_text("class Crate:\n    pass\n"), "its module of crates is another"),
+                   (lambda: self.tree.make_kit(clang='case "$*" in *fsanitize*) ;; *) exit 3;; esac'), "gives no module to clang"),
+                   (lambda: self.tree.make_kit(clang='case "$*" in *O3*) echo other; exit 1;; esac'), "does not compile the module: other"))
+        for change, why in changes:
             with self.subTest(why=why):
                 self.setUp()
                 change()
@@ -281,77 +252,6 @@ class Failures(Case):
                 said = self.tree.run("tools/build", "--compiled")
                 self.assertEqual(said[0], 1)
                 self.assertRegex(said[2], f"registryd: this kit cannot compile it without a proof; tools/build --proved builds it: .*{why}")
-
-
-class Tests(Case):
-    """`./test` over a checkout with two files of tests, which tell which programs they ran."""
-    FIRST = """import os, subprocess, unittest
-class Case(unittest.TestCase):
-    def test_a(self):
-        for name in ("REGISTRYD", "PROBE"):
-            print(subprocess.run([PATHS[name]], stdout=subprocess.PIPE, text=True).stdout)
-import sys
-sys.path.insert(0, os.path.join(os.path.dirname(__file__), ".."))
-from programs import path_for_tests
-PATHS = {name.upper(): path_for_tests(name) for name in ("registryd", "probe")}
-"""
-
-    def setUp(self):
-        super().setUp()
-        self.tree.write("tools/tests/said.py", "REQUESTS, REPLIES, JOURNAL = {}, {}, {}\n")
-        self.tree.write("tools/tests/test_first.py", self.FIRST)
-        self.tree.write("tools/tests/test_written_lines.py", "import unittest\nclass Case(unittest.TestCase):\n    def test_b(self):\n        pass\n")
-        (self.tree.top / "edits").mkdir()
-
-    def test_the_gate_notes_what_it_proved(self):
-        status, said, wrong = self.tree.run("test")
-        self.assertEqual(status, 0, said + wrong)
-        self.assertEqual(said.count("proved\n"), 2)
-        self.assertRegex(said.splitlines()[-1], "^4 passed, 0 failed")
-        self.assertEqual(self.state(), PROVED)
-        self.assertEqual(self.says("a", first=None), "")
-
-    def test_a_gate_that_failed_notes_nothing(self):
-        status, said, _wrong = self.tree.run("test", FAIL="1")
-        self.assertEqual(status, 1)
-        self.assertEqual(self.state(), NONE)
-
-    def test_neither_does_one_whose_sources_changed_meanwhile(self):
-        _status, said, _wrong = self.tree.run("test", CHANGE=str(self.tree.top / "crates" / "low" / "proofs" / "Lib.antt"))
-        self.assertIn("its sources were changed while they were proved", said)
-        self.assertEqual(self.state(), NONE)
-
-    def test_quick_compiles_and_says_that_nothing_was_proved(self):
-        status, said, wrong = self.tree.run("test", "--quick")
-        self.assertEqual(status, 0, said + wrong)
-        lines = said.splitlines()
-        self.assertEqual(lines[-2], "nothing was proved in this run: ./test proves everything")
-        self.assertRegex(lines[-1], "^2 passed, 0 failed")
-        self.assertEqual(said.count("checked\n"), 2)
-        self.assertEqual((self.state(), len(self.tree.compilations())), (COMPILED, 2))
-        self.assertEqual(self.tree.run("test", "--quick")[0], 0)
-        self.assertEqual(len(self.tree.compilations()), 2)
-
-    def test_quick_does_not_test_what_has_no_checks(self):
-        self.tree.run("tools/build", "--unchecked")
-        self.assertEqual(self.tree.run("test", "--quick")[0], 0)
-        self.assertEqual(self.state(), COMPILED)
-
-    def test_quick_fails_where_the_sources_do_not_compile(self):
-        self.tree.write("crates/registryd/src/main.rt", "broken\n")
-        status, said, _wrong = self.tree.run("test", "--quick")
-        self.assertIn("error[broken]", said)
-        self.assertEqual((status, self.tree.left()), (1, []))
-        self.assertRegex(said.splitlines()[-1], "^0 passed, 1 failed")
-
-    def test_tools_takes_what_stands(self):
-        status, said, _wrong = self.tree.run("test", "--tools")
-        self.assertEqual(status, 1)
-        self.assertIn("no program registryd or probe stands of just these sources", said)
-        self.tree.run("test", "--quick")
-        self.assertEqual(self.tree.run("test", "--tools")[0], 0)
-        self.tree.write("crates/low/src/lib.rt", "echo lower\n")
-        self.assertEqual(self.tree.run("test", "--tools")[0], 1)
 
 
 if __name__ == "__main__":

@@ -45,10 +45,10 @@ class Parts(unittest.TestCase):
         self.first, self.second = split(MODULE, 2)
 
     def test_long_functions_stand_once_and_short_ones_where_they_are_called(self):
-        self.assertEqual(heads(self.first, "define"), {"main": "define i32", '"a::first"': "define hidden void", "short": "define internal void",
-                                                       "deeper": "define internal void", "lone": "define internal void"})
-        self.assertEqual(heads(self.second, "define"), {'"a::second"': "define hidden void", "short": "define internal void",
-                                                        "deeper": "define internal void", "deep": "define internal void"})
+        own = "define internal void"
+        self.assertEqual(heads(self.first, "define"), {"main": "define i32", '"a::first"': "define hidden void", "short": own, "deeper": own,
+                                                       "lone": own})
+        self.assertEqual(heads(self.second, "define"), {'"a::second"': "define hidden void", "short": own, "deeper": own, "deep": own})
 
     def test_what_is_used_of_others_is_declared(self):
         self.assertEqual(heads(self.first, "declare"), {'"a::second"': "declare hidden void", "write": "declare i64"})
@@ -65,8 +65,8 @@ class Parts(unittest.TestCase):
 
     def test_each_has_what_holds_for_all(self):
         for part in (self.first, self.second):
-            for line in ('source_filename = "rattle"', 'target triple = "x86_64-unknown-linux-gnu"', "attributes #0 = { nounwind }", "!0 = !{}"):
-                self.assertIn(f"{line}\n", part)
+            self.assertTrue(part.startswith(HEAD.rstrip("\n")))
+            self.assertTrue(part.endswith("attributes #0 = { nounwind }\n!0 = !{}\n"))
 
     def test_one_part_is_the_whole(self):
         self.assertEqual(split(MODULE, 1), [MODULE])
@@ -77,8 +77,8 @@ class Parts(unittest.TestCase):
                          ['"a::first"', '"a::second"', "deep", "main"])
 
     def test_a_module_of_another_form_is_not_split(self):
-        for other in (MODULE + "$group = comdat any\n", MODULE.replace("define internal void @lone", "define weak void @lone"), MODULE.replace("@main(", "@start("),
-                      MODULE.replace("declare i64 @write", "declare i64 @read"), MODULE + "@other = alias void (), ptr @lone\n"):
+        for other in (MODULE + "$group = comdat any\n", MODULE + "@other = alias void (), ptr @lone\n", MODULE.replace("@main(", "@start("),
+                      MODULE.replace("internal void @lone", "weak void @lone"), MODULE.replace("i64 @write", "i64 @read")):
             with self.assertRaises(Unknown):
                 split(other, 2)
 
