@@ -10,7 +10,7 @@ from split_module import SHORT, Unknown, split
 
 HEAD = 'source_filename = "rattle"\ntarget triple = "x86_64-unknown-linux-gnu"\n\n'
 TAIL = "\n; Function Attrs: nounwind\ndeclare i64 @write(i32, ptr, i64) #0\n\nattributes #0 = { nounwind }\n!0 = !{}\n"
-TEXT = '@text = private unnamed_addr constant [9 x i8] c"@\\22nothing", align 1\n'
+TEXT = '@text = private unnamed_addr constant [9 x i8] c"@nothing\\22", align 1\n'
 TABLE = "@table = private constant <{ ptr, [1 x i8] }> <{ ptr @table, [1 x i8] zeroinitializer }>, align 8\n"
 CELL = "@cell = private global [1 x i8] zeroinitializer, align 1\n"
 
@@ -46,8 +46,8 @@ class Parts(unittest.TestCase):
 
     def test_long_functions_stand_once_and_short_ones_where_they_are_called(self):
         own = "define internal void"
-        self.assertEqual(heads(self.first, "define"), {"main": "define i32", '"a::first"': "define hidden void", "short": own, "deeper": own,
-                                                       "lone": own})
+        self.assertEqual(heads(self.first, "define"), {"main": "define i32", '"a::first"': "define hidden void", "short": own,
+                                                       "deeper": own, "lone": own})
         self.assertEqual(heads(self.second, "define"), {'"a::second"': "define hidden void", "short": own, "deeper": own, "deep": own})
 
     def test_what_is_used_of_others_is_declared(self):
@@ -78,7 +78,8 @@ class Parts(unittest.TestCase):
 
     def test_a_module_of_another_form_is_not_split(self):
         for other in (MODULE + "$group = comdat any\n", MODULE + "@other = alias void (), ptr @lone\n", MODULE.replace("@main(", "@start("),
-                      MODULE.replace("internal void @lone", "weak void @lone"), MODULE.replace("i64 @write", "i64 @read")):
+                      MODULE.replace("internal void @lone", "weak void @lone"), MODULE.replace("i64 @write", "i64 @read"),
+                      HEAD + function("lone", []) + TAIL):
             with self.assertRaises(Unknown):
                 split(other, 2)
 
