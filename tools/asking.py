@@ -4,9 +4,8 @@ import os
 import subprocess
 
 from check_derivation import NAME, read_requirement
-from progress import TOP
 
-PROGRAM = os.path.join(TOP, "registryd")
+PROGRAM = os.path.join(os.path.dirname(os.path.dirname(os.path.abspath(__file__))), "registryd")
 
 
 class Failed(Exception):

@@ -281,7 +281,7 @@ def audit(requests, replies, journal):
 
 
 def main(words):
-    parser = argparse.ArgumentParser(description=__doc__, formatter_class=argparse.RawDescriptionHelpFormatter)
+    parser = argparse.ArgumentParser(prog="tools/check_derivation.py", description=__doc__, formatter_class=argparse.RawDescriptionHelpFormatter)
     for word, more in (("--journal", {}), ("lines", {}), ("replies", {"nargs": "?"})):
         parser.add_argument(word, **more)
     given = parser.parse_args(words)

@@ -10,6 +10,7 @@ import sys
 from statistics import mean
 
 from progress import TOP
+from svg import text
 
 PROGRAM = "registryd"
 PICTURE = os.path.join(TOP, "docs", "crates.svg")
@@ -148,10 +149,6 @@ def places_of(rows, short):
             places.update(spread(row, {name: mean(found) if found else places[name] for name, found in joined.items()}))
     left = min(places.values())
     return {name: place - left + MARGIN + WIDTH / 2 for name, place in places.items()}
-
-
-def text(x, y, said, size, colour="#222222", anchor="middle"):
-    return (f'<text x="{x:.0f}" y="{y:.0f}" font-size="{size}" fill="{colour}" text-anchor="{anchor}">{said}</text>')
 
 
 def box(x, y, name, kit):

@@ -6,8 +6,8 @@ that cite it. A selection is a staircase of packages: what a package needs is fo
 import html
 import textwrap
 
+import svg
 from check_derivation import ROOT, demand
-from draw_crates import text as plain_text
 from telling import FAILED, Fact, joined
 
 MARGIN = 16
@@ -24,7 +24,7 @@ HALO = '<text paint-order="stroke" stroke="#ffffff" stroke-width="3"'
 
 
 def text(x, y, said, size, colour=INK, anchor="start"):
-    return plain_text(x, y, html.escape(said, quote=False), size, colour, anchor)
+    return svg.text(x, y, html.escape(said, quote=False), size, colour, anchor)
 
 
 def width(said, size):

@@ -1,0 +1,154 @@
+#!/usr/bin/env python3
+"""The words of the program in one table, and what completes them in three shells, made from it.
+
+    tools/completions.py bash|zsh|fish    prints the completions of one shell
+
+An option that the program gets is one line more in the table; tests compare it with what the program itself says.
+"""
+import sys
+from dataclasses import dataclass
+
+FILE = "FILE"
+
+
+@dataclass(frozen=True)
+class Option:
+    """An option with the name of its value, what the program's help says of it, and what may be offered where no file is meant."""
+    name: str
+    value: str
+    about: str
+    offered: str = ""
+
+
+@dataclass(frozen=True)
+class Command:
+    """A command, what the program's help says of it, and what it takes."""
+    name: str
+    about: str
+    options: tuple[Option, ...] = ()
+    takes_files: bool = False
+
+
+COMMANDS = (
+    Command("serve", "Answers the request lines of standard input", (
+        Option("workers", "N", "How many threads resolve, 1 to 64", "1 2 4 8 16 32 64"),
+        Option("load", FILE, "A journal to begin from"),
+        Option("save", FILE, "Where to write the journal at the end"),
+    )),
+    Command("race", "Answers the request lines of files, a thread to each", takes_files=True),
+)
+HELP, VERSION = "Print help", "Print the version, and whether the program is proved"
+
+BASH = """\
+# Completes the words of registryd in bash.
+_registryd()
+{{
+    local word command= current=${{COMP_WORDS[COMP_CWORD]}} previous=${{COMP_WORDS[COMP_CWORD-1]}}
+    local before=" ${{COMP_WORDS[*]:1:COMP_CWORD-1}} "
+    for word in $before; do
+        case $word in
+            {names}) command=$word; break ;;
+        esac
+    done
+    # bash takes the sign of --option=VALUE for a word
+    case $current$previous in
+        =*) current= ;;
+        *=) previous=${{COMP_WORDS[COMP_CWORD-2]}} ;;
+    esac
+    COMPREPLY=()
+    case "$command $previous" in
+{values}
+    esac
+    case $command in
+{commands}
+        *) set -- {words} --help --version ;;
+    esac
+    for word in "$@"; do
+        [[ $word != "$current"* || $before == *" $word "* ]] || COMPREPLY+=("$word")
+    done
+}}
+complete -F _registryd registryd
+"""
+# readline's own completion of files knows quotes, spaces and a home folder
+BASH_FILES = "compopt -o default; return"
+
+ZSH = """\
+#compdef registryd
+# Completes the words of registryd in zsh.
+_registryd()
+{{
+    local curcontext=$curcontext state line
+    local -a commands=({commands})
+    _arguments -C '(- *)--help[{help}]' '(- *)--version[{version}]' '1: :->command' '*:: :->words'
+    case $state in
+        command) _describe command commands ;;
+        words)
+            case $words[1] in
+{words}
+            esac
+            ;;
+    esac
+}}
+_registryd "$@"
+"""
+
+FISH = """\
+# Completes the words of registryd in fish.
+complete -c registryd -f
+complete -c registryd -n __fish_use_subcommand -l help -d '{help}'
+complete -c registryd -n __fish_use_subcommand -l version -d '{version}'
+{lines}
+"""
+
+
+def bash():
+    values, commands = [], []
+    for command in COMMANDS:
+        for option in command.options:
+            offer = f'COMPREPLY=($(compgen -W "{option.offered}" -- "$current")); return' if option.value != FILE else BASH_FILES
+            values.append(f'        "{command.name} --{option.name}") {offer} ;;')
+        if command.takes_files:
+            commands.append(f'        {command.name}) [[ $current == -* ]] || {{ {BASH_FILES}; }}; set -- --help ;;')
+        else:
+            commands.append(f'        {command.name}) set -- {" ".join(f"--{it.name}" for it in command.options)} --help ;;')
+    names = [it.name for it in COMMANDS]
+    return BASH.format(names="|".join(names), words=" ".join(names), values="\n".join(values), commands="\n".join(commands))
+
+
+def zsh():
+    lines = []
+    for command in COMMANDS:
+        words = [f"'--{it.name}[{it.about}]:{it.value}:{'_files' if it.value == FILE else f'({it.offered})'}'" for it in command.options]
+        words += ["'*:file:_files'"] if command.takes_files else []
+        lines.append(f"                {command.name}) _arguments {' '.join(words)} '(- *)--help[{HELP}]' ;;")
+    commands = " ".join(f"'{it.name}:{it.about}'" for it in COMMANDS)
+    return ZSH.format(commands=commands, help=HELP, version=VERSION, words="\n".join(lines))
+
+
+def fish():
+    lines = []
+    for command in COMMANDS:
+        within = f"complete -c registryd -n '__fish_seen_subcommand_from {command.name}'"
+        lines.append(f"complete -c registryd -n __fish_use_subcommand -a {command.name} -d '{command.about}'")
+        for it in command.options:
+            offer = "-r -F" if it.value == FILE else f"-x -a '{it.offered}'"
+            lines.append(f"{within} -l {it.name} {offer} -d '{it.about}'")
+        lines.append(f"{within} -l help -d '{HELP}'")
+        lines += [f"{within} -F"] if command.takes_files else []
+    return FISH.format(help=HELP, version=VERSION, lines="\n".join(lines))
+
+
+# each shell, with what makes its completions
+SHELLS = {"bash": bash, "zsh": zsh, "fish": fish}
+
+
+def main(words):
+    if len(words) != 1 or words[0] not in SHELLS:
+        print(__doc__, file=sys.stderr)
+        return 2
+    print(SHELLS[words[0]](), end="")
+    return 0
+
+
+if __name__ == "__main__":
+    sys.exit(main(sys.argv[1:]))

@@ -1,0 +1,134 @@
+"""What completes the words of the program in three shells: the table of words against what the program says of them, and each
+shell's completions by that shell, where it is installed."""
+import os
+import re
+import shutil
+import subprocess
+import sys
+import tempfile
+import unittest
+
+from program import TOP, run
+
+sys.path.insert(0, os.path.join(TOP, "tools"))
+from completions import COMMANDS, HELP, SHELLS
+
+# calls the completion of a command line that ends with the word to complete, and prints what is offered, or that files are
+CALL = """
+compopt() { echo "files: $*"; }
+. "$1"; shift
+COMP_WORDS=("$@") COMP_CWORD=$(($# - 1))
+_registryd
+printf '%s\\n' "${COMPREPLY[@]}"
+"""
+FILES = ["files: -o default"]
+
+
+def helped(*words):
+    """What the help of the program says of its commands, or of the options of one: each with its value and what it is for."""
+    said = run([*words, "--help"]).stdout.decode()
+    return re.findall(r"^ +(?:-h, +)?(--)?(\w+)(?: <(\w+)>)? {2,}(\S.*)$", said, re.M)
+
+
+class Table(unittest.TestCase):
+    def test_the_commands_are_those_of_the_program(self):
+        told = [("", it.name, "", it.about) for it in COMMANDS] + [("--", "help", "", HELP)]
+        self.assertEqual(helped(), told)
+
+    def test_the_options_are_those_of_the_program(self):
+        for command in COMMANDS:
+            with self.subTest(command.name):
+                told = [("--", it.name, it.value, it.about) for it in command.options] + [("--", "help", "", HELP)]
+                self.assertEqual([it for it in helped(command.name) if it[0]], told)
+
+    def test_files_go_where_the_program_takes_them(self):
+        for command in COMMANDS:
+            usage = run([command.name, "--help"]).stdout.decode()
+            self.assertEqual("<FILE>..." in usage, command.takes_files, command.name)
+
+    def test_what_is_offered_is_taken(self):
+        for command in COMMANDS:
+            for option in command.options:
+                for value in option.offered.split():
+                    done = run([command.name, f"--{option.name}", value])
+                    self.assertEqual((done.returncode, done.stderr), (0, b""), f"{option.name} {value}")
+
+
+class Shells(unittest.TestCase):
+    def setUp(self):
+        self.folder = self.enterContext(tempfile.TemporaryDirectory())
+        for shell, text in SHELLS.items():
+            with open(os.path.join(self.folder, shell), "w", encoding="utf-8") as file:
+                file.write(text())
+
+    def said(self, *words):
+        """The lines that a shell prints; it says nothing on standard error."""
+        done = subprocess.run(words, cwd=self.folder, stdin=subprocess.DEVNULL, stdout=subprocess.PIPE, stderr=subprocess.PIPE,
+                              text=True, timeout=60, check=False)
+        self.assertEqual((done.returncode, done.stderr), (0, ""), words)
+        return [line for line in done.stdout.splitlines() if line]
+
+    def needs(self, shell):
+        if not shutil.which(shell):
+            self.skipTest(f"{shell} is not installed")
+
+    def offered(self, line):
+        """What bash offers for a line of words, with a bar behind the last one that is complete."""
+        before, _, last = line.partition("|")
+        return self.said("bash", "--norc", "-c", CALL, "bash", "./bash", *before.split(), last)
+
+    def test_bash_offers_words(self):
+        self.needs("bash")
+        self.assertEqual(self.offered("registryd |"), ["serve", "race", "--help", "--version"])
+        self.assertEqual(self.offered("registryd |s"), ["serve"])
+        self.assertEqual(self.offered("registryd |--v"), ["--version"])
+        self.assertEqual(self.offered("registryd serve |--w"), ["--workers"])
+        self.assertEqual(self.offered("registryd serve |x"), [])
+        self.assertEqual(self.offered("registryd race |--"), ["--help"])
+
+    def test_bash_offers_each_option_until_it_is_given(self):
+        self.needs("bash")
+        self.assertEqual(self.offered("registryd serve |--"), [*(f"--{it.name}" for it in COMMANDS[0].options), "--help"])
+        offered = self.offered("registryd serve --workers 2 --load a.journal |--")
+        self.assertTrue({"--save", "--help"} <= set(offered) and not {"--workers", "--load"} & set(offered), offered)
+
+    def test_bash_offers_values(self):
+        self.needs("bash")
+        self.assertEqual(self.offered("registryd serve --workers |6"), ["64"])
+        self.assertEqual(self.offered("registryd serve --workers = |6"), ["64"])
+        self.assertEqual(self.offered("registryd serve --workers |="), COMMANDS[0].options[0].offered.split())
+
+    def test_bash_offers_files(self):
+        self.needs("bash")
+        for option in COMMANDS[0].options[1:]:
+            self.assertEqual(self.offered(f"registryd serve --{option.name} |"), FILES)
+            self.assertEqual(self.offered(f"registryd serve --{option.name} = |a"), FILES)
+        self.assertEqual(self.offered("registryd race first.lines |s"), FILES)
+
+    def test_bash_is_told_of_it(self):
+        self.needs("bash")
+        self.assertEqual(self.said("bash", "--norc", "-c", ". ./bash; complete -p registryd"), ["complete -F _registryd registryd"])
+
+    def test_zsh_reads_it(self):
+        self.needs("zsh")
+        self.assertEqual(self.said("zsh", "-n", "zsh"), [])
+        with open(os.path.join(self.folder, "zsh"), encoding="utf-8") as file:
+            self.assertEqual(file.readline(), "#compdef registryd\n")
+
+    def test_fish_offers_words(self):
+        self.needs("fish")
+        self.assertEqual(self.said("fish", "--no-execute", "fish"), [])
+
+        def offered(line):
+            return sorted(it.split("\t")[0] for it in self.said("fish", "--no-config", "-c", f"source fish; complete -C '{line}'"))
+
+        self.assertEqual(offered("registryd "), ["race", "serve"])
+        self.assertEqual(offered("registryd serve --"), sorted([*(f"--{it.name}" for it in COMMANDS[0].options), "--help"]))
+        self.assertEqual(offered("registryd serve --workers 6"), ["64"])
+        self.assertEqual(offered("registryd serve --load z"), ["zsh"])
+        self.assertEqual(offered("registryd race b"), ["bash"])
+        self.assertEqual(offered("registryd serve z"), [])
+
+
+if __name__ == "__main__":
+    unittest.main()
