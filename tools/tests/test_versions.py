@@ -40,6 +40,11 @@ class Versions(unittest.TestCase):
         (locked,) = tomllib.loads(read("clients", "rust", "Cargo.lock"))["package"]
         self.assertEqual(locked["version"], VERSION.strip())
 
+    def test_the_page_on_installing_has_it(self):
+        numbers = re.findall(r"\bregistryd[ _](\d+\.\d+\.\d+)", read("docs", "INSTALLING.md"))
+        self.assertGreater(len(numbers), 1)
+        self.assertEqual({*numbers}, {VERSION.strip()})
+
 
 if __name__ == "__main__":
     unittest.main()

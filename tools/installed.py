@@ -1,0 +1,164 @@
+"""What is installed, where each file goes below a prefix, and what it says there.
+
+`lib/registryd` has the program and the tools as they stand in a checkout, so that they find one another; what is in `bin` finds
+them from where it stands itself, so a prefix may be moved. Nothing is written here: `pieces` answers it all."""
+import ast
+import functools
+import glob
+import posixpath
+import re
+from dataclasses import dataclass
+
+import completions
+import programs
+from prefix import Refused
+from programs import NAME, TOP
+
+LIB, SHARE, DOC, MAN = f"lib/{NAME}", f"share/{NAME}", f"share/doc/{NAME}", "share/man/man1"
+# The tools in Python, by the names that they have in bin.
+TOOLS = {
+    "registry-why": "why",
+    "registry-lock": "lock",
+    "registry-import-index": "import_index",
+    "registry-check-derivation": "check_derivation.py",
+    "registryd-etcd": "registryd-etcd",
+}
+# Files that are copied as they stand, by the folder that they go to; what stands in a folder of the sources keeps its place in it.
+COPIES = {
+    SHARE: ["docs/lines.schema.json", "clients/python/*.py", "clients/c/*.[ch]", "clients/c/*.rs", "clients/rust/Cargo.*",
+            "clients/rust/src/*.rs", "clients/rust/examples/*.rs", "clients/rust/tests/*.rs"],
+    DOC: ["docs/why.svg", "docs/selection.svg", "LICENSE*"],
+}
+# Pages: the links in them lead to where the other files are installed.
+PAGES = {
+    SHARE: ["clients/README.md", "clients/c/README.md", "clients/rust/README.md"],
+    DOC: ["CHANGELOG.md", "docs/USING.md", "docs/FORMATS.md", "docs/REGISTRY.md", "docs/WHY.md", "docs/IMPORTING.md", "docs/SCALE.md"],
+}
+# Manual pages, each with the other names that it is found by.
+MANUALS = {"docs/registryd.1": [], "docs/registry-tools.1": list(TOOLS)}
+# Where each shell looks for completions, below a prefix and where a distribution's package has them.
+COMPLETIONS = {
+    "bash": ("share/bash-completion/completions/registryd", "share/bash-completion/completions/registryd"),
+    "zsh": ("share/zsh/site-functions/_registryd", "share/zsh/vendor-completions/_registryd"),
+    "fish": ("share/fish/vendor_completions.d/registryd.fish", "share/fish/vendor_completions.d/registryd.fish"),
+}
+TOLD = {
+    programs.PROVED: "The program is proved: it was built from proofs of the sources of this commit.",
+    programs.COMPILED: "The program is compiled from the sources of this commit, with checks as it runs. It is not proved.",
+}
+# How a command in bin finds what is installed with it, through links too.
+FIND = """\
+here=$0
+if [ -L "$here" ]; then here=$(readlink -f -- "$here"); fi
+case $here in */*) here=${here%/*} ;; *) here=. ;; esac
+"""
+
+
+@dataclass(frozen=True)
+class Piece:
+    """A file as it is installed: where it goes below the prefix, and its bytes; or what a link leads to."""
+    path: str
+    data: bytes = b""
+    mode: int = 0o644
+    link: str = ""
+
+
+def chosen(may_be_unproved):
+    """The program that is installed: the proved one of these sources, or where that may be, the compiled one with its checks."""
+    program = programs.proved(NAME) or programs.compiled(NAME)
+    if program and (program.kind == programs.PROVED or program.kind == programs.COMPILED and may_be_unproved):
+        return program
+    if may_be_unproved:
+        raise Refused("no program of these sources stands that checks as it runs: run tools/build --compiled first")
+    also = ", or take the compiled one with --unproved" if program else ""
+    raise Refused(f"no program stands that was proved from these sources: run ./test or tools/build --proved first{also}")
+
+
+def told(kind):
+    """What the installed program says of itself."""
+    return f"{NAME} {programs.version()}, commit {programs.commit()}\n{TOLD[kind]}"
+
+
+def program_pieces(program):
+    """The program, and the command that runs it, which alone knows its version. It starts no other process unless it is a link."""
+    command = ("#!/bin/sh\n# Runs the program that is installed with it.\n"
+               f'if [ "$#" = 1 ] && [ "$1" = --version ]; then\n    cat <<\\END\n{told(program.kind)}\nEND\n    exit\nfi\n'
+               f'{FIND}exec "$here/../{LIB}/{NAME}" "$@"\n')
+    return [Piece(f"bin/{NAME}", command.encode(), 0o755), Piece(f"{LIB}/{NAME}", program.path.read_bytes(), 0o755)]
+
+
+@functools.cache
+def imported(file):
+    """The files of modules that a file of tools names in its imports, where they are in this repository."""
+    found = []
+    for node in ast.walk(ast.parse((TOP / "tools" / file).read_text(encoding="utf-8"))):
+        names = [node.module] if isinstance(node, ast.ImportFrom) else [it.name for it in node.names] if isinstance(node, ast.Import) else []
+        for name in names:
+            package, dot, _ = name.partition(".")
+            found += [f"{name.replace('.', '/')}.py", *([f"{package}/__init__.py"] if dot else [])]
+    return [it for it in found if (TOP / "tools" / it).is_file()]
+
+
+def modules_below(files):
+    """These files of tools and all modules of this repository that they need."""
+    found, waiting = set(), set(files)
+    while waiting:
+        found |= waiting
+        waiting = {of for file in waiting for of in imported(file)} - found
+    return found
+
+
+def tool_pieces():
+    """The tools with their modules, and the commands that run them. Python keeps nothing beside them that was not installed."""
+    for name, file in TOOLS.items():
+        command = f'#!/bin/sh\n{FIND}exec python3 -B "$here/../{LIB}/tools/{file}" "$@"\n'
+        yield Piece(f"bin/{name}", command.encode(), 0o755)
+    for file in sorted(modules_below(TOOLS.values())):
+        text = (TOP / "tools" / file).read_text(encoding="utf-8").removeprefix("#!/usr/bin/env python3\n")
+        yield Piece(f"{LIB}/tools/{file}", renamed(text).encode())
+
+
+def renamed(text):
+    """A text that speaks of the program and its tools as they are called in a checkout, with their installed names."""
+    for name, file in TOOLS.items():
+        text = re.sub(rf"(?<![\w/.])tools/{re.escape(file)}(?![\w/])", name, text)
+    return re.sub(rf"(?<![\w/.])\./{NAME}(?![\w/-])", NAME, text)
+
+
+def sources(table):
+    """The files of a table of patterns, each with where it goes."""
+    for folder, patterns in table.items():
+        for pattern in patterns:
+            for path in sorted(glob.glob(pattern, root_dir=TOP)):
+                yield path, f"{folder}/{path.removeprefix('docs/')}"
+
+
+def linked(text, path, to, places):
+    """A page with its links to what is installed; of a link to anything else its text stays."""
+    def link(found):
+        said, target, part = found[1], found[2], found[3] or ""
+        at = posixpath.normpath(posixpath.join(posixpath.dirname(path), target))
+        if "://" in target or not target:
+            return found[0]
+        return f"[{said}]({posixpath.relpath(places[at], posixpath.dirname(to))}{part})" if at in places else said
+    return re.sub(r"\[([^\]]+)\]\(([^)#]*)(#[^)]*)?\)", link, text)
+
+
+def page_pieces():
+    """What is read: pages, the schema, the clients, manual pages."""
+    copies, pages = dict(sources(COPIES)), dict(sources(PAGES))
+    for path, to in copies.items():
+        yield Piece(to, (TOP / path).read_bytes())
+    for path, to in pages.items():
+        text = (TOP / path).read_text(encoding="utf-8")
+        yield Piece(to, linked(renamed(text) if path.startswith("docs/") else text, path, to, copies | pages).encode())
+    for path, names in MANUALS.items():
+        page = posixpath.basename(path)
+        yield Piece(f"{MAN}/{page}", (TOP / path).read_bytes())
+        yield from (Piece(f"{MAN}/{name}.1", link=page) for name in names)
+
+
+def pieces(program, is_packaged=False):
+    """All that is installed, for one program; a distribution's package has it in its own places."""
+    shells = [Piece(COMPLETIONS[shell][is_packaged], text().encode()) for shell, text in completions.SHELLS.items()]
+    return sorted([*program_pieces(program), *tool_pieces(), *page_pieces(), *shells], key=lambda it: it.path)

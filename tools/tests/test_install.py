@@ -1,0 +1,359 @@
+"""What `tools/install` puts below a prefix, how it runs there, and that it is removed again; and what it says where it can't."""
+import os
+import re
+import shutil
+import subprocess
+import sys
+import tempfile
+import unittest
+from pathlib import Path
+from unittest import mock
+
+from called import called
+from program import PROGRAM, TOP
+from test_readme import blocks
+
+sys.path.insert(0, os.path.join(TOP, "tools"))
+import installed
+import prefix
+from installed import Piece, pieces
+from prefix import Refused, install, remove
+from programs import COMPILED, PROVED, UNCHECKED, Program
+
+VERSION = Path(TOP, "VERSION").read_text(encoding="ascii").strip()
+LIST = '{"op":"list"}\n'
+TOOLS = ["registry-check-derivation", "registry-import-index", "registry-lock", "registry-why", "registryd-etcd"]
+
+
+def below(folder):
+    """Each file and folder below one, by its path; a folder's ends with a stroke."""
+    found = set()
+    for at, folders, files in os.walk(folder):
+        inner = os.path.relpath(at, folder).removeprefix(".").removesuffix("/")
+        found |= {os.path.join(inner, it) for it in files} | {os.path.join(inner, it, "") for it in folders}
+    return found
+
+
+def run(words, given="", patience=60, **more):
+    return subprocess.run(words, input=given, stdout=subprocess.PIPE, stderr=subprocess.PIPE, text=True, timeout=patience, check=False, **more)
+
+
+class Case(unittest.TestCase):
+    def setUp(self):
+        self.folder = Path(self.enterContext(tempfile.TemporaryDirectory()))
+        # a name that needs quotes
+        self.prefix = self.folder / "the prefix"
+        self.stub = self.folder / "stub"
+        self.stub.write_text('#!/bin/sh\necho "stub: $*"\n', encoding="ascii")
+
+    def pieces(self, kind=PROVED):
+        """What is installed of a program that only says its words."""
+        return pieces(Program(self.stub, kind, ""))
+
+
+class Whole(unittest.TestCase):
+    """One install of the program under test, that the tests share."""
+
+    @classmethod
+    def setUpClass(cls):
+        cls.folder = Path(cls.enterClassContext(tempfile.TemporaryDirectory()))
+        cls.prefix = cls.folder / "the prefix"
+        install(cls.prefix, pieces(Program(Path(PROGRAM), COMPILED, "")))
+        cls.bin = cls.prefix / "bin"
+
+    def test_what_stands_where(self):
+        there = below(self.prefix)
+        self.assertEqual({it for it in there if it.startswith("bin/")}, {"bin/", "bin/registryd", *(f"bin/{it}" for it in TOOLS)})
+        for path in ("lib/registryd/registryd", "lib/registryd/tools/why", "lib/registryd/tools/etcd/front.py", "share/man/man1/registryd.1",
+                     "share/man/man1/registry-tools.1", "share/bash-completion/completions/registryd", "share/zsh/site-functions/_registryd",
+                     "share/fish/vendor_completions.d/registryd.fish", "share/registryd/lines.schema.json", "share/doc/registryd/FORMATS.md",
+                     "share/registryd/clients/python/registryd.py", "share/registryd/clients/c/registryd.h",
+                     "share/registryd/clients/c/registryd.c", "share/registryd/clients/rust/Cargo.toml",
+                     "share/registryd/clients/rust/src/lib.rs"):
+            self.assertIn(path, there)
+        self.assertEqual({it.split("/")[0] for it in there}, {"bin", "lib", "share"})
+
+    def test_the_list_names_all_of_it(self):
+        self.assertEqual({*(self.prefix / prefix.LIST).read_text(encoding="utf-8").splitlines()}, below(self.prefix) | {"./"})
+
+    def test_who_may_do_what(self):
+        for path in sorted(self.prefix.rglob("*")):
+            if not path.is_symlink():
+                may = 0o755 if path.is_dir() or path.parent == self.bin or path.name == "registryd" and path.parent.name == "registryd" \
+                    and path.parent.parent.name == "lib" else 0o644
+                self.assertEqual(oct(path.stat().st_mode & 0o777), oct(may), path)
+
+    def test_each_client_has_all_of_its_files(self):
+        for client, left_out in (("python", set()), ("c", set()), ("rust", {"rustfmt.toml"})):
+            at = os.path.join("clients", client)
+            told = run(["git", "-C", TOP, "ls-files", at]).stdout.split()
+            if not told:
+                self.skipTest("this is no checkout of git")
+            there = {it for it in below(self.prefix / "share/registryd" / at) if not it.endswith("/")}
+            self.assertEqual(there, {os.path.relpath(it, at) for it in told} - left_out)
+
+    def test_the_program_runs_through_a_link_and_from_anywhere(self):
+        link, other = self.folder / "link", self.folder / "other"
+        link.symlink_to(self.bin / "registryd")
+        other.symlink_to("link")
+        reply = '{"packages":[],"revision":0}\n'
+        for words, more in (([self.bin / "registryd"], {}), ([other], {}), (["registryd"], {"env": {"PATH": f"{self.bin}:/usr/bin:/bin"}}),
+                            (["./registryd"], {"cwd": self.bin}), (["../the prefix/bin/registryd"], {"cwd": self.prefix})):
+            done = run([*words, "serve", "--workers", "1"], LIST, **more)
+            self.assertEqual((done.returncode, done.stdout, done.stderr), (0, reply, ""), words)
+
+    def test_the_programs_own_words_are_passed(self):
+        done = run([self.bin / "registryd", "--version", "--version"])
+        self.assertEqual((done.returncode, done.stderr), (2, "registryd: bad words\n"))
+
+    def test_the_first_session_and_the_refusal_of_the_first_page(self):
+        typed, told, refused, why = blocks()[:4]
+        folder = self.enterContext(tempfile.TemporaryDirectory())
+        for lines, wanted in ((typed, told), (refused, why)):
+            text = "\n".join(lines).replace("./registryd", "registryd").replace("tools/check_derivation.py", "registry-check-derivation")
+            done = run(["sh", "-c", text.replace("tools/", "registry-")], cwd=folder, env={**os.environ, "PATH": f"{self.bin}:{os.environ['PATH']}"})
+            self.assertEqual((done.stdout.splitlines(), done.stderr), (wanted, ""))
+
+    def test_what_an_installed_page_tells_to_type(self):
+        # a block that names a tool is typed; those up to the next one are printed, with an empty line between them
+        said = []
+        for block in blocks(os.path.relpath(self.prefix / "share/doc/registryd/WHY.md", TOP)):
+            if re.search("^registry-|[|] registry-", "\n".join(block), re.M):
+                said.append((block, []))
+            else:
+                said[-1][1].extend([""] * bool(said[-1][1]) + block)
+        self.assertGreater(len(said), 2)
+        with tempfile.TemporaryDirectory() as folder:
+            os.mkdir(os.path.join(folder, "docs"))
+            for typed, told in said:
+                done = run(["sh", "-c", "\n".join(typed)], cwd=folder, env={**os.environ, "PATH": f"{self.bin}:{os.environ['PATH']}"})
+                self.assertEqual((done.stdout.splitlines(), done.stderr), (told, ""))
+
+    def test_each_tool_calls_itself_by_its_name(self):
+        for name in TOOLS:
+            said = run([self.bin / name, "--help"])
+            self.assertEqual((said.returncode, said.stderr), (0, ""))
+            self.assertIn(f"usage: {name} ", said.stdout)
+            self.assertNotRegex(said.stdout, r"tools/|\./registryd")
+
+    def test_nothing_is_kept_beside_the_tools(self):
+        run([self.bin / "registry-lock", "diff", "/dev/null", "/dev/null"], env={"PATH": os.environ["PATH"]})
+        self.assertEqual([it for it in below(self.prefix) if "__pycache__" in it], [])
+
+    def test_the_links_of_pages_lead_somewhere(self):
+        count = 0
+        for page in [*self.prefix.rglob("*.md")]:
+            for target in re.findall(r"\]\(([^)#]+)", page.read_text(encoding="utf-8")):
+                if "://" not in target:
+                    self.assertTrue((page.parent / target).exists(), f"{page}: {target}")
+                    count += 1
+        self.assertGreater(count, 20)
+
+    def test_each_manual_page_is_found(self):
+        for name in ("registryd", *TOOLS):
+            self.assertTrue((self.prefix / f"share/man/man1/{name}.1").exists(), name)
+
+
+class Version(Case):
+    def told(self, kind):
+        install(self.prefix, self.pieces(kind))
+        done = run([self.prefix / "bin/registryd", "--version"])
+        self.assertEqual((done.returncode, done.stderr), (0, ""))
+        return done.stdout
+
+    def test_it_tells_the_version_the_commit_and_whether_it_is_proved(self):
+        with mock.patch.object(installed.programs, "commit", lambda: "c0ffee1+changes"):
+            for kind, said in ((PROVED, "The program is proved: "), (COMPILED, "The program is compiled ")):
+                first, second = self.told(kind).splitlines()
+                self.assertEqual(first, f"registryd {VERSION}, commit c0ffee1+changes")
+                self.assertTrue(second.startswith(said), second)
+                self.assertEqual("It is not proved" in second, kind == COMPILED)
+
+    def test_it_stays_as_it_was_installed(self):
+        before = self.told(COMPILED)
+        with mock.patch.object(installed.programs, "commit", lambda: "another"):
+            self.assertEqual(run([self.prefix / "bin/registryd", "--version"]).stdout, before)
+
+    def test_it_needs_no_kit_no_python_and_no_git(self):
+        install(self.prefix, self.pieces())
+        found = self.folder / "found"
+        found.mkdir()
+        for name in ("sh", "cat", "readlink"):
+            (found / name).symlink_to(shutil.which(name))
+        link = self.folder / "link"
+        link.symlink_to(self.prefix / "bin/registryd")
+        for words, said in (("--version", f"registryd {VERSION}, "), ("serve  --load 'a b'", "stub: serve --load a b\n")):
+            done = run(["sh", "-c", f'"$0" {words}', link], env={"PATH": str(found)})
+            self.assertEqual((done.returncode, done.stderr), (0, ""))
+            self.assertTrue(done.stdout.startswith(said), done.stdout)
+
+
+class Places(Case):
+    def test_what_was_there_stays(self):
+        (self.prefix / "bin").mkdir(parents=True)
+        (self.prefix / "bin/other").write_text("mine", encoding="ascii")
+        before = below(self.folder)
+        install(self.prefix, self.pieces())
+        self.assertEqual(remove(self.prefix), [])
+        self.assertEqual(below(self.folder), before)
+
+    def test_a_prefix_that_was_made_goes_too(self):
+        before = below(self.folder)
+        install(self.prefix, self.pieces())
+        self.assertEqual(remove(self.prefix), [])
+        self.assertEqual(below(self.folder), before)
+
+    def test_nothing_outside_of_the_prefix_is_written(self):
+        before = below(self.folder)
+        install(self.prefix, self.pieces())
+        self.assertEqual({it for it in below(self.folder) if not it.startswith("the prefix/")}, before)
+
+    def test_what_others_put_there_stays(self):
+        install(self.prefix, self.pieces())
+        (self.prefix / "share/man/man1/other.1").write_text("mine", encoding="ascii")
+        (self.prefix / "share/registryd/clients/python/__pycache__").mkdir()
+        (self.prefix / "share/registryd/clients/python/__pycache__/registryd.pyc").write_bytes(b"kept by Python")
+        stays = remove(self.prefix)
+        self.assertEqual(below(self.prefix), {"share/", "share/man/", "share/man/man1/", "share/man/man1/other.1"})
+        self.assertEqual({it.relative_to(self.prefix).as_posix() for it in stays}, {".", "share", "share/man", "share/man/man1"})
+
+    def test_a_file_of_another_is_not_replaced(self):
+        (self.prefix / "bin").mkdir(parents=True)
+        (self.prefix / "bin/registry-why").write_text("mine", encoding="ascii")
+        before = below(self.folder)
+        with self.assertRaisesRegex(Refused, "bin/registry-why is there already"):
+            install(self.prefix, self.pieces())
+        self.assertEqual((below(self.folder), (self.prefix / "bin/registry-why").read_text(encoding="ascii")), (before, "mine"))
+
+    def test_an_earlier_install_is_replaced_while_it_runs(self):
+        install(self.prefix, [*self.pieces(COMPILED), Piece("bin/registry-old", b""), Piece("share/old/file", b"")])
+        self.stub.write_text("#!/bin/sh\nread line\necho new\n", encoding="ascii")
+        with open(self.prefix / "lib/registryd/registryd", "rb") as running:
+            install(self.prefix, self.pieces())
+            self.assertIn(b"stub", running.read())
+        self.assertEqual(run([self.prefix / "bin/registryd"], "\n").stdout, "new\n")
+        there = below(self.prefix)
+        self.assertFalse({"bin/registry-old", "share/old/file"} & there)
+        self.assertLessEqual({it for it in there if not it.endswith("/")}, {*prefix.listed(self.prefix)})
+        remove(self.prefix)
+        self.assertFalse(self.prefix.exists())
+
+    def test_a_prefix_may_be_moved(self):
+        install(self.prefix, self.pieces())
+        moved = self.folder / "moved"
+        self.prefix.rename(moved)
+        self.assertEqual(run([moved / "bin/registryd", "race", "x"]).stdout, "stub: race x\n")
+        remove(moved)
+        self.assertFalse(moved.exists())
+
+
+class Broken(Case):
+    def test_a_full_disk_leaves_what_stood_there(self):
+        install(self.prefix, self.pieces(COMPILED))
+        before, said = below(self.prefix), run([self.prefix / "bin/registryd", "--version"]).stdout
+        with mock.patch.object(Path, "symlink_to", side_effect=OSError(28, "No space left on device", "it")):
+            with self.assertRaisesRegex(Refused, "No space left on device; nothing was installed"):
+                install(self.prefix, self.pieces(PROVED))
+        self.assertEqual((below(self.prefix), run([self.prefix / "bin/registryd", "--version"]).stdout), (before, said))
+
+    def test_a_full_disk_leaves_no_folder(self):
+        before = below(self.folder)
+        with mock.patch.object(Path, "symlink_to", side_effect=OSError(28, "No space left on device", "it")):
+            self.assertRaises(Refused, install, self.prefix, self.pieces())
+        self.assertEqual(below(self.folder), before)
+
+    def test_what_is_broken_off_can_be_removed_and_installed_again(self):
+        before, replaced = below(self.folder), os.replace
+        for after in (1, 2, 20, 40):
+            calls = []
+
+            def broken(old, new):
+                calls.append(new)
+                if len(calls) > after:
+                    raise OSError(5, "Input/output error", str(new))
+                replaced(old, new)
+
+            with mock.patch.object(os, "replace", broken), self.assertRaisesRegex(Refused, "not whole: install it again, or remove it"):
+                install(self.prefix, self.pieces())
+            self.assertGreater(len(below(self.prefix)), 50)
+            if after == 20:
+                install(self.prefix, self.pieces())
+                self.assertEqual(run([self.prefix / "bin/registryd", "x"]).stdout, "stub: x\n")
+            self.assertEqual(remove(self.prefix), [])
+            self.assertEqual(below(self.folder), before)
+
+    def test_a_list_that_names_what_is_elsewhere(self):
+        install(self.prefix, self.pieces())
+        outside = self.folder / "outside"
+        outside.write_text("mine", encoding="ascii")
+        for line in ("../outside", "bin/../../outside", str(outside)):
+            (self.prefix / prefix.LIST).write_text(f"bin/registryd\n{line}\n", encoding="utf-8")
+            self.assertRaisesRegex(Refused, "names what is not below", remove, self.prefix)
+        self.assertTrue(outside.exists() and (self.prefix / "bin/registryd").exists())
+
+
+class Words(Case):
+    """What the command says, and which program it takes."""
+
+    def called(self, *words, proved=None, compiled=None):
+        of = {"proved": lambda name: proved and Program(self.stub, proved, ""), "compiled": lambda name: compiled and Program(self.stub, compiled, "")}
+        with mock.patch.multiple(installed.programs, **of):
+            return called("install", *map(str, words))
+
+    def test_the_proved_program_is_taken(self):
+        for more in ([], ["--unproved"]):
+            status, said, error = self.called(self.prefix, *more, proved=PROVED, compiled=COMPILED)
+            self.assertEqual((status, error), (0, ""))
+            self.assertIn("is installed, and is proved\n", said)
+            self.assertIn("is proved", run([self.prefix / "bin/registryd", "--version"]).stdout)
+
+    def test_the_compiled_program_is_taken_only_where_that_is_asked(self):
+        status, said, error = self.called(self.prefix, "--unproved", compiled=COMPILED)
+        self.assertEqual((status, error), (0, ""))
+        self.assertIn("and is not proved\n", said)
+        self.assertIn("It is not proved.", run([self.prefix / "bin/registryd", "--version"]).stdout)
+
+    def test_what_has_to_be_run_first(self):
+        for words, stands, told in (([], {}, "run ./test or tools/build --proved first"),
+                                    ([], {"compiled": COMPILED}, "or take the compiled one with --unproved"),
+                                    (["--unproved"], {}, "run tools/build --compiled first"),
+                                    (["--unproved"], {"compiled": UNCHECKED}, "run tools/build --compiled first")):
+            status, said, error = self.called(self.prefix, *words, **stands)
+            self.assertEqual((status, said, error.count("\n")), (1, "", 1))
+            self.assertTrue(error.startswith("tools/install: no program") and told in error, error)
+            self.assertFalse(self.prefix.exists())
+
+    def test_removing(self):
+        self.called(self.prefix, proved=PROVED)
+        self.assertEqual(self.called("--remove", self.prefix), (0, "", ""))
+        self.assertFalse(self.prefix.exists())
+        status, said, error = self.called("--remove", self.prefix)
+        self.assertEqual((status, said), (1, ""))
+        self.assertIn("nothing is installed below", error)
+
+    def test_what_says_how_to_remove_can_be_typed(self):
+        _, said, _ = self.called(self.prefix, proved=PROVED)
+        (typed,) = re.findall("^remove it by: (.*)$", said, re.M)
+        self.assertEqual(run(["sh", "-c", typed], cwd=TOP).returncode, 0)
+        self.assertFalse(self.prefix.exists())
+
+    def test_below_another_folder(self):
+        status, *_ = self.called("/opt/it", "--destdir", self.folder / "made", proved=PROVED)
+        self.assertEqual(status, 0)
+        self.assertEqual(run([self.folder / "made/opt/it/bin/registryd", "x"]).stdout, "stub: x\n")
+        self.assertEqual(self.called("/opt/it", "--destdir", self.folder / "made", "--remove")[0], 0)
+        self.assertEqual(self.called("it", "--destdir", self.folder, proved=PROVED)[0], 2)
+
+    def test_where_nothing_can_be_written(self):
+        status, said, error = self.called(self.stub / "prefix", proved=PROVED)
+        self.assertEqual((status, said, error.count("\n")), (1, "", 1))
+        self.assertIn("Not a directory", error)
+
+    def test_the_command_itself(self):
+        done = run([os.path.join(TOP, "tools", "install"), "--remove", self.prefix])
+        self.assertEqual((done.returncode, done.stdout), (1, ""))
+        self.assertIn("nothing is installed below", done.stderr)
+
+
+if __name__ == "__main__":
+    unittest.main()

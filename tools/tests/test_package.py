@@ -1,0 +1,203 @@
+"""The Debian package: what stands in it, that it is the same whenever it is made, and that it is installed, runs and goes again."""
+import contextlib
+import fcntl
+import gzip
+import hashlib
+import os
+import re
+import shutil
+import subprocess
+import sys
+import tempfile
+import time
+import unittest
+from pathlib import Path
+from unittest import mock
+
+from called import called, tool
+from program import PROGRAM, TOP
+from test_install import below, run
+
+sys.path.insert(0, os.path.join(TOP, "tools"))
+import installed
+from programs import COMPILED, PROVED, Program
+
+package = tool("package")
+VERSION = Path(TOP, "VERSION").read_text(encoding="ascii").strip()
+SESSION = ('{"op":"publish","name":"a","version":"1.0.0","needs":[]}\n{"op":"resolve","needs":[["a","^1"]]}\n',
+           '{"ok":true,"revision":1}\n{"revision":1,"selected":[["a","1.0.0"]]}\n')
+# the lines of deb-changelog(5)
+HEAD = re.compile(r"registryd \((\S+)\) unstable; urgency=medium")
+TRAILER = re.compile(r" -- \S.* <\S+@\S+>  (Mon|Tue|Wed|Thu|Fri|Sat|Sun), \d\d \w{3} \d{4} \d\d:\d\d:\d\d \+0000")
+# how many seconds another run of dpkg is waited for, and dpkg itself, which must not be broken off
+PATIENCE, MOST_SECONDS = 120, 1200
+
+
+@contextlib.contextmanager
+def alone():
+    """Meanwhile no other test of this kind on this machine installs the package."""
+    with open(os.path.join(tempfile.gettempdir(), "registryd-package.lock"), "w", encoding="ascii") as file:
+        fcntl.flock(file, fcntl.LOCK_EX)
+        yield
+
+
+def dpkg(*words):
+    """Runs dpkg, which another run of it holds up."""
+    until = time.monotonic() + PATIENCE
+    while True:
+        done = run(["dpkg", *words], patience=MOST_SECONDS, env={**os.environ, "DEBIAN_FRONTEND": "noninteractive", "LC_ALL": "C.UTF-8"})
+        if "lock" not in done.stderr or not done.returncode or time.monotonic() > until:
+            return done
+        time.sleep(1)
+
+
+def is_known():
+    return "Status: " in run(["dpkg", "-s", "registryd"]).stdout
+
+
+@unittest.skipUnless(shutil.which("dpkg-deb"), "dpkg-deb is not installed")
+class Made(unittest.TestCase):
+    @classmethod
+    def setUpClass(cls):
+        cls.folder = Path(cls.enterClassContext(tempfile.TemporaryDirectory()))
+        cls.folder.chmod(0o755)
+        cls.program = Program(Path(PROGRAM), COMPILED, "")
+        cls.package = package.build(cls.program, cls.folder)
+        cls.tree = cls.folder / "tree"
+        run(["dpkg-deb", "-x", cls.package, cls.tree])
+        cls.usr = cls.tree / "usr"
+
+    def field(self, name):
+        return run(["dpkg-deb", "-f", self.package, name]).stdout.strip()
+
+    def packed(self, name):
+        return gzip.decompress((self.usr / "share/doc/registryd" / name).read_bytes()).decode()
+
+    def test_its_name_and_fields(self):
+        self.assertEqual(self.package.name, f"registryd_{VERSION}~unproved-1_amd64.deb")
+        for name, value in (("Package", "registryd"), ("Version", f"{VERSION}~unproved-1"), ("Architecture", "amd64"),
+                            ("Recommends", "python3 (>= 3.11)")):
+            self.assertEqual(self.field(name), value)
+        self.assertIn("It is not proved.", re.sub(r"\s+", " ", self.field("Description")))
+
+    def test_it_needs_the_c_library_that_the_program_asks_for(self):
+        asked = re.findall(r"\(GLIBC_(\d+)\.(\d+)", run(["ldd", "-v", PROGRAM]).stdout.split(f"{PROGRAM}:")[1].split(":\n")[0])
+        one, two = max((int(one), int(two)) for one, two in asked)
+        self.assertEqual(self.field("Depends"), f"libc6 (>= {one}.{two})")
+
+    def test_a_proved_one_counts_as_later(self):
+        proved = package.version(Program(self.program.path, PROVED, ""))
+        self.assertEqual(proved, f"{VERSION}-1")
+        self.assertEqual(run(["dpkg", "--compare-versions", package.version(self.program), "lt", proved]).returncode, 0)
+
+    def test_it_has_what_is_installed(self):
+        wanted = {it.path for it in installed.pieces(self.program)}
+        wanted = {f"{it}.gz" if it.startswith("share/man/") else it for it in wanted} - {"share/doc/registryd/CHANGELOG.md"}
+        wanted = {it.replace("zsh/site-functions", "zsh/vendor-completions") for it in wanted}
+        more = {"share/lintian/overrides/registryd", *(f"share/doc/registryd/{it}" for it in ("changelog.gz", "changelog.Debian.gz", "copyright"))}
+        self.assertEqual({it for it in below(self.usr) if not it.endswith("/")}, wanted | more)
+        self.assertEqual({it.name for it in self.tree.iterdir()}, {"usr"})
+
+    def test_all_is_roots_and_can_be_read(self):
+        lines = run(["dpkg-deb", "-c", self.package]).stdout.splitlines()
+        for line in lines:
+            may = {"d": "drwxr-xr-x", "l": "lrwxrwxrwx"}.get(line[0], "-rwxr-xr-x" if "/bin/" in line or line.endswith("lib/registryd/registryd") else "-rw-r--r--")
+            self.assertEqual(line.split()[:2], [may, "root/root"], line)
+        self.assertGreater(len(lines), 50)
+
+    def test_its_sums(self):
+        run(["dpkg-deb", "-e", self.package, self.folder / "told"])
+        told = dict(line.split("  ")[::-1] for line in (self.folder / "told/md5sums").read_text(encoding="utf-8").splitlines())
+        there = {f"usr/{it}" for it in below(self.usr) if not it.endswith("/") and not (self.usr / it).is_symlink()}
+        self.assertEqual({it: hashlib.md5((self.tree / it).read_bytes(), usedforsecurity=False).hexdigest() for it in there}, told)
+
+    def test_it_runs_where_it_is_unpacked(self):
+        done = run([self.usr / "bin/registryd", "serve", "--workers", "1"], SESSION[0])
+        self.assertEqual((done.returncode, done.stdout, done.stderr), (0, SESSION[1], ""))
+
+    def test_the_changelog(self):
+        entries = re.split(r"^(?=registryd )", self.packed("changelog.Debian.gz"), flags=re.M)[1:]
+        told = re.findall(r"^## \[(\S+)\]", self.packed("changelog.gz"), re.M)
+        self.assertEqual([HEAD.match(it)[1] for it in entries], [f"{VERSION}~unproved-1", *(f"{it}-1" for it in told[1:])])
+        for entry in entries:
+            _, empty, *items, before, trailer, _ = entry.rstrip("\n").split("\n") + [""]
+            self.assertEqual((empty, before), ("", ""))
+            self.assertRegex(trailer, TRAILER)
+            self.assertTrue(items and all(re.match(r"  \* [A-Z]\w+: |    \S", it) and len(it) <= 80 for it in items), items)
+
+    def test_manual_pages_are_packed_and_found(self):
+        for name in os.listdir(os.path.join(self.usr, "bin")):
+            page = self.usr / f"share/man/man1/{name}.1.gz"
+            self.assertIn(".Sh NAME", gzip.decompress(page.read_bytes()).decode())
+
+    def test_the_same_whenever_and_wherever_it_is_made(self):
+        other = self.folder / "another folder"
+        mask = os.umask(0o077)
+        try:
+            with mock.patch.dict(os.environ, TZ="Asia/Kathmandu", LC_ALL="C"):
+                again = package.build(self.program, other)
+        finally:
+            os.umask(mask)
+        self.assertEqual(again.read_bytes(), self.package.read_bytes())
+        with mock.patch.dict(os.environ, SOURCE_DATE_EPOCH="1000000000"):
+            older = package.build(self.program, other)
+        self.assertNotEqual(older.read_bytes(), self.package.read_bytes())
+        self.assertIn("2001-09-09", run(["dpkg-deb", "-c", older], env={**os.environ, "TZ": "UTC"}).stdout)
+
+    @unittest.skipUnless(os.geteuid() == 0, "only root may run dpkg")
+    def test_it_is_installed_below_a_root_and_goes_again(self):
+        root = self.folder / "root"
+        (root / "var/lib/dpkg/updates").mkdir(parents=True)
+        (root / "var/lib/dpkg/info").mkdir()
+        (root / "var/lib/dpkg/status").touch()
+        done = dpkg(f"--root={root}", "--force-depends", "-i", self.package)
+        self.assertEqual(done.returncode, 0, done.stderr)
+        self.assertEqual(run([root / "usr/bin/registryd", "serve", "--workers", "1"], SESSION[0]).stdout, SESSION[1])
+        self.assertEqual(dpkg(f"--root={root}", "--verify", "registryd").stdout, "")
+        self.assertEqual(dpkg(f"--root={root}", "-P", "registryd").returncode, 0)
+        self.assertEqual({it for it in below(root) if not it.startswith("var/")}, set())
+
+    @unittest.skipUnless(os.geteuid() == 0, "only root may run dpkg")
+    def test_it_is_installed_on_this_machine_and_goes_again(self):
+        with alone():
+            files = [f"/usr/{it}" for it in below(self.usr) if not it.endswith("/")]
+            if is_known() or any(os.path.lexists(it) for it in files):
+                self.skipTest("registryd is installed on this machine")
+            self.addCleanup(dpkg, "-P", "registryd")
+            done = dpkg("-i", self.package)
+            self.assertEqual(done.returncode, 0, done.stderr)
+            self.assertEqual(run(["/usr/bin/registryd", "serve", "--workers", "1"], SESSION[0]).stdout, SESSION[1])
+            self.assertIn("It is not proved.", run(["/usr/bin/registryd", "--version"]).stdout)
+            self.assertEqual(run(["/usr/bin/registry-lock", "--help"]).returncode, 0)
+            self.assertEqual(dpkg("-r", "registryd").returncode, 0)
+            self.assertEqual([it for it in files if os.path.lexists(it)], [])
+            self.assertEqual(dpkg("-P", "registryd").returncode, 0)
+            self.assertFalse(is_known())
+
+
+class Words(unittest.TestCase):
+    def called(self, *words, **stands):
+        of = {kind: lambda name, kind=kind: stands.get(kind) for kind in ("proved", "compiled")}
+        with mock.patch.multiple(installed.programs, **of):
+            return called("package", *map(str, words))
+
+    def test_what_has_to_be_run_first(self):
+        status, said, error = self.called("--output", "/nowhere")
+        self.assertEqual((status, said, error.count("\n")), (1, "", 1))
+        self.assertIn("run ./test or tools/build --proved first", error)
+
+    def test_where_dpkg_deb_is_not_there(self):
+        with mock.patch.object(shutil, "which", lambda name: None):
+            status, said, error = self.called("--unproved")
+        self.assertEqual((status, said, error), (1, "", "tools/package: dpkg-deb is not there; Debian has it in its package dpkg\n"))
+
+    @unittest.skipUnless(shutil.which("dpkg-deb"), "dpkg-deb is not installed")
+    def test_it_says_where_the_package_is(self):
+        with tempfile.TemporaryDirectory() as folder:
+            proved = Program(Path(PROGRAM), PROVED, "")
+            self.assertEqual(self.called("--output", folder, proved=proved), (0, f"{folder}/registryd_{VERSION}-1_amd64.deb\n", ""))
+            self.assertEqual(os.listdir(folder), [f"registryd_{VERSION}-1_amd64.deb"])
+
+
+if __name__ == "__main__":
+    unittest.main()
