@@ -105,7 +105,7 @@ def bash():
     values, commands = [], []
     for command in COMMANDS:
         for option in command.options:
-            offer = f'COMPREPLY=($(compgen -W "{option.offered}" -- "$current")); return' if option.value != FILE else BASH_FILES
+            offer = BASH_FILES if option.value == FILE else f'COMPREPLY=($(compgen -W "{option.offered}" -- "$current")); return'
             values.append(f'        "{command.name} --{option.name}") {offer} ;;')
         if command.takes_files:
             commands.append(f'        {command.name}) [[ $current == -* ]] || {{ {BASH_FILES}; }}; set -- --help ;;')
@@ -118,7 +118,10 @@ def bash():
 def zsh():
     lines = []
     for command in COMMANDS:
-        words = [f"'--{it.name}[{it.about}]:{it.value}:{'_files' if it.value == FILE else f'({it.offered})'}'" for it in command.options]
+        words = []
+        for it in command.options:
+            offer = "_files" if it.value == FILE else f"({it.offered})" if it.offered else " "
+            words.append(f"'--{it.name}[{it.about}]:{it.value}:{offer}'")
         words += ["'*:file:_files'"] if command.takes_files else []
         lines.append(f"                {command.name}) _arguments {' '.join(words)} '(- *)--help[{HELP}]' ;;")
     commands = " ".join(f"'{it.name}:{it.about}'" for it in COMMANDS)

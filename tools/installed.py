@@ -25,7 +25,8 @@ TOOLS = {
 }
 # Files that are copied as they stand, by the folder that they go to; what stands in a folder of the sources keeps its place in it.
 COPIES = {
-    SHARE: ["docs/lines.schema.json", "clients/python/*.py", "clients/c/*.[ch]", "clients/c/*.rs", "clients/rust/Cargo.*",
+    SHARE: ["docs/lines.schema.json", "clients/python/*.py", "clients/c/*.[ch]", "clients/c/*.rs", "clients/rust/*.toml",
+            "clients/rust/Cargo.lock",
             "clients/rust/src/*.rs", "clients/rust/examples/*.rs", "clients/rust/tests/*.rs"],
     DOC: ["docs/why.svg", "docs/selection.svg", "LICENSE*"],
 }

@@ -38,18 +38,21 @@ def install(prefix, pieces):
     missing = folders_to_make(prefix, files)
     try:
         stage(prefix, missing, pieces)
-    except BaseException as fault:
+    except (OSError, KeyboardInterrupt) as fault:
         shutil.rmtree(prefix / NEW, ignore_errors=True)
         leave(prefix, missing)
-        raise Refused(f"{reason(fault)}; nothing was installed") if isinstance(fault, OSError) else fault
+        raise Refused(f"{reason(fault)}; nothing was installed") from None
     now = sorted({*files, *missing, *(it for it in before if it.endswith("/"))})
     try:
         take_places(prefix, pieces, before, now)
-    except OSError as fault:
+    except (OSError, KeyboardInterrupt) as fault:
         raise Refused(f"{reason(fault)}; what is installed is not whole: install it again, or remove it") from None
 
 
 def reason(fault):
+    """Why something was not done, with the file at which it failed."""
+    if isinstance(fault, KeyboardInterrupt):
+        return "it was broken off"
     return f"{fault.filename}: {fault.strerror}" if fault.filename else str(fault)
 
 
@@ -115,8 +118,8 @@ def remove(prefix):
             shutil.rmtree(prefix / folder / "__pycache__", ignore_errors=True)
         take_away(prefix, [it for it in lines if it not in folders and it != LIST])
         take_away(prefix, [f"{LIST}.new", LIST])
-    except OSError as fault:
-        raise Refused(f"{reason(fault)}; not all is removed") from None
+    except (OSError, KeyboardInterrupt) as fault:
+        raise Refused(f"{reason(fault)}; not all is removed: do it again") from None
     return leave(prefix, folders)
 
 

@@ -7,11 +7,14 @@ import subprocess
 import sys
 import tempfile
 import unittest
+from dataclasses import replace
+from unittest import mock
 
 from program import TOP, run
 
 sys.path.insert(0, os.path.join(TOP, "tools"))
-from completions import COMMANDS, HELP, SHELLS
+import completions
+from completions import COMMANDS, HELP, SHELLS, Option
 
 # calls the completion of a command line that ends with the word to complete, and prints what is offered, or that files are
 CALL = """
@@ -57,6 +60,9 @@ class Table(unittest.TestCase):
 class Shells(unittest.TestCase):
     def setUp(self):
         self.folder = self.enterContext(tempfile.TemporaryDirectory())
+        self.write()
+
+    def write(self):
         for shell, text in SHELLS.items():
             with open(os.path.join(self.folder, shell), "w", encoding="utf-8") as file:
                 file.write(text())
@@ -108,6 +114,18 @@ class Shells(unittest.TestCase):
     def test_bash_is_told_of_it(self):
         self.needs("bash")
         self.assertEqual(self.said("bash", "--norc", "-c", ". ./bash; complete -p registryd"), ["complete -F _registryd registryd"])
+
+    def test_an_option_more_is_one_line_of_the_table(self):
+        serve, *others = COMMANDS
+        more = replace(serve, options=(*serve.options, Option("budget", "N", "How many"), Option("other", "FILE", "A file")))
+        with mock.patch.object(completions, "COMMANDS", (more, *others)):
+            self.write()
+        for shell in SHELLS:
+            self.needs(shell)
+            self.assertEqual(self.said(shell, "-n", f"./{shell}"), [])
+        self.assertEqual(self.offered("registryd serve |--bu"), ["--budget"])
+        self.assertEqual(self.offered("registryd serve --budget |"), [])
+        self.assertEqual(self.offered("registryd serve --other |"), FILES)
 
     def test_zsh_reads_it(self):
         self.needs("zsh")

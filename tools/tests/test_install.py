@@ -44,7 +44,7 @@ class Case(unittest.TestCase):
         # a name that needs quotes
         self.prefix = self.folder / "the prefix"
         self.stub = self.folder / "stub"
-        self.stub.write_text('#!/bin/sh\necho "stub: $*"\n', encoding="ascii")
+        self.stub.write_text("#!/bin/sh\nprintf 'stub:'\nprintf ' <%s>' \"$@\"\n", encoding="ascii")
 
     def pieces(self, kind=PROVED):
         """What is installed of a program that only says its words."""
@@ -58,7 +58,12 @@ class Whole(unittest.TestCase):
     def setUpClass(cls):
         cls.folder = Path(cls.enterClassContext(tempfile.TemporaryDirectory()))
         cls.prefix = cls.folder / "the prefix"
-        install(cls.prefix, pieces(Program(Path(PROGRAM), COMPILED, "")))
+        # others may read it, whatever the mask of who installs it
+        mask = os.umask(0o077)
+        try:
+            install(cls.prefix, pieces(Program(Path(PROGRAM), COMPILED, "")))
+        finally:
+            os.umask(mask)
         cls.bin = cls.prefix / "bin"
 
     def test_what_stands_where(self):
@@ -73,6 +78,12 @@ class Whole(unittest.TestCase):
             self.assertIn(path, there)
         self.assertEqual({it.split("/")[0] for it in there}, {"bin", "lib", "share"})
 
+    def test_the_page_on_installing_names_places_that_there_are(self):
+        rows = re.findall(r"^\| (`.*?) \|", Path(TOP, "docs", "INSTALLING.md").read_text(encoding="utf-8"), re.M)
+        named = [it if "/" in it else f"bin/{it}" for row in rows for it in re.findall("`([^`]+)`", row)]
+        self.assertEqual([it for it in named if not (self.prefix / it).exists()], [])
+        self.assertEqual({it for it in named if it.startswith("bin/")}, {f"bin/{it}" for it in ("registryd", *TOOLS)})
+
     def test_the_list_names_all_of_it(self):
         self.assertEqual({*(self.prefix / prefix.LIST).read_text(encoding="utf-8").splitlines()}, below(self.prefix) | {"./"})
 
@@ -84,13 +95,13 @@ class Whole(unittest.TestCase):
                 self.assertEqual(oct(path.stat().st_mode & 0o777), oct(may), path)
 
     def test_each_client_has_all_of_its_files(self):
-        for client, left_out in (("python", set()), ("c", set()), ("rust", {"rustfmt.toml"})):
+        for client in ("python", "c", "rust"):
             at = os.path.join("clients", client)
             told = run(["git", "-C", TOP, "ls-files", at]).stdout.split()
             if not told:
                 self.skipTest("this is no checkout of git")
             there = {it for it in below(self.prefix / "share/registryd" / at) if not it.endswith("/")}
-            self.assertEqual(there, {os.path.relpath(it, at) for it in told} - left_out)
+            self.assertEqual(there, {os.path.relpath(it, at) for it in told})
 
     def test_the_program_runs_through_a_link_and_from_anywhere(self):
         link, other = self.folder / "link", self.folder / "other"
@@ -182,7 +193,7 @@ class Version(Case):
             (found / name).symlink_to(shutil.which(name))
         link = self.folder / "link"
         link.symlink_to(self.prefix / "bin/registryd")
-        for words, said in (("--version", f"registryd {VERSION}, "), ("serve  --load 'a b'", "stub: serve --load a b\n")):
+        for words, said in (("--version", f"registryd {VERSION}, "), ("serve  --load 'a  b' ''", "stub: <serve> <--load> <a  b> <>")):
             done = run(["sh", "-c", f'"$0" {words}', link], env={"PATH": str(found)})
             self.assertEqual((done.returncode, done.stderr), (0, ""))
             self.assertTrue(done.stdout.startswith(said), done.stdout)
@@ -242,7 +253,7 @@ class Places(Case):
         install(self.prefix, self.pieces())
         moved = self.folder / "moved"
         self.prefix.rename(moved)
-        self.assertEqual(run([moved / "bin/registryd", "race", "x"]).stdout, "stub: race x\n")
+        self.assertEqual(run([moved / "bin/registryd", "race", "x"]).stdout, "stub: <race> <x>")
         remove(moved)
         self.assertFalse(moved.exists())
 
@@ -278,7 +289,7 @@ class Broken(Case):
             self.assertGreater(len(below(self.prefix)), 50)
             if after == 20:
                 install(self.prefix, self.pieces())
-                self.assertEqual(run([self.prefix / "bin/registryd", "x"]).stdout, "stub: x\n")
+                self.assertEqual(run([self.prefix / "bin/registryd", "x"]).stdout, "stub: <x>")
             self.assertEqual(remove(self.prefix), [])
             self.assertEqual(below(self.folder), before)
 
@@ -340,7 +351,7 @@ class Words(Case):
     def test_below_another_folder(self):
         status, *_ = self.called("/opt/it", "--destdir", self.folder / "made", proved=PROVED)
         self.assertEqual(status, 0)
-        self.assertEqual(run([self.folder / "made/opt/it/bin/registryd", "x"]).stdout, "stub: x\n")
+        self.assertEqual(run([self.folder / "made/opt/it/bin/registryd", "x"]).stdout, "stub: <x>")
         self.assertEqual(self.called("/opt/it", "--destdir", self.folder / "made", "--remove")[0], 0)
         self.assertEqual(self.called("it", "--destdir", self.folder, proved=PROVED)[0], 2)
 
@@ -348,6 +359,17 @@ class Words(Case):
         status, said, error = self.called(self.stub / "prefix", proved=PROVED)
         self.assertEqual((status, said, error.count("\n")), (1, "", 1))
         self.assertIn("Not a directory", error)
+
+    def test_no_prefix(self):
+        status, _, error = self.called("", proved=PROVED)
+        self.assertEqual((status, error.splitlines()[-1]), (2, "tools/install: error: the prefix is a folder's name"))
+
+    def test_an_install_that_is_broken_off(self):
+        before = below(self.folder)
+        with mock.patch.object(Path, "symlink_to", side_effect=KeyboardInterrupt):
+            status, said, error = self.called(self.prefix, proved=PROVED)
+        self.assertEqual((status, said, error), (1, "", "tools/install: it was broken off; nothing was installed\n"))
+        self.assertEqual(below(self.folder), before)
 
     def test_the_command_itself(self):
         done = run([os.path.join(TOP, "tools", "install"), "--remove", self.prefix])

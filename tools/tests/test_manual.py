@@ -10,13 +10,13 @@ import unittest
 from program import PROGRAM, TOP
 
 sys.path.insert(0, os.path.join(TOP, "tools"))
+import installed
 from completions import COMMANDS
 
 VERSION = open(os.path.join(TOP, "VERSION"), encoding="ascii").read().strip()
-# The tools of the second page, and the commands of each that have options of their own.
-TOOLS = {"registry-why": ("why", [""]), "registry-lock": ("lock", ["write", "need", "diff"]),
-         "registry-import-index": ("import_index", ["crates-io", "cargo", "debian"]),
-         "registry-check-derivation": ("check_derivation.py", [""]), "registryd-etcd": ("registryd-etcd", [""])}
+# The tools of the second page, each with the words before its options.
+TOOLS = {name: (file, {"lock": ["write", "need", "diff"], "import_index": ["crates-io", "cargo", "debian"]}.get(file, [""]))
+         for name, file in installed.TOOLS.items()}
 
 
 def page(name):

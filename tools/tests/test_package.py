@@ -20,6 +20,7 @@ from test_install import below, run
 
 sys.path.insert(0, os.path.join(TOP, "tools"))
 import installed
+from prefix import put
 from programs import COMPILED, PROVED, Program
 
 package = tool("package")
@@ -51,6 +52,13 @@ def dpkg(*words):
         time.sleep(1)
 
 
+def put_by_another(path, piece):
+    """Writes a file of the package as somebody else, where this process may."""
+    put(path, piece)
+    if os.geteuid() == 0:
+        os.lchown(path, 1234, 1234)
+
+
 def is_known():
     return "Status: " in run(["dpkg", "-s", "registryd"]).stdout
 
@@ -62,7 +70,8 @@ class Made(unittest.TestCase):
         cls.folder = Path(cls.enterClassContext(tempfile.TemporaryDirectory()))
         cls.folder.chmod(0o755)
         cls.program = Program(Path(PROGRAM), COMPILED, "")
-        cls.package = package.build(cls.program, cls.folder)
+        with mock.patch.object(package, "put", put_by_another):
+            cls.package = package.build(cls.program, cls.folder)
         cls.tree = cls.folder / "tree"
         run(["dpkg-deb", "-x", cls.package, cls.tree])
         cls.usr = cls.tree / "usr"
