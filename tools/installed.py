@@ -67,11 +67,12 @@ class Piece:
 def chosen(may_be_unproved):
     """The program that is installed: the proved one of these sources, or where that may be, the compiled one with its checks."""
     program = programs.proved(NAME) or programs.compiled(NAME)
-    if program and (program.kind == programs.PROVED or program.kind == programs.COMPILED and may_be_unproved):
+    kind = program and program.kind
+    if kind == programs.PROVED or kind == programs.COMPILED and may_be_unproved:
         return program
     if may_be_unproved:
         raise Refused("no program of these sources stands that checks as it runs: run tools/build --compiled first")
-    also = ", or take the compiled one with --unproved" if program else ""
+    also = ", or take the compiled one with --unproved" if kind == programs.COMPILED else ""
     raise Refused(f"no program stands that was proved from these sources: run ./test or tools/build --proved first{also}")
 
 
@@ -93,8 +94,8 @@ def imported(file):
     """The files of modules that a file of tools names in its imports, where they are in this repository."""
     found = []
     for node in ast.walk(ast.parse((TOP / "tools" / file).read_text(encoding="utf-8"))):
-        names = [node.module] if isinstance(node, ast.ImportFrom) else [it.name for it in node.names] if isinstance(node, ast.Import) else []
-        for name in names:
+        names = [it.name for it in node.names] if isinstance(node, ast.Import) else []
+        for name in [*names, *([node.module] if isinstance(node, ast.ImportFrom) else [])]:
             package, dot, _ = name.partition(".")
             found += [f"{name.replace('.', '/')}.py", *([f"{package}/__init__.py"] if dot else [])]
     return [it for it in found if (TOP / "tools" / it).is_file()]

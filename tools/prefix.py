@@ -1,7 +1,7 @@
 """Puts files below a prefix, and removes them again, by a list that is kept there.
 
 Everything is written beside its place first; then each file takes its place by one rename. So what fails on the way, as a full
-disk does, leaves what stood there. The list names each file, and with a stroke behind it each folder that was made."""
+disk does, leaves what stood there. The list names each file, and each folder that was made with a slash behind it."""
 import os
 import shutil
 

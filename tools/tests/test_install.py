@@ -26,7 +26,7 @@ TOOLS = ["registry-check-derivation", "registry-import-index", "registry-lock", 
 
 
 def below(folder):
-    """Each file and folder below one, by its path; a folder's ends with a stroke."""
+    """Each file and folder below one, by its path; a folder's ends with a slash."""
     found = set()
     for at, folders, files in os.walk(folder):
         inner = os.path.relpath(at, folder).removeprefix(".").removesuffix("/")
@@ -35,7 +35,8 @@ def below(folder):
 
 
 def run(words, given="", patience=60, **more):
-    return subprocess.run(words, input=given, stdout=subprocess.PIPE, stderr=subprocess.PIPE, text=True, timeout=patience, check=False, **more)
+    return subprocess.run(words, input=given, timeout=patience, stdout=subprocess.PIPE, stderr=subprocess.PIPE, text=True, check=False,
+                          **more)
 
 
 class Case(unittest.TestCase):
@@ -69,9 +70,11 @@ class Whole(unittest.TestCase):
     def test_what_stands_where(self):
         there = below(self.prefix)
         self.assertEqual({it for it in there if it.startswith("bin/")}, {"bin/", "bin/registryd", *(f"bin/{it}" for it in TOOLS)})
-        for path in ("lib/registryd/registryd", "lib/registryd/tools/why", "lib/registryd/tools/etcd/front.py", "share/man/man1/registryd.1",
-                     "share/man/man1/registry-tools.1", "share/bash-completion/completions/registryd", "share/zsh/site-functions/_registryd",
-                     "share/fish/vendor_completions.d/registryd.fish", "share/registryd/lines.schema.json", "share/doc/registryd/FORMATS.md",
+        for path in ("lib/registryd/registryd", "lib/registryd/tools/why", "lib/registryd/tools/etcd/front.py",
+                     "share/man/man1/registryd.1", "share/man/man1/registry-tools.1",
+                     "share/bash-completion/completions/registryd", "share/zsh/site-functions/_registryd",
+                     "share/fish/vendor_completions.d/registryd.fish",
+                     "share/registryd/lines.schema.json", "share/doc/registryd/FORMATS.md",
                      "share/registryd/clients/python/registryd.py", "share/registryd/clients/c/registryd.h",
                      "share/registryd/clients/c/registryd.c", "share/registryd/clients/rust/Cargo.toml",
                      "share/registryd/clients/rust/src/lib.rs"):
@@ -121,9 +124,15 @@ class Whole(unittest.TestCase):
         typed, told, refused, why = blocks()[:4]
         folder = self.enterContext(tempfile.TemporaryDirectory())
         for lines, wanted in ((typed, told), (refused, why)):
-            text = "\n".join(lines).replace("./registryd", "registryd").replace("tools/check_derivation.py", "registry-check-derivation")
-            done = run(["sh", "-c", text.replace("tools/", "registry-")], cwd=folder, env={**os.environ, "PATH": f"{self.bin}:{os.environ['PATH']}"})
-            self.assertEqual((done.stdout.splitlines(), done.stderr), (wanted, ""))
+            text = "\n".join(lines).replace("./registryd", "registryd")
+            for name in TOOLS:
+                text = re.sub(f"tools/{name.removeprefix('registry-').replace('-', '_')}(\\.py)?", name, text)
+            self.assertEqual(self.typed(text, folder), (wanted, ""))
+
+    def typed(self, text, folder):
+        """What is printed in a folder for what is typed there, the installed commands being found first."""
+        done = run(["sh", "-c", text], cwd=folder, env={**os.environ, "PATH": f"{self.bin}:{os.environ['PATH']}"})
+        return done.stdout.splitlines(), done.stderr
 
     def test_what_an_installed_page_tells_to_type(self):
         # a block that names a tool is typed; those up to the next one are printed, with an empty line between them
@@ -137,8 +146,7 @@ class Whole(unittest.TestCase):
         with tempfile.TemporaryDirectory() as folder:
             os.mkdir(os.path.join(folder, "docs"))
             for typed, told in said:
-                done = run(["sh", "-c", "\n".join(typed)], cwd=folder, env={**os.environ, "PATH": f"{self.bin}:{os.environ['PATH']}"})
-                self.assertEqual((done.stdout.splitlines(), done.stderr), (told, ""))
+                self.assertEqual(self.typed("\n".join(typed), folder), (told, ""))
 
     def test_each_tool_calls_itself_by_its_name(self):
         for name in TOOLS:
@@ -307,7 +315,8 @@ class Words(Case):
     """What the command says, and which program it takes."""
 
     def called(self, *words, proved=None, compiled=None):
-        of = {"proved": lambda name: proved and Program(self.stub, proved, ""), "compiled": lambda name: compiled and Program(self.stub, compiled, "")}
+        stands = {"proved": proved, "compiled": compiled}
+        of = {name: lambda _, kind=kind: kind and Program(self.stub, kind, "") for name, kind in stands.items()}
         with mock.patch.multiple(installed.programs, **of):
             return called("install", *map(str, words))
 
@@ -327,6 +336,7 @@ class Words(Case):
     def test_what_has_to_be_run_first(self):
         for words, stands, told in (([], {}, "run ./test or tools/build --proved first"),
                                     ([], {"compiled": COMPILED}, "or take the compiled one with --unproved"),
+                                    ([], {"compiled": UNCHECKED}, "run ./test or tools/build --proved first\n"),
                                     (["--unproved"], {}, "run tools/build --compiled first"),
                                     (["--unproved"], {"compiled": UNCHECKED}, "run tools/build --compiled first")):
             status, said, error = self.called(self.prefix, *words, **stands)

@@ -46,8 +46,9 @@ class Pages(unittest.TestCase):
             self.skipTest("man and groff are not installed")
         for name in ("registryd.1", "registry-tools.1"):
             with self.subTest(name):
-                done = subprocess.run(["man", "--warnings", "-E", "UTF-8", "-l", os.path.join(TOP, "docs", name)], stdout=subprocess.PIPE,
-                                      stderr=subprocess.PIPE, env={**os.environ, "MANWIDTH": "100", "LC_ALL": "C.UTF-8"}, check=True, timeout=60)
+                words = ["man", "--warnings", "-E", "UTF-8", "-l", os.path.join(TOP, "docs", name)]
+                done = subprocess.run(words, stdout=subprocess.PIPE, stderr=subprocess.PIPE, check=True, timeout=60,
+                                      env={**os.environ, "MANWIDTH": "100", "LC_ALL": "C.UTF-8"})
                 self.assertEqual(done.stderr, b"")
                 self.assertIn("EXIT STATUS", done.stdout.decode())
 
