@@ -44,8 +44,8 @@ COMPLETIONS = {
     "fish": ("share/fish/vendor_completions.d/registryd.fish", "share/fish/vendor_completions.d/registryd.fish"),
 }
 TOLD = {
-    programs.PROVED: "The program is proved: it was built from proofs of the sources of this commit.",
-    programs.COMPILED: "The program is compiled from the sources of this commit, with checks as it runs. It is not proved.",
+    programs.PROVED: "The program is proved: it was built from proofs of all its sources.",
+    programs.COMPILED: "The program is compiled from its sources, with checks as it runs. It is not proved.",
 }
 # How a command in bin finds what is installed with it, through links too.
 FIND = """\

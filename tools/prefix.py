@@ -119,7 +119,7 @@ def remove(prefix):
         take_away(prefix, [it for it in lines if it not in folders and it != LIST])
         take_away(prefix, [f"{LIST}.new", LIST])
     except (OSError, KeyboardInterrupt) as fault:
-        raise Refused(f"{reason(fault)}; not all is removed: do it again") from None
+        raise Refused(f"{reason(fault)}; not all is removed") from None
     return leave(prefix, folders)
 
 

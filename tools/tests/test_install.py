@@ -188,6 +188,12 @@ class Version(Case):
                 self.assertTrue(second.startswith(said), second)
                 self.assertEqual("It is not proved" in second, kind == COMPILED)
 
+    def test_the_page_on_installing_shows_what_it_tells(self):
+        page = Path(TOP, "docs", "INSTALLING.md").read_text(encoding="utf-8")
+        with mock.patch.object(installed.programs, "commit", lambda: "62c06fc"):
+            self.assertIn(re.sub("^", "    ", self.told(PROVED), flags=re.M).rstrip() + "\n", page)
+            self.assertIn(f"`{self.told(COMPILED).splitlines()[1]}`", page)
+
     def test_it_stays_as_it_was_installed(self):
         before = self.told(COMPILED)
         with mock.patch.object(installed.programs, "commit", lambda: "another"):
