@@ -9,6 +9,7 @@ import sys
 import unittest
 from concurrent.futures import ProcessPoolExecutor
 
+from counts import Counts
 from progress import TOP
 
 FOLDERS = ("tools/tests", "bench/tests")
@@ -24,17 +25,27 @@ def files():
     return sorted(found, key=lambda path: (os.path.basename(path) not in LONG, os.path.basename(path) == LAST, path))
 
 
+class Result(unittest.TextTestResult):
+    """Counts the tests that passed: of those that were begun some may be skipped, and a class that is skipped begins none."""
+    passed = 0
+
+    def addSuccess(self, test):
+        super().addSuccess(test)
+        self.passed += 1
+
+
 def run_file(path):
-    """Runs the tests of one file; answers what they wrote, how many passed and failed, and what the program said in them."""
+    """Runs the tests of one file; answers what they wrote, how many passed, failed and were skipped, and what the program said in
+    them. A file without a test fails."""
     wrote = io.StringIO()
     with contextlib.redirect_stdout(wrote):
         suite = unittest.TestLoader().discover(os.path.dirname(path), os.path.basename(path))
-        done = unittest.TextTestRunner(stream=wrote, verbosity=2).run(suite)
-    # a skipped one counts as failed: nothing is left out unseen
-    failed = len(done.failures) + len(done.errors) + len(done.skipped) + len(done.unexpectedSuccesses)
-    if not done.testsRun:
+        done = unittest.TextTestRunner(stream=wrote, verbosity=2, resultclass=Result).run(suite)
+    failed = len(done.failures) + len(done.errors) + len(done.unexpectedSuccesses)
+    skipped = tuple((test.id(), reason) for test, reason in done.skipped)
+    if not done.passed and not skipped:
         failed = max(failed, 1)
-    return wrote.getvalue(), max(done.testsRun - failed, 0), failed, noted()
+    return wrote.getvalue(), Counts(done.passed, failed, skipped), noted()
 
 
 def noted():
@@ -43,27 +54,26 @@ def noted():
     return [(name, getattr(said, name)) for name in ("REQUESTS", "REPLIES", "JOURNAL")] if said else []
 
 
-def tell(wrote, passed, failed, said):
+def tell(wrote, counts, said):
     """Shows what the tests of a file wrote; notes what the program said in them, for the last file."""
     print(wrote, end="", flush=True)
     for name, lines in said:
         getattr(sys.modules["said"], name).update(lines)
-    return passed, failed
+    return counts
 
 
 def run_all(processors):
-    """Runs them all; answers how many tests passed and failed."""
+    """Runs them all; answers the counts of all tests."""
     sys.path.insert(0, os.path.join(TOP, FOLDERS[0]))
     import said
     *others, last = files()
-    counts = [0, 0]
+    counts = Counts()
     with ProcessPoolExecutor(processors) as pool:
         runs = {path: pool.submit(run_file, path) for path in others}
         for path, of in runs.items():
             try:
-                found = tell(*of.result())
+                counts += tell(*of.result())
             except Exception as fault:
                 print(f"{path}: it could not be run: {type(fault).__name__}: {fault}", flush=True)
-                found = 0, 1
-            counts = [sum(pair) for pair in zip(counts, found)]
-    return tuple(sum(pair) for pair in zip(counts, tell(*run_file(last))))
+                counts += Counts(failed=1)
+    return counts + tell(*run_file(last))

@@ -1,8 +1,10 @@
 """Libraries that are loaded before the C library, and refuse or break what a program asks of it."""
 import errno
 import os
+import shutil
 import subprocess
 import tempfile
+import unittest
 from typing import NamedTuple
 
 from program import TOP, run
@@ -14,6 +16,8 @@ BREAK_CALLS = os.path.join("break_calls", "break.c")
 
 def built(case, source):
     """The path of such a library, which is built of a source below `tools` and lasts as long as a class of tests."""
+    if not shutil.which("cc"):
+        raise unittest.SkipTest("there is no cc (Debian: gcc)")
     folder = tempfile.TemporaryDirectory()
     case.addClassCleanup(folder.cleanup)
     library = os.path.join(folder.name, "library.so")

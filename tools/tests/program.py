@@ -3,9 +3,11 @@ import contextlib
 import json
 import os
 import resource
+import shutil
 import subprocess
 import sys
 import tempfile
+import unittest
 
 import said
 
@@ -15,6 +17,11 @@ from programs import path_for_tests
 
 PROGRAM, PROBE = path_for_tests("registryd"), path_for_tests("probe")
 SERVE = ["serve", "--workers", "1"]
+
+
+def skip_without(command, packages):
+    """Skips a test, or a class of them, where a command is not there, and tells which packages of Debian bring it."""
+    return unittest.skipUnless(shutil.which(command), f"there is no {command} (Debian: {packages})")
 
 
 def publish(name, version, needs=()):

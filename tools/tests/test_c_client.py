@@ -1,11 +1,10 @@
 """The C library of clients/c over the program: its examples in C and in Rust, and what a careless caller does."""
 import os
-import shutil
 import subprocess
 import tempfile
 import unittest
 
-from program import PROGRAM, TOP
+from program import PROGRAM, TOP, skip_without
 
 CLIENT = os.path.join(TOP, "clients", "c")
 CALLS = os.path.join(TOP, "tools", "tests", "c_client_calls.c")
@@ -19,6 +18,7 @@ end 2
 """
 
 
+@skip_without("cc", "gcc")
 class Client(unittest.TestCase):
     def setUp(self):
         folder = tempfile.TemporaryDirectory()
@@ -48,10 +48,8 @@ class Client(unittest.TestCase):
         self.link(os.path.join(CLIENT, "example.c"))
         self.check_example()
 
+    @skip_without("rustc", "rustc")
     def test_the_example_in_rust(self):
-        if not shutil.which("rustc"):
-            print("(no rustc here: clients/c/example.rs is not tried) ", end="")
-            return
         self.build()
         self.do("rustc", "--edition", "2021", os.path.join(CLIENT, "example.rs"), "-L", "native=.", "-o", "caller")
         self.check_example()

@@ -1,9 +1,8 @@
 """Fronts over etcd: what they answer when replies are lost, entries race and cells are dropped; and that the judge of their
-histories finds what is wrong. Behind the fronts stands a small etcd in memory; a real one is asked where it is installed."""
+histories finds what is wrong. Behind the fronts stands a small etcd in memory; a real one is asked, too."""
 import hashlib
 import json
 import os
-import shutil
 import signal
 import socket
 import ssl
@@ -17,8 +16,8 @@ from base64 import b64decode, b64encode
 import fronts
 import program
 from fake_etcd import Drop, Gate, SmallEtcd
-from members import Members, is_installed
-from program import LIST, TOP, publish, resolve, unyank, yank
+from members import Members
+from program import LIST, TOP, publish, resolve, skip_without, unyank, yank
 from test_readme import blocks
 
 sys.path.insert(0, os.path.join(TOP, "tools"))
@@ -462,11 +461,9 @@ def listing(place, revision, seat, yanked):
 
 
 class OverEtcd(unittest.TestCase):
+    @skip_without("etcd", "etcd-server")
     def test_what_the_page_tells_to_type(self):
         members, typed, told = blocks("docs/SCALE.md")[:3]
-        if not is_installed():
-            print("(etcd is not installed: what docs/SCALE.md tells to type was not tried) ", end="")
-            return
         first = 1100 + 2 * (os.getpid() % 600)  # ports of this run alone, below those of the page
         lines = [line.replace("2379", str(first)).replace("2380", str(first + 1)) for line in members + typed]
         with tempfile.TemporaryDirectory() as folder:
@@ -476,11 +473,9 @@ class OverEtcd(unittest.TestCase):
                 os.killpg(shell.pid, signal.SIGKILL)
         self.assertEqual(printed.splitlines(), told)
 
+    @skip_without("openssl", "openssl")
     def test_certificates(self):
         """A gate that asks for a certificate is answered with the one that is named, and checked by the one that is."""
-        if not shutil.which("openssl"):
-            print("(openssl is not installed: no certificates were made) ", end="")
-            return
         with tempfile.TemporaryDirectory() as folder:
             cert, key = os.path.join(folder, "cert"), os.path.join(folder, "key")
             subprocess.run(["openssl", "req", "-x509", "-newkey", "rsa:2048", "-nodes", "-subj", "/CN=front", "-addext",
@@ -499,10 +494,8 @@ class OverEtcd(unittest.TestCase):
                 ended = fronts.run("serve", [url], *words, given=A1.encode())
                 self.assertEqual((ended.returncode, ended.stdout), (1, b""))
 
+    @skip_without("etcd", "etcd-server")
     def test_a_history_of_three_fronts_over_three_members(self):
-        if not is_installed():
-            print("(etcd is not installed: only a small one in memory was asked) ", end="")
-            return
         members = Members(3)
         self.addCleanup(members.close)
         for seed in (1, 2):

@@ -7,7 +7,7 @@ import tempfile
 import unittest
 
 import plain_race
-from program import LIST, TOP, publish, resolve, run, yank
+from program import LIST, TOP, publish, resolve, run, skip_without, yank
 
 sys.path.insert(0, os.path.join(TOP, "tools"))
 import race_many
@@ -27,6 +27,7 @@ def told_of(lines, changed):
             yield "".join(f"{it}\n" for it in [*lines[:place], *([other] if other else []), *lines[place + 1:]])
 
 
+@skip_without("cc", "gcc")
 class Schedules(unittest.TestCase):
     def test_a_hundred_races(self):
         with tempfile.TemporaryDirectory() as folder:

@@ -19,7 +19,7 @@ sys.path.insert(0, os.path.join(TOP, "tools"))
 from check_derivation import NAME, ORDINALS, formed
 
 BAD_LINE, NO_MEMORY = 19, 18
-WITHOUT = "(python3-jsonschema is not there: only the members of the lines are judged) "
+WITHOUT = "Python's jsonschema is not there, so only the members of the lines are judged (Debian: python3-jsonschema)"
 # What no line has, and the kind it is nearly of. Worked by hand from docs/FORMATS.md.
 WRONG = [
     ("reply", {"ok": False, "revision": 1}), ("reply", {"ok": True}), ("reply", {"ok": True, "revision": -1}), ("reply", {"ok": True, "revision": "1"}),
@@ -95,16 +95,14 @@ class WrittenLines(unittest.TestCase):
 
     def test_lines_that_are_of_their_form(self):
         if not lines_schema.judge():
-            print(WITHOUT, end="")
-            return
+            self.skipTest(WITHOUT)
         self.assertEqual([self.good[place] for place in lines_schema.refused(self.good)][:3], [])
         print(f"({len(self.good)} lines) ", end="")
 
     def test_lines_that_are_not_of_their_form(self):
         self.assertGreater(len(self.bad), 100)
         if not lines_schema.judge():
-            print(WITHOUT, end="")
-            return
+            self.skipTest(WITHOUT)
         refused = set(lines_schema.refused([("request", value) for _, value in self.bad]))
         left = [(line, value) for place, (line, value) in enumerate(self.bad) if place not in refused]
         self.assertEqual([line for line, value in left if is_all_rising(value)][:3], [])
@@ -113,8 +111,7 @@ class WrittenLines(unittest.TestCase):
 
     def test_what_is_no_line(self):
         if not lines_schema.judge():
-            print(WITHOUT, end="")
-            return
+            self.skipTest(WITHOUT)
         self.assertEqual(lines_schema.refused(WRONG), list(range(len(WRONG))))
 
 

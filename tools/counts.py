@@ -1,0 +1,22 @@
+"""What a run of tests comes to: how many passed and failed, and which could not run. `./test` ends with its lines."""
+from dataclasses import dataclass
+
+
+@dataclass(frozen=True)
+class Counts:
+    passed: int = 0
+    failed: int = 0
+    # each test that could not run, with the reason
+    skipped: tuple[tuple[str, str], ...] = ()
+
+    def __add__(self, other):
+        return Counts(self.passed + other.passed, self.failed + other.failed, self.skipped + other.skipped)
+
+    def lines(self):
+        """Why each test was skipped, and the line that counts them all."""
+        reasons = [f"skipped: {test}: {reason}" for test, reason in self.skipped]
+        return [*reasons, f"{self.passed} passed, {self.failed} failed, {len(self.skipped)} skipped"]
+
+    def status(self, nothing_skipped=False):
+        """The exit status: 1 where a test failed or none passed; and where one was skipped, if none may be."""
+        return 1 if self.failed or not self.passed or (nothing_skipped and self.skipped) else 0
