@@ -4,10 +4,12 @@ import json
 import os
 import resource
 import shutil
+import signal
 import subprocess
 import sys
 import tempfile
 import unittest
+from pathlib import Path
 
 import said
 
@@ -17,6 +19,10 @@ from programs import path_for_tests
 
 PROGRAM, PROBE = path_for_tests("registryd"), path_for_tests("probe")
 SERVE = ["serve", "--workers", "1"]
+# Seconds in which a program has answered what a test asks and waits for, on a busy machine too.
+PATIENCE = 30
+# The least that a pipe holds.
+PAGE = 4_096
 
 
 def skip_without(command, packages):
@@ -79,6 +85,60 @@ def run(words, given=b"", most=None, **more):
     if done.returncode == 0 and done.stdout is not None:
         said.note_run(words, given, done.stdout, more.get("cwd", ""))
     return done
+
+
+def children():
+    """The processes that this one has started and that are there still."""
+    for path in Path("/proc").glob("[0-9]*/stat"):
+        with contextlib.suppress(OSError):
+            # the name of what runs stands in parentheses, and may have any letters
+            if int(path.read_text(encoding="utf-8", errors="replace").rpartition(")")[2].split()[1]) == os.getpid():
+                yield int(path.parent.name)
+
+
+@contextlib.contextmanager
+def in_time(seconds=None):
+    """A test that waits for more than so many seconds meanwhile fails, and what it has started is ended: so a program that never
+    replies hangs no test."""
+    limit = seconds or PATIENCE
+
+    def break_off(*_):
+        for child in children():
+            with contextlib.suppress(ProcessLookupError):
+                os.kill(child, signal.SIGKILL)
+        raise AssertionError(f"it was not answered in {limit} seconds")
+
+    handler = signal.signal(signal.SIGALRM, break_off)
+    # again and again: what is left on the way out may wait, too
+    outer = signal.setitimer(signal.ITIMER_REAL, limit, limit)
+    try:
+        yield
+    finally:
+        signal.setitimer(signal.ITIMER_REAL, *outer)
+        signal.signal(signal.SIGALRM, handler)
+
+
+@contextlib.contextmanager
+def talking(words=tuple(SERVE)):
+    """Starts the program for a test that writes to it and waits for what it answers."""
+    with in_time(), subprocess.Popen([PROGRAM, *words], stdin=subprocess.PIPE, stdout=subprocess.PIPE, bufsize=0) as client:
+        yield client
+
+
+def read_lines(client, count):
+    """So many lines of what a program writes, in one piece, with what came together with the last of them."""
+    told = b""
+    while told.count(b"\n") < count:
+        piece = client.stdout.read(PAGE)
+        assert piece, f"the program has ended after {told[-300:]}"
+        told += piece
+    return told
+
+
+def end(client):
+    """Ends what the program reads; answers what it writes to its end, and its status."""
+    client.stdin.close()
+    return client.stdout.read(), client.wait()
 
 
 @contextlib.contextmanager

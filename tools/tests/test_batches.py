@@ -1,10 +1,9 @@
 """Lines that ask to resolve and come together are answered together by several threads, and as they are one by one."""
 import fcntl
-import subprocess
 import time
 import unittest
 
-from program import LIST, PROGRAM, check, publish, resolve, run, unyank, yank
+from program import LIST, PAGE, check, end, publish, read_lines, resolve, run, talking, unyank, yank
 from tables import tables_under
 from test_broken_streams import waiting
 
@@ -31,14 +30,12 @@ def served(workers, lines):
 
 def asked_one_by_one(workers, lines):
     """The reply lines to these lines, each of which is sent when the line before it is answered."""
-    with subprocess.Popen([PROGRAM, "serve", "--workers", workers], stdin=subprocess.PIPE, stdout=subprocess.PIPE) as client:
+    with talking(["serve", "--workers", workers]) as client:
         replies = []
         for line in lines:
             client.stdin.write(line.encode() + b"\n")
-            client.stdin.flush()
-            replies.append(client.stdout.readline().decode().removesuffix("\n"))
-        client.stdin.close()
-        assert (client.stdout.read(), client.wait()) == (b"", 0)
+            replies.append(read_lines(client, 1).decode().removesuffix("\n"))
+        assert end(client) == (b"", 0)
     return replies
 
 
@@ -47,8 +44,6 @@ def asked_one_by_one(workers, lines):
 TOPS, ROW = 4, 255
 CLASHING = [publish("x", "1.0.0"), publish("x", "2.0.0"), *(publish(f"p{i}", "1.0.0", [f"p{i + 1} *"]) for i in range(1, ROW)), publish(f"p{ROW}", "1.0.0", ["x ^2"]),
             *(publish(f"t{i}", *version) for i in range(TOPS) for version in (["0.9.0"], ["1.0.0", ["x ^1", "p1 *"]]))]
-# The least that a pipe holds.
-PAGE = 4_096
 
 
 def busy(client):
@@ -60,10 +55,7 @@ def busy(client):
 def said_to(client, lines):
     """The replies to lines that are sent in one piece."""
     client.stdin.write("".join(line + "\n" for line in lines).encode())
-    told = b""
-    while told.count(b"\n") < len(lines):
-        told += client.stdout.read(PAGE)
-    return told.decode().splitlines()
+    return read_lines(client, len(lines)).decode().splitlines()
 
 
 def busy_behind(client, line):
@@ -73,9 +65,7 @@ def busy_behind(client, line):
     while waiting(client.stdout) < PAGE:
         time.sleep(0.001)
     time.sleep(0.01)
-    before, replies = busy(client), b""
-    while replies.count(b"\n") < 2:
-        replies += client.stdout.read(PAGE)
+    before, replies = busy(client), read_lines(client, 2)
     # a line more is answered once the program is through
     said_to(client, [""])
     return busy(client) - before, replies.decode().splitlines()[1]
@@ -115,15 +105,11 @@ class Batches(unittest.TestCase):
 
     def test_who_asks_and_waits_is_answered(self):
         for workers in WORKERS:
-            with subprocess.Popen([PROGRAM, "serve", "--workers", workers], stdin=subprocess.PIPE, stdout=subprocess.PIPE, bufsize=0) as client:
+            with talking(["serve", "--workers", workers]) as client:
                 for many in (1, 2, 3):
                     client.stdin.write((resolve() + "\n").encode() * many)
-                    told = b""
-                    while told.count(b"\n") < many:
-                        told += client.stdout.read(4_096)
-                    self.assertEqual(told, b'{"revision":0,"selected":[]}\n' * many)
-                client.stdin.close()
-                self.assertEqual((client.stdout.read(), client.wait()), (b"", 0))
+                    self.assertEqual(read_lines(client, many), b'{"revision":0,"selected":[]}\n' * many)
+                self.assertEqual(end(client), (b"", 0))
 
     def test_who_waits_after_each_line_of_any_kind(self):
         lines = [*CHAIN, LIST, resolve("p9 ^1"), resolve("p0 *", "p9 ^2", explain=True), resolve("p9 ^1", budget=0), yank("p9", "1.1.0"),
@@ -137,13 +123,12 @@ class Batches(unittest.TestCase):
 
     def test_a_client_has_its_answer_before_that_is_learnt(self):
         line = resolve(*(f"t{i} *" for i in range(TOPS)))
-        with subprocess.Popen([PROGRAM, "serve", "--workers", "1"], stdin=subprocess.PIPE, stdout=subprocess.PIPE, bufsize=0) as client:
+        with talking() as client:
             fcntl.fcntl(client.stdout, fcntl.F_SETPIPE_SZ, PAGE)
             said_to(client, CLASHING)
             first, told = busy_behind(client, line)
             again, _ = busy_behind(client, line)
-            client.stdin.close()
-            self.assertEqual((client.stdout.read(), client.wait()), (b"", 0))
+            self.assertEqual(end(client), (b"", 0))
         self.assertIn('["t0","0.9.0"]', told)
         # what the first request led to is not learnt again
         self.assertGreater(first, 4 * again)

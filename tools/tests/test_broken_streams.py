@@ -2,14 +2,13 @@
 import fcntl
 import os
 import struct
-import subprocess
 import tempfile
 import termios
 import tty
 import unittest
 
 from preloaded import BREAK_CALLS, Break, built
-from program import LIST, PROGRAM, SERVE, journal_line, publish, resolve, run
+from program import LIST, SERVE, end, journal_line, publish, resolve, run, talking
 from tables import tables_under
 from test_terminal import WAITING
 
@@ -28,14 +27,12 @@ def waiting(pipe):
 
 class Reads(unittest.TestCase):
     def test_byte_by_byte(self):
-        with subprocess.Popen([PROGRAM, *SERVE], stdin=subprocess.PIPE, stdout=subprocess.PIPE, bufsize=0) as client:
+        with talking() as client:
             for byte in LINES:
                 client.stdin.write(bytes([byte]))
                 while waiting(client.stdin) and client.poll() is None:
                     pass
-            client.stdin.close()
-            self.assertEqual(client.stdout.read(), WHOLE_REPLIES + LISTING)
-            self.assertEqual(client.wait(), 0)
+            self.assertEqual(end(client), (WHOLE_REPLIES + LISTING, 0))
 
     def test_a_read_that_fails_behind_some_lines(self):
         # a terminal whose other side is closed gives what was written there, and then fails

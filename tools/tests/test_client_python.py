@@ -10,7 +10,7 @@ import threading
 import unittest
 from unittest import mock
 
-from program import PROGRAM, TOP
+from program import PROGRAM, TOP, in_time
 
 sys.path.insert(0, os.path.join(TOP, "clients", "python"))
 import registryd
@@ -51,6 +51,7 @@ def other(script, **more):
 
 class Client(unittest.TestCase):
     def setUp(self):
+        self.enterContext(in_time(SECONDS))
         folder = tempfile.TemporaryDirectory()
         self.addCleanup(folder.cleanup)
         self.folder = folder.name
@@ -147,6 +148,16 @@ class Client(unittest.TestCase):
                 with self.assertRaises((ValueError, TypeError)):
                     registry.many([Publish("a", "1.0.0"), bad])
             self.assertEqual(registry.list(), Listing(0, {}))
+
+    def test_a_line_that_was_sent_is_not_cancelled(self):
+        # neither has a reply before both are sent
+        registry = other("for line in [sys.stdin.readline(), sys.stdin.readline()]: print('{\"ok\":true,\"revision\":1}', flush=True)\n"
+                         "sys.stdin.read()")
+        first = registry.ask(Publish("a", "1.0.0"))
+        self.assertFalse(first.cancel())
+        self.assertEqual(registry.ask(Publish("b", "1.0.0")).result(SECONDS), Accepted(1))
+        self.assertEqual(first.result(SECONDS), Accepted(1))
+        registry.close()
 
     def test_what_is_called_back(self):
         told = []

@@ -51,6 +51,7 @@ class OverSmallEtcd(unittest.TestCase):
         assert (ended.returncode, ended.stdout, ended.stderr) == (0, b"", b""), ended
 
     def setUp(self):
+        self.enterContext(program.in_time())
         self.etcd = self.founded.copy()
         self.gate = self.opened()
         folder = tempfile.TemporaryDirectory()
@@ -469,8 +470,11 @@ class OverEtcd(unittest.TestCase):
         with tempfile.TemporaryDirectory() as folder:
             text = "\n".join(lines).replace("registryd-etcd ", f"registryd-etcd --program {program.PROGRAM} ").replace("tools/", os.path.join(TOP, "tools", ""))
             with subprocess.Popen(["sh", "-c", text], cwd=folder, stdout=subprocess.PIPE, text=True, start_new_session=True) as shell:
-                printed = shell.stdout.read()
-                os.killpg(shell.pid, signal.SIGKILL)
+                try:
+                    with program.in_time():
+                        printed = shell.stdout.read()
+                finally:
+                    os.killpg(shell.pid, signal.SIGKILL)
         self.assertEqual(printed.splitlines(), told)
 
     @skip_without("openssl", "openssl")

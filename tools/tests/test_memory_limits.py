@@ -11,7 +11,7 @@ import time
 import unittest
 
 import plain_race
-from program import LIST, PROGRAM, journal_line, publish, resolve, run
+from program import LIST, PROGRAM, in_time, journal_line, publish, resolve, run
 from test_race import ACCEPTED, JOURNAL, REPEATED
 
 PIGEONS = 13
@@ -114,7 +114,7 @@ class Peaks(unittest.TestCase):
             fcntl.fcntl(ours, fcntl.F_SETPIPE_SZ, PIPE)
             # what fills the pipe is read before what the race writes
             os.write(ours, b" " * PIPE)
-            with subprocess.Popen([PROGRAM, "race", *paths], stdout=ours) as racing:
+            with in_time(), subprocess.Popen([PROGRAM, "race", *paths], stdout=ours) as racing:
                 os.close(ours)
                 peak = self.held_up(racing)
                 with os.fdopen(theirs, "rb") as printed:

@@ -1,10 +1,9 @@
 """The program as a user meets it: words, pipes, exit statuses."""
 import os
-import subprocess
 import tempfile
 import unittest
 
-from program import LIST, PROGRAM, SERVE, publish, run
+from program import LIST, SERVE, end, publish, read_lines, run, talking
 
 
 class Program(unittest.TestCase):
@@ -12,23 +11,18 @@ class Program(unittest.TestCase):
         self.assertEqual((done.returncode, done.stderr), (status, said))
 
     def test_a_client_that_waits_gets_each_reply(self):
-        with subprocess.Popen([PROGRAM, *SERVE], stdin=subprocess.PIPE, stdout=subprocess.PIPE) as client:
+        with talking() as client:
             for n in range(3):
                 client.stdin.write(publish("a", f"1.{n}.0").encode() + b"\n")
-                client.stdin.flush()
-                self.assertEqual(client.stdout.readline(), b'{"ok":true,"revision":%d}\n' % (n + 1))
-            client.stdin.close()
-            self.assertEqual(client.stdout.read(), b"")
-            self.assertEqual(client.wait(), 0)
+                self.assertEqual(read_lines(client, 1), b'{"ok":true,"revision":%d}\n' % (n + 1))
+            self.assertEqual(end(client), (b"", 0))
 
     def test_a_line_in_pieces(self):
         line = publish("a", "1.0.0").encode() + b"\n" + LIST.encode()
-        with subprocess.Popen([PROGRAM, *SERVE], stdin=subprocess.PIPE, stdout=subprocess.PIPE, bufsize=0) as client:
+        with talking() as client:
             for byte in line:
                 client.stdin.write(bytes([byte]))
-            client.stdin.close()
-            self.assertEqual(client.stdout.read(),
-                             b'{"ok":true,"revision":1}\n{"packages":[["a",[["1.0.0",false]]]],"revision":1}\n')
+            self.assertEqual(end(client), (b'{"ok":true,"revision":1}\n{"packages":[["a",[["1.0.0",false]]]],"revision":1}\n', 0))
 
     def test_no_input(self):
         done = run(SERVE, b"")
