@@ -4,9 +4,9 @@ Each workload is a list of publish lines, and a list of lines that are asked the
 """
 import json
 
-from workloads import MOST_NEEDS, publish, resolve
+from workloads import publish, resolve  # and then what stands in tools can be found
+from limits import MOST_NEEDS, MOST_VERSIONS as VERSIONS
 
-VERSIONS = 4096  # the most of a package
 MEGABYTE = 1_040_000  # bytes, some less than a line may have
 ZED = ["zed", "*"]  # a need that can't be met
 REFUTED = {"causes": [{"fact": "need", "index": 0}, {"fact": "root"}], "conclusion": [], "pivot": ""}  # where it stands first

@@ -15,9 +15,9 @@ import sys
 from ingest import PROGRAM
 from lines import publish_lines
 from resolve import Session
-from workloads import SHARED, about_one, chain, crossed, dead_ends, tower, worn
+from workloads import SHARED, about_one, chain, crossed, dead_ends, tower, worn  # and then what stands in tools can be found
+from limits import MOST_STORED as STORE
 
-STORE = 4096
 SPENT = b'"error":22'
 
 

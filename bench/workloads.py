@@ -3,7 +3,12 @@
 Each workload is a list of publish lines and a list of resolve lines.
 """
 import json
+import os
 import random
+import sys
+
+sys.path.insert(0, os.path.join(os.path.dirname(os.path.dirname(os.path.abspath(__file__))), "tools"))
+from limits import MOST_NEEDS
 
 
 def publish(name, version, needs):
@@ -64,7 +69,6 @@ def requirement(rng, name, versions):
 
 
 TALL = 6
-MOST_NEEDS = 64
 
 
 def tower(size, _seed=1):

@@ -2,8 +2,8 @@
 import json
 
 from check_derivation import NAME, PAIRS, formed, passes, read_version
+from limits import MOST_LINE_BYTES, MOST_LOCK_LINES
 
-MOST_BYTES, MOST_LINES = 1_048_576, 65_535
 MEMBER = '"selected"'
 
 
@@ -19,7 +19,7 @@ def judged(value):
             (1, "BadName: {} is no package name", [name for name, _ in value if not NAME.fullmatch(name)]),
             (2, "BadVersion: {} is no version", [version for _, version in value if read_version(version) is None]),
             (4, "RepeatedDependency: {} comes twice", repeated(name for name, _ in value)),
-            (6, f"TooManyDependencies: {len(value)} lines", value[MOST_LINES:])):
+            (6, f"TooManyDependencies: {len(value)} lines", value[MOST_LOCK_LINES:])):
         if faults:
             raise Refused(f"{number} {told.format(json.dumps(faults[0]))}")
     return dict(value)
@@ -33,7 +33,7 @@ def repeated(names):
 def read_lock(text):
     """The versions by package of a lock list in bytes."""
     try:
-        value = json.loads(text.decode()) if len(text) <= MOST_BYTES else None
+        value = json.loads(text.decode()) if len(text) <= MOST_LINE_BYTES else None
     except (ValueError, RecursionError):
         value = None
     return judged(value)

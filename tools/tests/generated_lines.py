@@ -1,14 +1,17 @@
 """Tables that are too long to be kept, or have bytes that a text can't: a function makes each, and its name and its
 first line say what it shows. A row is a request line in bytes, without its line feed, and its reply."""
 import json
+import os
+import sys
 
-from program import publish, resolve, unyank, yank
+from program import TOP, publish, resolve, unyank, yank
+
+sys.path.insert(0, os.path.join(TOP, "tools"))
+from limits import MOST_COMMANDS, MOST_LINE_BYTES, MOST_NEEDS, MOST_PACKAGES, MOST_VERSIONS
 
 LIST = b'{"op":"list"}'
 EMPTY = '{"packages":[],"revision":0}'
 BAD_LINE = '{"error":19,"name":"BadLine","revision":0}'
-LIMIT = 1_048_576  # bytes of a line
-MOST_COMMANDS = 49_152  # of a session
 
 
 def accepted(lines, revision=0):
@@ -26,8 +29,8 @@ def long_version(number):
 
 
 def lines_at_the_limit_of_their_length():
-    """A line of 1,048,576 bytes is read, one byte more is too much, and the line behind it is read again."""
-    for length, reply in ((LIMIT, EMPTY), (LIMIT + 1, BAD_LINE), (3_000_000, BAD_LINE)):
+    """A line of the most bytes is read, one byte more is too much, and the line behind it is read again."""
+    for length, reply in ((MOST_LINE_BYTES, EMPTY), (MOST_LINE_BYTES + 1, BAD_LINE), (3_000_000, BAD_LINE)):
         yield LIST.rjust(length), reply
         yield LIST, EMPTY
 
@@ -40,31 +43,32 @@ def values_in_one_another():
     yield b"[" * 200 + b"]" * 200, BAD_LINE
 
 
-def needs_past_the_64th_of_a_publication():
+def needs_past_the_most_of_a_publication():
     """All needs of a publication are judged, however many there are: their names, then their requirements."""
     def line(name, requirement):
-        needs = [[f"b{number}", "^1"] for number in range(65)] + [[name, requirement]]
+        needs = [[f"b{number}", "^1"] for number in range(MOST_NEEDS + 1)] + [[name, requirement]]
         return compact({"op": "publish", "name": "a", "version": "1.0.0", "needs": needs})
 
     yield line("b", "none"), '{"error":3,"name":"BadRequirement","revision":0}'
     yield line("B", "none"), '{"error":1,"name":"BadName","revision":0}'
     # so the line is read, and it is the registry that refuses it
     yield line("b", "^1"), '{"error":6,"name":"TooManyDependencies","revision":0}'
-    yield line("b64", "^1"), '{"error":4,"name":"RepeatedDependency","revision":0}'
+    yield line(f"b{MOST_NEEDS}", "^1"), '{"error":4,"name":"RepeatedDependency","revision":0}'
     yield line("a", "^1"), '{"error":5,"name":"SelfDependency","revision":0}'
 
 
-def needs_past_the_64th_of_a_request():
-    """A request has at most 64 needs, and those past them are judged too."""
+def needs_past_the_most_of_a_request():
+    """Of a request too all needs are judged, those past the most that it may have among them."""
     def line(count, name, requirement):
         return compact({"op": "resolve", "needs": [[f"b{number}", "^1"] for number in range(count)] + [[name, requirement]]})
 
-    yield line(63, "c", "^1"), '{"refused":true,"revision":0}'
-    yield line(64, "c", "^1"), '{"error":6,"name":"TooManyDependencies","revision":0}'
-    yield line(64, "b0", "^1"), '{"error":4,"name":"RepeatedDependency","revision":0}'
-    yield line(65, "b64", "^1"), '{"error":4,"name":"RepeatedDependency","revision":0}'
-    yield line(65, "b64", "none"), '{"error":3,"name":"BadRequirement","revision":0}'
-    yield line(65, "B", "none"), '{"error":1,"name":"BadName","revision":0}'
+    more = MOST_NEEDS + 1
+    yield line(MOST_NEEDS - 1, "c", "^1"), '{"refused":true,"revision":0}'
+    yield line(MOST_NEEDS, "c", "^1"), '{"error":6,"name":"TooManyDependencies","revision":0}'
+    yield line(MOST_NEEDS, "b0", "^1"), '{"error":4,"name":"RepeatedDependency","revision":0}'
+    yield line(more, f"b{MOST_NEEDS}", "^1"), '{"error":4,"name":"RepeatedDependency","revision":0}'
+    yield line(more, f"b{MOST_NEEDS}", "none"), '{"error":3,"name":"BadRequirement","revision":0}'
+    yield line(more, "B", "none"), '{"error":1,"name":"BadName","revision":0}'
 
 
 def a_selection_longer_than_the_room_of_replies():
@@ -90,36 +94,40 @@ def a_listing_longer_than_the_room_of_replies():
 
 
 def the_most_versions_and_dependencies():
-    """A package has at most 4,096 versions, and a version at most 64 dependencies."""
+    """A package has as many versions as it may have, and a version as many dependencies; one more is refused."""
     def line(name, version, needs):
         return publish(name, version, [f"d{number} *" for number in range(needs)]).encode()
 
-    yield from accepted([line("a", f"{number}.0.0", 0) for number in range(4096)])
-    yield line("a", "4096.0.0", 0), '{"error":8,"name":"TooManyVersions","revision":4096}'
-    yield line("a", "5.0.0+again", 0), '{"error":7,"name":"AlreadyPublished","revision":4096}'
-    yield line("b", "0.0.0", 65), '{"error":6,"name":"TooManyDependencies","revision":4096}'
-    yield from accepted([line("b", "0.0.0", 64)], 4096)
+    def refused(number, name):
+        return f'{{"error":{number},"name":"{name}","revision":{MOST_VERSIONS}}}'
+
+    yield from accepted([line("a", f"{number}.0.0", 0) for number in range(MOST_VERSIONS)])
+    yield line("a", f"{MOST_VERSIONS}.0.0", 0), refused(8, "TooManyVersions")
+    yield line("a", "5.0.0+again", 0), refused(7, "AlreadyPublished")
+    yield line("b", "0.0.0", MOST_NEEDS + 1), refused(6, "TooManyDependencies")
+    yield from accepted([line("b", "0.0.0", MOST_NEEDS)], MOST_VERSIONS)
 
 
 def the_most_names_of_packages():
-    """65,535 names are numbered, those that are only needed among them: a line that would number one more is refused."""
+    """As many names are numbered as may be, those that are only needed among them: a line that would number one more is refused."""
     def line(name, needs):
         return publish(name, "1.0.0", [f"{name}-{number} ^1" for number in range(needs)]).encode()
 
-    # 1,008 lines of 1 + 64 names are 65,520 names, and 15 are left
-    yield from accepted([line(f"p{number}", 64) for number in range(1008)])
-    yield line("q", 15), '{"error":9,"name":"TooManyPackages","revision":1008}'
-    yield from accepted([line("q", 14)], 1008)
-    yield line("r", 0), '{"error":9,"name":"TooManyPackages","revision":1009}'
-    yield from accepted([line("p5-3", 0)], 1009)
+    # of 65,535 names 1,008 lines of 1 + 64 take 65,520, and 15 are left
+    lines, left = divmod(MOST_PACKAGES, 1 + MOST_NEEDS)
+    yield from accepted([line(f"p{number}", MOST_NEEDS) for number in range(lines)])
+    yield line("q", left), f'{{"error":9,"name":"TooManyPackages","revision":{lines}}}'
+    yield from accepted([line("q", left - 1)], lines)
+    yield line("r", 0), f'{{"error":9,"name":"TooManyPackages","revision":{lines + 1}}}'
+    yield from accepted([line("p5-3", 0)], lines + 1)
 
 
 def the_most_commands_of_a_session():
-    """49,152 commands are accepted, here a publication that is yanked and restored. Then none is, and a refusal of a
+    """As many commands are accepted as may be, here a publication that is yanked and restored. Then none is, and a refusal of a
     lower number is told before that."""
     turns = [yank("a", "1.0.0").encode(), unyank("a", "1.0.0").encode()]
     yield from accepted([publish("a", "1.0.0").encode(), *(turns[number % 2] for number in range(MOST_COMMANDS - 1))])
-    full = '{"error":10,"name":"JournalFull","revision":49152}'
+    full = f'{{"error":10,"name":"JournalFull","revision":{MOST_COMMANDS}}}'
     for line in (yank("a", "2.0.0"), yank("a", "1.0.0"), unyank("a", "1.0.0"), publish("b", "0.0.0")):
         yield line.encode(), full
     yield publish("a", "1.0.0").encode(), full.replace('10,"name":"JournalFull"', '7,"name":"AlreadyPublished"')
@@ -150,8 +158,8 @@ def budgets_in_other_words():
 
 
 SESSIONS = [
-    lines_at_the_limit_of_their_length, values_in_one_another, needs_past_the_64th_of_a_publication,
-    needs_past_the_64th_of_a_request, a_selection_longer_than_the_room_of_replies, a_listing_longer_than_the_room_of_replies,
+    lines_at_the_limit_of_their_length, values_in_one_another, needs_past_the_most_of_a_publication,
+    needs_past_the_most_of_a_request, a_selection_longer_than_the_room_of_replies, a_listing_longer_than_the_room_of_replies,
     the_most_versions_and_dependencies, the_most_names_of_packages, the_most_commands_of_a_session, budgets_in_other_words,
 ]
 

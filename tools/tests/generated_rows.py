@@ -4,6 +4,11 @@ Each function under `@rows_of` is one test. It yields tables, each a title and i
 files under rows/, and a table begins a session of its own. The comment of the function is the source of what is
 wanted.
 """
+import os
+import sys
+
+sys.path.insert(0, os.path.join(os.path.dirname(os.path.abspath(__file__)), ".."))
+from limits import MOST_NAME_BYTES, MOST_REQUIREMENT_BYTES, MOST_VERSION_BYTES, MOST_VERSIONS
 
 # The functions with the folder of rows whose program makes their calls.
 GENERATORS = []
@@ -36,10 +41,11 @@ def a_set_grows_within_its_room():
 
 @rows_of("low")
 def lengths_at_the_limits():
-    """This project's rules: a name has at most 64 bytes, a version and a requirement at most 256."""
-    limits = [("name", "a", "b", 63, 1), ("version", "1.0.0-", "a", 250, 2), ("need", "^1.0.0", " ", 250, 3)]
+    """This project's rules: how many bytes a name, a version and a requirement have at most."""
+    limits = [("name", "a", "b", MOST_NAME_BYTES, 1), ("version", "1.0.0-", "a", MOST_VERSION_BYTES, 2),
+              ("need", "^1.0.0", " ", MOST_REQUIREMENT_BYTES, 3)]
     for of, first, more, most, refusal in limits:
-        text = first + most * more
+        text = first.ljust(most, more)
         yield f"a {of} of {len(text)} bytes and one of one more", [
             row(of, "read", text, text=text), row(of, "read", {"refused": refusal}, text=text + more)]
 
@@ -56,8 +62,6 @@ def comparators_at_the_limit():
 
 # ---- releases
 
-# as many versions as a package may have
-MOST_VERSIONS = 4096
 # met by the upper half of their patches
 UPPER = f">=0.0.{MOST_VERSIONS // 2}"
 

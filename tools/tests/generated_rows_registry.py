@@ -4,7 +4,13 @@ Each function gives its tables, one after another: a title, and the rows with wh
 they are run, since some rows take a megabyte.
 """
 
+import os
+import sys
+
 from generated_rows import KEPT_SETS, PATCHES, of_each_patch, rows_of
+
+sys.path.insert(0, os.path.join(os.path.dirname(os.path.abspath(__file__)), ".."))
+from limits import MOST_LOCK_LINES, MOST_NEEDS, MOST_PACKAGES, MOST_VERSIONS
 
 
 def _publish(name, version, needs, gives):
@@ -36,13 +42,13 @@ def _repeated(count, need):
 @rows_of("low")
 def dependencies_at_their_limit():
     yield (
-        "A version has at most 64 dependencies, and one of 65 that depends on itself is refused for that",
+        f"A version has at most {MOST_NEEDS} dependencies, and one of one more that depends on itself is refused for that",
         [
-            _publish("a", "1.0.0", _many("n", 0, 65), _refused(6)),
-            _publish("n64", "1.0.0", _many("n", 0, 65), _refused(5)),
-            _publish("b", "1.0.0", _many("n", 0, 64), 1),
-            _publish("b", "1.0.0", _many("n", 0, 65), _refused(6)),
-            _registry("packages", 65),
+            _publish("a", "1.0.0", _many("n", 0, MOST_NEEDS + 1), _refused(6)),
+            _publish(f"n{MOST_NEEDS}", "1.0.0", _many("n", 0, MOST_NEEDS + 1), _refused(5)),
+            _publish("b", "1.0.0", _many("n", 0, MOST_NEEDS), 1),
+            _publish("b", "1.0.0", _many("n", 0, MOST_NEEDS + 1), _refused(6)),
+            _registry("packages", MOST_NEEDS + 1),
         ],
     )
     yield (
@@ -69,12 +75,12 @@ def repeats_in_short_and_long_lists():
 
 @rows_of("low")
 def versions_at_their_limit():
-    rows = [_publish("a", f"0.0.{number}", [], number + 1) for number in range(4_096)]
-    rows.append(_publish("a", "0.0.4096", [], _refused(8)))
-    rows.append(_publish("a", "0.0.4095+x", [], _refused(7)))
-    rows.append(_publish("b", "0.0.4096", [], 4_097))
-    rows.append(_registry("versions", 4_096, pkg=1))
-    yield "A package has at most 4,096 versions, and one more of equal precedence is refused for that", rows
+    rows = [_publish("a", f"0.0.{number}", [], number + 1) for number in range(MOST_VERSIONS)]
+    rows.append(_publish("a", f"0.0.{MOST_VERSIONS}", [], _refused(8)))
+    rows.append(_publish("a", f"0.0.{MOST_VERSIONS - 1}+x", [], _refused(7)))
+    rows.append(_publish("b", f"0.0.{MOST_VERSIONS}", [], MOST_VERSIONS + 1))
+    rows.append(_registry("versions", MOST_VERSIONS, pkg=1))
+    yield f"A package has at most {MOST_VERSIONS:,} versions, and one more of equal precedence is refused for that", rows
 
 
 @rows_of("low")
@@ -96,32 +102,32 @@ def dependencies_beyond_those_whose_sets_are_kept():
 
 @rows_of("low")
 def names_at_their_limit():
-    """A publication of a name that is numbered last numbers up to 64 more, until 65,530 are."""
-    rows = []
-    for revision, numbered in enumerate(range(1, 65_530, 64), 1):
-        more = min(65_530 - numbered, 64)
+    """A publication of a name that is numbered last numbers as many more as it may need, until five are left."""
+    rows, before_last = [], MOST_PACKAGES - 5
+    for revision, numbered in enumerate(range(1, before_last, MOST_NEEDS), 1):
+        more = min(before_last - numbered, MOST_NEEDS)
         rows.append(_publish(f"n{numbered - 1}", "1.0.0", _many("n", numbered, more), revision))
     before = len(rows)
     for name, letter, count, gives, packages in (
-        ("a", "m", 5, _refused(9), 65_530),
-        ("a", "m", 4, before + 1, 65_535),
-        ("b", "m", 0, _refused(9), 65_535),
-        ("m0", "k", 1, _refused(9), 65_535),
-        ("m1", "n", 64, before + 2, 65_535),
+        ("a", "m", 5, _refused(9), before_last),
+        ("a", "m", 4, before + 1, MOST_PACKAGES),
+        ("b", "m", 0, _refused(9), MOST_PACKAGES),
+        ("m0", "k", 1, _refused(9), MOST_PACKAGES),
+        ("m1", "n", MOST_NEEDS, before + 2, MOST_PACKAGES),
     ):
         rows.append(_publish(name, "1.0.0", _many(letter, 0, count), gives))
         rows.append(_registry("packages", packages))
-    yield "At most 65,535 names are numbered, and what names none that is new is still accepted", rows
+    yield f"At most {MOST_PACKAGES:,} names are numbered, and what names none that is new is still accepted", rows
 
 
 @rows_of("low")
 def many_versions_in_any_order():
-    """The patch numbers below 4,096, each once: in steps of 4,095 they fall, in steps of 389 they are mixed."""
-    for order, step in (("falling", 4_095), ("mixed", 389)):
-        patches = [number * step % 4_096 for number in range(4_096)]
+    """The patch numbers below the most versions, each once: in steps of one less they fall, in steps of 389 they are mixed."""
+    for order, step in (("falling", MOST_VERSIONS - 1), ("mixed", 389)):
+        patches = [number * step % MOST_VERSIONS for number in range(MOST_VERSIONS)]
         rows = [_publish("a", f"0.0.{patch}", [], at) for at, patch in enumerate(patches, 1)]
-        rows.append(_registry("versions", 4_096, pkg=1))
-        for yanked, patch in enumerate((1, 2, 63, 64, 1_024, 4_095), 1):
+        rows.append(_registry("versions", MOST_VERSIONS, pkg=1))
+        for yanked, patch in enumerate((1, 2, 63, 64, 1_024, MOST_VERSIONS - 1), 1):
             within = [ordinal for ordinal, other in enumerate(patches) if other <= patch]
             given = {"name": "a", "version": f"0.0.{patch}+x"}
             rows += [
@@ -130,19 +136,19 @@ def many_versions_in_any_order():
                 _registry("find", patches.index(patch), pkg=1, version=f"0.0.{patch}+x"),
                 _registry("publish", _refused(7), needs=[], **given),
                 _registry("unyank", _refused(13), **given),
-                _registry("yank", 4_096 + yanked, **given),
+                _registry("yank", MOST_VERSIONS + yanked, **given),
             ]
-        yield f"Of 4,096 versions in {order} order each is found, and the highest of a set", rows
+        yield f"Of {MOST_VERSIONS:,} versions in {order} order each is found, and the highest of a set", rows
 
 
 @rows_of("low")
 def needs_of_a_request_at_their_limit():
     yield (
-        "A request has at most 64 needs, and a longer list that repeats a name is refused for that",
+        f"A request has at most {MOST_NEEDS} needs, and a longer list that repeats a name is refused for that",
         [
-            _request("new", _many("n", 0, 64), [], "made"),
-            _request("new", _many("n", 0, 65), [], _refused(6)),
-            _request("new", _repeated(65, "*"), [], _refused(4)),
+            _request("new", _many("n", 0, MOST_NEEDS), [], "made"),
+            _request("new", _many("n", 0, MOST_NEEDS + 1), [], _refused(6)),
+            _request("new", _repeated(MOST_NEEDS + 1, "*"), [], _refused(4)),
         ],
     )
 
@@ -155,11 +161,11 @@ def _lines(count, step):
 @rows_of("low")
 def lines_of_a_lock_at_their_limit():
     yield (
-        "A lock has at most 65,535 lines, and a longer one that repeats a name is refused for that",
+        f"A lock has at most {MOST_LOCK_LINES:,} lines, and a longer one that repeats a name is refused for that",
         [
-            _request("new", [], _lines(65_535, 7), "made"),
-            _request("new", [], _lines(65_536, 7), _refused(6)),
-            _request("new", [], _lines(65_536, 7) + [["n7", "1.0.0"]], _refused(4)),
+            _request("new", [], _lines(MOST_LOCK_LINES, 7), "made"),
+            _request("new", [], _lines(MOST_LOCK_LINES + 1, 7), _refused(6)),
+            _request("new", [], _lines(MOST_LOCK_LINES + 1, 7) + [["n7", "1.0.0"]], _refused(4)),
         ],
     )
 

@@ -3,7 +3,13 @@
 A table is a title and its rows; a row's member `gives` is what the call is wanted to answer, or what the function in its
 member `by` is to give of that."""
 
+import os
+import sys
+
 from generated_rows import rows_of
+
+sys.path.insert(0, os.path.join(os.path.dirname(os.path.abspath(__file__)), ".."))
+from limits import MOST_DERIVATION_LINES as MOST, MOST_OFFERED_LINES
 
 
 def _publish(revision, name, version, *needs):
@@ -32,14 +38,14 @@ def _line(conclusion):
 
 
 @rows_of("search")
-def at_most_256_lines_are_learnt():
+def so_many_lines_are_learnt():
     follows = _line([[1, {"in": [0]}], [3, {"not": [0]}]])
     other = _line([[1, {"in": [0]}], [3, {"not": [1]}]])
     learnt, too_long, underived = follows["conclusion"], {"refused": 20}, {"refused": 21}
     rows = [{"of": "learnt", "call": "new", "lines": [follows] * count + [last], "gives": gives}
-            for count, last, gives in [(255, follows, learnt), (255, other, underived),
-                                       (256, follows, too_long), (256, other, too_long)]]
-    yield "256 lines are learnt, and 257 are not, whether they follow or not", rows
+            for count, last, gives in [(MOST - 1, follows, learnt), (MOST - 1, other, underived),
+                                       (MOST, follows, too_long), (MOST, other, too_long)]]
+    yield f"{MOST} lines are learnt, and {MOST + 1} are not, whether they follow or not", rows
 
 
 # ---- walk
@@ -85,16 +91,16 @@ def _count_as_cited(lines):
     return counts[-1]
 
 
-def _beyond_256(answer):
-    """Of the offer that takes most lines where one is counted as often as it is cited: whether these are more than 256, and whether
+def _beyond_the_most(answer):
+    """Of the offer that takes most lines where one is counted as often as it is cited: whether these are too many, and whether
     its lines are, each counted once."""
     most = max(answer["offered"], key=_count_as_cited)
-    return [_count_as_cited(most) > 256, len(most) > 256]
+    return [_count_as_cited(most) > MOST, len(most) > MOST]
 
 
 @rows_of("high")
 def as_many_lines_as_may_be_learnt_are_offered():
-    for count, offered in [(3, [4]), (255, [256]), (256, [])]:
+    for count, offered in [(3, [4]), (MOST - 1, [MOST]), (MOST, [])]:
         rows = _published(*_row_of_packages(count))
         rows.append(_asked("solver", "solve", offered, "top *", by=_counts))
         yield f"What is shown by {count + 1} lines is {'' if offered else 'not '}offered", rows
@@ -114,13 +120,14 @@ def _tops(count, length):
 
 
 @rows_of("high")
-def offers_have_1024_lines_together():
-    # three times 256 lines, and 256 for the last one
-    for count, offered in [(4, 4), (5, 4), (8, 4)]:
-        rows = _published(*_tops(count, 255))
+def offers_have_so_many_lines_together():
+    # each takes as many lines as may be
+    most = MOST_OFFERED_LINES // MOST
+    for count, offered in [(most, most), (most + 1, most), (2 * most, most)]:
+        rows = _published(*_tops(count, MOST - 1))
         needs = [[f"t{number}", "*"] for number in range(count)]
-        rows.append({"of": "solver", "call": "solve", "needs": needs, "lock": [], "by": _counts, "gives": [256] * offered})
-        yield f"Of {count} lines that take 256 lines each, {offered} are offered", rows
+        rows.append({"of": "solver", "call": "solve", "needs": needs, "lock": [], "by": _counts, "gives": [MOST] * offered})
+        yield f"Of {count} lines that take {MOST} lines each, {offered} are offered", rows
 
 
 def _feet(rows, count):
@@ -144,5 +151,5 @@ def _feet(rows, count):
 @rows_of("high")
 def a_line_that_is_cited_again_counts_once():
     rows = _published(*_feet(7, 14))
-    rows.append(_asked("solver", "solve", [True, False], "top *", by=_beyond_256))
-    yield "What takes more than 256 lines as they are cited, and no more where each counts once, is offered", rows
+    rows.append(_asked("solver", "solve", [True, False], "top *", by=_beyond_the_most))
+    yield f"What takes more than {MOST} lines as they are cited, and no more where each counts once, is offered", rows

@@ -3,12 +3,15 @@
 A table is a title and its rows; a row's member `gives` is what the call is wanted to answer. The calls that may change
 the store answer how many members there are, once each of them was found to stand."""
 
+import os
 import random
+import sys
 
 from generated_rows import rows_of
 from plain_store import PlainStore
 
-LIMIT = 4096
+sys.path.insert(0, os.path.join(os.path.dirname(os.path.abspath(__file__)), ".."))
+from limits import MOST_STORED
 
 
 def _publish(gives, name, version, *needs):
@@ -56,18 +59,18 @@ def at_most_4096_are_stored():
     own = 9  # of the members rest on packages of their own, and all others on c
     rows = [*_chain(), *_own_packages(own + 1)]
     rows += [_learn_own(k + 1, k, 0) for k in range(own)]
-    rows += [_call("learn", k, 0, k) for k in range(own + 1, LIMIT + 1)]
+    rows += [_call("learn", k, 0, k) for k in range(own + 1, MOST_STORED + 1)]
     rows += [
-        _call("check", {"refused": 16}, 0, LIMIT + 1),
-        _call("learn", {"refused": 16}, 0, LIMIT + 1),
+        _call("check", {"refused": 16}, 0, MOST_STORED + 1),
+        _call("learn", {"refused": 16}, 0, MOST_STORED + 1),
         _call("learn", {"refused": 15}, 0, own + 1),
         # one goes, and another comes in its place
         _learn_own({"refused": 16}, own, 0),
-        _publish(LIMIT, f"q{own}", "1.1.0"),
-        _publish(LIMIT, "q7", "2.0.0"),
-        _publish(LIMIT - 1, "q7", "1.1.0"),
+        _publish(MOST_STORED, f"q{own}", "1.1.0"),
+        _publish(MOST_STORED, "q7", "2.0.0"),
+        _publish(MOST_STORED - 1, "q7", "1.1.0"),
         _learn_own({"refused": 14}, 7, 0),
-        _learn_own(LIMIT, 7, 0, 2),
+        _learn_own(MOST_STORED, 7, 0, 2),
         _learn_own({"refused": 16}, own, 0, 1),
         # a version of c that each of the others rests on
         _publish(own, "c", "1.1.0"),
@@ -91,13 +94,13 @@ def a_seat_stores_at_most_4096():
 
     for place, (name, *needs) in enumerate([("a", ["b", "^1.0.0"]), ("b", ["c", "^1.0.0"]), ("c",)], 1):
         step("publish", {"name": name, "version": "1.0.0", "needs": needs}, [place, place])
-    for k in range(1, LIMIT + 1):
+    for k in range(1, MOST_STORED + 1):
         learn([k + 3, 3], 0, k)
-    learn({"refused": 16}, 0, LIMIT + 1)
+    learn({"refused": 16}, 0, MOST_STORED + 1)
     learn({"refused": 15}, 0, 1)
-    step("publish", {"name": "c", "version": "1.1.0", "needs": []}, [LIMIT + 4, 4])
+    step("publish", {"name": "c", "version": "1.1.0", "needs": []}, [MOST_STORED + 4, 4])
     step("stored", None, [])
-    learn([LIMIT + 5, 4], 0, 1)
+    learn([MOST_STORED + 5, 4], 0, 1)
     learn({"refused": 14}, 0, 2)
     step("stored", None, [_line(0, 1)["conclusion"]])
     yield "A seat stores 4,096, and a publication that all rest on drops them all", [

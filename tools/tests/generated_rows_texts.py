@@ -1,8 +1,13 @@
 """Tables of texts that are long, or that are cut at each byte: explanations, lines, journals and replies. Each public
 function makes some: a table is a title and its rows, and the function's comment is the source of what is wanted.
 """
+import os
+import sys
 
 from generated_rows import rows_of
+
+sys.path.insert(0, os.path.join(os.path.dirname(os.path.abspath(__file__)), ".."))
+from limits import MOST_CELLS, MOST_LINE_BYTES
 
 # foo 1 needs bar 2, and bar 2 needs baz 3; baz 1 is asked for too.
 CHAIN = [("foo", "1.0.0", [["bar", "^2.0.0"]]), ("bar", "2.0.0", [["baz", "^3.0.0"]]), ("baz", "1.0.0", []),
@@ -55,10 +60,10 @@ def an_explanation_is_cut_at_each_byte():
 
 @rows_of("texts")
 def lines_round_the_limit():
-    """This project's limit: a line has at most 1,048,576 bytes, and a longer one is given up alone."""
+    """This project's limit: how many bytes a line has at most, and a longer one is given up alone."""
     rows = []
-    for length in (1_048_575, 1_048_576, 1_048_577, 1_200_000, 3_000_000):
-        found = "x" * length if length <= 1_048_576 else {"refused": 20}
+    for length in (MOST_LINE_BYTES - 1, MOST_LINE_BYTES, MOST_LINE_BYTES + 1, 1_200_000, 3_000_000):
+        found = "x" * length if length <= MOST_LINE_BYTES else {"refused": 20}
         for piece in ({"piece": 65_536}, {"piece": 50_000}, {}):
             rows.append(_row("lines", "read", [[found, "next"]], text=[["x", length], ["\nnext", 1]], then="",
                             signals=True, steps=["rest"], **piece))
@@ -69,8 +74,8 @@ def lines_round_the_limit():
 def last_lines_round_the_limit():
     """As above, without a line feed at the end."""
     rows = []
-    for length in (1_048_576, 1_048_577, 1_200_000):
-        found = "x" * length if length <= 1_048_576 else {"refused": 20}
+    for length in (MOST_LINE_BYTES, MOST_LINE_BYTES + 1, 1_200_000):
+        found = "x" * length if length <= MOST_LINE_BYTES else {"refused": 20}
         rows.append(_row("lines", "read", [[found]], text=[["x", length]], then="", signals=True, piece=65_536,
                         steps=["rest"]))
     yield "a last line over the limit is given up", rows
@@ -133,19 +138,19 @@ def marks_where_a_segment_ends():
 
 @rows_of("high")
 def a_row_of_all_its_places():
-    """The rules of a row: a seat's command stands after all that either seat entered, up to the last of 65,536 places.
+    """The rules of a row: a seat's command stands after all that either seat entered, up to the last of its places.
     Of one version each yank and each undoing of it is accepted in turn, so an entry that was missed would be told."""
     version = {"name": "a", "version": "1.0.0"}
     steps = [[1, "publish", {**version, "needs": []}]]
-    for place in range(2, 65_537):
+    for place in range(2, MOST_CELLS + 1):
         # 100 places in a row are one seat's, so that now the one and now the other comes first to a segment
         steps.append([1 + place // 100 % 2, "unyank" if place % 2 else "yank", version])
-    yield "two seats fill a row of 65,536 places", [
+    yield f"two seats fill a row of {MOST_CELLS:,} places", [
         _row("chronicle", "steps",
-            [*([place, place] for place in range(1, 65_536)), 65_535, [65_536, 65_536], {"refused": 10}, {"refused": 7},
-             65_536, None, 65_536, 65_536, None],
-            capacity=65_536, seats=[1, 2], steps=[
-                *steps[:65_535], [2, "place"], steps[65_535], [1, "unyank", version], [2, *steps[0][1:]],
+            [*([place, place] for place in range(1, MOST_CELLS)), MOST_CELLS - 1, [MOST_CELLS, MOST_CELLS], {"refused": 10},
+             {"refused": 7}, MOST_CELLS, None, MOST_CELLS, MOST_CELLS, None],
+            capacity=MOST_CELLS, seats=[1, 2], steps=[
+                *steps[:-1], [2, "place"], steps[-1], [1, "unyank", version], [2, *steps[0][1:]],
                 [2, "mark"], [1, "meet"], [1, "place"], [1, "revision"], ["agree"]])]
 
 

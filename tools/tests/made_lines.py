@@ -1,17 +1,22 @@
 """Request lines for sessions that nobody would write by hand: most of them good, many damaged in their bytes, their tokens
 or their members. Nothing here says what a line is answered."""
 import json
+import os
 import re
+import sys
 from json.encoder import encode_basestring, encode_basestring_ascii
+
+sys.path.insert(0, os.path.join(os.path.dirname(os.path.abspath(__file__)), ".."))
+from limits import MOST_DERIVATION_LINES, MOST_NAME_BYTES, MOST_NEEDS, MOST_REQUIREMENT_BYTES, MOST_VERSION_BYTES, MOST_VERSIONS
 
 NAMES = ["a", "b", "c", "d", "e-1"]
 VERSIONS = ["1.0.0", "1.1.0", "1.2.3", "2.0.0", "2.0.0-rc.1", "0.3.1", "0.0.7", "1.0.0-alpha.1", "2.1.0+build.5"]
 REQUIREMENTS = ["*", "^1", "^1.0.0", "^2.0.0", "=1.1.0", ">=1.1.0", "<2.0.0", ">=1.0.0, <2.0.0", "~1.0", "1.2.*", "^0.3", ">2", "x",
                 "^2.0.0-rc.1", "1", "~1.2.3", "=2", "<=1.2, >0.3", ">=0.0.7"]
-TEXTS = ["", "A", "9a", "a.b", "a" * 64, "a" * 65, "zed", "é", "a\u0000", "\ufeffa", "1.0", "01.0.0", "1.0.0-", "1.0.0-01", "1.0.0+", "1.0.0+01",
-         "18446744073709551615.0.0", "18446744073709551616.0.0", "1.0.0-" + "9" * 40, "1.0.0+" + "b" * 250, "1.0.0+" + "b" * 251,
+TEXTS = ["", "A", "9a", "a.b", "a" * MOST_NAME_BYTES, "a" * (MOST_NAME_BYTES + 1), "zed", "é", "a\u0000", "\ufeffa", "1.0", "01.0.0", "1.0.0-", "1.0.0-01", "1.0.0+", "1.0.0+01",
+         "18446744073709551615.0.0", "18446744073709551616.0.0", "1.0.0-" + "9" * 40, "1.0.0+".ljust(MOST_VERSION_BYTES, "b"), "1.0.0+".ljust(MOST_VERSION_BYTES + 1, "b"),
          "1.0.0-alpha..1", " 1.0.0", "1.0.0 ", "v1.0.0", "", "^", ">=", "1,", ",1", "1 2", "1.0.0.0", "*, 1", "1.*.*", "1.*.2", "^*", "> 1",
-         "=1.x", ", ".join(["^1"] * 32), ", ".join(["^1"] * 33), "^1" + " " * 254, "^1" + " " * 255, "\u0661.0.0", "^\u0661", "1.0.0-\u0661",
+         "=1.x", ", ".join(["^1"] * 32), ", ".join(["^1"] * 33), "^1".ljust(MOST_REQUIREMENT_BYTES), "^1".ljust(MOST_REQUIREMENT_BYTES + 1), "\u0661.0.0", "^\u0661", "1.0.0-\u0661",
          "publish", "learn", "list", "check", "null", "\U0001f600", "x" * 3000]
 NUMBERS = ["0", "1", "2", "16", "-1", "-0", "0.0", "1.0", "1e0", "1E0", "4294967295", "4294967296", "18446744073709551615", "18446744073709551616",
            "1e308", "1e309", "-1e400", "1e-400", "00", "01", "+1", ".5", "1.", "0x10", "NaN", "Infinity", "-Infinity", "9" * 400, "1" + "0" * 30]
@@ -38,7 +43,7 @@ class Maker:
     def pairs(self, names, texts, most):
         if self.rng.random() < 0.004:
             # about as many as there may be
-            return [[f"n{number}", self.rng.choice(texts)] for number in range(self.rng.choice([63, 64, 65, 66, 130]))]
+            return [[f"n{number}", self.rng.choice(texts)] for number in range(self.rng.choice([MOST_NEEDS - 1, MOST_NEEDS, MOST_NEEDS + 1, MOST_NEEDS + 2, 2 * MOST_NEEDS + 2]))]
         named = self.rng.sample(names, min(self.rng.choice([0, 1, 1, 2, 3]), len(names), most))
         if named and self.rng.random() < 0.02:
             named.append(self.rng.choice(named))
@@ -83,7 +88,8 @@ class Maker:
 
     def repeated(self, rows):
         """A derivation with its first lines many times over: each follows as the first of its kind does, where that cites no line."""
-        count = self.rng.choice([1, 2, 10, 127, 254, 255, 256])
+        most = MOST_DERIVATION_LINES
+        count = self.rng.choice([1, 2, 10, most // 2 - 1, most - 2, most - 1, most])
         first = rows[:self.rng.randrange(1, 3)]
         moved = json.loads(json.dumps(rows))
         for row in moved:
@@ -140,7 +146,7 @@ class Maker:
 
     def near_set(self, ordinals):
         if self.rng.random() < 0.05:
-            return list(range(0, self.rng.choice([64, 65, 4096, 5000]), self.rng.choice([1, 63, 64])))
+            return list(range(0, self.rng.choice([64, 65, MOST_VERSIONS, MOST_VERSIONS + 904]), self.rng.choice([1, 63, 64])))
         return sorted(set(ordinals) ^ {self.rng.choice([0, 1, 2, 3, 4, 5, 17, 4294967295])})
 
     def check(self):

@@ -13,10 +13,9 @@ from reference import NAME, Registry, precedence
 sys.path.insert(0, os.path.join(TOP, "tools"))
 import check_derivation
 from check_derivation import CAUSES, COMMANDS, LINE, PAIRS, RESOLVE, ROOT, formed
+from limits import MOST_LINE_BYTES, MOST_NEEDS
 
-LIMIT = 1_048_576
 MOST_DEPTH = 127
-MOST_NEEDS = 64
 BRACKETS = re.compile(r"[\[\]{}]")
 STRING = re.compile(r'"(?:[^"\\]|\\.)*"')
 FORMS = {form["op"]: form for form in COMMANDS} | {
@@ -107,7 +106,7 @@ def made(form):
 
 def read_request(line):
     """What a line asks, with what it leaves out; none where it is of no form."""
-    value = read_json(line) if len(line) <= LIMIT else None
+    value = read_json(line) if len(line) <= MOST_LINE_BYTES else None
     op = value.get("op") if isinstance(value, dict) else None
     if not isinstance(op, str) or op not in FORMS:
         return None

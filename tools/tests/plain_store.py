@@ -1,10 +1,15 @@
 """The store of what was learnt in plain Python that shares nothing with the program: what it takes, what it refuses, and
 what a publication ends. Lines stand as rows give them, each a premise that is cited twice."""
+import os
+import sys
+
 from plain_search import key, matches
+
+sys.path.insert(0, os.path.join(os.path.dirname(os.path.abspath(__file__)), ".."))
+from limits import MOST_STORED
 
 STALE, KNOWN, STORE_FULL = ({"refused": number} for number in (14, 15, 16))
 ALREADY_PUBLISHED, NO_SUCH_VERSION, ALREADY_YANKED, NOT_YANKED = ({"refused": number} for number in (7, 11, 12, 13))
-LIMIT = 4096
 
 
 class PlainStore:
@@ -67,7 +72,7 @@ class PlainStore:
             return STALE
         if line["conclusion"] in self.members():
             return KNOWN
-        return STORE_FULL if len(self.lines) >= LIMIT else None
+        return STORE_FULL if len(self.lines) >= MOST_STORED else None
 
     def learn(self, line):
         """How many are stored then, or the refusal."""

@@ -88,11 +88,12 @@ def run(words, given=b"", most=None, **more):
 
 
 def children():
-    """The processes that this one has started and that are there still."""
+    """The processes that this one has started and that have not ended."""
     for path in Path("/proc").glob("[0-9]*/stat"):
         with contextlib.suppress(OSError):
             # the name of what runs stands in parentheses, and may have any letters
-            if int(path.read_text(encoding="utf-8", errors="replace").rpartition(")")[2].split()[1]) == os.getpid():
+            state, parent, *_ = path.read_text(encoding="utf-8", errors="replace").rpartition(")")[2].split()
+            if int(parent) == os.getpid() and state != "Z":
                 yield int(path.parent.name)
 
 

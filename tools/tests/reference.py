@@ -1,12 +1,17 @@
 """The rules of the registry once more, in plain Python that shares nothing with
 the program: what each line is answered, and what it changes."""
+import os
 import re
+import sys
 from functools import lru_cache
+
+sys.path.insert(0, os.path.join(os.path.dirname(os.path.abspath(__file__)), ".."))
+from limits import MOST_NAME_BYTES, MOST_NEEDS, MOST_PACKAGES, MOST_VERSION_BYTES, MOST_VERSIONS
 
 NUMBER = r"(0|[1-9]\d*)"
 IDENTIFIER = r"(?:0|[1-9]\d*|\d*[A-Za-z-][0-9A-Za-z-]*)"
 VERSION = re.compile(rf"{NUMBER}\.{NUMBER}\.{NUMBER}(?:-({IDENTIFIER}(?:\.{IDENTIFIER})*))?(?:\+[0-9A-Za-z-]+(?:\.[0-9A-Za-z-]+)*)?", re.ASCII)
-NAME = re.compile(r"[a-z][a-z0-9_-]{0,63}")
+NAME = re.compile("[a-z][a-z0-9_-]{0,%d}" % (MOST_NAME_BYTES - 1))
 REFUSALS = {1: "BadName", 2: "BadVersion", 3: "BadRequirement", 4: "RepeatedDependency", 5: "SelfDependency",
             6: "TooManyDependencies", 7: "AlreadyPublished", 8: "TooManyVersions", 9: "TooManyPackages",
             10: "JournalFull", 11: "NoSuchVersion", 12: "AlreadyYanked", 13: "NotYanked", 18: "NoMemory", 19: "BadLine"}
@@ -16,7 +21,7 @@ REFUSALS = {1: "BadName", 2: "BadVersion", 3: "BadRequirement", 4: "RepeatedDepe
 def precedence(text):
     """The version without its build metadata: equal for versions of equal precedence. None for no version."""
     found = VERSION.fullmatch(text)
-    if not found or len(text) > 256 or any(int(number) >= 2 ** 64 for number in found.groups()[:3]):
+    if not found or len(text) > MOST_VERSION_BYTES or any(int(number) >= 2 ** 64 for number in found.groups()[:3]):
         return None
     return found.groups()
 
@@ -43,8 +48,8 @@ class Registry:
         found = [row for row in held if row[1] == asked]
         if request["op"] == "publish":
             targets = [need[0] for need in needs]
-            tests = [(4, len(set(targets)) < len(targets)), (5, name in targets), (6, len(targets) > 64), (7, found),
-                     (8, len(held) >= 4096), (9, len({*self.names, name, *targets}) > 65535)]
+            tests = [(4, len(set(targets)) < len(targets)), (5, name in targets), (6, len(targets) > MOST_NEEDS), (7, found),
+                     (8, len(held) >= MOST_VERSIONS), (9, len({*self.names, name, *targets}) > MOST_PACKAGES)]
         else:
             tests = [(11, not found), (12, request["op"] == "yank" and found and found[0][2]),
                      (13, request["op"] == "unyank" and found and not found[0][2])]

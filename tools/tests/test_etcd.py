@@ -22,6 +22,7 @@ from test_readme import blocks
 
 sys.path.insert(0, os.path.join(TOP, "tools"))
 import etcd_histories
+from limits import MOST_COMMANDS, MOST_LINE_BYTES
 
 A1, A2, B1 = publish("a", "1.0.0"), publish("a", "2.0.0", ["b ^1"]), publish("b", "1.0.0")
 
@@ -129,7 +130,7 @@ class OverSmallEtcd(unittest.TestCase):
 
     def test_lines_at_their_edges(self):
         # a line of the longest kind, one that is longer, and a last one without its line feed
-        longest = b'{"op":"list"}' + b" " * (1_048_576 - len(LIST))
+        longest = b'{"op":"list"}' + b" " * (MOST_LINE_BYTES - len(LIST))
         told = self.done("serve", given=longest + b"\n" + longest + b" \n" + LIST.encode())
         listed = '{"packages":[],"place":0,"revision":0,"seat":1}\n'
         self.assertEqual(told, listed + refused(19, "BadLine", 0, 0) + "\n" + listed)
@@ -312,15 +313,16 @@ class OverSmallEtcd(unittest.TestCase):
 
     def test_a_full_journal(self):
         # one publication, and then it is yanked and taken back until one command less than a session accepts
+        most = MOST_COMMANDS
         turns = [program.journal_line(yank("a", "1.0.0")), program.journal_line(unyank("a", "1.0.0"))]
-        lines = ["registry-journal 1", program.journal_line(A1), *(turns * 24_575), "end 49151", ""]
+        lines = ["registry-journal 1", program.journal_line(A1), *(turns * most)[:most - 2], f"end {most - 1}", ""]
         path = os.path.join(self.folder, "journal")
         with open(path, "w", encoding="ascii") as file:
             file.write("\n".join(lines))
         self.done("found", "--prefix", "full", "--load", path)
         told = self.done("serve", "--prefix", "full", given="\n".join([*turns, B1, resolve("a *", lock=["a 1.0.0"])]).encode())
-        self.assertEqual(told, accepted(1, 49_152) + "\n" + refused(10, "JournalFull", 2, 49_152) + "\n" + refused(10, "JournalFull", 3, 49_152)
-                         + '\n{"place":3,"revision":49152,"seat":1,"selected":[["a","1.0.0"]]}\n')
+        self.assertEqual(told, accepted(1, most) + "\n" + refused(10, "JournalFull", 2, most) + "\n" + refused(10, "JournalFull", 3, most)
+                         + f'\n{{"place":3,"revision":{most},"seat":1,"selected":[["a","1.0.0"]]}}\n')
 
     # ---- what lies
 

@@ -1,12 +1,16 @@
 """Lines that nobody should send: each has one reply, and nothing is lost."""
 import json
+import os
+import sys
 import unittest
 
-from program import LIST, SERVE, publish, run, serve
+from program import LIST, SERVE, TOP, publish, run, serve
+
+sys.path.insert(0, os.path.join(TOP, "tools"))
+from limits import MOST_COMMANDS, MOST_LINE_BYTES, MOST_VERSIONS
 
 BAD_LINE = '{"error":19,"name":"BadLine","revision":0}'
 EMPTY = '{"packages":[],"revision":0}'
-LIMIT = 1_048_576
 
 
 class Hostile(unittest.TestCase):
@@ -16,8 +20,8 @@ class Hostile(unittest.TestCase):
         return done.stdout.decode().split("\n")[:-1]
 
     def test_a_line_over_the_limit_is_read_over(self):
-        fits = b'{"op":"list"}' + b" " * (LIMIT - 13)
-        self.assertEqual(len(fits), LIMIT)
+        fits = b'{"op":"list"}' + b" " * (MOST_LINE_BYTES - 13)
+        self.assertEqual(len(fits), MOST_LINE_BYTES)
         self.assertEqual(self.replies(fits + b"\n" + fits + b" \n" + LIST.encode()), [EMPTY, BAD_LINE, EMPTY])
         self.assertEqual(self.replies(b"x" * 5_000_000 + b"\n" + LIST.encode() + b"\n"), [BAD_LINE, EMPTY])
         self.assertEqual(self.replies(b"x" * 5_000_000), [BAD_LINE])
@@ -26,19 +30,18 @@ class Hostile(unittest.TestCase):
         needs = [["%x" % (n + 0xa00000), "1"] for n in range(75_000)]
         line = json.dumps({"op": "publish", "name": "p", "version": "1.0.0", "needs": needs}, separators=(",", ":"))
         self.assertLess(len(line), 1_200_000)
-        needs = needs[: int(len(needs) * (LIMIT - 60) / len(line)) - 10]
+        needs = needs[: int(len(needs) * (MOST_LINE_BYTES - 60) / len(line)) - 10]
         whole = json.dumps({"op": "publish", "name": "p", "version": "1.0.0", "needs": needs}, separators=(",", ":"))
         repeated = json.dumps({"op": "publish", "name": "p", "version": "1.0.0", "needs": needs[:-1] + needs[:1]},
                               separators=(",", ":"))
-        self.assertLessEqual(len(whole), LIMIT)
+        self.assertLessEqual(len(whole), MOST_LINE_BYTES)
         self.assertEqual(serve([whole, repeated] * 4), [
             '{"error":6,"name":"TooManyDependencies","revision":0}',
             '{"error":4,"name":"RepeatedDependency","revision":0}',
         ] * 4)
 
     def test_the_session_limit(self):
-        # 12 packages of 4,096 versions are 49,152 commands
-        lines = [publish(f"p{p}", f"1.{v}.0") for p in range(12) for v in range(4096)]
+        lines = [publish(f"p{n // MOST_VERSIONS}", f"1.{n % MOST_VERSIONS}.0") for n in range(MOST_COMMANDS)]
         replies = serve(lines + [
             publish("q", "1.0.0"),
             '{"op":"yank","name":"p0","version":"9.0.0"}',
@@ -46,13 +49,9 @@ class Hostile(unittest.TestCase):
             publish("p0", "1.0.0+again"),
             publish("q", "1.0.0", ["q ^1"]),
         ])
-        self.assertEqual(replies[:49152], ['{"ok":true,"revision":%d}' % (n + 1) for n in range(49152)])
-        full = '{"error":10,"name":"JournalFull","revision":49152}'
-        self.assertEqual(replies[49152:], [
-            full, full, full,
-            '{"error":7,"name":"AlreadyPublished","revision":49152}',
-            '{"error":5,"name":"SelfDependency","revision":49152}',
-        ])
+        self.assertEqual(replies[:MOST_COMMANDS], ['{"ok":true,"revision":%d}' % (n + 1) for n in range(MOST_COMMANDS)])
+        told = [(10, "JournalFull"), (10, "JournalFull"), (10, "JournalFull"), (7, "AlreadyPublished"), (5, "SelfDependency")]
+        self.assertEqual(replies[MOST_COMMANDS:], [f'{{"error":{number},"name":"{name}","revision":{MOST_COMMANDS}}}' for number, name in told])
 
 
 if __name__ == "__main__":

@@ -2,13 +2,17 @@
 import json
 import os
 import random
+import sys
 import tempfile
 import unittest
 
 from plain_journal import Unknown, first_fault
-from program import LIST, SERVE, journal_line, publish, resolve, run, serve, unyank, yank
+from program import LIST, SERVE, TOP, journal_line, publish, resolve, run, serve, unyank, yank
 from reference import Registry
 from test_reuse import lines_of, session_of
+
+sys.path.insert(0, os.path.join(TOP, "tools"))
+from limits import MOST_COMMANDS, MOST_LEARNT, MOST_STORED, MOST_VERSIONS
 
 SEEDS = 20
 # a needs b, and b needs c, of which there is one version
@@ -267,17 +271,17 @@ class Loading(Sessions):
 
 class Limits(Sessions):
     def test_the_commands_of_a_session(self):
-        lines = [publish(f"p{p}", f"1.{v}.0") for p in range(13) for v in range(4096)]
-        most, full = 49152, '{"error":10,"name":"JournalFull","revision":49152}'
+        most, full = MOST_COMMANDS, f'{{"error":10,"name":"JournalFull","revision":{MOST_COMMANDS}}}'
+        lines = [publish(f"p{n // MOST_VERSIONS}", f"1.{n % MOST_VERSIONS}.0") for n in range(most + 1)]
         self.assertEqual(self.load(journal(lines[:most]), [lines[most], yank("p0", "1.0.0")]), [full, full])
-        self.fault(journal(lines[:most + 1]), 49154)
-        self.fault(journal([*lines[:most], yank("p0", "1.0.0"), unyank("p0", "1.0.0")], 1), 49154)
+        self.fault(journal(lines), most + 2)
+        self.fault(journal([*lines[:most], yank("p0", "1.0.0"), unyank("p0", "1.0.0")], 1), most + 2)
 
     def test_what_is_learnt_in_a_session(self):
         """Each version of c ends all that was learnt before it, which is as much as a store may have."""
         lines, versions = list(CHAIN), 1
-        for _ in range(4):
-            lines += [learn(*range(versions), 100 + number) for number in range(4096)]
+        for _ in range(MOST_LEARNT // MOST_STORED):
+            lines += [learn(*range(versions), 100 + number) for number in range(MOST_STORED)]
             lines.append(publish("c", f"1.{versions}.0"))
             versions += 1
         self.load(journal(lines), save=self.saved)
@@ -288,13 +292,14 @@ class Limits(Sessions):
         self.assertEqual(self.read(self.saved), journal([*lines, *CONFLICT]))
         self.fault(journal([*lines, learn(*range(versions))]), len(lines) + 2)
         # one more than a store may have is at fault itself
-        self.fault(journal([*CHAIN, *(learn(0, 100 + number) for number in range(4097))]), 4101)
+        self.fault(journal([*CHAIN, *(learn(0, 100 + number) for number in range(MOST_STORED + 1))]), MOST_STORED + 5)
 
     def test_the_versions_of_a_package(self):
-        lines = [publish("a", f"1.{v}.0") for v in range(4097)]
+        lines = [publish("a", f"1.{v}.0") for v in range(MOST_VERSIONS + 1)]
         for form in (1, 2):
-            self.assertEqual(self.load(journal(lines[:4096], form), [lines[4096]]), ['{"error":8,"name":"TooManyVersions","revision":4096}'])
-            self.fault(journal(lines, form), 4098)
+            told = [f'{{"error":8,"name":"TooManyVersions","revision":{MOST_VERSIONS}}}']
+            self.assertEqual(self.load(journal(lines[:-1], form), lines[-1:]), told)
+            self.fault(journal(lines, form), MOST_VERSIONS + 2)
 
 
 def random_journal(rng):

@@ -11,7 +11,8 @@ from called import called
 from program import TOP, publish, run, serve
 
 sys.path.insert(0, os.path.join(TOP, "tools"))
-from locks import MOST_LINES, Refused, changes, read_lock, write_lock
+from limits import MOST_LOCK_LINES
+from locks import Refused, changes, read_lock, write_lock
 
 TOOL = os.path.join(TOP, "tools", "lock")
 TABLE = os.path.join(TOP, "rows", "texts", "locks.rows")
@@ -59,7 +60,7 @@ class Lists(unittest.TestCase):
     def test_what_else_is_refused(self):
         for text in (b"\xff", b'[["a","\\ud800"]]', b"[" * 100_000, b"[[1e999,1]]", b"null", b'[["a"]]', b'[{"a":"1.0.0"}]', b"[] x"):
             self.refused(text, 19)
-        many = [[f"a{number}", "1.0.0"] for number in range(MOST_LINES + 1)]
+        many = [[f"a{number}", "1.0.0"] for number in range(MOST_LOCK_LINES + 1)]
         text = json.dumps(many, separators=(",", ":")).encode()
         # so many lines are longer than a lock may be: they are refused for that
         self.assertGreater(len(text), 1_048_576)

@@ -1,10 +1,14 @@
 """Files of lines that race for one journal: what they print, and how that ends."""
 import json
 import os
+import sys
 import tempfile
 import unittest
 
-from program import LIST, journal_line, publish, resolve, run, serve, unyank, yank
+from program import LIST, TOP, journal_line, publish, resolve, run, serve, unyank, yank
+
+sys.path.insert(0, os.path.join(TOP, "tools"))
+from limits import MOST_CELLS, MOST_FILES, MOST_LINE_BYTES, MOST_VERSIONS
 
 ACCEPTED = '{"ok":true,"place":1,"revision":1,"seat":%d}'
 REPEATED = '{"error":7,"name":"AlreadyPublished","place":1,"revision":1,"seat":%d}'
@@ -128,26 +132,26 @@ class Race(unittest.TestCase):
 
     def test_lines_at_their_edges(self):
         # an empty line, a last line without its line feed, a line over the limit, an empty file
-        done = run(self.files(b"\n" + b"x" * 1_048_577 + b"\n" + LIST.encode(), b""))
+        done = run(self.files(b"\n" + b"x" * (MOST_LINE_BYTES + 1) + b"\n" + LIST.encode(), b""))
         self.assertEqual((done.returncode, done.stderr), (0, b""))
         bad = '{"error":19,"name":"BadLine","place":0,"revision":0,"seat":1}\n'
         self.assertEqual(done.stdout.decode(), bad + bad + '{"packages":[],"place":0,"revision":0,"seat":1}\n'
                          "registry-journal 2\nend 0\n")
 
     def test_a_full_row(self):
-        # 17 packages of 4,096 versions are more than 65,536 cells
-        lines = [publish(f"p{p}", f"1.{v}.0") for p in range(17) for v in range(4096)]
-        replies, journal = self.printed([*lines[:65536], *lines[65536:65538], lines[0]])
-        self.assertEqual(replies[0][65535], '{"ok":true,"place":65536,"revision":65536,"seat":1}')
-        full = '{"error":10,"name":"JournalFull","place":65536,"revision":65536,"seat":1}'
-        self.assertEqual(replies[0][65536:], [full, full, full.replace('10,"name":"JournalFull"', '7,"name":"AlreadyPublished"')])
-        self.assertEqual(journal[-1], "end 65536")
+        lines = [publish(f"p{n // MOST_VERSIONS}", f"1.{n % MOST_VERSIONS}.0") for n in range(MOST_CELLS + 2)]
+        replies, journal = self.printed([*lines, lines[0]])
+        stands = f'"place":{MOST_CELLS},"revision":{MOST_CELLS},"seat":1}}'
+        self.assertEqual(replies[0][MOST_CELLS - 1], '{"ok":true,' + stands)
+        full = '{"error":10,"name":"JournalFull",' + stands
+        self.assertEqual(replies[0][MOST_CELLS:], [full, full, full.replace('10,"name":"JournalFull"', '7,"name":"AlreadyPublished"')])
+        self.assertEqual(journal[-1], f"end {MOST_CELLS}")
 
-    def test_63_files(self):
-        replies, journal = self.printed(*[[publish("a", f"1.{n}.0")] for n in range(63)])
-        self.assertEqual(sorted(json.loads(reply[0])["place"] for reply in replies), list(range(1, 64)))
-        self.assertEqual([json.loads(reply[0])["seat"] for reply in replies], list(range(1, 64)))
-        self.assertEqual(journal[-1], "end 63")
+    def test_as_many_files_as_may_be(self):
+        replies, journal = self.printed(*[[publish("a", f"1.{n}.0")] for n in range(MOST_FILES)])
+        self.assertEqual(sorted(json.loads(reply[0])["place"] for reply in replies), list(range(1, MOST_FILES + 1)))
+        self.assertEqual([json.loads(reply[0])["seat"] for reply in replies], list(range(1, MOST_FILES + 1)))
+        self.assertEqual(journal[-1], f"end {MOST_FILES}")
 
     def test_a_failed_write(self):
         with open("/dev/full", "wb") as full:

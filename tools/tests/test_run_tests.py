@@ -47,7 +47,9 @@ class Counted(unittest.TestCase):
             for name in ("said.py", *names, "test_written_lines.py"):
                 with open(os.path.join(tests, name), "w", encoding="utf-8") as file:
                     file.write(last if last and name == "test_written_lines.py" else FILES[name])
-            done = subprocess.run([sys.executable, os.path.join(top, "test"), *options, "--tools"], stdout=subprocess.PIPE,
+            # these tests ask no program
+            given = {**os.environ, "REGISTRYD": "none", "PROBE": "none"}
+            done = subprocess.run([sys.executable, os.path.join(top, "test"), *options, "--tools"], env=given, stdout=subprocess.PIPE,
                                   stderr=subprocess.PIPE, text=True, timeout=60)
             self.assertEqual(done.stderr, "")
             return done.stdout, done.returncode

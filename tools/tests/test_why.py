@@ -258,7 +258,7 @@ class Generated(unittest.TestCase):
     def test_workloads(self):
         most = 0
         for lines, requests in (workloads.tower(2), workloads.towers(4), workloads.chain(8), hostile_lines.two_bumped(12), workloads.about_one(3),
-                                self.of_lines(generated_lines.budgets_in_other_words), self.of_lines(generated_lines.needs_past_the_64th_of_a_request)):
+                                self.of_lines(generated_lines.budgets_in_other_words), self.of_lines(generated_lines.needs_past_the_most_of_a_request)):
             commands = [json.loads(it) for it in lines]
             for request, rows in self.refusals(lines, [json.loads(it) for it in requests[:6]]):
                 self.told(commands, request, rows, request["needs"])

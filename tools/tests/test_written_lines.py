@@ -11,12 +11,13 @@ import unittest
 import lines_schema
 import said
 from lines_schema import KINDS, SAID, has_members
-from plain_session import LIMIT, read_json
+from plain_session import read_json
 from program import TOP
 from tables import tables_under
 
 sys.path.insert(0, os.path.join(TOP, "tools"))
 from check_derivation import NAME, ORDINALS, formed
+from limits import MOST_LINE_BYTES
 
 BAD_LINE, NO_MEMORY = 19, 18
 WITHOUT = "Python's jsonschema is not there, so only the members of the lines are judged (Debian: python3-jsonschema)"
@@ -68,7 +69,7 @@ def shape(value, name=""):
 def judgeable(requests, replies, kept):
     """Lines whose form decides, with the kinds that they are of; and the request lines that are of none. A line is left out that
     is no JSON, or too long, or was answered that there is no memory."""
-    read = [(line, read_json(line), number) for line, number in requests if len(line) <= LIMIT and number != NO_MEMORY]
+    read = [(line, read_json(line), number) for line, number in requests if len(line) <= MOST_LINE_BYTES and number != NO_MEMORY]
     good = [("request", value) for _, value, number in read if number != BAD_LINE]
     good += [(kind, json.loads(line)) for kind, lines in (("reply", replies), ("journal", kept)) for line in lines]
     return good, [(line, value) for line, value, number in read if number == BAD_LINE and value is not None]
