@@ -34,6 +34,7 @@ STATED = [
     ("docs/REGISTRY.md", r"is one to (\d+) lines of which each cause", "MOST_DERIVATION_LINES"),
     ("docs/FORMATS.md", r"of at most ([\d,]+) bytes without its line feed", "MOST_LINE_BYTES"), ("docs/FORMATS.md", r"at most N threads, 1 to (\d+)", "MOST_WORKERS"),
     ("docs/FORMATS.md", r"takes 1 to (\d+) files", "MOST_FILES"), ("docs/IMPORTING.md", r"\*\*More than a session takes\*\*, ([\d,]+) lines", "MOST_COMMANDS"),
+    ("docs/lines.schema.json", r"a line has at most ([\d,]+) bytes", "MOST_LINE_BYTES"),
     ("docs/SCALE.md", r"\| ([\d,]+) names a journal", "MOST_PACKAGES"), ("docs/SCALE.md", r"\| ([\d,]+) versions a package", "MOST_VERSIONS"),
 ]
 MORE_THAN_A_PAIR = 2
