@@ -128,6 +128,21 @@ class CratesIo(Imported):
         self.assert_lines(lines, [publish("a", "1.0.1", ["b *"])])
         self.assertIn('left out: versions that need what is refused as a name or a requirement: 1 (first: a 1.0.0 needs b "")', told)
 
+    def test_what_is_refused_as_a_name_or_a_version_is_left_out(self):
+        files = {"2/9a": entry("9a", "1.0.0"), "1/a": entry("a", "1.0") + entry("a", "1.0.0") + entry("a", "01.0.0")}
+        with tempfile.TemporaryDirectory() as top:
+            lines, told, status = made("crates-io", fill(top, files))
+        self.assert_lines(lines, [publish("a", "1.0.0")])
+        self.assertEqual((told, status), ([written(1, 2), "left out: versions whose text, or whose crate's name, is refused: 3 (first: 9a 1.0.0)"], 0))
+
+    def test_an_entry_under_another_name_is_left_out(self):
+        with tempfile.TemporaryDirectory() as top:
+            lines, told, status = made("crates-io", fill(top, {"1/a": entry("b", "1.0.0") + entry("A", "1.0.0") + entry("a", "1.1.0")}))
+        self.assert_lines(lines, [publish("a", "1.0.0"), publish("a", "1.1.0")])
+        left = entry("b", "1.0.0")[:60]
+        self.assertEqual((told, status), ([written(2, 1), f"left out: lines that are of no known form: 1 (first: a: {left})",
+                                           "told otherwise: versions of crates with capitals in their names, in small letters: 1 (first: A)"], 0))
+
     def test_what_is_past_a_limit_is_left_out(self):
         many = [f"n{number} ^1" for number in range(65)]
         files = {"3/l/low": entry("low", "1.0.0", *many) + entry("low", "1.0.1", *many[1:]),

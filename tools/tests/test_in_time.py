@@ -34,10 +34,11 @@ class Waiting(unittest.TestCase):
             os.chmod(stub, 0o755)
             before, result, begun = set(children()), unittest.TestResult(), time.monotonic()
             with mock.patch.object(program, "PROGRAM", stub), mock.patch.object(program, "PATIENCE", SECONDS), \
-                    mock.patch.object(test_client_python, "PROGRAM", stub), mock.patch.object(test_client_python, "SECONDS", SECONDS):
+                    mock.patch.object(test_client_python, "PROGRAM", stub), mock.patch.object(test_client_python, "SECONDS", SECONDS), \
+                    in_time(10):
                 test(result)
             self.assertEqual((result.testsRun, result.wasSuccessful(), result.skipped), (1, False, []))
-            self.assertLess(time.monotonic() - begun, 20)
+            self.assertLess(time.monotonic() - begun, 9)
             self.assertEqual(set(children()) - before, set())
         return (result.failures + result.errors)[0][1]
 

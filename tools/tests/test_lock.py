@@ -124,6 +124,13 @@ class Typed(unittest.TestCase):
         told = run(["serve", "--workers", "1"], "".join(it + "\n" for it in [publish("a", "1.0.0"), publish("a", "2.0.0"), publish("b", "1.0.0"), line.strip()]).encode())
         self.assertEqual(self.typed("write", given=told.stdout.decode()), '[["a","1.0.0"],["b","1.0.0"]]\n')
 
+    def test_the_line_that_asks(self):
+        # the lock in byte order, however the file has it; members that are not asked for are left out
+        path, line = self.path("some.lock", '[["b","1.0.0"],["a","2.0.0-rc.1"]]'), '{"op":"resolve","needs":[["b","^1"],["a",">=1, <3"]],"lock":[["a","2.0.0-rc.1"],["b","1.0.0"]]'
+        for words, more in (([], ""), (["--explain"], ',"explain":true'), (["--budget", "0"], ',"budget":0'),
+                            (["--budget", "4294967295", "--explain"], ',"explain":true,"budget":4294967295')):
+            self.assertEqual(self.lock("need", path, "b ^1", "a >=1, <3", *words), (0, line + more + "}\n", ""))
+
     def test_what_is_no_lock(self):
         good, bad = self.path("good", '[["a","1.0.0"]]\n'), self.path("bad", '[["a","1.0"]]')
         selected = '{"revision":0,"selected":[["a","1.0.0"]]}\n'

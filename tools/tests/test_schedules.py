@@ -7,7 +7,8 @@ import tempfile
 import unittest
 
 import plain_race
-from program import LIST, TOP, publish, resolve, run, skip_without, yank
+from program import LIST, TOP, journal_line, publish, resolve, run, skip_without, yank
+from test_journals import CHAIN, learn
 
 sys.path.insert(0, os.path.join(TOP, "tools"))
 import race_many
@@ -101,6 +102,41 @@ class Judging(unittest.TestCase):
         first = lines.index(plain_race.FIRST) + 1
         for at in range(first, len(lines) - 2):
             self.refuse("\n".join([*lines[:at], lines[at], *lines[at:-2], f"end {len(lines) - first - 1}", ""]))
+
+    def told(self, *lines, journal):
+        """What is printed where these are the replies, each at its place, and this is the journal."""
+        return "\n".join([*lines, plain_race.FIRST, *journal, f"end {len(journal)}", ""])
+
+    def test_a_seat_that_goes_back(self):
+        entry, accepted = journal_line(publish("a", "1.0.0")), '{"ok":true,"place":1,"revision":1,"seat":2}'
+        before = '{"packages":[],"place":0,"revision":0,"seat":1}'
+        behind = '{"packages":[["a",[["1.0.0",false]]]],"place":1,"revision":1,"seat":1}'
+        self.files = [[LIST.encode()] * 2, [publish("a", "1.0.0").encode()]]
+        self.assertEqual(plain_race.judge(self.files, self.told(before, behind, accepted, journal=[entry])), 1)
+        # each reply by itself is right at its place
+        with self.assertRaisesRegex(plain_race.RaceFault, "seat 1 was at place 1, and then answers"):
+            plain_race.judge(self.files, self.told(behind, before, accepted, journal=[entry]))
+
+    def test_a_command_that_stands_no_later_than_what_its_seat_had_seen(self):
+        self.files = [[publish("a", "1.0.0").encode(), LIST.encode()], [publish("b", "1.0.0").encode()] * 2]
+        first, second = (journal_line(publish(name, "1.0.0")) for name in "ab")
+        listing = '{"packages":[["a",[["1.0.0",false]]],["b",[["1.0.0",false]]]],"place":2,"revision":2,"seat":1}'
+        own, refused = '{"ok":true,"place":%d,"revision":%d,"seat":%d}', '{"error":7,"name":"AlreadyPublished","place":2,"revision":2,"seat":2}'
+        right = self.told(own % (1, 1, 1), listing, own % (2, 2, 2), refused, journal=[first, second])
+        self.assertEqual(plain_race.judge(self.files, right), 2)
+        # the command is refused after it was seen, so its own entry can't come behind that
+        self.files[1].reverse()
+        with self.assertRaisesRegex(plain_race.RaceFault, "seat 2 was at place 2, and then answers"):
+            plain_race.judge(self.files, self.told(own % (1, 1, 1), listing, refused, own % (2, 2, 2), journal=[first, second]))
+
+    def test_what_was_learnt_where_a_command_is_told(self):
+        commands = [*CHAIN, publish("d", "1.0.0")]
+        self.files = [[line.encode() for line in commands]]
+        accepted = ['{"ok":true,"place":%d,"revision":%d,"seat":1}' % (number, number) for number in range(1, 5)]
+        entries = [journal_line(line) for line in commands]
+        self.assertEqual(plain_race.judge(self.files, self.told(*accepted, journal=entries)), 4)
+        with self.assertRaisesRegex(plain_race.RaceFault, "at place 4 a command is told as accepted, and what was learnt stands there"):
+            plain_race.judge(self.files, self.told(*accepted, journal=[*entries[:3], learn(0)]))
 
     def test_an_accepted_command_that_is_told_as_want_of_memory(self):
         def short(line):

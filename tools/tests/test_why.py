@@ -87,6 +87,37 @@ And because the request depends on foo *, resolving failed.
     And because the request depends on foo ^1.0.0, the request requires foo 1.1.0.
     And because foo 1.1.0 is forbidden (2), resolving failed.
 """),
+    # what rests on two steps that were told before cites both
+    "two steps that were told": (
+        [publish("a", "1.0.0", ["m *"]), publish("m", "1.0.0", ["x *"]), publish("x", "1.0.0", ["y ~1.0", "c *"]), publish("y", "1.0.0"),
+         publish("y", "2.0.0"), publish("b", "1.0.0", ["y ~2.0"]), publish("e", "1.0.0", ["b *"]), publish("c", "1.0.0", ["k *"]),
+         publish("k", "1.0.0", ["b *"]), publish("k", "2.0.0", ["e *"])],
+        resolve("a *"),
+        [line([["a", True, [0]], ["x", False, [0]]], premise("a", [0], "m", "*", [0]), premise("m", [0], "x", "*", [0]), pivot="m"),
+         line([["x", True, [0]], ["b", True, [0]]], premise("x", [0], "y", "~1.0", [0]), premise("b", [0], "y", "~2.0", [1]), pivot="y"),
+         line([["x", True, [0]], ["e", True, [0]]], 2, premise("e", [0], "b", "*", [0]), pivot="b"),
+         line([["x", True, [0]], ["k", True, [1]]], 3, premise("k", [1], "e", "*", [0]), pivot="e"),
+         line([["a", True, [0]], ["c", False, [0]]], 1, premise("x", [0], "c", "*", [0]), pivot="x"),
+         line([["a", True, [0]], ["k", False, [0, 1]]], 5, premise("c", [0], "k", "*", [0, 1]), pivot="c"),
+         line([["a", True, [0]], ["b", True, [0]]], 1, 2, pivot="x"),
+         line([["a", True, [0]], ["k", True, [0]]], 7, premise("k", [0], "b", "*", [0]), pivot="b"),
+         line([["a", True, [0]], ["k", False, [1]]], 6, 8, pivot="k"),
+         line([["a", True, [0]], ["x", True, [0]]], 4, 9, pivot="k"),
+         line([["a", True, [0]]], 10, 1, pivot="x"),
+         line([REQUEST], 11, need(0), pivot="a")], """
+(1) Because every version of x depends on y ~1.0 and every version of b depends on y ~2.0, x is incompatible with b.
+(2) And because k 2.0.0 depends on e * which depends on b *, x is incompatible with k 2.0.0.
+
+(3) Because every version of a depends on m * which depends on x *, every version of a requires x *.
+(4) And because every version of x depends on c * which depends on k *, every version of a requires k *.
+
+    Because every version of a requires x * (3) and x is incompatible with b (1), a is incompatible with b.
+    And because k 1.0.0 depends on b *, a is incompatible with k 1.0.0.
+    And because every version of a requires k * (4), every version of a requires k 2.0.0.
+    And because x is incompatible with k 2.0.0 (2), a is incompatible with x.
+    And because every version of a requires x * (3), a is forbidden.
+    And because the request depends on a *, resolving failed.
+"""),
     "unknown": ([], resolve("zed *"), [line([], need(0), MET, pivot="")], """
 Because the request depends on zed * and no version of zed is published, resolving failed.
 """),
@@ -410,6 +441,21 @@ class Typed(unittest.TestCase):
 
     def english(self, name, title):
         return "\n".join([title, *("  " + it if it else "" for it in TOLD[name][3][1:-1].split("\n"))]) + "\n"
+
+    def test_the_picture_of_why_a_version_is_not_selected(self):
+        journal, picture = self.journal(ASKED), os.path.join(self.folder, "why.svg")
+        # a selection with the version, which the request then asks for; and why there is none with it
+        for version, shown, dots in (
+                ("1.0.0", ["app *: a selection with log 1.0.0", "the request", "app 1.0.0", "log 1.0.0"],
+                 ["the request needs app *", "the request needs log =1.0.0", "app 1.0.0 needs log ^1"]),
+                ("2.2.0", ["app *: log 2.2.0 can't be selected", "1", "log 2.2.0 can't be selected",
+                           "because log 2.2.0 is asked for and log 2.2.0 is yanked"], [])):
+            self.assertEqual(self.why("--load", journal, "app *", "--not", "log", version, "--picture", picture)[0], 0)
+            with open(picture, encoding="utf-8") as file:
+                top, texts, _ = drawn(file.read())
+            # without what says how the picture is read
+            self.assertEqual([said for said, _, _ in texts if not said.startswith(("From a package", "A box is"))], shown)
+            self.assertEqual([it.text for it in top.iter(SVG + "title")], dots)
 
     def test_a_session(self):
         picture = os.path.join(self.folder, "why.svg")
