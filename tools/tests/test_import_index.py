@@ -15,6 +15,7 @@ from test_readme import answers, blocks
 
 sys.path.insert(0, os.path.join(TOP, "tools"))
 from index_readers import BEYOND, NOTHING, comparator, joined
+from limits import MOST_COMMANDS, MOST_NEEDS, MOST_PACKAGES, MOST_VERSIONS
 
 TOOL = os.path.join(TOP, "tools", "import_index")
 DATA = Path(TOP, "tools", "tests", "data")
@@ -144,15 +145,15 @@ class CratesIo(Imported):
                                            "told otherwise: versions of crates with capitals in their names, in small letters: 1 (first: A)"], 0))
 
     def test_what_is_past_a_limit_is_left_out(self):
-        many = [f"n{number} ^1" for number in range(65)]
+        many = [f"n{number} ^1" for number in range(MOST_NEEDS + 1)]
         files = {"3/l/low": entry("low", "1.0.0", *many) + entry("low", "1.0.1", *many[1:]),
-                 "2/up": "".join(entry("up", f"0.0.{number}") for number in range(4097, 0, -1))}
+                 "2/up": "".join(entry("up", f"0.0.{number}") for number in range(MOST_VERSIONS + 1, 0, -1))}
         with tempfile.TemporaryDirectory() as top:
             lines, told, _ = made("crates-io", fill(top, files))
-        self.assert_lines(lines, [publish("low", "1.0.1", many[1:]), *(publish("up", f"0.0.{number}") for number in range(4097, 1, -1))])
-        self.assertEqual(told[:3], [written(4097, 2),
-                                    "left out: versions below the 4096 newest ones of their crate: 1 (first: up 0.0.1)",
-                                    "left out: versions with more than 64 dependencies: 1 (first: low 1.0.0)"])
+        self.assert_lines(lines, [publish("low", "1.0.1", many[1:]), *(publish("up", f"0.0.{number}") for number in range(MOST_VERSIONS + 1, 1, -1))])
+        self.assertEqual(told[:3], [written(1 + MOST_VERSIONS, 2),
+                                    f"left out: versions below the {MOST_VERSIONS} newest ones of their crate: 1 (first: up 0.0.1)",
+                                    f"left out: versions with more than {MOST_NEEDS} dependencies: 1 (first: low 1.0.0)"])
 
     def test_of_more_than_a_session_takes_the_newest_are_written(self):
         # a yanked version takes two lines: of 3,511 versions that are all yanked but one, 7 crates have 7 times 7,021 lines
@@ -180,7 +181,7 @@ class CratesIo(Imported):
             fill(top, {f"{name[:2]}/{name[2:]}/{name}": entry(name, "1.0.0", *(f"{name}-{place} *" for place in range(64))) for name in crates})
             lines, told, status = made("crates-io", top)
         self.assertEqual((lines, len(told), status), ([], 1, 1))
-        self.assertIn("are more than the 49152 lines and 65535 names of one session: name the crates to begin with by --from", told[0])
+        self.assertIn(f"are more than the {MOST_COMMANDS} lines and {MOST_PACKAGES} names of one session: name the crates to begin with by --from", told[0])
 
 
 class Cargo(Imported):
@@ -337,7 +338,7 @@ class Words(unittest.TestCase):
                                         (["crates-io", CRATES_IO, "--from", "io@new"], 1, '"new" is no requirement'),
                                         (["crates-io", CRATES_IO, "--ask"], 1, "name it by --from"),
                                         (["debian", os.path.join(bare, "none")], 1, "No such file"),
-                                        (["crates-io", CRATES_IO, "--newest", "0"], 2, "--newest is from 1 to 4096"),
+                                        (["crates-io", CRATES_IO, "--newest", "0"], 2, f"--newest is from 1 to {MOST_VERSIONS}"),
                                         (["npm", bare], 2, "invalid choice"), ([], 2, "required")]:
                 lines, said, ended = made(*words)
                 self.assertEqual((lines, ended), ([], status), words)
