@@ -2,7 +2,6 @@
 shell's completions by that shell, where it is installed."""
 import os
 import re
-import shutil
 import subprocess
 import sys
 import tempfile
@@ -10,7 +9,7 @@ import unittest
 from dataclasses import replace
 from unittest import mock
 
-from program import TOP, run
+from program import TOP, run, skip_without
 
 sys.path.insert(0, os.path.join(TOP, "tools"))
 import completions
@@ -74,17 +73,12 @@ class Shells(unittest.TestCase):
         self.assertEqual((done.returncode, done.stderr), (0, ""), words)
         return [line for line in done.stdout.splitlines() if line]
 
-    def needs(self, shell):
-        if not shutil.which(shell):
-            self.skipTest(f"{shell} is not installed")
-
     def offered(self, line):
         """What bash offers for a line of words, with a bar behind the last one that is complete."""
         before, _, last = line.partition("|")
         return self.said("bash", "--norc", "-c", CALL, "bash", "./bash", *before.split(), last)
 
     def test_bash_offers_words(self):
-        self.needs("bash")
         self.assertEqual(self.offered("registryd |"), ["serve", "race", "--help", "--version"])
         self.assertEqual(self.offered("registryd |s"), ["serve"])
         self.assertEqual(self.offered("registryd |--v"), ["--version"])
@@ -93,48 +87,45 @@ class Shells(unittest.TestCase):
         self.assertEqual(self.offered("registryd race |--"), ["--help"])
 
     def test_bash_offers_each_option_until_it_is_given(self):
-        self.needs("bash")
         self.assertEqual(self.offered("registryd serve |--"), [*(f"--{it.name}" for it in COMMANDS[0].options), "--help"])
         offered = self.offered("registryd serve --workers 2 --load a.journal |--")
         self.assertTrue({"--save", "--help"} <= set(offered) and not {"--workers", "--load"} & set(offered), offered)
 
     def test_bash_offers_values(self):
-        self.needs("bash")
         self.assertEqual(self.offered("registryd serve --workers |6"), ["64"])
         self.assertEqual(self.offered("registryd serve --workers = |6"), ["64"])
         self.assertEqual(self.offered("registryd serve --workers |="), COMMANDS[0].options[0].offered.split())
 
     def test_bash_offers_files(self):
-        self.needs("bash")
         for option in COMMANDS[0].options[1:]:
             self.assertEqual(self.offered(f"registryd serve --{option.name} |"), FILES)
             self.assertEqual(self.offered(f"registryd serve --{option.name} = |a"), FILES)
         self.assertEqual(self.offered("registryd race first.lines |s"), FILES)
 
     def test_bash_is_told_of_it(self):
-        self.needs("bash")
         self.assertEqual(self.said("bash", "--norc", "-c", ". ./bash; complete -p registryd"), ["complete -F _registryd registryd"])
 
+    @skip_without("zsh", "zsh")
+    @skip_without("fish", "fish")
     def test_an_option_more_is_one_line_of_the_table(self):
         serve, *others = COMMANDS
         more = replace(serve, options=(*serve.options, Option("budget", "N", "How many"), Option("other", "FILE", "A file")))
         with mock.patch.object(completions, "COMMANDS", (more, *others)):
             self.write()
         for shell in SHELLS:
-            self.needs(shell)
             self.assertEqual(self.said(shell, "-n", f"./{shell}"), [])
         self.assertEqual(self.offered("registryd serve |--bu"), ["--budget"])
         self.assertEqual(self.offered("registryd serve --budget |"), [])
         self.assertEqual(self.offered("registryd serve --other |"), FILES)
 
+    @skip_without("zsh", "zsh")
     def test_zsh_reads_it(self):
-        self.needs("zsh")
         self.assertEqual(self.said("zsh", "-n", "zsh"), [])
         with open(os.path.join(self.folder, "zsh"), encoding="utf-8") as file:
             self.assertEqual(file.readline(), "#compdef registryd\n")
 
+    @skip_without("fish", "fish")
     def test_fish_offers_words(self):
-        self.needs("fish")
         self.assertEqual(self.said("fish", "--no-execute", "fish"), [])
 
         def offered(line):

@@ -1,13 +1,12 @@
 """The manual pages: they can be shown, and name what the program and the tools take, print and end with."""
 import os
 import re
-import shutil
 import subprocess
 import sys
 import tempfile
 import unittest
 
-from program import PROGRAM, TOP
+from program import PROGRAM, TOP, skip_without
 
 sys.path.insert(0, os.path.join(TOP, "tools"))
 import installed
@@ -41,9 +40,9 @@ def examples(text):
 
 
 class Pages(unittest.TestCase):
+    @skip_without("man", "man-db")
+    @skip_without("groff", "groff-base")
     def test_they_are_shown_without_a_warning(self):
-        if not shutil.which("man") or not shutil.which("groff"):
-            self.skipTest("man and groff are not installed")
         for name in ("registryd.1", "registry-tools.1"):
             with self.subTest(name):
                 words = ["man", "--warnings", "-E", "UTF-8", "-l", os.path.join(TOP, "docs", name)]

@@ -15,7 +15,7 @@ from pathlib import Path
 from unittest import mock
 
 from called import called, tool
-from program import PROGRAM, TOP
+from program import PROGRAM, TOP, skip_without
 from test_install import below, run
 
 sys.path.insert(0, os.path.join(TOP, "tools"))
@@ -63,7 +63,7 @@ def is_known():
     return "Status: " in run(["dpkg", "-s", "registryd"]).stdout
 
 
-@unittest.skipUnless(shutil.which("dpkg-deb"), "dpkg-deb is not installed")
+@skip_without("dpkg-deb", "dpkg")
 class Made(unittest.TestCase):
     @classmethod
     def setUpClass(cls):
@@ -203,7 +203,7 @@ class Words(unittest.TestCase):
             status, said, error = self.called("--unproved")
         self.assertEqual((status, said, error), (1, "", "tools/package: dpkg-deb is not there; Debian has it in its package dpkg\n"))
 
-    @unittest.skipUnless(shutil.which("dpkg-deb"), "dpkg-deb is not installed")
+    @skip_without("dpkg-deb", "dpkg")
     def test_it_says_where_the_package_is(self):
         with tempfile.TemporaryDirectory() as folder:
             proved = Program(Path(PROGRAM), PROVED, "")
