@@ -153,6 +153,11 @@ def current(name):
     return proved(name) or compiled(name)
 
 
+def is_older(name):
+    """Whether a program stands, and none of just these sources."""
+    return not current(name) and any(standing(name, kind)[0] for kind in (PROVED, COMPILED))
+
+
 def gate_built(name):
     """Where the gate builds a program, and the proof of one program too; the next gate takes it away."""
     return TOP / "crates" / name / "out" / name
@@ -190,7 +195,7 @@ def told(name):
     program = current(name)
     if program:
         state = TOLD[program.kind]
-    elif any(standing(name, kind)[0] for kind in (PROVED, COMPILED)):
+    elif is_older(name):
         state = "The sources have changed since the program was built: its next use compiles it anew, which takes minutes."
     else:
         state = "The program is not built yet: its first use compiles it, which takes minutes."

@@ -55,8 +55,10 @@ class Version(Case):
         self.assertEqual(self.says("a"), "")
 
     def test_it_is_compiled_without_checks(self):
-        self.assertEqual(self.tree.run("tools/build", "--unchecked")[0], 0)
-        self.assertEqual(self.state(), UNCHECKED)
+        self.says()
+        status, _said, wrong = self.tree.run("tools/build", "--unchecked")
+        self.assertRegex(wrong, r"\Aregistryd: it is compiled first, .*\nregistryd: compiled in \d+ s, without checks as it runs\n\Z")
+        self.assertEqual((status, self.state()), (0, UNCHECKED))
         status, said, _wrong = self.tree.run("registryd", "a")
         self.assertEqual((status, said.splitlines()), (0, ["registryd a", "low a"]))
         self.assertEqual(self.tree.run("tools/build", "--compiled")[0], 0)
