@@ -121,7 +121,9 @@ class Whole(unittest.TestCase):
         self.assertEqual((done.returncode, done.stderr), (2, "registryd: bad words\n"))
 
     def test_the_first_session_and_the_refusal_of_the_first_page(self):
-        typed, told, refused, why = blocks()[:4]
+        typed, told, tests, refused, why = blocks()[:5]
+        # the second command is for a checkout alone
+        self.assertEqual(tests, ["./test"])
         folder = self.enterContext(tempfile.TemporaryDirectory())
         for lines, wanted in ((typed, told), (refused, why)):
             text = "\n".join(lines).replace("./registryd", "registryd")
