@@ -228,8 +228,8 @@ class Failures(Case):
             out, wrong = running.communicate(timeout=10)
             self.assertEqual((running.returncode, out), (status, ""), wrong)
             self.assertEqual(self.tree.left(), [])
-            # what it began has ended too
-            self.assertFalse(Path("/proc", *self.tree.compilations()).exists())
+            # what it began has ended too, or does so now
+            self.assertTrue(in_time(lambda: not is_running(*self.tree.compilations())))
             self.tree.log.unlink()
         self.tree.make_kit()
         self.says()
@@ -254,6 +254,22 @@ class Failures(Case):
                 said = self.tree.run("tools/build", "--compiled")
                 self.assertEqual(said[0], 1)
                 self.assertRegex(said[2], f"registryd: this kit cannot compile it without a proof; tools/build --proved builds it: .*{why}")
+
+
+def is_running(process):
+    """Whether a process is there that has not ended, waited for or not."""
+    try:
+        return Path("/proc", process, "stat").read_text(encoding="ascii").rpartition(")")[2].split()[0] != "Z"
+    except FileNotFoundError:
+        return False
+
+
+def in_time(is_so, seconds=10):
+    """Whether something comes to be so within some seconds."""
+    until = time.monotonic() + seconds
+    while not is_so() and time.monotonic() < until:
+        time.sleep(0.02)
+    return is_so()
 
 
 if __name__ == "__main__":
