@@ -3,7 +3,9 @@
 use crate::order::InOrder;
 use crate::outcomes::{budget_at, explains, put_verdict};
 use derivations::Store;
-use pool::{Asked, answer_all, answer_all_with, answer_lent};
+use pool::{
+    Answers, Asked, Consumer, Query, answer_all, answer_all_with, answer_in_order, answer_lent,
+};
 use registry::Registry;
 use rows::{Answer, AnswerText, Shows, Unread, items, member, request_at, size_at, whole_at};
 use serde_json::Value;
@@ -24,6 +26,7 @@ pub fn pool_call<R: Threads + Wait + Sync>(
         "answer_all" => all_answered(rt, alloc, registry, row),
         "answer_lent" => lent_answered(rt, alloc, registry, row),
         "answer_all_with" => in_order(rt, alloc, registry, row),
+        "answer_in_order" => handed_over(rt, alloc, registry, row),
         _ => Err(Unread::Row),
     }
 }
@@ -72,6 +75,61 @@ fn in_order<R: Threads + Wait + Sync>(
     let answers = answer_all_with(rt, alloc, registry, &store, requests, workers, &order);
     drop(store);
     if_answered(alloc, order.is_kept(), answers)
+}
+
+/// Takes the first answers, so many, each once it was asked whether it is there.
+#[derive(Drop)]
+struct First {
+    count: usize,
+    taken: Vec<pool::Answer>,
+}
+
+impl Consumer for First {
+    ghost use Rattle.std.specs.Prelude.{◌≤◌, length, IfOk};
+    ghost use Rattle.pool.specs.Answering.{AreAnswers};
+
+    type Output = Result<(), AllocError>;
+
+    ghost can_consume = { λ first packages asked. first.count ≤ length asked };
+
+    ghost consumes = { λ first packages asked result then. Unit {0} };
+
+    fn consume<Q: Query, R: Wait>(
+        &mut self,
+        rt: &R,
+        answers: &mut Answers<'_, Q>,
+    ) -> Result<(), AllocError> {
+        for _at in 0..self.count {
+            let _is_there = answers.is_ready(rt);
+            self.taken.push(answers.next(rt))?;
+        }
+        Ok(())
+    }
+}
+
+/// With `"count":2` the first two answers, of as many requests as there are.
+fn handed_over<R: Threads + Wait + Sync>(
+    rt: &R,
+    alloc: Global,
+    registry: &Registry,
+    row: &Value,
+) -> Result<Answer, Unread> {
+    let workers = size_at(row, "workers")?;
+    let count = size_at(row, "count")?;
+    let requests = requests_at(alloc, row)?;
+    let mut first = First {
+        count: count.min(requests.len()),
+        taken: Vec::new(alloc),
+    };
+    let store = Store::new(alloc);
+    let all = answer_in_order(rt, alloc, registry, &store, &requests, workers, &mut first);
+    drop(store);
+    drop(requests);
+    let First { count: _, taken } = first;
+    match all {
+        Ok(()) => if_answered(alloc, true, Ok(taken)),
+        Err(e) => if_answered(alloc, true, Err(e)),
+    }
 }
 
 /// The answers, if there is memory for them and nobody waited in vain.

@@ -4,3 +4,4 @@ mod Steps
 mod Takers
 mod Filling
 mod Found
+mod InPlace

@@ -12,7 +12,7 @@ use std::alloc::Global;
 use versions::Refusal;
 
 /// The effort in which a thread is started, in the packages and lines that answers have.
-const THREAD: usize = 64;
+pub const THREAD: usize = 64;
 
 /// How much there was to do for a refusal that is not shown and led to nothing that may be learnt: as much as
 /// for one by a few lines.
@@ -21,20 +21,40 @@ const REFUSED: usize = 4;
 /// With how many conflicts a request is still answered before any thread is started.
 const FEW: u32 = 8;
 
+/// The most effort that a thread takes at a time, in the packages and lines that answers have, where each request takes
+/// little.
+const SHARE: usize = 128;
+
+/// By how many threads requests are to be answered, and how many of them a thread is to take at a time.
+#[derive(Clone, Copy)]
+pub(crate) struct Pace {
+    pub(crate) threads: usize,
+    pub(crate) share: usize,
+}
+
+/// The calling thread answers all of them.
+pub(crate) const ALONE: Pace = Pace {
+    threads: 1,
+    share: 1,
+};
+
 /// Answers the first requests, until as much was done as starting a thread takes or one of them asks for a
 /// longer search, and says how many threads the others are worth: one for each such effort that they will
 /// take, if they are like the first. No gate is asked.
-pub(crate) fn begin<G>(work: &Work<'_, G>, workers: usize, answers: &mut Vec<Answer>) -> usize
+pub(crate) fn begin<G>(work: &Work<'_, G>, workers: usize, answers: &mut Vec<Answer>) -> Pace
     requires stored { All (AllStand work.now.registry.now.packages) work.now.store.now.members }
     requires begun { AreBegun work.now.registry.now.packages work.now.asked.now answers.old }
     ensures { AreBegun work.now.registry.now.packages work.now.asked.now answers.new }
 {
     if workers < 2 {
-        return 1;
+        return ALONE;
     }
     let effort = answer_first(work, answers);
     let others = work.asked.len() - answers.len();
-    workers.min(threads_for(effort, answers.len(), others))
+    Pace {
+        threads: workers.min(threads_for(effort, answers.len(), others)),
+        share: share_for(effort, answers.len()),
+    }
 }
 
 /// Answers requests until as much was done as starting a thread takes, and says how much it was. The last
@@ -49,13 +69,13 @@ fn answer_first<G>(work: &Work<'_, G>, answers: &mut Vec<Answer>) -> usize
         if effort >= THREAD {
             break;
         }
-        effort = effort.saturating_add(answer_soon(work, answers));
+        effort = effort.saturating_add(answer_next(work, answers));
     }
     effort
 }
 
 /// Answers the next request where few conflicts do, and says how much there was to do.
-fn answer_soon<G>(work: &Work<'_, G>, answers: &mut Vec<Answer>) -> usize
+fn answer_next<G>(work: &Work<'_, G>, answers: &mut Vec<Answer>) -> usize
     requires stored { All (AllStand work.now.registry.now.packages) work.now.store.now.members }
     requires begun { AreBegun work.now.registry.now.packages work.now.asked.now answers.old }
     requires inside { vec_len answers.old < length work.now.asked.now }
@@ -63,7 +83,7 @@ fn answer_soon<G>(work: &Work<'_, G>, answers: &mut Vec<Answer>) -> usize
     ensures one { vec_len answers.new ≤ vec_len answers.old + 1 }
 {
     let asked = &work.asked[answers.len()];
-    match soon(work.alloc, work.registry, work.store, asked) {
+    match answer_soon(work.alloc, work.registry, work.store, asked) {
         Some(answer) => {
             let effort = effort_of(&answer);
             put_next(work, answers, answer);
@@ -73,8 +93,13 @@ fn answer_soon<G>(work: &Work<'_, G>, answers: &mut Vec<Answer>) -> usize
     }
 }
 
-/// The answer to a request, unless more than a few conflicts stand in its way.
-fn soon(alloc: Global, registry: &Registry, store: &Store, asked: &Asked) -> Option<Answer>
+/// The answer to a request, unless more than a few conflicts stand in its way. It is 18 where no memory was left for it.
+pub fn answer_soon(
+    alloc: Global,
+    registry: &Registry,
+    store: &Store,
+    asked: &Asked,
+) -> Option<Answer>
     requires { All (AllStand registry.now.packages) store.now.members }
     ensures { IfSome result (IsAnswerTo registry.now.packages asked.now) }
 {
@@ -90,7 +115,7 @@ fn soon(alloc: Global, registry: &Registry, store: &Store, asked: &Asked) -> Opt
 
 /// How much there was to do: what was selected or cited, or, where something was learnt, at least as much
 /// as starting a thread takes.
-fn effort_of(answer: &Answer) -> usize {
+pub fn effort_of(answer: &Answer) -> usize {
     match answer {
         Ok(Verdict::Selection(list, offered)) if offered.is_empty() => list.len().saturating_add(1),
         Ok(Verdict::NoSelection(offered)) if offered.is_empty() => REFUSED,
@@ -105,6 +130,11 @@ fn effort_of(answer: &Answer) -> usize {
 fn threads_for(effort: usize, answered: usize, others: usize) -> usize {
     let expected = effort.saturating_mul(others) / answered.max(1);
     (expected / THREAD).saturating_add(1)
+}
+
+/// How many requests make a share of the work, where so many took this effort.
+fn share_for(effort: usize, answered: usize) -> usize {
+    (SHARE.saturating_mul(answered) / effort.max(1)).max(1)
 }
 
 /// Answers the other requests, one after another.

@@ -58,8 +58,8 @@ pub fn answer_lent<R: Threads + Wait + Sync>(
         gate: &Idle,
     };
     let mut answers = Vec::with_capacity(alloc, requests.len())?;
-    let threads = begin(&work, workers, &mut answers);
-    go_on(rt, &work, threads, &mut answers);
+    let pace = begin(&work, workers, &mut answers);
+    go_on(rt, &work, pace.threads, &mut answers);
     Ok(answers)
 }
 

@@ -2,7 +2,7 @@ use Rattle.std.proofs.Common.{ℕ, Bool, Option, ap, get_or, subst, vec_len, ◌
 use Rattle.std.proofs.lemmas.Option.{get_or_from_slice_get}
 use Rattle.registry.specs.Requests.{Wanted}
 use Rattle.pool.specs.Answering.{IsAnswerTo}
-use Rattle.pool.proofs.alone.answer_soon.Goals as goal
+use Rattle.pool.proofs.alone.answer_next.Goals as goal
 
 pub put_next-requires-clause-answer : goal.put_next-requires-clause-answer
 put_next-requires-clause-answer g c = λ one e.

@@ -1,0 +1,77 @@
+//! What one call asks, as contracts see it, and an answer that was found for it.
+ghost use Rattle.std.specs.Prelude.{◌≡◌, ℕ, Bool, List, Option, IfSome};
+ghost use Rattle.registry.specs.Registry.{Packages};
+ghost use Rattle.registry.specs.Requests.{Wanted};
+ghost use Rattle.pool.specs.Answering.{IsAnswerAt};
+
+use crate::work::Answer;
+use std::marker::{Brand, Model, PhantomData};
+
+/// The packages and the requests of one call. What crosses threads has them in its type, so that an answer is known
+/// to be one to a request of this call.
+pub trait Query {
+    ghost use Rattle.std.specs.Prelude.{ℕ, Bool, List, Option};
+    ghost use Rattle.registry.specs.Registry.{Packages};
+    ghost use Rattle.registry.specs.Requests.{Wanted};
+
+    ghost packages: { Packages };
+
+    ghost asked: { List (Wanted × Option ℕ × Bool) };
+}
+
+impl Query for Brand {
+    ghost use Rattle.std.specs.Prelude.{[]};
+
+    ghost packages = { [] };
+
+    ghost asked = { [] };
+}
+
+/// An answer, with the index of its request. Contracts see the index.
+#[derive(Drop)]
+pub(crate) struct Answered<Q: Query> {
+    index: usize,
+    answer: Answer,
+    query: PhantomData<Q>,
+}
+
+impl<Q: Query> Model for Answered<Q> {
+    ghost use Rattle.std.specs.Prelude.{ℕ};
+    ghost use Rattle.pool.specs.Answering.{IsAnswerAt};
+
+    ghost Value = { ℕ };
+
+    ghost view = { λ f. f.index };
+
+    ghost invariant = { λ f. IsAnswerAt Q.packages Q.asked f.index f.answer };
+}
+
+impl<Q: Query> Answered<Q> {
+    pub(crate) fn new(index: usize, answer: Answer) -> Answered<Q>
+        requires { IsAnswerAt Q.packages Q.asked index answer }
+        ensures { result ≡ index }
+    {
+        Answered {
+            index,
+            answer,
+            query: PhantomData,
+        }
+    }
+
+    pub(crate) fn index(&self) -> usize
+        ensures { result ≡ self.now }
+    {
+        self.index
+    }
+
+    pub(crate) fn into_answer(self) -> Answer
+        ensures { IsAnswerAt Q.packages Q.asked self result }
+    {
+        let Answered {
+            index: _,
+            answer,
+            query: _,
+        } = self;
+        answer
+    }
+}
