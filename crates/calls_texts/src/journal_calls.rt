@@ -1,18 +1,25 @@
-//! Calls of journals: files that are saved, and files that are loaded.
+//! Calls of journals: files that are saved, files that are loaded, what stands in one that was cut short, and single lines.
 
 use crate::fakes::{Narrow, Pieces};
-use crate::texts::{Bytes, text_of, written};
+use crate::texts::{Bytes, failure, text_of, told, written};
 use book::{Item, Replica};
-use journals::{LoadFault, all_have_names, load_journal, save_journal};
+use journals::{
+    Format, LoadFault, Recovered, all_have_names, end_text, item_lines, load_journal, recover,
+    save_journal,
+};
+use lines::Outbox;
 use registry::Registry;
-use rows::{Answer, AnswerText, Unread, at};
+use rows::{Answer, AnswerText, Unread, at, member, whole};
 use serde_json::Value;
 use std::alloc::Global;
+use std::io;
 use versions::Refusal;
 
 pub fn journal_call(alloc: Global, name: &str, row: &Value) -> Result<Answer, Unread> {
     match name {
-        "load_journal" | "save_journal" => loaded(alloc, name, row),
+        "load_journal" | "save_journal" | "item_lines" => loaded(alloc, name, row),
+        "recover" => recovered(alloc, row),
+        "end_text" => ended(alloc, whole_at(row, "count")?),
         _ => Err(Unread::Row),
     }
 }
@@ -86,6 +93,7 @@ fn replayed_told(
     replay_all(replica, items)?;
     match name {
         "save_journal" => items_saved(alloc, row, replica.registry(), items),
+        "item_lines" => lines_told(alloc, replica.registry(), items),
         _ => saved_again(alloc, replica.registry(), items),
     }
 }
@@ -162,4 +170,107 @@ fn commands_of<'i>(alloc: Global, items: &'i [Item]) -> Result<Vec<&'i Item>, Un
         }
     }
     Ok(commands)
+}
+
+// ---- what was cut short
+
+/// A reader gives the text of a row. Of what stands in it the format is told, how many items it has, and how many bytes behind
+/// them.
+fn recovered(alloc: Global, row: &Value) -> Result<Answer, Unread> {
+    let text = at::<Bytes>(alloc, row, "text")?;
+    let answer = match Pieces::new(row, text.as_slice(), &[]) {
+        Ok(mut reader) => match recover(alloc, &mut reader) {
+            Ok(found) => found_told(alloc, found),
+            Err(fault) => fault_told(alloc, fault),
+        },
+        Err(why) => Err(why),
+    };
+    drop(text);
+    answer
+}
+
+fn found_told(alloc: Global, found: Recovered) -> Result<Answer, Unread> {
+    let Recovered {
+        format,
+        replica,
+        items,
+        excess,
+    } = found;
+    let count = items.len();
+    drop(replica);
+    drop(items);
+    let mut text = AnswerText::new(alloc);
+    text.put("{\"excess\":");
+    text.put_plain(excess);
+    text.put(",\"format\":");
+    text.put(match format {
+        None => "null",
+        Some(Format::One) => "1",
+        Some(Format::Two) => "2",
+    });
+    text.put(",\"items\":");
+    text.put_plain(count);
+    text.put("}");
+    text.answer()
+}
+
+// ---- single lines
+
+fn whole_at(row: &Value, name: &str) -> Result<usize, Unread> {
+    Ok(whole(member(row, name)?)? as usize)
+}
+
+fn ended(alloc: Global, count: usize) -> Result<Answer, Unread> {
+    let mut outbox = Outbox::new(alloc)?;
+    let answer = match end_text(alloc, &mut outbox, count) {
+        Ok(text) => {
+            let answer = told(alloc, &text);
+            drop(text);
+            answer
+        }
+        Err(error) => failed(&error),
+    };
+    drop(outbox);
+    answer
+}
+
+fn failed(error: &io::Error) -> Result<Answer, Unread> {
+    Ok(Answer::Word(failure(error.kind())?))
+}
+
+fn lines_told(alloc: Global, registry: &Registry, items: &[Item]) -> Result<Answer, Unread> {
+    let lent = lent(alloc, items)?;
+    if !all_have_names(registry, &lent) {
+        drop(lent);
+        return Ok(Answer::Skipped);
+    }
+    let mut outbox = match Outbox::new(alloc) {
+        Ok(outbox) => outbox,
+        Err(_) => {
+            drop(lent);
+            return Err(Unread::Refused(Refusal::NoMemory));
+        }
+    };
+    let answer = match item_lines(alloc, &mut outbox, registry, &lent) {
+        Ok((text, count)) => {
+            let answer = counted_told(alloc, &text, count);
+            drop(text);
+            answer
+        }
+        Err(error) => failed(&error),
+    };
+    drop(outbox);
+    drop(lent);
+    answer
+}
+
+fn counted_told(alloc: Global, lines: &[u8], count: usize) -> Result<Answer, Unread> {
+    let lines = text_of(lines)?;
+    let mut text = AnswerText::new(alloc);
+    text.put("{\"count\":");
+    text.put_plain(count);
+    text.put(",\"text\":");
+    text.put_quoted(lines);
+    text.put("}");
+    text.answer()
 }

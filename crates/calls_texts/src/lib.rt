@@ -1,4 +1,4 @@
-//! Calls of `lines`, `explain`, `by_name`, `wire`, `replies` and `journals`: makes the one that each row names, and writes
+//! Calls of `lines`, `explain`, `by_name`, `wire`, `replies`, `journals` and `commits`: makes the one that each row names, and writes
 //! what it answered.
 //!
 //! A call is guarded by what the crate offers to test what the call requires; where that does not hold, the answer
@@ -6,6 +6,7 @@
 #![tactic(auto)]
 
 mod by_name_calls;
+mod commit_calls;
 mod explain_calls;
 mod fakes;
 mod journal_calls;

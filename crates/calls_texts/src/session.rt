@@ -1,6 +1,7 @@
 //! What rows change.
 
 use crate::by_name_calls::by_name_call;
+use crate::commit_calls::commit_call;
 use crate::explain_calls::explain_call;
 use crate::journal_calls::journal_call;
 use crate::lines_calls::lines_call;
@@ -90,6 +91,7 @@ fn call_for(
         ("lines", _) => lines_call(alloc, name, row),
         ("wire", _) => wire_call(alloc, name, row),
         ("journals", _) => journal_call(alloc, name, row),
+        ("commits", _) => commit_call(alloc, name, row),
         _ => Err(Unread::Row),
     }
 }
