@@ -1,29 +1,35 @@
 -- Requests that wait together, and the replies to them.
-use Rattle.std.proofs.Common.{◌≡◌, ◌⊎◌, Bool, ℕ, ◌+◌, ◌<◌, ◌≤◌, List, [], ◌∷◌, ◌++◌, length, take, drop, get_or, map, refl, sym, ap, subst, ◌∙◌, inl, inr, arith, Option, None, Some, Result, Ok, Err}
+use Rattle.std.proofs.Common.{◌≡◌, Bool, ℕ, ◌+◌, ◌<◌, ◌≤◌, List, [], ◌∷◌, ◌++◌, length, take, drop, get_or, map, refl, sym, ap, subst, ◌∙◌, inl, inr, arith, length-append, Option, None, Some, Result, Ok, Err}
 use Rattle.std.proofs.KnownBytes.{Appends-nil}
-use Rattle.std.proofs.lemmas.List.{append-nil, drop_more, length-map, map-append, take-append-drop, take_all, take_more}
+use Rattle.std.proofs.lemmas.List.{append-nil, append_assoc, drop-append-le, drop-map, drop_all, drop_more, length-map, map-append, take-append-drop}
 use Rattle.std.proofs.lemmas.List.Concat.{flat_map-append}
-use Rattle.std.specs.Prelude.{if◌then◌else◌, is_none, OnOk}
+use Rattle.std.specs.Prelude.{if◌then◌else◌, is_none, MatchResult, OnOk}
 use Rattle.versions.specs.declared.refusal.Refusal.{Refusal}
 use Rattle.versions.specs.declared.refusal.Refusal.TheVariants.{NoMemory}
 use Rattle.registry.specs.Registry.{Packages}
 use Rattle.registry.specs.Requests.{Wanted}
 use Rattle.derivations.specs.declared.line.Line.{Line}
-use Rattle.solver.specs.declared.verdict.Verdict.{Verdict}
-use Rattle.book.specs.Items.{Book, after, book_of, packages_of, refusal, stepped}
+use Rattle.book.specs.Items.{Book, after, book_of, packages_of, refusal, revision_of, stepped}
 use Rattle.book.specs.Laws.{ReplayGrows}
 use Rattle.book.specs.declared.item.Item.{Item}
 use Rattle.book.specs.declared.item.Item.TheVariants as item
-use Rattle.pool.specs.Answering.{AreAnswers, IsAnswerTo}
-use Rattle.lines.specs.Texts.{Puts}
+use Rattle.lines.specs.Texts.{Puts, Writes}
+use Rattle.std.specs.Io.KnownBytes.{Appends}
 use Rattle.replies.specs.Putting.{IsCut, IsPut, PutsAddUp}
-use Rattle.replies.specs.Replies.{Reply, refused, replies_text, reply_text}
+use Rattle.replies.specs.Replies.{Body, Reply, refused, replies_text, reply_text}
 use Rattle.wire.specs.Shapes.{Request, resolve}
-use Rattle.session.specs.Batches.{AreAsked, AreReplied, MayBeAnswers, requests_of}
+use Rattle.session.specs.Batches.{AreAsked, AreReplied, LearnsOf, MayBeTold, Tells, requests_of}
 use Rattle.answers.specs.Laws.{RepliesAddUp}
 use Rattle.answers.specs.Lawful.{AreLawful, Learns, LearnsSome, MayAnswer, Ways, asked as asked_by, reply_at}
+use Rattle.answers.specs.Outcomes.{TellsFound}
+use Rattle.answers.specs.Told.{reply_from}
+use Rattle.solver.specs.Outcomes.{MayStop}
 use Rattle.session.specs.Session.{session_ways}
 use Rattle.session.proofs.ServeLemmas.{replies_text-more}
+
+-- what was written before, and more
+pub appends_behind : (front held more written : List ℕ) → Appends (Some held) (Some more) written → Appends (Some (front ++ held)) (Some (front ++ more)) written
+appends_behind front held more written is = ap (λ (l : List ℕ). front ++ l) is ∙ sym (append_assoc front held written)
 
 -- ---- what is asked
 
@@ -37,57 +43,39 @@ pub requests_of-none : (asked : List (Wanted × Option ℕ × Bool)) → asked �
 requests_of-none asked none = ap requests_of none
 
 module _ (asked : List (Wanted × Option ℕ × Bool)) where
-  -- one request more
-  pub requests_of-more : (k : ℕ) (one : Wanted × Option ℕ × Bool) → k < length asked → one ≡ get_or asked k one
-      → requests_of (take (k + 1) asked) ≡ requests_of (take k asked) ++ resolve one.0 one.2 one.1 ∷ []
-  requests_of-more k one within here =
-      ap requests_of (take_more asked k one within ∙ ap (λ (x : Wanted × Option ℕ × Bool). take k asked ++ x ∷ []) (sym here))
-      ∙ requests_of-append (take k asked) (one ∷ [])
-
-  -- the first ones and the others
-  pub requests_of-split : (k : ℕ) → requests_of asked ≡ requests_of (take k asked) ++ requests_of (drop k asked)
-  requests_of-split k = ap requests_of (sym (take-append-drop k asked)) ∙ requests_of-append (take k asked) (drop k asked)
-
-  -- all of them
-  pub requests_of-all : (k : ℕ) → length asked ≤ k → requests_of (take k asked) ≡ requests_of asked
-  requests_of-all k end = ap requests_of (take_all k asked end)
-
--- ---- answers
-
--- want of memory may be told to any request
-no_answer : (packages : Packages) (one : Wanted × Option ℕ × Bool) → IsAnswerTo packages one (Err NoMemory)
-no_answer packages (wanted, None, explain) = record { lawful = refl; preferred = λ s is meets. tt }
-no_answer packages (wanted, Some budget, explain) = record { lawful = inl refl; preferred = λ s is meets. tt }
-
--- the next answer is to the next request
-pub next_answers : (packages : Packages) (asked : List (Wanted × Option ℕ × Bool)) (k : ℕ) (one : Wanted × Option ℕ × Bool) (answers after : List (Result Verdict Refusal)) (answer : Result Verdict Refusal)
-    → k < length asked → one ≡ get_or asked k one → MayBeAnswers packages (drop k asked) answers
-    → (answers ≡ answer ∷ after) ⊎ ((answers ≡ []) × (after ≡ []) × (answer ≡ Err NoMemory))
-    → IsAnswerTo packages one answer × MayBeAnswers packages (drop (k + 1) asked) after
-next_answers packages asked k one answers after answer within here (inl none) (inl more) = absurd (let is : [] ≡ answer ∷ after = sym none ∙ more in cc)
-next_answers packages asked k one answers after answer within here (inr all) (inl more) =
-    let both = subst (λ (l : List (Wanted × Option ℕ × Bool)). AreAnswers packages l (answer ∷ after)) (drop_more asked k one within) (subst (AreAnswers packages (drop k asked)) more all) in
-    (subst (λ (x : Wanted × Option ℕ × Bool). IsAnswerTo packages x answer) (sym here) both.0, inr both.1)
-next_answers packages asked k one answers after answer within here may (inr (none, left, wanting)) =
-    (subst (IsAnswerTo packages one) (sym wanting) (no_answer packages one), inl left)
+  -- the next one, and those behind it
+  pub requests_of-next : (k : ℕ) (one : Wanted × Option ℕ × Bool) → k < length asked → one ≡ get_or asked k one → drop k (requests_of asked) ≡ resolve one.0 one.2 one.1 ∷ drop (k + 1) (requests_of asked)
+  requests_of-next k one within here =
+      drop-map (λ (one : Wanted × Option ℕ × Bool). resolve one.0 one.2 one.1) k asked
+      ∙ ap requests_of (drop_more asked k one within ∙ ap (λ (x : Wanted × Option ℕ × Bool). x ∷ drop (k + 1) asked) (sym here))
+      ∙ ap (λ (requests : List Request). resolve one.0 one.2 one.1 ∷ requests) (sym (drop-map (λ (one : Wanted × Option ℕ × Bool). resolve one.0 one.2 one.1) (k + 1) asked))
 
 -- ---- what is learnt publishes nothing
 
-stepped_keeps : (book : Book) (lines : List Line) (told : Option Refusal) → (if is_none told then after book (item.Learnt lines) else book).packages ≡ book.packages
+-- the packages and the revision are the same
+abbrev pub SameRegistry : Book → Book → Type 0
+SameRegistry new old = (new.packages ≡ old.packages) × (new.revision ≡ old.revision)
+
+stepped_keeps : (book : Book) (lines : List Line) (told : Option Refusal) → SameRegistry (if is_none told then after book (item.Learnt lines) else book) book
 unfolding after
-stepped_keeps book lines None = refl
-stepped_keeps book lines (Some e) = refl
+stepped_keeps book lines None = (refl, refl)
+stepped_keeps book lines (Some e) = (refl, refl)
 
-learnt_keeps : ReplayGrows → (items : List Item) (lines : List Line) → packages_of (items ++ item.Learnt lines ∷ []) ≡ packages_of items
+learnt_keeps : ReplayGrows → (items : List Item) (lines : List Line) → SameRegistry (book_of (items ++ item.Learnt lines ∷ [])) (book_of items)
 unfolding stepped
-learnt_keeps grows items lines = ap (λ (b : Book). b.packages) (grows items (item.Learnt lines)) ∙ stepped_keeps (book_of items) lines (refusal (book_of items) (item.Learnt lines))
+learnt_keeps grows items lines = subst (λ (b : Book). SameRegistry b (book_of items)) (sym (grows items (item.Learnt lines))) (stepped_keeps (book_of items) lines (refusal (book_of items) (item.Learnt lines)))
 
-learns_keep : ReplayGrows → (old new : List Item) (offered : List (List Line)) → Learns session_ways old offered new → packages_of new ≡ packages_of old
-learns_keep grows old new [] same = ap packages_of same
-learns_keep grows old new (lines ∷ rest) (mid, inl same, others) = learns_keep grows mid new rest others ∙ ap packages_of same
-learns_keep grows old new (lines ∷ rest) (mid, inr (follows, (free, more)), others) = learns_keep grows mid new rest others ∙ (ap packages_of more ∙ learnt_keeps grows old lines)
+learns_keep : ReplayGrows → (old new : List Item) (offered : List (List Line)) → Learns session_ways old offered new → SameRegistry (book_of new) (book_of old)
+learns_keep grows old new [] same = (ap packages_of same, ap revision_of same)
+learns_keep grows old new (lines ∷ rest) (mid, inl same, others) =
+    let more = learns_keep grows mid new rest others in
+    (more.0 ∙ ap packages_of same, more.1 ∙ ap revision_of same)
+learns_keep grows old new (lines ∷ rest) (mid, inr (follows, (free, is, said)), others) =
+    let more = learns_keep grows mid new rest others in
+    let one = learnt_keeps grows old lines in
+    (more.0 ∙ ap packages_of is ∙ one.0, more.1 ∙ ap revision_of is ∙ one.1)
 
-pub learning_keeps : ReplayGrows → (old new : List Item) → LearnsSome session_ways old new → packages_of new ≡ packages_of old
+pub learning_keeps : ReplayGrows → (old new : List Item) → LearnsSome session_ways old new → SameRegistry (book_of new) (book_of old)
 learning_keeps grows old new (offered, learns) = learns_keep grows old new offered learns
 
 -- ---- replies to requests, one after another
@@ -121,6 +109,67 @@ unfolding wanting
 all_wanting here [] = refl
 all_wanting here (request ∷ requests) = (here, inl (refl, (NoMemory, inl refl, refl)), all_wanting here requests)
 
+-- ---- replies before what is learnt of them
+
+learns_some : (offered : List (List Line)) (old new : List Item) → LearnsOf offered old new → LearnsSome session_ways old new
+learns_some [] old new is = ([], is)
+learns_some (lines ∷ offered) old new learns = learns
+
+-- nothing need be learnt
+pub learns_nothing : (offered : List (List Line)) (here : List Item) → LearnsOf offered here here
+learns_nothing [] here = refl
+learns_nothing (lines ∷ offered) here = ([], refl)
+
+-- what is offered may be learnt
+pub learns_offered : (offered : List (List Line)) (first : List Line) (rest : List (List Line)) (old new : List Item) → offered ≡ first ∷ rest → LearnsSome session_ways old new → LearnsOf offered old new
+learns_offered [] first rest old new is learns = absurd (cc)
+learns_offered (lines ∷ offered) first rest old new is learns = learns
+
+-- the reply to a request is the same where what was learnt differs
+same_reply : (here items : List Item) (body : Body) → revision_of here ≡ revision_of items → reply_at session_ways here body ≡ reply_at session_ways items body
+same_reply here items body same = ap (λ (n : ℕ). reply_from (record { revision = n; stamp = None }) body) same
+
+module _ (laws : RepliesAddUp session_ways) (wanted : Wanted) (explain : Bool) (budget : Option ℕ) (items : List Item) where
+  -- what the solver found is told
+  pub told_found : (body : Body) → TellsFound (packages_of items) wanted explain body → (offered : List (List Line))
+      → MayBeTold (resolve wanted explain budget ∷ []) items (reply_at session_ways items body ∷ []) offered
+  told_found body tells offered here new packages revision learns = (
+    new,
+    subst (λ (reply : Reply). MayAnswer session_ways (resolve wanted explain budget) here reply new) (same_reply here items body revision)
+        (laws.found wanted explain budget here here body refl (subst (λ (ps : Packages). TellsFound ps wanted explain body) (sym packages) tells) new (learns_some offered here new learns)),
+    refl,
+  )
+
+  -- why a request is left without an answer
+  pub told_stopped : (e : Refusal) → MayStop (packages_of items) wanted budget e → MayBeTold (resolve wanted explain budget ∷ []) items (reply_at session_ways items (refused e) ∷ []) []
+  told_stopped e stops here new packages revision is = (
+    here,
+    subst (λ (reply : Reply). MayAnswer session_ways (resolve wanted explain budget) here reply here) (same_reply here items (refused e) revision)
+        (laws.stopped wanted explain budget here here e refl (subst (λ (ps : Packages). MayStop ps wanted budget e) (sym packages) stops)),
+    is,
+  )
+
+told_nothing : (items : List Item) → MayBeTold [] items [] []
+told_nothing items here new packages revision is = is
+
+told_both : ReplayGrows → (requests others : List Request) (items : List Item) (replies more : List Reply) (offered after : List (List Line)) → MayBeTold requests items replies offered
+    → MayBeTold others items more after → MayBeTold (requests ++ others) items (replies ++ more) (offered ++ after)
+told_both grows requests others items replies more [] after one two here new packages revision learns =
+    replied_append session_ways requests others replies more here here new (one here here packages revision refl) (two here new packages revision learns)
+told_both grows requests others items replies more (lines ∷ offered) after one two here new packages revision learns =
+    let same = learning_keeps grows here new learns in
+    replied_append session_ways requests others replies more here new new (one here new packages revision learns)
+    (two new new (same.0 ∙ packages) (same.1 ∙ revision) (learns_nothing after new))
+
+-- with what is learnt then
+pub told_learnt : (requests : List Request) (items : List Item) (replies : List Reply) (offered : List (List Line)) (new : List Item) → MayBeTold requests items replies offered → LearnsOf offered items new
+    → AreReplied session_ways requests items replies new
+told_learnt requests items replies offered new told learns = told items new refl refl learns
+
+-- and where nothing is
+pub told_replied : (requests : List Request) (items : List Item) (replies : List Reply) (offered : List (List Line)) → MayBeTold requests items replies offered → AreReplied session_ways requests items replies items
+told_replied requests items replies offered told = told items items refl refl (learns_nothing offered items)
+
 -- ---- replies that are put
 
 -- replies to these requests were put
@@ -131,32 +180,256 @@ HasPut a b p q requests old new = (replies : List Reply) × AreReplied session_w
 abbrev pub HasCut : Option (List ℕ) → Option (List ℕ) → List ℕ → List Request → List Item → List Item → Type 0
 HasCut a b p requests old new = (replies : List Reply) × AreReplied session_ways requests old replies new × IsCut a b p (replies_text replies)
 
-pub put_none : (a : Option (List ℕ)) (p : List ℕ) (old : List Item) → HasPut a a p p [] old old
-put_none a p old = ([], refl, ([], Appends-nil a, sym (append-nil p)))
+-- the first of these requests were told replies
+abbrev pub HasTold : Option (List ℕ) → Option (List ℕ) → List ℕ → List ℕ → List Request → List Request → List Item → List (List Line) → List (List Line) → Type 0
+HasTold a b p q requests left items before after = Tells {A = Unit} {E = Unit} a b p q (Ok tt) requests left items before after
 
-module _ (laws : PutsAddUp) (a b c : Option (List ℕ)) (p q : List ℕ) (requests : List Request) (request : Request) (old mid new : List Item) (reply : Reply)
-    (before : HasPut a b p q requests old mid) (answers : MayAnswer session_ways request mid reply new) where
-  replied_more : AreReplied session_ways (requests ++ request ∷ []) old (before.0 ++ reply ∷ []) new
-  replied_more = replied_append session_ways requests (request ∷ []) before.0 (reply ∷ []) old mid new before.1 (new, answers, refl)
+pub on_ok : {A B E : Type 0} (r : Result B E) → A → OnOk r A
+on_ok (Ok u) a = a
+on_ok (Err e) a = tt
 
-  -- one reply more
-  pub put_more : (r : List ℕ) → IsPut b c q r (reply_text reply) → HasPut a c p r (requests ++ request ∷ []) old new
-  put_more r put = (
-    before.0 ++ reply ∷ [],
-    replied_more,
-    subst (IsPut a c p r) (sym (replies_text-more before.0 reply)) (laws.both a b c p q r (replies_text before.0) (reply_text reply) before.2 put),
-  )
+put_nothing : (a : Option (List ℕ)) (p : List ℕ) → IsPut a a p p []
+put_nothing a p = ([], Appends-nil a, sym (append-nil p))
 
-  -- one that fails, whatever was to follow
-  pub put_fails : (others : List Request) → IsCut b c q (reply_text reply) → HasCut a c p ((requests ++ request ∷ []) ++ others) old new
-  unfolding wanting
-  put_fails others failed =
-      let up_to = subst (IsCut a c p) (sym (replies_text-more before.0 reply)) (laws.second_cut a b c p q (replies_text before.0) (reply_text reply) before.2 failed) in
-      let after = wanting new others in (
-        (before.0 ++ reply ∷ []) ++ after,
-        replied_append session_ways (requests ++ request ∷ []) others (before.0 ++ reply ∷ []) after old new new replied_more (all_wanting new others),
-        subst (IsCut a c p) (sym (flat_map-append reply_text (before.0 ++ reply ∷ []) after)) (laws.first_cut a c p (replies_text (before.0 ++ reply ∷ [])) (replies_text after) up_to),
-      )
+-- none yet
+pub tells_none : (a : Option (List ℕ)) (p : List ℕ) (requests : List Request) (items : List Item) (offered : List (List Line)) → HasTold a a p p requests requests items offered offered
+tells_none a p requests items offered = record {
+  first = [];
+  others = requests;
+  replies = [];
+  more = [];
+  split = refl;
+  rest = refl;
+  offered = sym (append-nil offered);
+  told = told_nothing items;
+  puts = put_nothing a p;
+}
+
+one_put : {E : Type 0} (r : Result Unit E) (a b : Option (List ℕ)) (p q text : List ℕ) → Puts a b p q r text → MatchResult r (λ _. IsPut a b p q text) (λ _. IsCut a b p text)
+one_put (Ok u) a b p q text puts = puts
+one_put (Err e) a b p q text puts = puts
+
+module _ {E : Type 0} (r : Result Unit E) (a b : Option (List ℕ)) (p q : List ℕ) where
+  -- one
+  pub tells_one : (request : Request) (items : List Item) (before after more : List (List Line)) (reply : Reply) → after ≡ before ++ more → MayBeTold (request ∷ []) items (reply ∷ []) more
+      → Puts a b p q r (reply_text reply) → Tells a b p q r (request ∷ []) [] items before after
+  tells_one request items before after more reply offered told puts = record {
+    first = request ∷ [];
+    others = [];
+    replies = reply ∷ [];
+    more = more;
+    split = refl;
+    rest = on_ok r refl;
+    offered = offered;
+    told = told;
+    puts = subst (λ (text : List ℕ). MatchResult r (λ _. IsPut a b p q text) (λ _. IsCut a b p text)) (sym (replies_text-more [] reply)) (one_put r a b p q (reply_text reply) puts);
+  }
+
+sent_put : {E : Type 0} (r : Result Unit E) (a b : Option (List ℕ)) (p q : List ℕ) → Writes a b r p → q ≡ [] → MatchResult r (λ _. IsPut a b p q []) (λ _. IsCut a b p [])
+sent_put (Ok u) a b p q (written, appends, is) none = (written, appends, ap (λ (l : List ℕ). written ++ l) none ∙ append-nil written ∙ is ∙ sym (append-nil p))
+sent_put (Err e) a b p q (written, appends, begins) none = (written, appends, (begins.0, begins.1 ∙ sym (append-nil p)))
+
+-- what waits is written
+pub tells_sends : {E : Type 0} (r : Result Unit E) (a b : Option (List ℕ)) (p q : List ℕ) (requests : List Request) (items : List Item) (offered : List (List Line)) → Writes a b r p → q ≡ []
+    → Tells a b p q r requests requests items offered offered
+tells_sends r a b p q requests items offered writes none = record {
+  first = [];
+  others = requests;
+  replies = [];
+  more = [];
+  split = refl;
+  rest = on_ok r refl;
+  offered = sym (append-nil offered);
+  told = told_nothing items;
+  puts = sent_put r a b p q writes none;
+}
+
+-- nothing is put
+pub tells_puts_none : {E : Type 0} (r : Result Unit E) (a b : Option (List ℕ)) (p q : List ℕ) (requests : List Request) (items : List Item) (offered : List (List Line)) → Puts a b p q r []
+    → Tells a b p q r requests requests items offered offered
+tells_puts_none r a b p q requests items offered puts = record {
+  first = [];
+  others = requests;
+  replies = [];
+  more = [];
+  split = refl;
+  rest = on_ok r refl;
+  offered = sym (append-nil offered);
+  told = told_nothing items;
+  puts = one_put r a b p q [] puts;
+}
+
+both_put : PutsAddUp → {A E : Type 0} (r : Result A E) (a b c : Option (List ℕ)) (p q s : List ℕ) (replies more : List Reply) → IsPut a b p q (replies_text replies)
+    → MatchResult r (λ _. IsPut b c q s (replies_text more)) (λ _. IsCut b c q (replies_text more)) → MatchResult r (λ _. IsPut a c p s (replies_text (replies ++ more))) (λ _. IsCut a c p (replies_text (replies ++ more)))
+both_put laws (Ok u) a b c p q s replies more one two =
+    subst (IsPut a c p s) (sym (flat_map-append reply_text replies more)) (laws.both a b c p q s (replies_text replies) (replies_text more) one two)
+both_put laws (Err e) a b c p q s replies more one two =
+    subst (IsCut a c p) (sym (flat_map-append reply_text replies more)) (laws.second_cut a b c p q (replies_text replies) (replies_text more) one two)
+
+-- some, and then others
+pub tells_then : PutsAddUp → ReplayGrows → {A E : Type 0} (r : Result A E) (a b c : Option (List ℕ)) (p q s : List ℕ) (requests mid left : List Request) (items : List Item) (before between after : List (List Line))
+    → HasTold a b p q requests mid items before between → Tells b c q s r mid left items between after → Tells a c p s r requests left items before after
+tells_then laws grows r a b c p q s requests mid left items before between after one two = record {
+  first = one.first ++ two.first;
+  others = two.others;
+  replies = one.replies ++ two.replies;
+  more = one.more ++ two.more;
+  split = one.split ∙ ap (λ (l : List Request). one.first ++ l) (sym one.rest ∙ two.split) ∙ sym (append_assoc one.first two.first two.others);
+  rest = two.rest;
+  offered = two.offered ∙ ap (λ (l : List (List Line)). l ++ two.more) one.offered ∙ append_assoc before one.more two.more;
+  told = told_both grows one.first two.first items one.replies two.replies one.more two.more one.told two.told;
+  puts = both_put laws r a b c p q s one.replies two.replies one.puts two.puts;
+}
+
+-- how it went may be told otherwise
+pub tells_ok : {A B E F : Type 0} (v : A) (w : B) (a b : Option (List ℕ)) (p q : List ℕ) (requests left left' : List Request) (items : List Item) (before after : List (List Line)) → left' ≡ left
+    → Tells {A = A} {E = E} a b p q (Ok v) requests left items before after → Tells {A = B} {E = F} a b p q (Ok w) requests left' items before after
+tells_ok v w a b p q requests left left' items before after same t = record {
+  first = t.first;
+  others = t.others;
+  replies = t.replies;
+  more = t.more;
+  split = t.split;
+  rest = same ∙ t.rest;
+  offered = t.offered;
+  told = t.told;
+  puts = t.puts;
+}
+
+pub tells_err : {A B E F : Type 0} (e : E) (f : F) (a b : Option (List ℕ)) (p q q' : List ℕ) (requests left left' : List Request) (items : List Item) (before after : List (List Line))
+    → Tells {A = A} {E = E} a b p q (Err e) requests left items before after → Tells {A = B} {E = F} a b p q' (Err f) requests left' items before after
+tells_err e f a b p q q' requests left left' items before after t = record {
+  first = t.first;
+  others = t.others;
+  replies = t.replies;
+  more = t.more;
+  split = t.split;
+  rest = tt;
+  offered = t.offered;
+  told = t.told;
+  puts = t.puts;
+}
+
+-- what waits was written, behind what was told
+pub tells_sent : PutsAddUp → ReplayGrows → (E : Type 0) (v : Unit {0}) (a b c : Option (List ℕ)) (p q s : List ℕ) (requests left : List Request) (items : List Item) (before after : List (List Line))
+    → HasTold a b p q requests left items before after → Writes {E = E} b c (Ok v) q → s ≡ [] → HasTold a c p s requests left items before after
+tells_sent laws grows E v a b c p q s requests left items before after told writes none =
+    tells_ok v tt a c p s requests left left items before after refl
+    (tells_then laws grows {A = Unit} {E = E} (Ok v) a b c p q s requests left left items before after after told (tells_sends {E = E} (Ok v) b c q s left items after writes none))
+
+behind_rest : {A E : Type 0} (r : Result A E) (left others behind : List Request) → OnOk r (left ≡ others) → OnOk r (left ++ behind ≡ others ++ behind)
+behind_rest (Ok v) left others behind is = ap (λ (l : List Request). l ++ behind) is
+behind_rest (Err e) left others behind is = tt
+
+-- with others behind them
+pub tells_before : {A E : Type 0} (r : Result A E) (a b : Option (List ℕ)) (p q : List ℕ) (requests left behind : List Request) (items : List Item) (before after : List (List Line))
+    → Tells a b p q r requests left items before after → Tells a b p q r (requests ++ behind) (left ++ behind) items before after
+tells_before r a b p q requests left behind items before after t = record {
+  first = t.first;
+  others = t.others ++ behind;
+  replies = t.replies;
+  more = t.more;
+  split = ap (λ (l : List Request). l ++ behind) t.split ∙ append_assoc t.first t.others behind;
+  rest = behind_rest r left t.others behind t.rest;
+  offered = t.offered;
+  told = t.told;
+  puts = t.puts;
+}
+
+-- the next one, of those from a place on
+pub tells_next : {A E : Type 0} (r : Result A E) (a b : Option (List ℕ)) (p q : List ℕ) (asked : List (Wanted × Option ℕ × Bool)) (k : ℕ) (one : Wanted × Option ℕ × Bool) (items : List Item) (before after : List (List Line))
+    → k < length asked → one ≡ get_or asked k one → Tells a b p q r (resolve one.0 one.2 one.1 ∷ []) [] items before after → Tells a b p q r (drop k (requests_of asked)) (drop (k + 1) (requests_of asked)) items before after
+tells_next {A} {E} r a b p q asked k one items before after within here t =
+    subst (λ (l : List Request). Tells {A = A} {E = E} a b p q r l (drop (k + 1) (requests_of asked)) items before after) (sym (requests_of-next asked k one within here))
+    (tells_before r a b p q (resolve one.0 one.2 one.1 ∷ []) [] (drop (k + 1) (requests_of asked)) items before after t)
+
+-- none is left behind the last
+pub drop_requests : (asked : List (Wanted × Option ℕ × Bool)) (k : ℕ) → length asked ≤ k → drop k (requests_of asked) ≡ []
+drop_requests asked k end = drop_all k (requests_of asked) (subst (λ (n : ℕ). n ≤ k) (sym (requests_of-length asked)) end)
+
+-- the first ones, of all
+pub tells_first : {A E : Type 0} (r : Result A E) (a b : Option (List ℕ)) (p q : List ℕ) (requests : List Request) (most count : ℕ) (items : List Item) (before after : List (List Line)) → count ≤ length (take most requests)
+    → Tells a b p q r (take most requests) (drop count (take most requests)) items before after → Tells a b p q r requests (drop count requests) items before after
+tells_first {A} {E} r a b p q requests most count items before after within t =
+    let all : take most requests ++ drop most requests ≡ requests = take-append-drop most requests in
+    subst (λ (l : List Request). Tells {A = A} {E = E} a b p q r l (drop count l) items before after) all
+    (subst (λ (l : List Request). Tells {A = A} {E = E} a b p q r (take most requests ++ drop most requests) l items before after) (sym (drop-append-le count (take most requests) (drop most requests) within))
+    (tells_before r a b p q (take most requests) (drop count (take most requests)) (drop most requests) items before after t))
+
+pub drop_past : {A : Type 0} (xs ys : List A) → drop (length xs) (xs ++ ys) ≡ ys
+drop_past [] ys = refl
+drop_past (x ∷ xs) ys = drop_past xs ys
+
+pub part_length : (part : List (Wanted × Option ℕ × Bool)) (requests : List Request) (most : ℕ) → requests_of part ≡ take most requests → length part ≡ length (take most requests)
+part_length part requests most is = sym (requests_of-length part) ∙ ap length is
+
+-- no more than there are
+pub part_within : (part : List (Wanted × Option ℕ × Bool)) (requests : List Request) (most count : ℕ) → requests_of part ≡ take most requests → count ≤ length part → count ≤ length requests
+part_within part requests most count is within =
+    let same = part_length part requests most is in
+    let all = sym (length-append (take most requests) (drop most requests)) ∙ ap length (take-append-drop most requests) in
+    omega (arith, within, same, all)
+
+-- some of a part of the requests, from the first on
+pub tells_part : {A E : Type 0} (r : Result A E) (a b : Option (List ℕ)) (p q : List ℕ) (part : List (Wanted × Option ℕ × Bool)) (requests : List Request) (most count : ℕ) (items : List Item) (before after : List (List Line))
+    → requests_of part ≡ take most requests → count ≤ length part → Tells a b p q r (requests_of part) (drop count (requests_of part)) items before after → Tells a b p q r requests (drop count requests) items before after
+tells_part {A} {E} r a b p q part requests most count items before after is within t =
+    tells_first r a b p q requests most count items before after (subst (λ (n : ℕ). count ≤ n) (part_length part requests most is) within)
+    (subst (λ (l : List Request). Tells {A = A} {E = E} a b p q r l (drop count l) items before after) is t)
+
+-- all of a part
+pub tells_whole : {A E : Type 0} (r : Result A E) (a b : Option (List ℕ)) (p q : List ℕ) (part : List (Wanted × Option ℕ × Bool)) (requests : List Request) (most count : ℕ) (items : List Item) (before after : List (List Line))
+    → requests_of part ≡ take most requests → count ≡ length part → Tells a b p q r (requests_of part) [] items before after → Tells a b p q r requests (drop count requests) items before after
+tells_whole {A} {E} r a b p q part requests most count items before after is all t =
+    let whole : take most requests ++ drop most requests ≡ requests = take-append-drop most requests in
+    let rest : drop count requests ≡ drop most requests
+    = ap (λ (n : ℕ). drop n requests) (all ∙ part_length part requests most is) ∙ ap (drop (length (take most requests))) (sym whole) ∙ drop_past (take most requests) (drop most requests) in
+    subst (λ (l : List Request). Tells {A = A} {E = E} a b p q r requests l items before after) (sym rest)
+    (subst (λ (l : List Request). Tells {A = A} {E = E} a b p q r l (drop most requests) items before after) (ap (λ (l : List Request). l ++ drop most requests) is ∙ whole)
+    (tells_before r a b p q (requests_of part) [] (drop most requests) items before after t))
+
+-- the same where what went out before is told too
+pub tells_behind : {A E : Type 0} (r : Result A E) (front held held' : List ℕ) (p q : List ℕ) (requests left : List Request) (items : List Item) (before after : List (List Line))
+    → Tells (Some held) (Some held') p q r requests left items before after → Tells (Some (front ++ held)) (Some (front ++ held')) p q r requests left items before after
+tells_behind r front held held' p q requests left items before after t = record {
+  first = t.first;
+  others = t.others;
+  replies = t.replies;
+  more = t.more;
+  split = t.split;
+  rest = t.rest;
+  offered = t.offered;
+  told = t.told;
+  puts = puts_behind r t.replies t.puts;
+}
+  where
+    puts_behind : {A E : Type 0} (r : Result A E) (replies : List Reply) → MatchResult r (λ _. IsPut (Some held) (Some held') p q (replies_text replies)) (λ _. IsCut (Some held) (Some held') p (replies_text replies))
+        → MatchResult r (λ _. IsPut (Some (front ++ held)) (Some (front ++ held')) p q (replies_text replies)) (λ _. IsCut (Some (front ++ held)) (Some (front ++ held')) p (replies_text replies))
+    puts_behind (Ok v) replies (written, appends, is) = (written, appends_behind front held held' written appends, is)
+    puts_behind (Err e) replies (written, appends, is) = (written, appends_behind front held held' written appends, is)
+
+-- all were told
+pub tells_all : {A E : Type 0} (v : A) (a b : Option (List ℕ)) (p q : List ℕ) (requests left : List Request) (items new : List Item) (offered : List (List Line)) → left ≡ []
+    → Tells {A = A} {E = E} a b p q (Ok v) requests left items [] offered → LearnsOf offered items new → HasPut a b p q requests items new
+tells_all v a b p q requests left items new offered none t learns =
+    let whole : requests ≡ t.first = t.split ∙ ap (λ (l : List Request). t.first ++ l) (sym t.rest ∙ none) ∙ append-nil t.first in (
+      t.replies,
+      subst (λ (l : List Request). AreReplied session_ways l items t.replies new) (sym whole)
+          (told_learnt t.first items t.replies t.more new t.told (subst (λ (l : List (List Line)). LearnsOf l items new) t.offered learns)),
+      t.puts,
+    )
+
+-- or a put failed, whatever was to follow
+pub tells_fails : PutsAddUp → {A E : Type 0} (e : E) (a b : Option (List ℕ)) (p q : List ℕ) (requests left : List Request) (items : List Item) (before after : List (List Line))
+    → Tells {A = A} {E = E} a b p q (Err e) requests left items before after → HasCut a b p requests items items
+unfolding wanting
+tells_fails laws e a b p q requests left items before after t =
+    let rest = wanting items t.others in (
+      t.replies ++ rest,
+      subst (λ (l : List Request). AreReplied session_ways l items (t.replies ++ rest) items) (sym t.split)
+          (replied_append session_ways t.first t.others t.replies rest items items items (told_replied t.first items t.replies t.more t.told) (all_wanting items t.others)),
+      subst (IsCut a b p) (sym (flat_map-append reply_text t.replies rest)) (laws.first_cut a b p (replies_text t.replies) (replies_text rest) t.puts),
+    )
 
 -- replies that were put, and one more
 pub puts_last : PutsAddUp → {E : Type 0} (r : Result Unit E) (a b c : Option (List ℕ)) (p q s : List ℕ) (replies : List Reply) (reply : Reply) → IsPut a b p q (replies_text replies)
@@ -165,10 +438,6 @@ puts_last laws (Ok u) a b c p q s replies reply one two =
     subst (IsPut a c p s) (sym (replies_text-more replies reply)) (laws.both a b c p q s (replies_text replies) (reply_text reply) one two)
 puts_last laws (Err e) a b c p q s replies reply one two =
     subst (IsCut a c p) (sym (replies_text-more replies reply)) (laws.second_cut a b c p q (replies_text replies) (reply_text reply) one two)
-
-pub on_ok : {A E : Type 0} (r : Result Unit E) → A → OnOk r A
-on_ok (Ok u) a = a
-on_ok (Err e) a = tt
 
 -- ---- lines that ask what waits
 

@@ -6,3 +6,9 @@ pub mod SessionLemmas
 pub mod SessionRows
 pub mod WaitLemmas
 pub mod FaultLemmas
+pub mod DurableLemmas
+pub mod CommitLemmas
+pub mod LearntLemmas
+pub mod SavableLemmas
+pub mod CrashLemmas
+mod TellingLemmas

@@ -13,22 +13,8 @@ use Rattle.replies.specs.Replies.{Reply, reply_text, replies_text}
 use Rattle.book.specs.declared.item.Item.{Item}
 use Rattle.answers.specs.Laws.{RepliesAddUp}
 use Rattle.answers.specs.Lawful.{AreLawful}
+use Rattle.session.specs.Serving.{Progress}
 use Rattle.session.specs.Session.{Breaks, Serves, session_ways}
-
--- Whole lines of what was read were answered, and the rest is held; the replies are written or wait.
-pub record Progress (r0 r w0 w : Option (List ℕ)) (old new : List Item) (held : Unread) (waiting : List ℕ) : Type 0 where
-  pub input : List ℕ
-  pub lines : List (List ℕ)
-  pub rest : List ℕ
-  pub replies : List Reply
-  pub text : List ℕ
-  pub read : Consumes r0 r input
-  pub split : input ≡ with_feeds lines ++ rest
-  pub no_feeds : AllByRecursion HasNoFeed lines
-  pub stands : StandsFor held rest
-  pub session : AreLawful session_ways lines old replies new
-  pub written : Appends w0 w text
-  pub said : text ++ waiting ≡ replies_text replies
 
 -- ---- lines that end in line feeds
 
@@ -78,21 +64,21 @@ pub record Answered (w w' : Option (List ℕ)) (rest : List ℕ) (mid new : List
 
 module _ (laws : RepliesAddUp session_ways) (r0 r w0 w w' : Option (List ℕ)) (old mid new : List Item) (held : Unread) (waiting written : List ℕ) (p : Progress r0 r w0 w old mid held waiting)
     (a : Answered w w' p.rest mid new written) where
-  all_split : p.input ≡ with_feeds (p.lines ++ a.lines) ++ a.after
+  pub all_split : p.input ≡ with_feeds (p.lines ++ a.lines) ++ a.after
   all_split = p.split ∙ ap (λ l. with_feeds p.lines ++ l) a.whole ∙ sym (with_feeds-append p.lines a.lines a.after)
 
-  all_feeds : AllByRecursion HasNoFeed (p.lines ++ a.lines)
+  pub all_feeds : AllByRecursion HasNoFeed (p.lines ++ a.lines)
   all_feeds = no_feeds-append p.lines a.lines p.no_feeds a.no_feeds
 
-  all_lawful : AreLawful session_ways (p.lines ++ a.lines) old (p.replies ++ a.replies) new
+  pub all_lawful : AreLawful session_ways (p.lines ++ a.lines) old (p.replies ++ a.replies) new
   all_lawful = laws.lines p.lines a.lines p.replies a.replies old mid new p.session a.session
 
-  all_said : (text : List ℕ) → written ++ text ≡ waiting ++ replies_text a.replies → (p.text ++ written) ++ text ≡ replies_text (p.replies ++ a.replies)
+  pub all_said : (text : List ℕ) → written ++ text ≡ waiting ++ replies_text a.replies → (p.text ++ written) ++ text ≡ replies_text (p.replies ++ a.replies)
   all_said text all = append_assoc p.text written text ∙ ap (λ l. p.text ++ l) all ∙ sym (append_assoc p.text waiting (replies_text a.replies))
       ∙ ap (λ l. l ++ replies_text a.replies) p.said ∙ sym (flat_map-append reply_text p.replies a.replies)
 
   -- the replies were put
-  pub answers : (held' : Unread) (waiting' : List ℕ) → StandsFor held' a.after → written ++ waiting' ≡ waiting ++ replies_text a.replies → Progress r0 r w0 w' old new held' waiting'
+  unfoldable pub answers : (held' : Unread) (waiting' : List ℕ) → StandsFor held' a.after → written ++ waiting' ≡ waiting ++ replies_text a.replies → Progress r0 r w0 w' old new held' waiting'
   answers held' waiting' stands all = record {
     input = p.input;
     lines = p.lines ++ a.lines;
@@ -109,7 +95,7 @@ module _ (laws : RepliesAddUp session_ways) (r0 r w0 w w' : Option (List ℕ)) (
   }
 
   -- and what stands behind the lines is left
-  pub answers_left : (held' : Unread) (waiting' : List ℕ) → StandsFor held' a.after → written ++ waiting' ≡ waiting ++ replies_text a.replies
+  unfoldable pub answers_left : (held' : Unread) (waiting' : List ℕ) → StandsFor held' a.after → written ++ waiting' ≡ waiting ++ replies_text a.replies
       → (q : Progress r0 r w0 w' old new held' waiting') × (q.rest ≡ a.after)
   unfolding answers
   answers_left held' waiting' stands all = (answers held' waiting' stands all, refl)
@@ -138,7 +124,7 @@ module _ (laws : RepliesAddUp session_ways) (r0 r w0 w w' : Option (List ℕ)) (
           ∙ take_at (p.lines ++ a.lines) (lines_of a.after) _ refl
 
 -- more was read
-pub reads : ReadingGoesOn → (r0 r r' w0 w : Option (List ℕ)) (old new : List Item) (held held' : Unread) (waiting piece : List ℕ)
+unfoldable pub reads : ReadingGoesOn → (r0 r r' w0 w : Option (List ℕ)) (old new : List Item) (held held' : Unread) (waiting piece : List ℕ)
     → Progress r0 r w0 w old new held waiting → Consumes r r' piece → held'.bytes ≡ held.bytes ++ piece → held'.is_long ≡ held.is_long
     → Progress r0 r' w0 w old new held' waiting
 reads goes_on r0 r r' w0 w old new held held' waiting piece p consumes bytes same = record {
@@ -157,7 +143,7 @@ reads goes_on r0 r r' w0 w old new held held' waiting piece p consumes bytes sam
 }
 
 -- a read gave nothing
-pub reads_none : ReadingGoesOn → (r0 r r' w0 w : Option (List ℕ)) (old new : List Item) (held held' : Unread) (waiting piece : List ℕ)
+unfoldable pub reads_none : ReadingGoesOn → (r0 r r' w0 w : Option (List ℕ)) (old new : List Item) (held held' : Unread) (waiting piece : List ℕ)
     → (p : Progress r0 r w0 w old new held waiting) → HasNoFeed p.rest → Consumes r r' piece → held'.bytes ≡ held.bytes ++ piece → held'.is_long ≡ held.is_long
     → piece ≡ [] → (q : Progress r0 r' w0 w old new held' waiting) × HasNoFeed q.rest
 unfolding reads

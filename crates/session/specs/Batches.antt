@@ -1,16 +1,15 @@
 -- Requests of neighbouring lines, which are answered together.
-use Rattle.std.specs.Prelude.{◌≡◌, ◌⊎◌, Bool, ℕ, List, [], ◌∷◌, ◌++◌, map, OnOk, Option, Result, Ok}
+use Rattle.std.specs.Prelude.{◌≡◌, Bool, ℕ, List, [], ◌∷◌, ◌++◌, map, OnOk, Option, Result, MatchResult, Ok}
 use Rattle.std.specs.List.{AllZip}
-use Rattle.versions.specs.declared.refusal.Refusal.{Refusal}
-use Rattle.registry.specs.Registry.{Packages}
 use Rattle.registry.specs.Requests.{Wanted}
-use Rattle.solver.specs.declared.verdict.Verdict.{Verdict}
-use Rattle.pool.specs.Answering.{AreAnswers}
+use Rattle.derivations.specs.declared.line.Line.{Line}
 use Rattle.lines.specs.Texts.{Puts}
 use Rattle.wire.specs.Shapes.{Request, resolve}
+use Rattle.replies.specs.Putting.{IsCut, IsPut}
 use Rattle.replies.specs.Replies.{Reply, replies_text}
+use Rattle.book.specs.Items.{packages_of, revision_of}
 use Rattle.book.specs.declared.item.Item.{Item}
-use Rattle.answers.specs.Lawful.{AreLawful, MayAnswer, Ways, asked}
+use Rattle.answers.specs.Lawful.{AreLawful, LearnsSome, MayAnswer, Ways, asked}
 use Rattle.session.specs.Session.{session_ways}
 
 -- what each of these asks: a request, its budget or none, and whether a refusal is to be explained
@@ -28,9 +27,32 @@ AreReplied {S} w (request ∷ requests) old (reply ∷ replies) new = (mid : S) 
 AreReplied {S} w [] old (reply ∷ replies) new = ⊥
 AreReplied {S} w (request ∷ requests) old [] new = ⊥
 
--- each request is answered at its place, or there was no room to keep the answers
-abbrev pub MayBeAnswers : Packages → List (Wanted × Option ℕ × Bool) → List (Result Verdict Refusal) → Type 0
-MayBeAnswers packages asked answers = (answers ≡ []) ⊎ AreAnswers packages asked answers
+-- ---- replies before what is learnt of them
+
+-- Some of what is offered may be learnt; where nothing is offered, nothing is.
+abbrev pub LearnsOf : List (List Line) → List Item → List Item → Type 0
+LearnsOf [] old new = new ≡ old
+LearnsOf (lines ∷ offered) old new = LearnsSome session_ways old new
+
+-- The requests may be told so where the session has these packages and this revision, whatever is learnt then of what the answers offer.
+abbrev pub MayBeTold : List Request → List Item → List Reply → List (List Line) → Type 0
+MayBeTold requests items replies offered = (here new : List Item) → packages_of here ≡ packages_of items → revision_of here ≡ revision_of items → LearnsOf offered here new
+    → AreReplied session_ways requests here replies new
+
+-- The first of these requests were told replies, whose texts were put, and what the answers offer stands behind what was offered before. The others are left.
+pub record Tells {A E : Type 0} (written_before written_after : Option (List ℕ)) (before after : List ℕ) (r : Result A E) (requests left : List Request) (items : List Item)
+    (offered_before offered_after : List (List Line)) : Type 0 where
+  pub first : List Request
+  pub others : List Request
+  pub replies : List Reply
+  pub more : List (List Line)
+  pub split : requests ≡ first ++ others
+  pub rest : OnOk r (left ≡ others)
+  pub offered : offered_after ≡ offered_before ++ more
+  pub told : MayBeTold first items replies more
+  pub puts : MatchResult r (λ _. IsPut written_before written_after before after (replies_text replies)) (λ _. IsCut written_before written_after before (replies_text replies))
+
+-- ---- lines that are taken
 
 -- The first of these requests were replied to, and what was put are the texts of the replies. The others are left.
 pub record Leaves {E : Type 0} (written_before written_after : Option (List ℕ)) (before after : List ℕ) (r : Result Unit E) (requests : List Request) (old new : List Item) (left : List Request) : Type 0 where

@@ -4,6 +4,8 @@ use Rattle.std.specs.Io.KnownBytes.{Appends, Consumes, IsAtEnd}
 use Rattle.versions.specs.declared.refusal.Refusal.{Refusal}
 use Rattle.book.specs.Items.{book_of, packages_of, refusal_where, revision_of}
 use Rattle.book.specs.declared.item.Item.{Item}
+use Rattle.book.specs.declared.item.Item.TheVariants as item
+use Rattle.journals.specs.Fresh.{IsGoodLearnt}
 use Rattle.lines.specs.Lines.{lines_of, whole_lines_of}
 use Rattle.lines.specs.Texts.{IsBeginning}
 use Rattle.replies.specs.Replies.{Reply, replies_text}
@@ -16,13 +18,18 @@ use Rattle.session.specs.Served.{is_full}
 abbrev pub refusal_after : List Item → Item → Option Refusal
 refusal_after items i = refusal_where (is_full (revision_of items) (length items) i) (book_of items) i
 
+-- what was learnt can be said again by its line; a command can where a line asked for it
+abbrev pub CanBeSaid : Item → Type 0
+CanBeSaid (item.Command command) = Unit {0}
+CanBeSaid (item.Learnt lines) = IsGoodLearnt lines
+
 -- No other enters anything, so a look changes nothing, and an item that is accepted is the next.
 abbrev pub session_ways : Ways (List Item)
 session_ways = record {
   standing = λ items. record { revision = revision_of items; stamp = None };
   packages = packages_of;
   looks = λ old new. new ≡ old;
-  enters = λ old i new. (refusal_after old i ≡ None) × (new ≡ old ++ i ∷ []);
+  enters = λ old i new. (refusal_after old i ≡ None) × (new ≡ old ++ i ∷ []) × CanBeSaid i;
   refusal = refusal_after;
   halts = λ items refusal. ⊥;
 }

@@ -1,23 +1,28 @@
 //! Requests of neighbouring lines, which are answered together by several threads.
-ghost use Rattle.std.specs.Prelude.{◌≡◌, ◌⊎◌, ◌∷◌, ◌++◌, ◌<◌, [], List, length, IfErr, IfOk, Err};
-ghost use Rattle.std.specs.Vec.Iter.{into_iter_items};
+ghost use Rattle.std.specs.Prelude.{◌≡◌, ◌↔◌, ◌∷◌, ◌++◌, ◌<◌, ◌≤◌, [], List, drop, length, take, IfErr, IfOk, IfSome, IsTrue, OnOk};
 ghost use Rattle.book.specs.Items.{packages_of};
+ghost use Rattle.lines.specs.Texts.{Puts};
 ghost use Rattle.pool.specs.Answering.{IsAnswerTo};
 ghost use Rattle.solver.specs.Outcomes.{MayStop};
 ghost use Rattle.wire.specs.Shapes.{resolve};
-ghost use Rattle.session.specs.Batches.{AreReplied, Leaves, MayBeAnswers, requests_of};
-ghost use Rattle.answers.specs.Lawful.{MayAnswer};
+ghost use Rattle.session.specs.Batches.{AreReplied, Leaves, LearnsOf, Tells, requests_of};
+ghost use Rattle.derivations.specs.declared.line.Line.{Line};
 ghost use Rattle.answers.specs.Outcomes.{TellsFound};
-ghost use Rattle.session.specs.Putting.{PutsReplies, PutsReply};
+ghost use Rattle.session.specs.Committing.{TellsOn};
+ghost use Rattle.session.specs.Putting.{PutsReplies};
 ghost use Rattle.session.specs.Session.{session_ways};
 ghost use Rattle.answers.specs.Told.{told_body};
 
+use crate::committed::Committed;
 use crate::served::Served;
-use answers::{Ledger, Told, lawful_replies_add_up, learn_all, put_or_send, put_told, told_of};
+use crate::telling::tell_in_order;
+use crate::telling_kept::tell_kept_in_order;
+use answers::{Ledger, Told, lawful_replies_add_up, learn_all, put_told, told_of};
 use book::journals_grow;
+use commits::Devices;
 use derivations::Learnt;
 use lines::Outbox;
-use pool::{Answer, Asked, answer_lent};
+use pool::{Answer, Asked, THREAD, answer_soon, effort_of};
 use registry::{Registry, Request};
 use replies::puts_add_up;
 use std::alloc::{AllocError, Global};
@@ -26,7 +31,6 @@ use std::io::Write;
 use std::marker::Model;
 use std::sync::Wait;
 use std::thread::Threads;
-use std::vec::IntoIter;
 use versions::Refusal;
 
 /// The most requests that are answered together.
@@ -89,8 +93,23 @@ impl Batch {
         self.asked.push_reserved((request, budget, explain));
     }
 
-    /// Replies to the requests, in order. Then none waits. Where no line waits behind them either, all replies are
-    /// written before it is learnt what the last answer offers: what a client waits for is the answer alone.
+    /// How many wait.
+    pub fn len(&self) -> usize
+        ensures { result ≡ length self.now }
+    {
+        self.asked.len()
+    }
+
+    /// Whether none waits.
+    pub fn is_empty(&self) -> bool
+        ensures { IsTrue result ↔ (self.now ≡ []) }
+    {
+        self.asked.is_empty()
+    }
+
+    /// Replies to the requests, in order. Then none waits. Before a search that may be long, the replies before it are
+    /// written. It is learnt what the answers offer once all replies are put, and where no line waits behind the
+    /// requests, once they are written: what a client waits for is the answer alone.
     pub fn reply<H: Threads + Wait + Sync, W: Write>(
         &mut self,
         rt: &H,
@@ -104,102 +123,217 @@ impl Batch {
             (W.contents writer.old) (W.contents writer.new) outbox.old outbox.new result }
         ensures none { self.new ≡ [] }
     {
-        if self.asked.is_empty() {
-            return Ok(());
+        puts_add_up();
+        let mut offered = Vec::new(alloc);
+        match self.tell(rt, alloc, served, outbox, writer, none_behind, &mut offered) {
+            Ok(()) => {
+                learn_offered(served, offered);
+                Ok(())
+            }
+            Err(e) => {
+                drop(offered);
+                self.asked.clear();
+                Err(e)
+            }
         }
-        let answers = answers_to(rt, alloc, served, self.asked.as_slice(), self.workers);
-        let put = put_answers(
+    }
+
+    /// Replies to the requests, and learns nothing yet.
+    fn tell<H: Threads + Wait + Sync, W: Write>(
+        &mut self,
+        rt: &H,
+        alloc: Global,
+        served: &Served,
+        outbox: &mut Outbox,
+        writer: &mut W,
+        none_behind: bool,
+        offered: &mut Vec<Learnt>,
+    ) -> io::Result<()>
+        ensures told { Tells (W.contents writer.old) (W.contents writer.new) outbox.old outbox.new result
+            self.old self.new served.now offered.old.items offered.new.items }
+        ensures none { OnOk result (self.new ≡ []) }
+    {
+        puts_add_up();
+        journals_grow();
+        self.reply_soon(alloc, served, outbox, writer, BATCH_LIMIT, offered)?;
+        for _ in rt.forever() {
+            if self.is_empty() {
+                return send_if(none_behind, outbox, writer);
+            }
+            outbox.send(writer)?;
+            self.reply_next(rt, alloc, served, outbox, writer, offered)?;
+            self.reply_soon(alloc, served, outbox, writer, BATCH_LIMIT, offered)?;
+        }
+        unreachable!()
+    }
+
+    /// Replies to the first requests, so many at most, until one asks for a longer search, or where several threads may
+    /// answer, until as much was done as starting one takes. Answers whether the next one, if any, may be replied to so.
+    pub fn reply_soon<W: Write>(
+        &mut self,
+        alloc: Global,
+        served: &Served,
+        outbox: &mut Outbox,
+        writer: &mut W,
+        most: usize,
+        offered: &mut Vec<Learnt>,
+    ) -> io::Result<bool>
+        ensures { Tells (W.contents writer.old) (W.contents writer.new) outbox.old outbox.new result
+            self.old self.new served.now offered.old.items offered.new.items }
+    {
+        let mut count = 0;
+        let effort = if self.workers < 2 { usize::MAX } else { THREAD };
+        let put = put_soon(
             alloc,
             served,
             outbox,
             writer,
-            self.asked.as_slice(),
-            answers.into_iter(),
-            none_behind,
+            first_of(self.asked.as_slice(), most),
+            effort,
+            offered,
+            &mut count,
         );
-        self.asked.clear();
+        self.leave_out(count);
         put
     }
-}
 
-/// What the requests are answered, each of what was published and learnt before all of them; nothing where there is no
-/// room to keep the answers.
-fn answers_to<H: Threads + Wait + Sync>(
-    rt: &H,
-    alloc: Global,
-    served: &Served,
-    asked: &[Asked],
-    workers: usize,
-) -> Vec<Answer>
-    ensures { MayBeAnswers (packages_of served.now) asked.now result.items }
-{
-    match answer_lent(rt, alloc, served.registry(), served.store(), asked, workers) {
-        Ok(answers) => answers,
-        Err(_) => Vec::new(alloc),
+    /// Replies to the first request, or where several threads may answer, to all that wait, however long the searches are.
+    pub fn reply_next<H: Threads + Wait + Sync, W: Write>(
+        &mut self,
+        rt: &H,
+        alloc: Global,
+        served: &Served,
+        outbox: &mut Outbox,
+        writer: &mut W,
+        offered: &mut Vec<Learnt>,
+    ) -> io::Result<()>
+        ensures { Tells (W.contents writer.old) (W.contents writer.new) outbox.old outbox.new result
+            self.old self.new served.now offered.old.items offered.new.items }
+    {
+        let most = if self.workers < 2 { 1 } else { BATCH_LIMIT };
+        let asked = first_of(self.asked.as_slice(), most);
+        let count = asked.len();
+        let workers = self.workers;
+        let put = tell_in_order(rt, alloc, served, outbox, writer, asked, workers, offered);
+        self.leave_out(count);
+        put
+    }
+
+    /// As [`Batch::reply_next`], in a session whose journal is kept in a file. All replies go out before an answer is
+    /// waited for.
+    pub fn keep_next<H: Threads + Wait + Sync, D: Devices>(
+        &mut self,
+        rt: &H,
+        alloc: Global,
+        devices: &mut D,
+        served: &Served,
+        outbox: &mut Outbox,
+        held: &mut Vec<u8>,
+        at: &mut Committed,
+        offered: &mut Vec<Learnt>,
+    ) -> io::Result<()>
+        ensures { TellsOn result (D.seen devices.old) (D.seen devices.new) served.now outbox.old outbox.new
+            self.old self.new offered.old.items offered.new.items held.old.items held.new.items at.old at.new }
+    {
+        let most = if self.workers < 2 { 1 } else { BATCH_LIMIT };
+        let asked = first_of(self.asked.as_slice(), most);
+        let count = asked.len();
+        let workers = self.workers;
+        let put = tell_kept_in_order(
+            rt, alloc, devices, served, outbox, held, at, asked, workers, offered,
+        );
+        self.leave_out(count);
+        put
+    }
+
+    /// Leaves out the first requests.
+    fn leave_out(&mut self, count: usize)
+        requires { count ≤ length self.old }
+        ensures { self.new ≡ drop count self.old }
+    {
+        self.asked.rotate_left(count);
+        self.asked.truncate(self.asked.len() - count);
     }
 }
 
-/// Whether the reply at a place of so many is the last before a read that could wait.
-fn is_last(none_behind: bool, at: usize, count: usize) -> bool {
-    none_behind && at.saturating_add(1) == count
+/// Writes what waits where that is asked for.
+pub(crate) fn send_if<W: Write>(asked: bool, outbox: &mut Outbox, writer: &mut W) -> io::Result<()>
+    ensures { Puts (W.contents writer.old) (W.contents writer.new) outbox.old outbox.new result [] }
+{
+    if !asked {
+        return Ok(());
+    }
+    outbox.send(writer)
 }
 
-/// Puts the replies to requests that were answered so. What an answer offers is learnt once its reply is put.
-fn put_answers<W: Write>(
+/// The first requests, so many at most.
+fn first_of(asked: &[Asked], most: usize) -> &[Asked]
+    ensures { requests_of result.now ≡ take most (requests_of asked.now) }
+{
+    &asked[..most.min(asked.len())]
+}
+
+/// Puts the replies to the first requests for which few conflicts do, with this effort at most, and counts them. Answers
+/// whether the next one may be answered so.
+fn put_soon<W: Write>(
     alloc: Global,
-    served: &mut Served,
+    served: &Served,
     outbox: &mut Outbox,
     writer: &mut W,
     asked: &[Asked],
-    mut answers: IntoIter<Answer>,
-    none_behind: bool,
-) -> io::Result<()>
-    requires { MayBeAnswers (packages_of served.old) asked.now (into_iter_items answers) }
-    ensures { PutsReplies (λ replies. AreReplied session_ways (requests_of asked.now) served.old replies served.new)
-        (W.contents writer.old) (W.contents writer.new) outbox.old outbox.new result }
+    most: usize,
+    offered: &mut Vec<Learnt>,
+    count: &mut usize,
+) -> io::Result<bool>
+    requires { count.old ≡ 0 }
+    ensures told { Tells (W.contents writer.old) (W.contents writer.new) outbox.old outbox.new result
+        (requests_of asked.now) (drop count.new (requests_of asked.now)) served.now offered.old.items offered.new.items }
+    ensures within { count.new ≤ length asked.now }
 {
     puts_add_up();
+    journals_grow();
+    let mut effort: usize = 0;
     for at in 0..asked.len() {
-        let answer = next_answer(&mut answers);
-        let at_once = is_last(none_behind, at, asked.len());
-        put_answer(alloc, served, outbox, writer, &asked[at], answer, at_once)?;
+        if effort >= most {
+            return Ok(false);
+        }
+        let one = &asked[at];
+        let Some(answer) = soon(alloc, served, one) else {
+            return Ok(false);
+        };
+        effort = effort.saturating_add(effort_of(&answer));
+        *count = at + 1;
+        put_answer(alloc, served, outbox, writer, one, answer, offered)?;
     }
-    Ok(())
+    Ok(true)
 }
 
-/// The next answer, or want of memory where there is none.
-fn next_answer(answers: &mut IntoIter<Answer>) -> Answer
-    ensures { (into_iter_items answers.old ≡ result ∷ into_iter_items answers.new)
-        ⊎ ((into_iter_items answers.old ≡ []) × (into_iter_items answers.new ≡ []) × (result ≡ Err Refusal.NoMemory)) }
+/// What a request is answered, unless more than a few conflicts stand in its way.
+fn soon(alloc: Global, served: &Served, asked: &Asked) -> Option<Answer>
+    ensures { IfSome result (IsAnswerTo (packages_of served.now) asked.now) }
 {
-    match answers.next() {
-        Some(answer) => answer,
-        None => Err(Refusal::NoMemory),
-    }
+    answer_soon(alloc, served.registry(), served.store(), asked)
 }
 
-/// Puts the reply to a request that was answered so, and learns what the answer offers.
-fn put_answer<W: Write>(
+/// Puts the reply to a request that was answered so, and has what the answer offers stand behind what was offered before.
+pub(crate) fn put_answer<W: Write>(
     alloc: Global,
-    served: &mut Served,
+    served: &Served,
     outbox: &mut Outbox,
     writer: &mut W,
     asked: &Asked,
     answer: Answer,
-    at_once: bool,
+    offered: &mut Vec<Learnt>,
 ) -> io::Result<()>
-    requires { IsAnswerTo (packages_of served.old) asked.now answer }
-    ensures replied { PutsReply (λ reply. MayAnswer session_ways (resolve asked.now.0 asked.now.2 asked.now.1) served.old reply served.new)
-        (W.contents writer.old) (W.contents writer.new) outbox.old outbox.new result }
-    // What is learnt publishes nothing.
-    ensures packages { packages_of served.new ≡ packages_of served.old }
+    requires { IsAnswerTo (packages_of served.now) asked.now answer }
+    ensures { Tells (W.contents writer.old) (W.contents writer.new) outbox.old outbox.new result
+        (resolve asked.now.0 asked.now.2 asked.now.1 ∷ []) [] served.now offered.old.items offered.new.items }
 {
-    journals_grow();
     lawful_replies_add_up::<Served>();
     match told_to(alloc, served.registry(), asked, answer) {
-        Ok((told, offered)) => {
-            let put = put_or_send(outbox, writer, served.standing(), &told, at_once);
-            learn_all(served, offered);
+        Ok((told, more)) => {
+            add_offers(offered, more);
+            let put = put_told(outbox, writer, served.standing(), &told);
             drop(told);
             put
         }
@@ -210,6 +344,23 @@ fn put_answer<W: Write>(
             told_put
         }
     }
+}
+
+/// Puts offers behind others. Where there is no room for them, they are dropped.
+fn add_offers(offered: &mut Vec<Learnt>, mut more: Vec<Learnt>)
+    ensures { (added : List (List Line)) × (offered.new.items ≡ offered.old.items ++ added) }
+{
+    let _ = offered.append(&mut more);
+}
+
+/// Learns what is offered, in order. Where nothing is, nothing changes.
+pub fn learn_offered(served: &mut Served, offered: Vec<Learnt>)
+    ensures { LearnsOf offered.items served.old served.new }
+{
+    if offered.is_empty() {
+        return;
+    }
+    learn_all(served, offered);
 }
 
 /// What is told of a request that was answered so, and what the answer offers to be learnt.

@@ -10,7 +10,8 @@ ghost use Rattle.session.specs.Session.{session_ways};
 use crate::batch::Batch;
 use crate::served::Served;
 use answers::{
-    Answer, Ledger, answer_read, lawful_replies_add_up, learn_all, put_listing, put_told, read_line,
+    Answer, Ledger, answer_read, lawful_replies_add_up, learn_all, put_listing, put_or_send,
+    put_told, read_line,
 };
 use intake::Intake;
 use lines::{LineBuffer, Next, Outbox};
@@ -96,8 +97,8 @@ fn reply_behind<H: Threads + Wait + Sync, W: Write>(
     }
 }
 
-/// Replies to a line of which this was read. The reply waits in the outbox where there is room. What a search offers is
-/// learnt once the reply is put.
+/// Replies to a line of which this was read. The reply waits in the outbox where there is room. That of a search is written at
+/// once, and then it is learnt what the search offers: such a line comes here only as the last one of a text.
 pub fn reply_to<W: Write>(
     alloc: Global,
     served: &mut Served,
@@ -115,7 +116,7 @@ pub fn reply_to<W: Write>(
             told_put
         }
         Answer::Found(told, offered) => {
-            let put = put_told(outbox, writer, served.standing(), &told);
+            let put = put_or_send(outbox, writer, served.standing(), &told, true);
             learn_all(served, offered);
             drop(told);
             put

@@ -5,17 +5,30 @@
 //! |---|---|
 //! | `served` | the registry that is served, with the items that it accepted |
 //! | `batch` | requests of neighbouring lines, which are answered together by several threads |
+//! | `telling` | the replies to such requests, while threads search for those behind the next |
+//! | `telling_kept` | the same, in a session whose journal is kept in a file |
 //! | `found` | lines that were found: each is replied to, or waits to be answered with its neighbours |
 //! | `serve` | serving the lines of a reader |
+//! | `committed` | how far a session's journal is in its file |
+//! | `durable` | the same as `serve`, with a file that has what was accepted before it is told |
+//! | `learnt` | that what was learnt can be said again by its line |
 //! | `journal` | the journal's file from which a session begins, and the one that it leaves |
 #![tactic(auto)]
 
 mod batch;
+mod committed;
+mod durable;
 mod found;
 mod journal;
+mod laws;
+mod learnt;
 mod serve;
 mod served;
+mod telling;
+mod telling_kept;
 
-pub use journal::{load, save_session};
+pub use durable::serve_durably;
+pub use journal::{Begun, load, recover_session, save_session};
+pub use laws::nothing_told_is_lost;
 pub use serve::{run, serve_session};
 pub use served::Served;
