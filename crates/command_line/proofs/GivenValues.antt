@@ -161,7 +161,7 @@ keeps_help : (Good : List Row → Type 0) (s : Shape) → Keeps Good s (filled h
 keeps_help Good s values rows good none = good
 
 workers_kept : AllByRecursion (Keeps WorkersGood serve_shape) serve_shape.rules
-workers_kept = (keeps_workers, (keeps_option (filled (option_rule (codes "load"))) refl refl, (keeps_option (filled (option_rule (codes "save"))) refl refl, (keeps_help WorkersGood serve_shape, tt))))
+workers_kept = (keeps_workers, (keeps_option (filled (option_rule (codes "journal"))) refl refl, (keeps_option (filled (option_rule (codes "load"))) refl refl, (keeps_option (filled (option_rule (codes "save"))) refl refl, (keeps_help WorkersGood serve_shape, tt)))))
 
 FilesGood : List Row → Type 0
 FilesGood = Good (codes "files") (λ _. true)
@@ -185,7 +185,7 @@ workers_given : (words : List Text) → level_fault serve_shape [] nothing_held 
     → HasWorkers (finished serve_shape.rules (walk serve_shape.rules [] nothing_held words).held)
 unfolding WorkersGood
 workers_given words none =
-    let left = level_leaves WorkersGood serve_shape words workers_kept (refl, (refl, (refl, (refl, tt)))) tt none in
+    let left = level_leaves WorkersGood serve_shape words workers_kept (refl, (refl, (refl, (refl, (refl, tt))))) tt none in
     let rows = finished serve_shape.rules (walk serve_shape.rules [] nothing_held words).held in
     let read = first_read (codes "workers") is_worker_count rows left.0 (asked_for (is_given (codes "workers") rows) left.1) in
     (read.0, read.2, accepts-Accepts false (Unsigned 1 MOST_WORKERS) read.0 read.4)

@@ -22,9 +22,9 @@ files_rule = record (new_rule (codes "files")) {
   value_names = 1;
 }
 
--- `serve --workers N [--load FILE] [--save FILE]`
+-- `serve --workers N [--journal FILE] [--load FILE] [--save FILE]`
 abbrev pub serve_app : App
-serve_app = with_rule (with_rule (with_rule (new_app (codes "serve")) workers_rule) (option_rule (codes "load"))) (option_rule (codes "save"))
+serve_app = with_rule (with_rule (with_rule (with_rule (new_app (codes "serve")) workers_rule) (option_rule (codes "journal"))) (option_rule (codes "load"))) (option_rule (codes "save"))
 
 -- `race FILE...`
 abbrev pub race_app : App

@@ -10,12 +10,13 @@ use clap::{Arg, ArgAction, Command};
 use std::alloc::{AllocError, Global};
 
 // What the help of `serve` shows.
-const SERVE_EXAMPLE: &str = "Example: echo '{\"op\":\"list\"}' | registryd serve --workers 1";
+const SERVE_EXAMPLE: &str =
+    "Example: echo '{\"op\":\"list\"}' | registryd serve --workers 1 --journal packages.journal";
 
 // What the help of `race` shows.
 const RACE_EXAMPLE: &str = "Example: registryd race first.lines second.lines";
 
-/// `registryd serve --workers N [--load FILE] [--save FILE]` or `registryd race FILE...`, without the
+/// `registryd serve --workers N [--journal FILE] [--load FILE] [--save FILE]` or `registryd race FILE...`, without the
 /// program's name.
 pub fn program<'a>(alloc: Global) -> Result<Command<'a>, AllocError>
     ensures { IfOk result (λ c. app_of c ≡ program_app) }
@@ -69,7 +70,12 @@ fn serve_command<'a>(alloc: Global) -> Result<Command<'a>, AllocError>
         .about("Answers the request lines of standard input")
         .after_help(SERVE_EXAMPLE);
     let with_workers = bare.arg(workers_option(alloc))?;
-    let with_load = with_workers.arg(file_option(alloc, "load", "A journal to begin from"))?;
+    let with_journal = with_workers.arg(file_option(
+        alloc,
+        "journal",
+        "The journal to go on with; it has each accepted line before its reply is written",
+    ))?;
+    let with_load = with_journal.arg(file_option(alloc, "load", "A journal to begin from"))?;
     with_load.arg(file_option(alloc, "save", "Where to write the journal at the end"))
 }
 

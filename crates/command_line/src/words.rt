@@ -1,8 +1,8 @@
 //! The words of the command line, as clap reads them.
-ghost use Rattle.std.specs.Prelude.{◌≡◌, ◌≢◌, [], IfOk, IfErr, OnOk, IsErrOf, option_map, true, map, string_bytes};
+ghost use Rattle.std.specs.Prelude.{◌≡◌, ◌≢◌, ◌⊎◌, [], IfOk, OnOk, IsErrOf, option_map, true, map, string_bytes};
 ghost use Rattle.clap.specs.Words.{fault_of, takes, subcommand_of, subcommand_rows_of, rows_of, found_of, kind_of};
 ghost use Rattle.command_line.specs.CommandLine.{program_app};
-ghost use Rattle.command_line.specs.Words.{texts, Says, SaysServe, SaysRace, HasManyFiles, IsManyFiles, HasWorkers, HasFiles, IsGiven};
+ghost use Rattle.command_line.specs.Words.{texts, Says, SaysServe, SaysRace, HasManyFiles, HasMixedFiles, IsManyFiles, AreMixed, HasWorkers, HasFiles, IsGiven, AreWords, NamesBoth};
 ghost use Rattle.command_line.specs.declared.words.WordFault.TheVariants.{Memory};
 
 use crate::command_line::program;
@@ -27,6 +27,12 @@ pub enum Words {
         load: Option<String>,
         save: Option<String>,
     },
+    /// Answer the lines of standard input, by so many resolving threads, from the commands of a journal's
+    /// file on, which is kept as they are answered.
+    Keep {
+        workers: usize,
+        journal: String,
+    },
     /// Answer the lines of each file, side by side.
     Race(Vec<String>),
 }
@@ -34,7 +40,8 @@ pub enum Words {
 /// Why there are no words to obey.
 #[derive(Clone, Copy, Debug, PartialEq, Eq, ThisError)]
 pub enum WordFault {
-    /// clap refuses the words, as it does for `--help`, or a race has too many files.
+    /// clap refuses the words, as it does for `--help`, or a race has too many files, or a session keeps a
+    /// journal and is to load or to save one as well.
     #[error("bad words")]
     Bad,
     #[error("no memory")]
@@ -55,22 +62,34 @@ pub fn read_words(alloc: Global, words: &[String]) -> Result<Words, WordFault>
     ensures ok { IfOk result (λ w. Says w (subcommand_of program_app (texts words.now))) }
     // Only words in which clap finds no fault are obeyed.
     ensures taken { OnOk result (fault_of program_app (texts words.now) ≡ []) }
-    // Only words in which clap finds a fault are bad, or too many files.
+    // Only words in which clap finds a fault are bad, or too many files, or files that are not named together.
     ensures bad { IsErrOf result WordFault.Bad → fault_of program_app (texts words.now) ≡ []
-        → HasManyFiles (subcommand_of program_app (texts words.now)) }
-    // Words that clap takes are bad only for too many files.
+        → HasManyFiles (subcommand_of program_app (texts words.now)) ⊎ HasMixedFiles (subcommand_of program_app (texts words.now)) }
+    // Words that clap takes are bad only for too many files, or for files that are not named together.
     ensures refused { IsErrOf result WordFault.Bad → takes program_app (texts words.now) ≡ true
-        → HasManyFiles (subcommand_of program_app (texts words.now)) }
+        → HasManyFiles (subcommand_of program_app (texts words.now)) ⊎ HasMixedFiles (subcommand_of program_app (texts words.now)) }
 {
     let matches = matches_of(alloc, words)?;
     words_of(alloc, &matches)
 }
 
-/// What to show a person whose words are bad: what clap says to them, and the help of the program
-/// where clap has nothing against them.
+// What to show a person who names files that are not named together.
+const MIXED_FILES: &str =
+    "error: the argument '--journal <FILE>' cannot be used with '--load <FILE>' or '--save <FILE>': a session begins from its file and keeps it
+
+Usage: registryd serve --workers <N> --journal <FILE>
+
+For more information, try '--help'.
+";
+
+/// What to show a person whose words are bad: what clap says to them, and where clap has nothing against
+/// them, that files are not named together, or the help of the program.
 pub fn advice_on(alloc: Global, words: &[String]) -> Result<String, AllocError> {
     match program(alloc)?.try_get_matches_from(words) {
-        Ok(_) => help(alloc),
+        Ok(matches) => match matches.subcommand_matches("serve") {
+            Some(_) => String::from_str(alloc, MIXED_FILES),
+            None => help(alloc),
+        },
         Err(e) => format!(in alloc; "{e}"),
     }
 }
@@ -109,7 +128,8 @@ fn fault_in(e: &Error) -> WordFault
 fn words_of(alloc: Global, matches: &ArgMatches) -> Result<Words, WordFault>
     requires { IsGiven (subcommand_rows_of matches.now) }
     ensures ok { IfOk result (λ w. Says w (subcommand_rows_of matches.now)) }
-    ensures bad { IsErrOf result WordFault.Bad → HasManyFiles (subcommand_rows_of matches.now) }
+    ensures bad { IsErrOf result WordFault.Bad
+        → HasManyFiles (subcommand_rows_of matches.now) ⊎ HasMixedFiles (subcommand_rows_of matches.now) }
 {
     match matches.subcommand_matches("serve") {
         Some(given) => return serve_words(alloc, given),
@@ -124,18 +144,44 @@ fn words_of(alloc: Global, matches: &ArgMatches) -> Result<Words, WordFault>
 fn serve_words(alloc: Global, given: &ArgMatches) -> Result<Words, WordFault>
     requires { HasWorkers (rows_of (found_of given.now)) }
     ensures ok { IfOk result (λ w. SaysServe w (rows_of (found_of given.now))) }
-    ensures kind { IfErr result (λ e. e ≡ WordFault.Memory) }
+    ensures bad { IsErrOf result WordFault.Bad → AreMixed (rows_of (found_of given.now)) }
 {
     let Some(workers) = given.get_one::<usize>("workers") else {
         unreachable!()
     };
-    let load = copied(alloc, given.get_str("load"))?;
-    let save = copied(alloc, given.get_str("save"))?;
-    Ok(Words::Serve {
-        workers,
-        load,
-        save,
-    })
+    let load = given.get_str("load");
+    let save = given.get_str("save");
+    let journal = given.get_str("journal");
+    words_with(alloc, workers, load, save, journal)
+}
+
+fn words_with(
+    alloc: Global,
+    workers: usize,
+    load: Option<&str>,
+    save: Option<&str>,
+    journal: Option<&str>,
+) -> Result<Words, WordFault>
+    ensures ok { IfOk result (λ w. AreWords w workers (option_map (λ t. t.now) load.entry) (option_map (λ t. t.now) save.entry) (option_map (λ t. t.now) journal.entry)) }
+    ensures bad { IsErrOf result WordFault.Bad
+        → NamesBoth (option_map (λ t. t.now) load.entry) (option_map (λ t. t.now) save.entry) (option_map (λ t. t.now) journal.entry) }
+{
+    match journal {
+        None => Ok(Words::Serve {
+            workers,
+            load: copied(alloc, load)?,
+            save: copied(alloc, save)?,
+        }),
+        Some(journal) => {
+            if load.is_some() || save.is_some() {
+                return Err(WordFault::Bad);
+            }
+            Ok(Words::Keep {
+                workers,
+                journal: String::from_str(alloc, journal)?,
+            })
+        }
+    }
 }
 
 fn race_words(alloc: Global, given: &ArgMatches) -> Result<Words, WordFault>

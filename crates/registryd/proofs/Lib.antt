@@ -1,1 +1,3 @@
+pub mod KeptLemmas
 pub mod WordLemmas
+pub mod WriteLemmas

@@ -1,21 +1,25 @@
 -- What words ask that were read.
-use Rattle.std.proofs.Common.{◌≡◌, ℕ, List, [], Option, None, Some, String, Global, inl, inr, refl, sym, subst, true≢false, ◌∙◌}
+use Rattle.std.proofs.Common.{◌≡◌, ◌⊎◌, ◌<◌, ℕ, Bool, nat_eq, List, [], Option, None, Some, String, Global, inl, inr, refl, sym, subst, ap, arith, codes, length, true≢false, ◌∙◌}
+use Rattle.std.specs.Option.{option_map_or}
 use Rattle.std.specs.Io.KnownBytes.{Keeps}
 use Rattle.std.specs.Prelude.{IsSome, option_map, string_bytes}
-use Rattle.clap.specs.Words.{Row, Text, fault_of, subcommand_of}
+use Rattle.clap.specs.Words.{Row, Text, all_of, fault_of, first_of, subcommand_of}
 use Rattle.book.specs.declared.item.Item.{Item}
 use Rattle.journals.specs.declared.load.LoadFault.{LoadFault}
 use Rattle.journals.specs.declared.load.LoadFault.TheVariants as unloaded
 use Rattle.command_line.specs.CommandLine.{program_app}
 use Rattle.registryd.specs.Ending.{IsUnread, end_of_load, end_of_run}
-use Rattle.registryd.specs.Obeyed.{HasBroken, HasNoJournal, HasServed, MayBegin}
+use Rattle.registryd.specs.Obeyed.{Ends, Falls, HasBroken, HasFallen, HasKept, HasNoJournal, HasNotBegun, HasServed, HasStopped, MayBegin, Stops, TellsOfFile}
 use Rattle.session.specs.Session.{Breaks, Serves}
-use Rattle.command_line.specs.Words.{AskToServe, IsServe, Says}
+use Rattle.command_line.specs.Words.{AreMixed, AskToKeep, AskToRace, AskToServe, HasManyFiles, HasMixedFiles, IsKeep, IsServe, Says}
+use Rattle.command_line.specs.declared.words.TheConstants.{MOST_FILES}
+use Rattle.registryd.specs.Shown.{shown_text}
+use Rattle.registryd.specs.declared.fault.FileFault.{FileFault}
 use Rattle.registryd.specs.declared.ending.End.TheVariants as end
 use Rattle.answers.specs.declared.fault.RunFault.{RunFault}
 use Rattle.answers.specs.declared.fault.RunFault.TheVariants.{Input, Memory, Output}
 use Rattle.command_line.specs.declared.words.Words.{Words}
-use Rattle.command_line.specs.declared.words.Words.TheVariants.{Serve}
+use Rattle.command_line.specs.declared.words.Words.TheVariants.{Keep, Serve}
 
 -- serving, with the files that are named
 serve_asked : (words : Words) (workers : ℕ) (load save : Option (String Global)) (given : Option (Text × List Row)) (from to : Option Text) → Says words given
@@ -23,7 +27,7 @@ serve_asked : (words : Words) (workers : ℕ) (load save : Option (String Global
 serve_asked words workers load save given from to says is from_is to_is =
     let read : Says (Serve workers load save) given = subst (λ (w : Words). Says w given) is says in
     elim read.1 [
-      | inl serve ↦ (read.0, serve.0, sym serve.1.1 ∙ sym from_is, sym serve.1.2 ∙ sym to_is)
+      | inl serve ↦ (read.0, serve.0, sym serve.1.1 ∙ sym from_is, sym serve.1.2 ∙ sym to_is, serve.1.3)
       | inr race ↦ absurd race.1
     ]
 
@@ -31,6 +35,74 @@ pub serve_asks : (line : List Text) (words : Words) (workers : ℕ) (load save :
     → Says words (subcommand_of program_app line) → words ≡ Serve workers load save → from ≡ option_map string_bytes load → to ≡ option_map string_bytes save → AskToServe line from to
 serve_asks line words workers load save from to taken says is from_is to_is =
     (taken, serve_asked words workers load save (subcommand_of program_app line) from to says is from_is to_is)
+
+-- serving, with a journal that is kept
+keep_asked : (words : Words) (workers : ℕ) (journal : String Global) (given : Option (Text × List Row)) (name : Text) → Says words given → words ≡ Keep workers journal → name ≡ string_bytes journal
+    → IsKeep name given
+keep_asked words workers journal given name says is name_is =
+    let read : Says (Keep workers journal) given = subst (λ (w : Words). Says w given) is says in
+    elim read.1 [
+      | inl serve ↦ (read.0, serve.0, serve.1.1 ∙ ap (λ (t : Text). Some t) (sym name_is), serve.1.2, serve.1.3)
+      | inr race ↦ absurd race.1
+    ]
+
+pub keep_asks : (line : List Text) (words : Words) (workers : ℕ) (journal : String Global) (name : Text) → fault_of program_app line ≡ [] → Says words (subcommand_of program_app line)
+    → words ≡ Keep workers journal → name ≡ string_bytes journal → AskToKeep line name
+keep_asks line words workers journal name taken says is name_is = (taken, keep_asked words workers journal (subcommand_of program_app line) name says is name_is)
+
+-- ---- words that ask for nothing
+
+-- the name of a subcommand, and its rows
+name_in : Option (Text × List Row) → Text
+name_in o = option_map_or (λ (p : Text × List Row). p.0) o []
+
+rows_in : Option (Text × List Row) → List Row
+rows_in o = option_map_or (λ (p : Text × List Row). p.1) o []
+
+-- a subcommand has one name
+one_name : (given : Option (Text × List Row)) (r s : List Row) → given ≡ Some (codes "serve", r) → given ≡ Some (codes "race", s) → ⊥
+unfolding name_in
+one_name given r s serve race =
+    let same : codes "serve" ≡ codes "race" = sym (ap name_in serve) ∙ ap name_in race in
+    let P : Text → Bool = λ t. nat_eq (length t) 5 in true≢false (ap P same)
+
+-- and its rows are one
+one_rows : (given : Option (Text × List Row)) (a b : Text) (r s : List Row) → given ≡ Some (a, r) → given ≡ Some (b, s) → r ≡ s
+unfolding rows_in
+one_rows given a b r s one two = sym (ap rows_in one) ∙ ap rows_in two
+
+none_named : (o : Option Text) → o ≡ None → IsSome o → ⊥
+none_named o none some = let P : Option Text → Type 0 = λ p. IsSome p in true≢false (sym (subst P none some))
+
+module _ (line : List Text) (bad : fault_of program_app line ≡ [] → HasManyFiles (subcommand_of program_app line) ⊎ HasMixedFiles (subcommand_of program_app line)) where
+  -- the rows of `serve` are those in which files are mixed
+  mixed_rows : (rows : List Row) → fault_of program_app line ≡ [] → subcommand_of program_app line ≡ Some (codes "serve", rows) → AreMixed rows
+  mixed_rows rows taken is = elim (bad taken) [
+    | inl many ↦ absurd (one_name (subcommand_of program_app line) rows many.0 is many.1)
+    | inr mixed ↦ subst AreMixed (one_rows (subcommand_of program_app line) (codes "serve") (codes "serve") mixed.0 rows mixed.1 is) mixed.2
+  ]
+
+  pub asks_no_serve : (load save : Option Text) → AskToServe line load save → ⊥
+  asks_no_serve load save (taken, (rows, is, load_is, save_is, none)) = none_named (first_of (codes "journal") rows) none (mixed_rows rows taken is).0
+
+  pub asks_no_keep : (journal : Text) → AskToKeep line journal → ⊥
+  asks_no_keep journal (taken, (rows, is, journal_is, no_load, no_save)) = elim (mixed_rows rows taken is).1 [
+    | inl load ↦ none_named (first_of (codes "load") rows) no_load load
+    | inr save ↦ none_named (first_of (codes "save") rows) no_save save
+  ]
+
+  pub asks_no_race : (count : ℕ) → AskToRace line count → ⊥
+  asks_no_race count (taken, (rows, files, is, all, number, most)) = elim (bad taken) [
+    | inl many ↦ too_many many.0 many.1 many.2.0 many.2.1 many.2.2
+    | inr mixed ↦ one_name (subcommand_of program_app line) mixed.0 rows mixed.1 is
+  ]
+    where
+      too_many : (others : List Row) → subcommand_of program_app line ≡ Some (codes "race", others) → (found : List Text) → all_of (codes "files") others ≡ Some found → MOST_FILES < length found → ⊥
+      too_many others other_is found found_is more =
+          let same_rows : rows ≡ others = one_rows (subcommand_of program_app line) (codes "race") (codes "race") rows others is other_is in
+          let same : Some files ≡ Some found = sym all ∙ ap (all_of (codes "files")) same_rows ∙ found_is in
+          let len : length files ≡ length found = ap (λ (o : Option (List Text)). option_map_or (λ (l : List Text). length l) o 0) same in
+          omega arith
 
 -- how the program ends where a journal isn't loaded
 pub load_ends : (fault : LoadFault) → IsUnread (end_of_load fault)
@@ -53,6 +125,29 @@ pub has_no_journal : (words : List Text) (r0 r w0 w : Option (List ℕ)) (load s
     → HasNoJournal words r0 r w0 w
 has_no_journal words r0 r w0 w None save asked some read written = absurd (true≢false (sym some))
 has_no_journal words r0 r w0 w (Some load) save asked some read written = record { load = load; save = save; asked = asked; read = read; written = written }
+
+-- a journal is kept
+module _ (words : List Text) (r0 r w0 w : Option (List ℕ)) (journal : Text) (asked : AskToKeep words journal) where
+  pub has_kept : Ends r0 r w0 w → HasKept words r0 r w0 w
+  has_kept ends = record { journal = journal; asked = asked; ends = ends }
+
+  pub has_stopped : Stops r0 r w0 w → HasStopped words r0 r w0 w
+  has_stopped stops = record { journal = journal; asked = asked; stops = stops }
+
+  pub has_fallen : Falls r0 r w0 w → HasFallen words r0 r w0 w
+  has_fallen falls = record { journal = journal; asked = asked; falls = falls }
+
+  pub has_not_begun : Keeps r0 r → Keeps w0 w → HasNotBegun words r0 r w0 w
+  has_not_begun read written = record { journal = journal; asked = asked; read = read; written = written }
+
+pub tells_of_file : (words : List Text) (journal : Text) → AskToKeep words journal → (fault : FileFault) → fault.name.items ≡ shown_text journal → TellsOfFile words fault
+tells_of_file words journal asked fault named = record { journal = journal; asked = asked; named = named }
+
+-- an end that tells a failed read comes of one
+pub input_ended : (fault : RunFault) → end_of_run fault ≡ end.Input → fault ≡ Input
+input_ended Input is = refl
+input_ended Output is = cc
+input_ended Memory is = cc
 
 -- an end that tells a failed write comes of one
 pub output_ended : (fault : RunFault) → end_of_run fault ≡ end.Output → fault ≡ Output

@@ -1,7 +1,8 @@
 -- How the program ends.
 use Rattle.std.specs.Prelude.{ℕ, List, [], ◌++◌, codes, decimal}
 use Rattle.registryd.specs.declared.ending.End.{End}
-use Rattle.registryd.specs.declared.ending.End.TheVariants.{Done, Input, Output, Journal, Memory, Words}
+use Rattle.registryd.specs.declared.ending.End.TheVariants.{Done, Input, Output, Journal, Kept, Memory, Words}
+use Rattle.registryd.specs.Faults.{fault_text}
 use Rattle.journals.specs.declared.load.LoadFault.{LoadFault}
 use Rattle.journals.specs.declared.load.LoadFault.TheVariants as unloaded
 use Rattle.answers.specs.declared.fault.RunFault.{RunFault}
@@ -13,6 +14,7 @@ status_of Done = 0
 status_of Input = 1
 status_of Output = 1
 status_of (Journal line) = 1
+status_of (Kept fault) = 1
 status_of Memory = 1
 status_of Words = 2
 
@@ -26,6 +28,7 @@ text_of Done = []
 text_of Input = codes "registryd: input failed\n"
 text_of Output = codes "registryd: output failed\n"
 text_of (Journal line) = journal_text line
+text_of (Kept fault) = fault_text fault
 text_of Memory = codes "registryd: no memory\n"
 text_of Words = codes "registryd: bad words\n"
 
@@ -41,8 +44,29 @@ IsUnread Done = ⊥
 IsUnread Input = Unit {0}
 IsUnread Output = ⊥
 IsUnread (Journal line) = Unit {0}
+IsUnread (Kept fault) = ⊥
 IsUnread Memory = Unit {0}
 IsUnread Words = ⊥
+
+-- the end of a program that can't make the file that it is to leave
+abbrev pub IsUnmade : End → Type 0
+IsUnmade Done = ⊥
+IsUnmade Input = ⊥
+IsUnmade Output = Unit {0}
+IsUnmade (Journal line) = ⊥
+IsUnmade (Kept fault) = ⊥
+IsUnmade Memory = Unit {0}
+IsUnmade Words = ⊥
+
+-- the end of a program that has come to its last step, to save a journal
+abbrev pub IsSaved : End → Type 0
+IsSaved Done = Unit {0}
+IsSaved Input = ⊥
+IsSaved Output = Unit {0}
+IsSaved (Journal line) = ⊥
+IsSaved (Kept fault) = ⊥
+IsSaved Memory = ⊥
+IsSaved Words = ⊥
 
 -- the end that a fault of loading comes to
 abbrev pub end_of_load : LoadFault → End

@@ -4,15 +4,22 @@
 ghost use Rattle.std.specs.Prelude.{◌≡◌, drop};
 
 mod ending;
+mod fault;
 mod files;
+mod folder;
 mod freed;
+mod journal_file;
+mod kept;
 mod obey;
+mod recovered;
+mod system;
+mod target;
 
 use command_line::{Words, read_words};
 use ending::{End, ending};
 use freed::keep_what_is_freed;
 use lines::write_text;
-use obey::obey;
+use obey::{Obeyed, obey};
 use std::alloc::{Alloc, Global};
 use std::env::Env;
 use std::io::{IsTerminal, Write};
@@ -30,20 +37,21 @@ fn main(rt: HostRuntime) -> ExitCode {
             if input.is_terminal() {
                 greet(rt.alloc(), after_name(words.as_slice()), &mut rt.stderr());
             }
-            obey(
+            let Obeyed { end, writer: _ } = obey(
                 &rt,
                 rt.alloc(),
                 after_name(words.as_slice()),
                 &mut input,
-                &mut rt.stdout(),
-            )
+                rt.stdout(),
+            );
+            end
         }
         Err(e) if e.kind() == io::ErrorKind::OutOfMemory => End::Memory,
         // A word is no text.
         Err(_) => End::Words,
     };
     // A line that can't be written is given up: the status tells the end too.
-    let _ = ending(end, &mut rt.stderr());
+    let _ = ending(&end, &mut rt.stderr());
     ExitCode::from(end.status())
 }
 
@@ -60,7 +68,7 @@ fn words_given<R: Env + Alloc>(rt: &R) -> io::Result<Vec<String<R::A>, R::A>> {
 
 // Tells a person at a terminal what `serve` waits for. A line that can't be written is given up.
 fn greet<W: Write>(alloc: Global, words: &[String], writer: &mut W) {
-    if let Ok(Words::Serve { .. }) = read_words(alloc, words) {
+    if let Ok(Words::Serve { .. } | Words::Keep { .. }) = read_words(alloc, words) {
         let _ = write_text(writer, WAITING.as_bytes());
     }
 }

@@ -1,29 +1,48 @@
 //! What the words of the command line ask for, done.
-ghost use Rattle.std.specs.Prelude.{◌≡◌, ◌≢◌, ◌⊎◌, ◌<◌, ◌≤◌, ℕ, List, [], length, option_map, string_bytes, vec_len, IfOk, IsSome, Option};
+ghost use Rattle.std.specs.Prelude.{◌≡◌, ◌≢◌, ◌⊎◌, ◌<◌, ◌≤◌, ℕ, List, [], length, option_map, string_bytes, vec_len, IfOk, IsSome, None, Option};
 ghost use Rattle.std.specs.Io.KnownBytes.{Keeps, IsAtEnd};
 ghost use Rattle.clap.specs.Words.{fault_of, subcommand_of};
 ghost use Rattle.versions.specs.Words.{Text};
 ghost use Rattle.book.specs.declared.item.Item.{Item};
 ghost use Rattle.lines.specs.Lines.{lines_of, whole_lines_of};
 ghost use Rattle.command_line.specs.CommandLine.{program_app};
-ghost use Rattle.registryd.specs.Obeyed.{HasBroken, HasNoJournal, HasServed, MayBegin};
+ghost use Rattle.registryd.specs.Obeyed.{Ends, Falls, HasBroken, HasFallen, HasKept, HasNoJournal, HasNotBegun, HasServed, HasStopped, MayBegin, Stops, TellsOfFile};
+ghost use Rattle.registryd.specs.Shown.{shown_text};
+ghost use Rattle.registryd.specs.declared.fault.FileFault.{FileFault};
 ghost use Rattle.race.specs.Racing.{Races, RacesInPart};
+ghost use Rattle.session.specs.Served.{MayBeServed};
+ghost use Rattle.journals.specs.Files.{IsHistory};
+ghost use Rattle.journals.specs.declared.format.Format.TheVariants.{Two};
 ghost use Rattle.session.specs.Session.{Serves, Breaks};
-ghost use Rattle.command_line.specs.Words.{AskToRace, AskToServe, HasManyFiles, texts};
+ghost use Rattle.command_line.specs.Words.{AskToKeep, AskToRace, AskToServe, HasManyFiles, HasMixedFiles, texts};
 ghost use Rattle.command_line.specs.declared.words.TheConstants.{MOST_FILES, MOST_WORKERS};
 
-use crate::ending::{End, end_of_read};
-use crate::files::{loaded_from, saved_to};
+use crate::ending::{End, end_of_making, end_of_read};
+use crate::fault::{Failure, shown, told};
+use crate::files::loaded_from;
+use crate::journal_file::{Opened, open_journal};
+use crate::kept::Kept;
+use crate::recovered::Unbegun;
+use crate::system::SystemFile;
+use crate::target::{Target, saved_to, target_of};
+use answers::RunFault;
 use command_line::{WordFault, Words, advice_on, read_words};
 use lines::write_text;
 use race::race;
-use session::{Served, serve_session};
+use session::{Served, serve_durably, serve_session};
 use std::alloc::Global;
+use std::fs::OpenFile;
 use std::io::{Read, Write};
 use std::rt::Files;
 use std::sync::Wait;
 use std::thread::Threads;
 use std::{fs, io, mem};
+
+/// How the program ends, and the writer of replies with what it took.
+pub struct Obeyed<W> {
+    pub end: End,
+    pub writer: W,
+}
 
 /// Does what the words after the program's name ask for, over standard input and output, and tells
 /// how that ended. Where the words are bad it writes what they may be.
@@ -32,36 +51,50 @@ pub fn obey<H: Wait + Threads + Sync + Files + AllocGlobal, R: Read, W: Write>(
     alloc: Global,
     words: &[String],
     reader: &mut R,
-    writer: &mut W,
-) -> End
-    // Each line has its lawful reply, in order; those of a race by one journal, which is printed.
-    ensures done { result ≡ End.Done
-        → (HasServed (texts words.now) (R.remaining reader.old) (R.remaining reader.new) (W.contents writer.old) (W.contents writer.new) lines_of × IsAtEnd (R.remaining reader.new))
-        ⊎ ((files : List Text) × AskToRace (texts words.now) (length files) × Races (W.contents writer.old) (W.contents writer.new) files) }
+    writer: W,
+) -> Obeyed<W>
+where
+    H::File: SystemFile,
+    // Each line has its lawful reply, in order; those of a race by one journal, which is printed. Of a journal that is kept, each
+    // went out once what it rests on was durable.
+    ensures done { result.end ≡ End.Done
+        → (HasServed (texts words.now) (R.remaining reader.old) (R.remaining reader.new) (W.contents writer) (W.contents result.writer) lines_of × IsAtEnd (R.remaining reader.new))
+        ⊎ HasKept (texts words.now) (R.remaining reader.old) (R.remaining reader.new) (W.contents writer) (W.contents result.writer)
+        ⊎ ((files : List Text) × AskToRace (texts words.now) (length files) × Races (W.contents writer) (W.contents result.writer) files) }
     // Each whole line that was read has its lawful reply. Without a journal to begin from none is read, and of a race nothing is written.
-    ensures input { result ≡ End.Input
-        → HasServed (texts words.now) (R.remaining reader.old) (R.remaining reader.new) (W.contents writer.old) (W.contents writer.new) whole_lines_of
-        ⊎ HasNoJournal (texts words.now) (R.remaining reader.old) (R.remaining reader.new) (W.contents writer.old) (W.contents writer.new)
-        ⊎ ((count : ℕ) × AskToRace (texts words.now) count × Keeps (W.contents writer.old) (W.contents writer.new)) }
+    ensures input { result.end ≡ End.Input
+        → HasServed (texts words.now) (R.remaining reader.old) (R.remaining reader.new) (W.contents writer) (W.contents result.writer) whole_lines_of
+        ⊎ HasStopped (texts words.now) (R.remaining reader.old) (R.remaining reader.new) (W.contents writer) (W.contents result.writer)
+        ⊎ HasNoJournal (texts words.now) (R.remaining reader.old) (R.remaining reader.new) (W.contents writer) (W.contents result.writer)
+        ⊎ ((count : ℕ) × AskToRace (texts words.now) count × Keeps (W.contents writer) (W.contents result.writer)) }
     // A beginning of the lawful replies is written; or all of them, and the journal is not saved.
-    ensures output { result ≡ End.Output
-        → HasBroken (texts words.now) (R.remaining reader.old) (R.remaining reader.new) (W.contents writer.old) (W.contents writer.new)
-        ⊎ (HasServed (texts words.now) (R.remaining reader.old) (R.remaining reader.new) (W.contents writer.old) (W.contents writer.new) lines_of × IsAtEnd (R.remaining reader.new))
+    ensures output { result.end ≡ End.Output
+        → HasBroken (texts words.now) (R.remaining reader.old) (R.remaining reader.new) (W.contents writer) (W.contents result.writer)
+        ⊎ HasFallen (texts words.now) (R.remaining reader.old) (R.remaining reader.new) (W.contents writer) (W.contents result.writer)
+        ⊎ (HasServed (texts words.now) (R.remaining reader.old) (R.remaining reader.new) (W.contents writer) (W.contents result.writer) lines_of × IsAtEnd (R.remaining reader.new))
         ⊎ ((files : List Text) × AskToRace (texts words.now) (length files)
-        × (Keeps (W.contents writer.old) (W.contents writer.new) ⊎ RacesInPart (W.contents writer.old) (W.contents writer.new) files)) }
+        × (Keeps (W.contents writer) (W.contents result.writer) ⊎ RacesInPart (W.contents writer) (W.contents result.writer) files)) }
     // A line of the journal to begin from is at fault.
-    ensures journal { (line : ℕ) → result ≡ End.Journal line
-        → HasNoJournal (texts words.now) (R.remaining reader.old) (R.remaining reader.new) (W.contents writer.old) (W.contents writer.new) }
+    ensures journal { (line : ℕ) → result.end ≡ End.Journal line
+        → HasNoJournal (texts words.now) (R.remaining reader.old) (R.remaining reader.new) (W.contents writer) (W.contents result.writer) }
+    // Something is the matter with the journal that is kept, and it is told of its name: nothing was read or written, or a
+    // beginning of the lawful replies is, each of which rests on what is durable.
+    ensures kept { (fault : FileFault) → result.end ≡ End.Kept fault
+        → TellsOfFile (texts words.now) fault
+        × (HasNotBegun (texts words.now) (R.remaining reader.old) (R.remaining reader.new) (W.contents writer) (W.contents result.writer)
+        ⊎ HasFallen (texts words.now) (R.remaining reader.old) (R.remaining reader.new) (W.contents writer) (W.contents result.writer)) }
     // Nothing was read or written.
-    ensures memory { result ≡ End.Memory
-        → Keeps (R.remaining reader.old) (R.remaining reader.new) × Keeps (W.contents writer.old) (W.contents writer.new) }
+    ensures memory { result.end ≡ End.Memory
+        → Keeps (R.remaining reader.old) (R.remaining reader.new) × Keeps (W.contents writer) (W.contents result.writer) }
     // Nothing was read, and the words ask neither to serve nor for a race.
-    ensures words { result ≡ End.Words → Keeps (R.remaining reader.old) (R.remaining reader.new)
-        × ((load save : Option Text) → AskToServe (texts words.now) load save → ⊥) × ((count : ℕ) → AskToRace (texts words.now) count → ⊥) }
-    // Words that clap takes are told nothing, but for too many files.
-    ensures quiet { result ≡ End.Words → fault_of program_app (texts words.now) ≡ [] → (HasManyFiles (subcommand_of program_app (texts words.now)) → ⊥)
-        → Keeps (W.contents writer.old) (W.contents writer.new) }
+    ensures words { result.end ≡ End.Words → Keeps (R.remaining reader.old) (R.remaining reader.new)
+        × ((load save : Option Text) → AskToServe (texts words.now) load save → ⊥) × ((journal : Text) → AskToKeep (texts words.now) journal → ⊥)
+        × ((count : ℕ) → AskToRace (texts words.now) count → ⊥) }
+    // Words that clap takes are told nothing, but for too many files, and for files that are not named together.
+    ensures quiet { result.end ≡ End.Words → fault_of program_app (texts words.now) ≡ [] → (HasManyFiles (subcommand_of program_app (texts words.now)) → ⊥)
+        → (HasMixedFiles (subcommand_of program_app (texts words.now)) → ⊥) → Keeps (W.contents writer) (W.contents result.writer) }
 {
+    let mut writer = writer;
     match read_words(alloc, words) {
         Ok(
             Words::Serve {
@@ -72,14 +105,27 @@ pub fn obey<H: Wait + Threads + Sync + Files + AllocGlobal, R: Read, W: Write>(
         ) => {
             let from = lent_name(&load);
             let to = lent_name(&save);
-            serve(rt, alloc, reader, writer, workers, from, to)
+            let end = serve(rt, alloc, reader, &mut writer, workers, from, to);
+            Obeyed { end, writer }
         }
-        Ok(Words::Race(files)) => race_files(rt, alloc, files.as_slice(), writer),
+        Ok(Words::Keep { workers, journal }) => {
+            keep(rt, alloc, reader, writer, workers, journal.as_str())
+        }
+        Ok(Words::Race(files)) => {
+            let end = race_files(rt, alloc, files.as_slice(), &mut writer);
+            Obeyed { end, writer }
+        }
         Err(WordFault::Bad) => {
-            advise(alloc, words, writer);
-            End::Words
+            advise(alloc, words, &mut writer);
+            Obeyed {
+                end: End::Words,
+                writer,
+            }
         }
-        Err(WordFault::Memory) => End::Memory,
+        Err(WordFault::Memory) => Obeyed {
+            end: End::Memory,
+            writer,
+        },
     }
 }
 
@@ -104,6 +150,8 @@ fn serve<H: Threads + Wait + Sync + Files, R: Read, W: Write>(
     load: Option<&str>,
     save: Option<&str>,
 ) -> End
+where
+    H::File: SystemFile,
     requires { (1 ≤ workers) × (workers ≤ MOST_WORKERS) }
     ensures done { result ≡ End.Done → IsAtEnd (R.remaining reader.new) × ((loaded items : List Item) × MayBegin (option_map (λ t. t.now) load.entry) loaded
         × Serves (R.remaining reader.old) (R.remaining reader.new) (W.contents writer.old) (W.contents writer.new) lines_of loaded items) }
@@ -118,16 +166,17 @@ fn serve<H: Threads + Wait + Sync + Files, R: Read, W: Write>(
         → IsSome (option_map (λ t. t.now) load.entry) × Keeps (R.remaining reader.old) (R.remaining reader.new) × Keeps (W.contents writer.old) (W.contents writer.new) }
     ensures memory { result ≡ End.Memory
         → Keeps (R.remaining reader.old) (R.remaining reader.new) × Keeps (W.contents writer.old) (W.contents writer.new) }
+    ensures kept { (fault : FileFault) → result ≢ End.Kept fault }
     ensures words { result ≢ End.Words }
 {
     match loaded_from(rt, alloc, load) {
-        Ok(served) => serve_from(rt, alloc, reader, writer, workers, served, save),
+        Ok(served) => serve_to(rt, alloc, reader, writer, workers, served, save),
         Err(end) => end,
     }
 }
 
-/// Serves the lines of a reader by a session that stands already.
-fn serve_from<H: Threads + Wait + Sync + Files, R: Read, W: Write>(
+/// Serves the lines of a reader by a session that stands already, with a journal at the end where a file is named for it.
+fn serve_to<H: Threads + Wait + Sync + Files, R: Read, W: Write>(
     rt: &H,
     alloc: Global,
     reader: &mut R,
@@ -136,6 +185,8 @@ fn serve_from<H: Threads + Wait + Sync + Files, R: Read, W: Write>(
     begun: Served,
     save: Option<&str>,
 ) -> End
+where
+    H::File: SystemFile,
     requires { (1 ≤ workers) × (workers ≤ MOST_WORKERS) }
     ensures done { result ≡ End.Done → IsAtEnd (R.remaining reader.new) × ((accepted : List Item)
         × Serves (R.remaining reader.old) (R.remaining reader.new) (W.contents writer.old) (W.contents writer.new) lines_of begun accepted) }
@@ -147,17 +198,178 @@ fn serve_from<H: Threads + Wait + Sync + Files, R: Read, W: Write>(
         × Serves (R.remaining reader.old) (R.remaining reader.new) (W.contents writer.old) (W.contents writer.new) lines_of begun accepted)) }
     ensures memory { result ≡ End.Memory
         → Keeps (R.remaining reader.old) (R.remaining reader.new) × Keeps (W.contents writer.old) (W.contents writer.new) }
+    ensures kept { (fault : FileFault) → result ≢ End.Kept fault }
+    ensures words { result ≢ End.Words }
+    ensures no_journal { (line : ℕ) → result ≢ End.Journal line }
+{
+    match target_of(rt, alloc, save) {
+        Ok(target) => serve_from(rt, alloc, reader, writer, workers, begun, target),
+        Err(e) => {
+            drop(begun);
+            end_of_making(&e)
+        }
+    }
+}
+
+/// Serves the lines of a reader by a session that stands already.
+fn serve_from<H: Threads + Wait + Sync + Files, R: Read, W: Write>(
+    rt: &H,
+    alloc: Global,
+    reader: &mut R,
+    writer: &mut W,
+    workers: usize,
+    begun: Served,
+    target: Target<H::File>,
+) -> End
+where
+    H::File: SystemFile,
+    requires { (1 ≤ workers) × (workers ≤ MOST_WORKERS) }
+    ensures done { result ≡ End.Done → IsAtEnd (R.remaining reader.new) × ((accepted : List Item)
+        × Serves (R.remaining reader.old) (R.remaining reader.new) (W.contents writer.old) (W.contents writer.new) lines_of begun accepted) }
+    ensures input { result ≡ End.Input → (accepted : List Item)
+        × Serves (R.remaining reader.old) (R.remaining reader.new) (W.contents writer.old) (W.contents writer.new) whole_lines_of begun accepted }
+    ensures output { result ≡ End.Output
+        → Breaks (R.remaining reader.old) (R.remaining reader.new) (W.contents writer.old) (W.contents writer.new) begun
+        ⊎ (IsAtEnd (R.remaining reader.new) × ((accepted : List Item)
+        × Serves (R.remaining reader.old) (R.remaining reader.new) (W.contents writer.old) (W.contents writer.new) lines_of begun accepted)) }
+    ensures memory { result ≡ End.Memory
+        → Keeps (R.remaining reader.old) (R.remaining reader.new) × Keeps (W.contents writer.old) (W.contents writer.new) }
+    ensures kept { (fault : FileFault) → result ≢ End.Kept fault }
     ensures words { result ≢ End.Words }
     ensures no_journal { (line : ℕ) → result ≢ End.Journal line }
 {
     match serve_session(rt, alloc, reader, writer, begun, workers) {
         Ok(served) => {
-            let end = saved_to(rt, alloc, save, &served);
+            let end = saved_to(rt, alloc, target, &served);
             // The program ends here, so what they hold needs no walk to be given back.
             mem::forget(served);
             end
         }
         Err(fault) => End::from(fault),
+    }
+}
+
+/// Serves the lines of a reader, with a journal's file that has what was accepted before it is told.
+fn keep<H: Threads + Wait + Sync + Files, R: Read, W: Write>(
+    rt: &H,
+    alloc: Global,
+    reader: &mut R,
+    writer: W,
+    workers: usize,
+    journal: &str,
+) -> Obeyed<W>
+where
+    H::File: SystemFile,
+    requires { (1 ≤ workers) × (workers ≤ MOST_WORKERS) }
+    ensures done { result.end ≡ End.Done → Ends (R.remaining reader.old) (R.remaining reader.new) (W.contents writer) (W.contents result.writer) }
+    ensures input { result.end ≡ End.Input → Stops (R.remaining reader.old) (R.remaining reader.new) (W.contents writer) (W.contents result.writer) }
+    ensures output { result.end ≡ End.Output → Falls (R.remaining reader.old) (R.remaining reader.new) (W.contents writer) (W.contents result.writer) }
+    ensures kept { (fault : FileFault) → result.end ≡ End.Kept fault → (fault.name.items ≡ shown_text journal.now)
+        × ((Keeps (R.remaining reader.old) (R.remaining reader.new) × Keeps (W.contents writer) (W.contents result.writer)) ⊎ Falls (R.remaining reader.old) (R.remaining reader.new) (W.contents writer) (W.contents result.writer)) }
+    ensures memory { result.end ≡ End.Memory → Keeps (R.remaining reader.old) (R.remaining reader.new) × Keeps (W.contents writer) (W.contents result.writer) }
+    ensures words { result.end ≢ End.Words }
+    ensures no_journal { (line : ℕ) → result.end ≢ End.Journal line }
+{
+    let Ok(name) = shown(alloc, journal) else {
+        return Obeyed {
+            end: End::Memory,
+            writer,
+        };
+    };
+    match open_journal(rt, alloc, journal) {
+        Ok(opened) => keep_in(rt, alloc, reader, writer, workers, name, opened),
+        Err(why) => Obeyed {
+            end: end_without(alloc, name, why),
+            writer,
+        },
+    }
+}
+
+/// How the program ends where no session begins from the file of this name, as it is shown.
+fn end_without(alloc: Global, name: Vec<u8>, why: Unbegun) -> End
+    ensures kept { (fault : FileFault) → result ≡ End.Kept fault → fault.name.items ≡ name.items }
+    ensures done { result ≢ End.Done }
+    ensures input { result ≢ End.Input }
+    ensures output { result ≢ End.Output }
+    ensures words { result ≢ End.Words }
+    ensures no_journal { (line : ℕ) → result ≢ End.Journal line }
+{
+    match why {
+        Unbegun::Memory => End::Memory,
+        Unbegun::Failed(failure) => End::Kept(told(alloc, name, failure)),
+    }
+}
+
+/// Serves the lines of a reader by a session that stands already, whose journal is in a file.
+fn keep_in<H: Threads + Wait + Sync, R: Read, F: Write + OpenFile + Drop, W: Write>(
+    rt: &H,
+    alloc: Global,
+    reader: &mut R,
+    writer: W,
+    workers: usize,
+    name: Vec<u8>,
+    opened: Opened<F>,
+) -> Obeyed<W>
+    requires workers { (1 ≤ workers) × (workers ≤ MOST_WORKERS) }
+    requires served { MayBeServed opened.begun }
+    requires history { IsHistory Two opened.begun }
+    // Each line has its lawful reply, and at the end the file has the lines of all items.
+    ensures done { result.end ≡ End.Done → Ends (R.remaining reader.old) (R.remaining reader.new) (W.contents writer) (W.contents result.writer) }
+    // Each whole line that was read has its lawful reply.
+    ensures input { result.end ≡ End.Input → Stops (R.remaining reader.old) (R.remaining reader.new) (W.contents writer) (W.contents result.writer) }
+    // A beginning of the lawful replies is written.
+    ensures output { result.end ≡ End.Output → Falls (R.remaining reader.old) (R.remaining reader.new) (W.contents writer) (W.contents result.writer) }
+    // The same, and a call failed at the file, whose name is told.
+    ensures fallen { (fault : FileFault) → result.end ≡ End.Kept fault → Falls (R.remaining reader.old) (R.remaining reader.new) (W.contents writer) (W.contents result.writer) }
+    ensures kept { (fault : FileFault) → result.end ≡ End.Kept fault → fault.name ≡ name }
+    ensures memory { result.end ≡ End.Memory → Keeps (R.remaining reader.old) (R.remaining reader.new) × Keeps (W.contents writer) (W.contents result.writer) }
+    ensures words { result.end ≢ End.Words }
+    ensures no_journal { (line : ℕ) → result.end ≢ End.Journal line }
+{
+    let Opened { file, len, begun } = opened;
+    let mut devices = Kept {
+        file,
+        replies: writer,
+        len,
+        failure: None,
+    };
+    let ended = serve_durably(rt, alloc, reader, &mut devices, begun, workers);
+    let Kept {
+        file,
+        replies: writer,
+        len: _,
+        failure,
+    } = devices;
+    drop(file);
+    match ended {
+        Ok(served) => {
+            // The program ends here, so what they hold needs no walk to be given back.
+            mem::forget(served);
+            Obeyed {
+                end: End::Done,
+                writer,
+            }
+        }
+        Err(fault) => Obeyed {
+            end: end_of_keeping(alloc, name, fault, failure),
+            writer,
+        },
+    }
+}
+
+/// How the program ends where a session ended so, and this failed at its file, if something did.
+fn end_of_keeping(alloc: Global, name: Vec<u8>, fault: RunFault, failure: Option<Failure>) -> End
+    ensures done { result ≢ End.Done }
+    ensures memory { result ≡ End.Memory → fault ≡ RunFault.Memory }
+    ensures input { result ≡ End.Input → fault ≡ RunFault.Input }
+    ensures output { result ≡ End.Output → (fault ≡ RunFault.Output) × (failure ≡ None) }
+    ensures kept { (told : FileFault) → result ≡ End.Kept told → (fault ≡ RunFault.Output) × (told.name ≡ name) }
+    ensures words { result ≢ End.Words }
+    ensures no_journal { (line : ℕ) → result ≢ End.Journal line }
+{
+    match (fault, failure) {
+        (RunFault::Output, Some(failure)) => End::Kept(told(alloc, name, failure)),
+        (fault, _) => End::from(fault),
     }
 }
 
@@ -175,6 +387,7 @@ fn race_files<H: Threads + Sync + Files + AllocGlobal, W: Write>(
     ensures output { result ≡ End.Output → (files : List Text) × (length files ≡ length names.now)
         × (Keeps (W.contents writer.old) (W.contents writer.new) ⊎ RacesInPart (W.contents writer.old) (W.contents writer.new) files) }
     ensures memory { result ≡ End.Memory → Keeps (W.contents writer.old) (W.contents writer.new) }
+    ensures kept { (fault : FileFault) → result ≢ End.Kept fault }
     ensures words { result ≢ End.Words }
     ensures no_journal { (line : ℕ) → result ≢ End.Journal line }
 {
