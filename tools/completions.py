@@ -32,6 +32,7 @@ class Command:
 COMMANDS = (
     Command("serve", "Answers the request lines of standard input", (
         Option("workers", "N", "How many threads resolve, 1 to 64", "1 2 4 8 16 32 64"),
+        Option("journal", FILE, "The journal to go on with; it has each accepted line before its reply is written"),
         Option("load", FILE, "A journal to begin from"),
         Option("save", FILE, "Where to write the journal at the end"),
     )),

@@ -75,11 +75,11 @@ def words(name, paths, room):
 
 def make_holes(name, paths, folder):
     """Leaves of each other function of a crate what it promises: its body is gone, so that what it calls need not be looked at,
-    and its proof is a hole. One that calls itself stays as it is, since it shares its proof with others."""
+    and its proof is a hole. One that calls itself, or others that call it, stays as it is, since they share one proof."""
     for path, function in functions_in(folder):
         *above, last = function.path.split("::")
         proofs = os.path.join(folder, "proofs", *above)
-        if function.path in paths or os.path.isdir(os.path.join(proofs, "+" + last)):
+        if function.path in paths or os.path.isdir(os.path.join(proofs, "+" + last)) or is_marked(os.path.join(folder, path), function):
             continue
         empty(os.path.join(folder, path), function)
         at = os.path.join(proofs, last)
@@ -90,6 +90,12 @@ def make_holes(name, paths, folder):
         with open(os.path.join(at, "Proof.antt"), "w", encoding="utf-8") as proof:
             proof.write(f"use Rattle.{name}.proofs.{'.'.join([*above, last])}.Statement.{{statement}}\n\n"
                         f"pub {last}_spec : {{M : Type 1}} → statement M\n{last}_spec = ?\n")
+
+
+def is_marked(path, function):
+    """Whether an attribute of a function names the cycle of calls that it is in."""
+    with open(path, encoding="utf-8") as source:
+        return any(line.strip().startswith("#[cycle(") for line in source.read().split("\n")[function.first - 1:function.last])
 
 
 def empty(path, function):

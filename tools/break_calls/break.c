@@ -14,6 +14,7 @@
 #include <stdio.h>
 #include <stdlib.h>
 #include <string.h>
+#include <sys/file.h>
 #include <sys/stat.h>
 #include <sys/syscall.h>
 #include <unistd.h>
@@ -87,6 +88,46 @@ int close(int file) {
 int fsync(int file) {
     FAIL_OR_GO_ON("fsync", -1)
     return (REAL(fsync))(file);
+}
+
+int fdatasync(int file) {
+    FAIL_OR_GO_ON("fdatasync", -1)
+    return (REAL(fdatasync))(file);
+}
+
+int ftruncate(int file, off_t size) {
+    FAIL_OR_GO_ON("ftruncate", -1)
+    return (REAL(ftruncate))(file, size);
+}
+
+off_t lseek(int file, off_t from, int how) {
+    FAIL_OR_GO_ON("lseek", -1)
+    return (REAL(lseek))(file, from, how);
+}
+
+int flock(int file, int how) {
+    FAIL_OR_GO_ON("flock", -1)
+    return (REAL(flock))(file, how);
+}
+
+int fchmod(int file, mode_t mode) {
+    FAIL_OR_GO_ON("fchmod", -1)
+    return (REAL(fchmod))(file, mode);
+}
+
+int fchown(int file, uid_t owner, gid_t group) {
+    FAIL_OR_GO_ON("fchown", -1)
+    return (REAL(fchown))(file, owner, group);
+}
+
+int link(const char *from, const char *to) {
+    FAIL_OR_GO_ON("link", -1)
+    return (REAL(link))(from, to);
+}
+
+ssize_t readlink(const char *restrict path, char *restrict bytes, size_t size) {
+    FAIL_OR_GO_ON("readlink", -1)
+    return (REAL(readlink))(path, bytes, size);
 }
 
 int rename(const char *from, const char *to) {

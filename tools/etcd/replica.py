@@ -30,6 +30,15 @@ class Replica:
                 told = self.child.communicate()[1].decode(errors="replace").strip()
                 raise Fault(f"the program does not begin with the journal: {told}") from lost
 
+    @staticmethod
+    def kept(program, path):
+        """Has the program go on with the file of a journal for no lines: it then is whole, and no session has it."""
+        if not os.path.exists(path):
+            raise Fault(f"{path} is not there")
+        done = subprocess.run([program, "serve", "--workers", "1", "--journal", path], stdin=subprocess.DEVNULL, capture_output=True)
+        if done.returncode:
+            raise Fault(f"the program does not go on with the journal: {done.stderr.decode(errors='replace').strip()}")
+
     def answer(self, lines):
         """The replies to lines, in order, without their line feeds."""
         replies = []

@@ -162,6 +162,34 @@ static void journals(void)
     WANT(registryd_close(session) == REGISTRYD_OK);
 }
 
+/* A journal that is gone on with has what was told as accepted, though the session is not saved; one session has it at a time. */
+static void kept_journals(void)
+{
+    registryd_session none = 5, session = 0, second = 0;
+    WANT(registryd_open_journal(NULL, 1, "k.journal", &none) == REGISTRYD_MISUSE);
+    WANT(registryd_open_journal(program, 0, "k.journal", &none) == REGISTRYD_MISUSE);
+    WANT(registryd_open_journal(program, 1, NULL, &none) == REGISTRYD_MISUSE);
+    WANT(registryd_open_journal(program, 1, "k.journal", NULL) == REGISTRYD_MISUSE);
+    WANT(registryd_open_journal("no/such/program", 1, "k.journal", &none) == REGISTRYD_START);
+    WANT(none == 5 && access("k.journal", F_OK) != 0);
+    WANT(registryd_open_journal(program, 1, "k.journal", &session) == REGISTRYD_OK);
+    fed(session, publish);
+    told(session, published);
+    WANT(registryd_open_journal(program, 4, "k.journal", &second) == REGISTRYD_OK);
+    WANT(registryd_save(second) == REGISTRYD_ENDED);
+    WANT(registryd_close(second) == REGISTRYD_OK);
+    WANT(registryd_close(session) == REGISTRYD_OK);
+    WANT(registryd_open_journal(program, 4, "k.journal", &session) == REGISTRYD_OK);
+    fed(session, list);
+    told(session, "{\"packages\":[[\"a\",[[\"1.0.0\",false]]]],\"revision\":1}\n");
+    WANT(registryd_save(session) == REGISTRYD_OK);
+    WANT(registryd_close(session) == REGISTRYD_OK);
+    session = opened("k.journal", NULL);
+    fed(session, publish);
+    told(session, "{\"error\":7,\"name\":\"AlreadyPublished\",\"revision\":1}\n");
+    WANT(registryd_close(session) == REGISTRYD_OK);
+}
+
 static void *session_of_its_own(void *nothing)
 {
     for (int i = 0; i < 4; i++) {
@@ -192,6 +220,7 @@ int main(int count, char **words)
     pieces();
     much();
     journals();
+    kept_journals();
     threads();
     return 0;
 }

@@ -17,4 +17,6 @@ def many_requests_at_once():
     requests = [{"needs": asked, "lock": [], **budget} for asked, budget in zip(needs, budgets)]
     rows += [{"of": "pool", "call": "answer_all", "workers": workers, "requests": requests, "gives": answers}
              for workers in (1, 2, 7, 64)]
+    rows += [{"of": "pool", "call": "answer_in_order", "workers": workers, "count": count, "requests": requests, "gives": answers[:count]}
+             for workers in (1, 2, 7, 64) for count in (256, 100)]
     yield "256 requests have the same answers in the same order, by however many threads", rows

@@ -12,6 +12,7 @@ from program import TOP, run
 MEMORY = "/dev/shm"  # where short-lived files cost least, on machines that have it
 REFUSE_MEMORY = os.path.join("refuse_memory", "refuse.c")
 BREAK_CALLS = os.path.join("break_calls", "break.c")
+WATCH_CALLS = os.path.join("watch_calls", "watch.c")
 
 
 def built(case, source):

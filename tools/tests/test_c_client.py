@@ -11,6 +11,7 @@ CALLS = os.path.join(TOP, "tools", "tests", "c_client_calls.c")
 STRICT = ["-std=c11", "-Wall", "-Wextra", "-Wpedantic", "-Werror", "-O1", "-I", CLIENT]
 REPLIES = (b'{"ok":true,"revision":1}\n{"ok":true,"revision":2}\n'
            b'{"revision":2,"selected":[["app","1.0.0"],["log","1.3.0"]]}\n')
+AGAIN = (b'{"error":7,"name":"AlreadyPublished","revision":2}\n' * 2 + REPLIES.splitlines(True)[2])
 JOURNAL = """registry-journal 2
 {"name":"log","needs":[],"op":"publish","version":"1.3.0"}
 {"name":"app","needs":[["log","^1.2"]],"op":"publish","version":"1.0.0"}
@@ -40,6 +41,8 @@ class Client(unittest.TestCase):
 
     def check_example(self):
         self.assertEqual(self.do("./caller", PROGRAM, "a.journal"), REPLIES)
+        # a second one goes on with the journal
+        self.assertEqual(self.do("./caller", PROGRAM, "a.journal"), AGAIN)
         with open(os.path.join(self.folder, "a.journal"), encoding="ascii") as journal:
             self.assertEqual(journal.read(), JOURNAL)
 
@@ -61,8 +64,8 @@ class Client(unittest.TestCase):
         self.link(CALLS, *watched)
         done = subprocess.run(["./caller", PROGRAM], cwd=self.folder, stdout=subprocess.PIPE, stderr=subprocess.PIPE, timeout=100)
         self.assertEqual((done.returncode, done.stdout), (0, b""), done.stderr)
-        # the program's own words on the journal that isn't there
-        self.assertEqual(done.stderr, b"registryd: input failed\n" * 2)
+        # the program's own words on the journal that isn't there, and on the one that another session has
+        self.assertEqual(done.stderr, b"registryd: input failed\n" * 2 + b"registryd: journal k.journal: in use by another session\n")
 
 
 if __name__ == "__main__":

@@ -186,6 +186,39 @@ class Client(unittest.TestCase):
             out.write(JOURNAL.replace('"a"', '"A"', 1))
         self.assertEqual(self.ends("status 1: registryd: journal line 2", lambda: Registry(PROGRAM, load=path)), 1)
 
+    def test_a_journal_that_is_gone_on_with(self):
+        path = os.path.join(self.folder, "journal")
+        registry = Registry(PROGRAM, journal=path)
+        self.assertEqual((registry.publish("a", "1.0.0", {"b": "^1.0.0"}), registry.yank("a", "1.0.0")), (1, 2))
+        # it is there before it is told, and one session has it
+        self.assertEqual(read(path), JOURNAL.replace("end 2\n", ""))
+        self.assertEqual(self.ends(f"status 1: registryd: journal {path}: in use by another session", lambda: Registry(PROGRAM, journal=path)), 1)
+        registry.kill()
+        with Registry(PROGRAM, journal=path, workers=4) as registry:
+            self.assertEqual(registry.list(), Listing(2, {"a": (("1.0.0", True),)}))
+        self.assertEqual(read(path), JOURNAL)
+        with open(path, "w", encoding="ascii") as out:
+            out.write(JOURNAL.replace('"a"', '"A"', 1))
+        told = f"status 1: registryd: journal {path}: line 2 is not a journal's, and nothing was changed"
+        self.assertEqual(self.ends(told, lambda: Registry(PROGRAM, journal=path)), 1)
+        self.assertEqual(self.ends("registryd: bad words", lambda: Registry(PROGRAM, journal=path, load=path)), 2)
+
+    def test_a_program_that_is_killed_leaves_what_it_told(self):
+        path, told = os.path.join(self.folder, "journal"), 0
+        for _ in range(20):
+            with self.assertRaises(Ended), Registry(PROGRAM, journal=path) as registry:
+                futures = registry.many(Publish("a", f"{told}.{number}.0") for number in range(50))
+                futures[told % 50].result(SECONDS)
+                os.kill(registry._process.pid, signal.SIGKILL)
+                answered = [future for future in futures if not future.exception(SECONDS)]
+                self.assertEqual(answered, futures[:len(answered)])
+                told += len(answered)
+                raise Ended("it was killed")
+            with Registry(PROGRAM, journal=path) as registry:
+                self.assertGreaterEqual(registry.list().revision, told)
+                told = registry.list().revision
+        self.assertGreaterEqual(told, 20)
+
     def test_what_cannot_be_begun(self):
         with self.assertRaises(OSError):
             Registry(os.path.join(self.folder, "none"))
@@ -193,7 +226,9 @@ class Client(unittest.TestCase):
         self.assertEqual(self.ends("registryd: bad words", lambda: Registry(PROGRAM, workers=0)), 2)
 
     def test_a_journal_that_cannot_be_saved(self):
-        registry = Registry(PROGRAM, save=os.path.join(self.folder, "none", "journal"))
+        # it is told before the first line; that its disk is full is told at the end
+        self.assertEqual(self.ends("registryd: output failed", lambda: Registry(PROGRAM, save=os.path.join(self.folder, "none", "journal"))), 1)
+        registry = Registry(PROGRAM, save="/dev/full")
         self.assertEqual(registry.publish("a", "1.0.0"), 1)
         self.assertEqual(self.ends("registryd: output failed", registry.close), 1)
         registry.close()
@@ -257,10 +292,12 @@ class Client(unittest.TestCase):
     def test_the_example(self):
         typed, printed = blocks("clients/README.md")
         given = {**os.environ, "PYTHONPATH": os.path.join(TOP, "clients", "python")}
-        done = subprocess.run([sys.executable, "-c", typed.replace("./registryd", PROGRAM)], cwd=self.folder, env=given, stdout=subprocess.PIPE, text=True,
-                              timeout=SECONDS)
-        self.assertEqual((done.returncode, done.stdout.strip()), (0, printed))
-        self.assertIn('"name":"app"', read(os.path.join(self.folder, "app.journal")))
+        # the second time it goes on with its journal
+        for _ in range(2):
+            done = subprocess.run([sys.executable, "-c", typed.replace("./registryd", PROGRAM)], cwd=self.folder, env=given, stdout=subprocess.PIPE,
+                                  text=True, timeout=SECONDS)
+            self.assertEqual((done.returncode, done.stdout.strip()), (0, printed))
+            self.assertEqual(read(os.path.join(self.folder, "python.journal")).count('"name":"app"'), 1)
 
 
 if __name__ == "__main__":

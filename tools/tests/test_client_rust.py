@@ -61,9 +61,11 @@ class Client(unittest.TestCase):
             self.assertEqual(len(passed), 2)
             self.assertGreater(min(map(int, passed)), 5)
             os.symlink(PROGRAM, os.path.join(folder, "registryd"))
-            printed = self.cargo(folder, "run", "--quiet", "--example", "first", cwd=folder)
-            self.assertEqual(printed.strip(), blocks(read("clients", "rust", "README.md"))[1])
-            self.assertTrue(os.path.exists(os.path.join(folder, "app.journal")))
+            # the second time it goes on with its journal
+            for _ in range(2):
+                printed = self.cargo(folder, "run", "--quiet", "--example", "first", cwd=folder)
+                self.assertEqual(printed.strip(), blocks(read("clients", "rust", "README.md"))[1])
+                self.assertEqual(read(folder, "rust.journal").splitlines()[-1], "end 2")
         print(f"({sum(map(int, passed))} tests) ", end="")
 
     def test_the_example_is_the_one_that_is_shown(self):

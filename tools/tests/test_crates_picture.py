@@ -33,7 +33,8 @@ class Picture(unittest.TestCase):
             self.assertEqual(draw_crates.reached(edges, name), draw_crates.reached(crates, name))
 
     def test_few_lines_cross(self):
-        """Sixteen pairs do: `journals` and `answers` stand on crates of three rows, and `session` and `race` on both of them."""
+        """Eighteen pairs do: `journals` and `answers` stand on crates of three rows, and `session` and `race` on both of them, beside
+        what `commits` adds."""
         edges = draw_crates.edges_of(draw_crates.stands_on())
         rows, short = draw_crates.rows_of(edges, draw_crates.depths_of(edges, draw_crates.PROGRAM))
-        self.assertEqual(draw_crates.crossings(draw_crates.ordered(rows, short), short), 16)
+        self.assertEqual(draw_crates.crossings(draw_crates.ordered(rows, short), short), 18)

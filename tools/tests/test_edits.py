@@ -15,7 +15,7 @@ from edit_files import CRATES, EDITS, Edit, Function, changes, edits_of, functio
 from try_rounds import BAD, BY_CLAUSE, BY_NAME, NOT_REFUSED, judged, judged_alone, listed, make_holes, try_in_rounds  # noqa: E402
 
 # How many each run of the tests tries.
-LISTED = 30
+LISTED = 40
 SOURCE = """\
 pub struct Room<'a> {
     door: &'a u32,
@@ -260,7 +260,7 @@ class Holes(unittest.TestCase):
             for path in ("src", "proofs/rooms/Room/door", "proofs/rooms/+again", "proofs/rooms/again"):
                 os.makedirs(os.path.join(folder, path))
             with open(os.path.join(folder, "src", "rooms.rt"), "w", encoding="utf-8") as source:
-                source.write(SOURCE + "\npub fn again() {\n    again()\n}\n")
+                source.write(SOURCE + "\npub fn again() {\n    again()\n}\n\n#[cycle(rounds)]\npub fn round() {\n    round()\n}\n")
             with open(os.path.join(folder, "proofs/rooms/Room/door/Answers.antt"), "w", encoding="utf-8") as answers:
                 answers.write("returns = tt\n")
             make_holes("near", ["rooms::rooms_have_doors"], folder)
@@ -272,8 +272,9 @@ class Holes(unittest.TestCase):
                 lines = source.read().split("\n")
             self.assertEqual(lines[8:11], ["    {", "unreachable!()", "    }"])
             self.assertEqual(lines[31:34], ["    pub const fn new() -> Way {", "unreachable!()", "    }"])
-            self.assertEqual(lines[37:44], [*SOURCE.split("\n")[37:40], "", "pub fn again() {", "    again()", "}"])
-            self.assertEqual(len(lines), SOURCE.count("\n") + 5)
+            self.assertEqual(lines[37:49], [*SOURCE.split("\n")[37:40], "", "pub fn again() {", "    again()", "}", "",
+                                            "#[cycle(rounds)]", "pub fn round() {", "    round()", "}"])
+            self.assertEqual(len(lines), SOURCE.count("\n") + 10)
             with open(os.path.join(folder, "proofs/rooms/Room/door/Proof.antt"), encoding="utf-8") as proof:
                 self.assertEqual(proof.read(), "use Rattle.near.proofs.rooms.Room.door.Statement.{statement}\n\n"
                                                "pub door_spec : {M : Type 1} → statement M\ndoor_spec = ?\n")

@@ -15,6 +15,7 @@ from base64 import b64decode, b64encode
 
 import fronts
 import program
+from durable_sessions import Client
 from fake_etcd import Drop, Gate, SmallEtcd
 from members import Members
 from program import LIST, TOP, publish, resolve, skip_without, unyank, yank
@@ -310,6 +311,34 @@ class OverSmallEtcd(unittest.TestCase):
             file.write("registry-journal 1\n{}\nend 1\n")
         self.assertIn("registryd: journal line 2", self.fails("found", "--prefix", "bad", "--load", path))
         self.assertIn("no journal was founded under bad", self.fails("serve", "--prefix", "bad"))
+
+    def test_a_journal_is_founded_with_what_a_killed_session_left(self):
+        path = os.path.join(self.folder, "journal")
+        held = Client([*program.SERVE, "--journal", path])
+        held.send([A2, B1])
+        self.assertTrue(held.read_until(2))
+        self.assertIn(f"registryd: journal {path}: in use by another session", self.fails("found", "--prefix", "new", "--journal", path))
+        held.kill()
+        with open(path, "ab") as file:
+            file.write(b'{"name":"half')
+        self.done("found", "--prefix", "new", "--journal", path)
+        listed = '{"packages":[["a",[["2.0.0",false]]],["b",[["1.0.0",false]]]],"place":0,"revision":2,"seat":1}\n'
+        self.assertEqual(self.done("serve", "--prefix", "new", given=LIST.encode()), listed)
+        with open(path, "w", encoding="ascii") as file:
+            file.write("registry-journal 1\n{}\n")
+        self.assertIn("line 2 is not a journal's", self.fails("found", "--prefix", "bad", "--journal", path))
+        os.unlink(path)
+        self.assertIn("is not there", self.fails("found", "--prefix", "bad", "--journal", path))
+        self.assertFalse(os.path.exists(path))
+        self.assertIn("no journal was founded under bad", self.fails("serve", "--prefix", "bad"))
+
+    def test_a_front_keeps_no_journal(self):
+        path = os.path.join(self.folder, "journal")
+        for words in (["serve", "--journal", path], ["journal", "--journal", path], ["found", "--prefix", "new", "--load", path, "--journal", path]):
+            ended = fronts.run(*words[:1], [self.gate.url], *words[1:])
+            self.assertEqual((ended.returncode, ended.stdout), (2, b""))
+            self.assertIn(b"--journal is for found alone", ended.stderr)
+        self.assertFalse(os.path.exists(path))
 
     def test_a_full_journal(self):
         # one publication, and then it is yanked and taken back until one command less than a session accepts

@@ -143,10 +143,16 @@ class Saving(Sessions):
 
     def test_where_no_file_can_be_made(self):
         os.mkdir(self.saved)
-        for path in (self.saved, os.path.join(self.folder, "none", "file"), "/dev/full"):
+        for path in (self.saved, os.path.join(self.folder, "none", "file"), os.path.join(self.folder, 256 * "n")):
             done = run(self.words(None, path), LIST.encode())
             self.assertEqual((done.returncode, done.stderr), (1, b"registryd: output failed\n"), path)
-            self.assertEqual(done.stdout, b'{"packages":[],"revision":0}\n')
+            # it is told before the first line
+            self.assertEqual(done.stdout, b"", path)
+        self.assertEqual(self.beside(), ["saved"])
+
+    def test_a_device_that_takes_nothing(self):
+        done = run(self.words(None, "/dev/full"), LIST.encode())
+        self.assertEqual((done.returncode, done.stdout, done.stderr), (1, b'{"packages":[],"revision":0}\n', b"registryd: output failed\n"))
 
     def test_a_device_is_written_itself(self):
         self.session(CHAIN, save="/dev/null")

@@ -220,9 +220,11 @@ class Memory(unittest.TestCase):
         self.assertGreater(one, 20)
 
     def test_each_request_of_lines_answered_together(self):
-        """Requests that four threads answer, each with more conflicts than one thread meets alone."""
+        """Requests that four threads answer, each with more conflicts than one thread meets alone. What the threads share is done
+        without where there is no room for it, so that no more than one of them misses its answer."""
         early, one, several = self.refuse_each_of_a_session(["serve", "--workers", "4"], TOGETHER)
-        self.assertGreater(min(early, one, several), 0)
+        self.assertGreater(min(early, one), 0)
+        self.assertEqual(several, 0)
 
     def test_each_request_of_commands_between_batches(self):
         """What is saved are the commands that were told as accepted, wherever memory was missed."""

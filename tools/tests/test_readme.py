@@ -31,6 +31,9 @@ def answers(folder, lines):
 
 
 FORMATS = blocks("docs/FORMATS.md")
+CLIENTS = ["clients/README.md", "clients/rust/README.md", "clients/c/README.md"]
+# where an example begins a journal's file
+BEGUN = re.compile(r"""(?:--save |--journal |\./example \./registryd |journal="|Some\(")([\w-]+\.journal)""")
 
 
 class Readme(unittest.TestCase):
@@ -53,22 +56,27 @@ class Readme(unittest.TestCase):
     def test_each_page_is_named(self):
         self.assertEqual([name for name in PAGES[1:] if f"({name})" not in page("README.md")], [])
 
+    def test_no_two_examples_share_a_file(self):
+        begun = [(file, block[0]) for name in [*PAGES, *CLIENTS] for block in blocks(name) for file in set(BEGUN.findall("\n".join(block)))]
+        self.assertLessEqual({"a.journal", "python.journal", "rust.journal", "c.journal"}, {file for file, _ in begun})
+        self.assertEqual(len(begun), len({file for file, _ in begun}), begun)
+
     def test_the_first_session(self):
         typed, told = blocks()[:2]
         with tempfile.TemporaryDirectory() as folder:
             self.assertEqual(answers(folder, typed), (told, 0))
 
     def test_what_is_kept(self):
-        at = next(at for at, block in enumerate(FORMATS) if "--save app.journal" in block[0])
+        at = next(at for at, block in enumerate(FORMATS) if "--save saved.journal" in block[0])
         typed, told = FORMATS[at:at + 2]
         with tempfile.TemporaryDirectory() as folder:
             self.assertEqual(answers(folder, typed), (told, 0))
             # the line that is printed last asks for the same
-            replies = answers(folder, [f"echo '{told[-1]}' | ./registryd serve --workers 1 --load app.journal", "cat selected.line"])
+            replies = answers(folder, [f"echo '{told[-1]}' | ./registryd serve --workers 1 --load saved.journal", "cat selected.line"])
             self.assertEqual(replies, (['{"revision":1,"selected":[["app","1.0.0"]]}'] * 2, 0))
 
     def test_a_journal_that_is_gone_on_with(self):
-        at = next(at for at, block in enumerate(FORMATS) if "--save a.journal" in block[0])
+        at = next(at for at, block in enumerate(FORMATS) if "--journal a.journal" in block[0])
         typed, told = FORMATS[at:at + 2]
         with tempfile.TemporaryDirectory() as folder:
             self.assertEqual(answers(folder, typed), (told, 0))

@@ -105,6 +105,8 @@ class Beside(unittest.TestCase):
         with try_beside.Tries(4) as tries:
             for name in ("low", "side", "mid", "high", "top"):
                 tries.tell(name, True)
+            for of in tries.tried:
+                of.result()
             self.assertEqual(self.begun, ["low"])
             self.assertEqual(self.counts(tries), (3, 3))
         self.assertEqual(sorted(self.built), ["low", "mid", "side"])

@@ -1,0 +1,63 @@
+"""A few sessions that keep a journal and are killed under load. `tools/kill_sessions.py` kills more."""
+import os
+import subprocess
+import sys
+import tempfile
+import unittest
+from unittest import mock
+
+from program import TOP
+
+sys.path.insert(0, os.path.join(TOP, "tools"))
+import kill_sessions
+
+KILLS = 40
+# A library in whose presence what is written to a file comes there when the next reply is out.
+LATE = """
+#define _GNU_SOURCE
+#include <dlfcn.h>
+#include <string.h>
+#include <sys/syscall.h>
+#include <unistd.h>
+static char held[1 << 20];
+static size_t size;
+static int whose = -1;
+int fdatasync(int file) { return file < 0; }
+static void let_go(void) { if (size) syscall(SYS_write, whose, held, size); size = 0; }
+ssize_t write(int file, const void *bytes, size_t count) {
+    if (file > 2 && size + count <= sizeof held) {
+        memcpy(held + size, bytes, count);
+        size += count;
+        whose = file;
+        return count;
+    }
+    ssize_t done = syscall(SYS_write, file, bytes, count);
+    usleep(2000);
+    let_go();
+    return done;
+}
+__attribute__((destructor)) static void end(void) { let_go(); }
+"""
+
+
+class Kills(unittest.TestCase):
+    def test_killed_under_load(self):
+        kills = replies = seed = 0
+        while kills < KILLS:
+            seed += 1
+            of_one, told, _, find = kill_sessions.tried(seed, KILLS - kills)
+            self.assertIsNone(find)
+            kills, replies = kills + of_one, replies + told
+        print(f"({kills} kills, {replies} replies) ", end="")
+
+    def test_what_is_told_too_early_is_found(self):
+        with tempfile.TemporaryDirectory() as folder:
+            library = os.path.join(folder, "late.so")
+            subprocess.run(["cc", "-shared", "-fPIC", "-x", "c", "-", "-o", library], input=LATE.encode(), check=True)
+            with mock.patch.dict(os.environ, LD_PRELOAD=library):
+                finds = [kill_sessions.tried(seed)[-1] for seed in range(4)]
+        self.assertTrue(any(find and "commands were told, and the file has" in find for find in finds), finds)
+
+
+if __name__ == "__main__":
+    unittest.main()
