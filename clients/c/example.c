@@ -1,4 +1,5 @@
-/* Publishes two packages, resolves, and saves the journal. Words: the program, and the journal's file. */
+/* Publishes two packages and resolves. Words: the program, and the journal's file, which has what was accepted before that is
+ * printed. */
 #include "registryd.h"
 
 #include <stdio.h>
@@ -28,7 +29,7 @@ int main(int count, char **words)
     registryd_session session;
     if (count != 3)
         return 2;
-    int answer = registryd_open(words[1], 1, NULL, words[2], &session);
+    int answer = registryd_open_journal(words[1], 1, words[2], &session);
     if (answer)
         return answer;
     answer = registryd_feed(session, lines, strlen(lines));

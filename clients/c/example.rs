@@ -2,7 +2,6 @@
 use std::env;
 use std::ffi::{CString, c_char, c_int, c_uint, c_void};
 use std::process::ExitCode;
-use std::ptr;
 
 const LINES: &str = r#"{"op":"publish","name":"log","version":"1.3.0","needs":[]}
 {"op":"publish","name":"app","version":"1.0.0","needs":[["log","^1.2"]]}
@@ -11,11 +10,10 @@ const LINES: &str = r#"{"op":"publish","name":"log","version":"1.3.0","needs":[]
 
 #[link(name = "registryd", kind = "static")]
 extern "C" {
-    fn registryd_open(
+    fn registryd_open_journal(
         program: *const c_char,
         workers: c_uint,
-        load: *const c_char,
-        save: *const c_char,
+        journal: *const c_char,
         session: *mut u64,
     ) -> c_int;
     fn registryd_feed(session: u64, bytes: *const c_void, length: usize) -> c_int;
@@ -37,11 +35,11 @@ fn done(answer: c_int) -> Result<(), c_int> {
 }
 
 impl Session {
-    fn open(program: &str, save: &str) -> Result<Session, c_int> {
-        let (program, save) = (CString::new(program).unwrap(), CString::new(save).unwrap());
+    fn open(program: &str, journal: &str) -> Result<Session, c_int> {
+        let (program, journal) = (CString::new(program).unwrap(), CString::new(journal).unwrap());
         let mut session = 0;
         // Both texts end with a 0 and outlive the call, which keeps neither.
-        done(unsafe { registryd_open(program.as_ptr(), 1, ptr::null(), save.as_ptr(), &mut session) })?;
+        done(unsafe { registryd_open_journal(program.as_ptr(), 1, journal.as_ptr(), &mut session) })?;
         Ok(Session(session))
     }
 
@@ -70,8 +68,8 @@ impl Drop for Session {
     }
 }
 
-fn resolve(program: &str, save: &str) -> Result<(), c_int> {
-    let session = Session::open(program, save)?;
+fn resolve(program: &str, journal: &str) -> Result<(), c_int> {
+    let session = Session::open(program, journal)?;
     session.feed(LINES)?;
     print!("{}", session.replies()?);
     session.save()

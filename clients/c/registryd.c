@@ -171,21 +171,25 @@ static int reap(struct state *it)
     return ended == it->child && WIFEXITED(status) && WEXITSTATUS(status) == 0;
 }
 
+/* Which files a session begins with and leaves; each may be null. */
+struct files {
+    const char *journal, *load, *save;
+};
+
 /* Starts the program with one end of a channel as its standard input and output. */
-static int start(const char *program, unsigned workers, const char *load, const char *save, int theirs, pid_t *child)
+static int start(const char *program, unsigned workers, struct files files, int theirs, pid_t *child)
 {
     char number[16];
-    char *words[9] = {(char *)program, "serve", "--workers", number};
+    char *words[11] = {(char *)program, "serve", "--workers", number};
+    const char *given[][2] = {{"--journal", files.journal}, {"--load", files.load}, {"--save", files.save}};
     int count = 4;
     posix_spawn_file_actions_t actions;
     snprintf(number, sizeof number, "%u", workers);
-    if (load) {
-        words[count++] = "--load";
-        words[count++] = (char *)load;
-    }
-    if (save) {
-        words[count++] = "--save";
-        words[count++] = (char *)save;
+    for (size_t i = 0; i < sizeof given / sizeof *given; i++) {
+        if (given[i][1]) {
+            words[count++] = (char *)given[i][0];
+            words[count++] = (char *)given[i][1];
+        }
     }
     if (posix_spawn_file_actions_init(&actions))
         return REGISTRYD_MEMORY;
@@ -196,13 +200,13 @@ static int start(const char *program, unsigned workers, const char *load, const 
     return failed ? REGISTRYD_START : REGISTRYD_OK;
 }
 
-static int open_in(struct slot *slot, const char *program, unsigned workers, const char *load, const char *save)
+static int open_in(struct slot *slot, const char *program, unsigned workers, struct files files)
 {
     int ends[2];
     pid_t child = 0;
     if (socketpair(AF_UNIX, SOCK_STREAM | SOCK_CLOEXEC, 0, ends))
         return REGISTRYD_MEMORY;
-    int answer = start(program, workers, load, save, ends[1], &child);
+    int answer = start(program, workers, files, ends[1], &child);
     close(ends[1]);
     if (answer) {
         close(ends[0]);
@@ -214,7 +218,7 @@ static int open_in(struct slot *slot, const char *program, unsigned workers, con
     return REGISTRYD_OK;
 }
 
-int registryd_open(const char *program, unsigned workers, const char *load, const char *save, registryd_session *session)
+static int open_with(const char *program, unsigned workers, struct files files, registryd_session *session)
 {
     if (!program || !session || workers < 1 || workers > 64)
         return REGISTRYD_MISUSE;
@@ -225,7 +229,7 @@ int registryd_open(const char *program, unsigned workers, const char *load, cons
         if (pthread_mutex_trylock(&slot->lock))
             continue;
         if (!slot->is_open) {
-            int answer = open_in(slot, program, workers, load, save);
+            int answer = open_in(slot, program, workers, files);
             if (!answer)
                 *session = slot->count * REGISTRYD_SESSIONS + place;
             return leave(slot, answer);
@@ -233,6 +237,18 @@ int registryd_open(const char *program, unsigned workers, const char *load, cons
         pthread_mutex_unlock(&slot->lock);
     }
     return REGISTRYD_MEMORY;
+}
+
+int registryd_open(const char *program, unsigned workers, const char *load, const char *save, registryd_session *session)
+{
+    return open_with(program, workers, (struct files){.load = load, .save = save}, session);
+}
+
+int registryd_open_journal(const char *program, unsigned workers, const char *journal, registryd_session *session)
+{
+    if (!journal)
+        return REGISTRYD_MISUSE;
+    return open_with(program, workers, (struct files){.journal = journal}, session);
 }
 
 int registryd_feed(registryd_session session, const void *bytes, size_t length)

@@ -30,7 +30,7 @@ enum registryd_answer {
     REGISTRYD_MEMORY = 2,
     /* The program can't be started. */
     REGISTRYD_START = 3,
-    /* The program has ended, or the journal isn't saved. Why stands on standard error. */
+    /* The program has ended, or the journal isn't whole. Why stands on standard error. */
     REGISTRYD_ENDED = 4
 };
 
@@ -43,6 +43,11 @@ enum registryd_answer {
  * that follow. */
 int registryd_open(const char *program, unsigned workers, const char *load, const char *save, registryd_session *session);
 
+/* As registryd_open, with a journal that the session goes on with, a file that is made where it is not there: it has each
+ * accepted command before the reply that tells so can be taken, whatever becomes of this process or the program. One session
+ * has a file at a time. */
+int registryd_open_journal(const char *program, unsigned workers, const char *journal, registryd_session *session);
+
 /* Feeds bytes of request lines, which may begin and end anywhere. It waits while the program is slower. */
 int registryd_feed(registryd_session session, const void *bytes, size_t length);
 
@@ -50,11 +55,12 @@ int registryd_feed(registryd_session session, const void *bytes, size_t length);
  * and tells how many were copied and how many are left to take. */
 int registryd_take(registryd_session session, void *bytes, size_t room, size_t *length, size_t *left);
 
-/* Ends the input, waits for the last replies, which can then be taken, and for the journal to be saved.
+/* Ends the input, waits for the last replies, which can then be taken, and for the journal to be whole.
  * REGISTRYD_OK says that all was written. The session takes no further lines. */
 int registryd_save(registryd_session session);
 
-/* Ends a session. One that was not saved leaves its file as it was, and its replies are dropped. */
+/* Ends a session. One that was not saved leaves the file to be saved as it was; a journal that it went on with has all that
+ * was told as accepted. Its replies are dropped. */
 int registryd_close(registryd_session session);
 
 #ifdef __cplusplus

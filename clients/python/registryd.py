@@ -1,6 +1,6 @@
 """A client of registryd in one file: it starts the program, asks it by lines, and answers with values.
 
-    with Registry("./registryd", save="app.journal") as registry:
+    with Registry("./registryd", journal="python.journal") as registry:
         registry.publish("log", "1.3.0")
         registry.publish("app", "1.0.0", {"log": "^1.2"})
         print(registry.resolve({"app": "^1"}).selected)
@@ -314,13 +314,16 @@ def answer(line: bytes) -> Reply | Refusal:
 # ---- The program
 
 class Registry:
-    """A session with a program of its own, which begins with the journal that is loaded, and leaves one where it is to be
-    saved, as the session is closed. `program` is its path, or the words that start it; one that can't be started is an OSError."""
+    """A session with a program of its own. `program` is its path, or the words that start it; one that can't be started is an
+    OSError. `journal` is the file that the session goes on with, made where it is not there: it has each accepted command before
+    the call that made it returns, whatever becomes of this process or the program. Else the session begins with the journal that
+    is loaded, if one is, and where one is to be saved writes it as it is closed."""
 
-    def __init__(self, program: Path | Sequence[str] = "registryd", *, workers: int = 1, load: Path | None = None, save: Path | None = None) -> None:
+    def __init__(self, program: Path | Sequence[str] = "registryd", *, workers: int = 1, journal: Path | None = None,
+                 load: Path | None = None, save: Path | None = None) -> None:
         words = [os.fspath(program)] if isinstance(program, (str, os.PathLike)) else list(program)
         words += ["serve", "--workers", str(workers)]
-        for option, path in (("--load", load), ("--save", save)):
+        for option, path in (("--journal", journal), ("--load", load), ("--save", save)):
             words += [] if path is None else [option, os.fspath(path)]
         # in a session of its own: a key that interrupts this program leaves it to end with its input, and to save
         self._process = subprocess.Popen(words, stdin=subprocess.PIPE, stdout=subprocess.PIPE, stderr=subprocess.PIPE, start_new_session=True)
@@ -333,7 +336,7 @@ class Registry:
         for thread in self._threads:
             thread.start()
         try:
-            self._call(Resolve(()))  # so a journal that can't be loaded is told here
+            self._call(Resolve(()))  # so a journal that can't be gone on with is told here
         except BaseException:
             self.kill()
             raise
@@ -377,7 +380,7 @@ class Registry:
         return futures
 
     def close(self) -> None:
-        """Ends the input, waits for all replies, and then for the journal to be saved. Raises `Ended` where the program
+        """Ends the input, waits for all replies, and then for the journal to be whole. Raises `Ended` where the program
         failed. Once is enough."""
         with self._lock:
             if self._fault == CLOSED:
@@ -389,7 +392,7 @@ class Registry:
             raise self._ended(failed or DIED)
 
     def kill(self) -> None:
-        """Ends the program at once: what waits is told, and nothing is saved."""
+        """Ends the program at once: what waits is told, and nothing is saved. A journal has all that was told as accepted."""
         self._stop(0)
         with self._lock:
             self._fault = CLOSED

@@ -1,9 +1,14 @@
-use registryd::{Error, Options, Registry, Resolve, Selected};
+use registryd::{Error, Options, Refusal, Registry, Resolve, Selected};
 
 fn main() -> Result<(), Error> {
-    let mut registry = Registry::open("./registryd", &Options { save: Some("app.journal".into()), ..Options::default() })?;
-    registry.publish("app", "1.0.0", &[("log", "^1.2")])?;
-    registry.publish("log", "1.3.0", &[])?;
+    let mut registry = Registry::open("./registryd", &Options { journal: Some("rust.journal".into()), ..Options::default() })?;
+    for (name, version, needs) in [("app", "1.0.0", &[("log", "^1.2")][..]), ("log", "1.3.0", &[])] {
+        match registry.publish(name, version, needs) {
+            // by a run before this one
+            Ok(_) | Err(Error::Refused { refusal: Refusal::AlreadyPublished, .. }) => {}
+            Err(other) => return Err(other),
+        }
+    }
     println!("{:?}", registry.resolve(Resolve { needs: &[("app", "^1")], ..Resolve::default() })?);
     let asked = Resolve { needs: &[("app", "^1"), ("log", "^2")], explain: true, ..Resolve::default() };
     if let Selected::Nothing(Some(why)) = registry.resolve(asked)? {

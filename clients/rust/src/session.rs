@@ -23,6 +23,9 @@ const DIED: &str = "the program ended";
 pub struct Options {
     /// How many threads resolve requests, 1 to 64.
     pub workers: u8,
+    /// The journal that the session goes on with, made where it is not there: it has each accepted command before the call
+    /// that made it returns. With it nothing is loaded or saved.
+    pub journal: Option<PathBuf>,
     /// The journal to begin with.
     pub load: Option<PathBuf>,
     /// Where the journal is saved once the session is closed.
@@ -31,7 +34,7 @@ pub struct Options {
 
 impl Default for Options {
     fn default() -> Options {
-        Options { workers: 1, load: None, save: None }
+        Options { workers: 1, journal: None, load: None, save: None }
     }
 }
 
@@ -88,11 +91,11 @@ pub struct Registry {
 }
 
 impl Registry {
-    /// Starts the program, and waits until it has begun with the journal that is loaded.
+    /// Starts the program, and waits until it has begun with its journal.
     pub fn open(program: impl AsRef<OsStr>, options: &Options) -> Result<Registry, Error> {
         let mut command = Command::new(program);
         command.args(["serve", "--workers", &options.workers.to_string()]);
-        for (option, path) in [("--load", &options.load), ("--save", &options.save)] {
+        for (option, path) in [("--journal", &options.journal), ("--load", &options.load), ("--save", &options.save)] {
             if let Some(path) = path {
                 command.arg(option).arg(path);
             }
@@ -110,7 +113,7 @@ impl Registry {
         let (input, output) = (child.stdin.take(), child.stdout.take().expect("it is piped"));
         let told = hear(child.stderr.take().expect("it is piped"));
         let mut registry = Registry { child, input, output: BufReader::new(output), told, ended: None };
-        registry.ask(Request::Resolve(Resolve::default()))?; // so a journal that can't be loaded is told here
+        registry.ask(Request::Resolve(Resolve::default()))?; // so a journal that can't be gone on with is told here
         Ok(registry)
     }
 
@@ -183,7 +186,7 @@ impl Registry {
         Ok(replies)
     }
 
-    /// Closes the input, and waits until the journal is saved where it is to be.
+    /// Closes the input, and waits until the journal is whole.
     pub fn close(mut self) -> Result<(), Error> {
         let ended = self.finish();
         match ended.status {
@@ -192,7 +195,7 @@ impl Registry {
         }
     }
 
-    /// Ends the program at once: nothing is saved.
+    /// Ends the program at once: nothing is saved. A journal has all that was told as accepted.
     pub fn kill(mut self) {
         self.child.kill().ok(); // where it fails the program has ended
         self.end(DIED);

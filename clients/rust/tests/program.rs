@@ -178,6 +178,27 @@ fn a_session_that_is_dropped_is_saved() {
 }
 
 #[test]
+fn a_journal_is_gone_on_with() {
+    let path = file("kept.journal");
+    fs::remove_file(&path).ok(); // of an earlier run
+    let options = Options { journal: Some(path.clone()), workers: 4, ..Options::default() };
+    let mut registry = Registry::open(program(), &options).unwrap();
+    assert_eq!((registry.publish("a", "1.0.0", &[]), registry.yank("a", "1.0.0")), (Ok(1), Ok(2)));
+    // it is there before it is told, and one session has it
+    let begun = "registry-journal 2\n{\"name\":\"a\",\"needs\":[],\"op\":\"publish\",\"version\":\"1.0.0\"}\n{\"name\":\"a\",\"op\":\"yank\",\"version\":\"1.0.0\"}\n";
+    assert_eq!(fs::read_to_string(&path).unwrap(), begun);
+    let in_use = format!("the program ended with status 1: registryd: journal {}: in use by another session", path.display());
+    assert_eq!(told(Registry::open(program(), &options).map(|_| ())), in_use);
+    registry.kill();
+    let mut registry = Registry::open(program(), &options).unwrap();
+    assert_eq!(registry.list(), Ok(vec![("a".to_string(), vec![("1.0.0".to_string(), true)])]));
+    assert_eq!(registry.close(), Ok(()));
+    assert_eq!(fs::read_to_string(&path).unwrap(), format!("{begun}end 2\n"));
+    let both = Options { load: Some(path), ..options };
+    assert!(told(Registry::open(program(), &both).map(|_| ())).ends_with(" with status 2: registryd: bad words"));
+}
+
+#[test]
 fn what_cannot_be_begun_or_saved() {
     let none = file("none").join("journal");
     let answer = Registry::open(&none, &Options::default()).map(|_| ());
@@ -186,7 +207,10 @@ fn what_cannot_be_begun_or_saved() {
     assert_eq!(told(Registry::open(program(), &load).map(|_| ())), "the program ended with status 1: registryd: input failed");
     let workers = Options { workers: 0, ..Options::default() };
     assert!(told(Registry::open(program(), &workers).map(|_| ())).ends_with(" with status 2: registryd: bad words"));
-    let mut registry = Registry::open(program(), &Options { save: Some(none), ..Options::default() }).unwrap();
+    // that no file can be made is told before the first line, and that its disk is full at the end
+    let save = Options { save: Some(none), ..Options::default() };
+    assert_eq!(told(Registry::open(program(), &save).map(|_| ())), "the program ended with status 1: registryd: output failed");
+    let mut registry = Registry::open(program(), &Options { save: Some("/dev/full".into()), ..Options::default() }).unwrap();
     assert_eq!(registry.publish("a", "1.0.0", &[]), Ok(1));
     assert_eq!(told(registry.close()), "the program ended with status 1: registryd: output failed");
 }
