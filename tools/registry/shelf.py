@@ -1,30 +1,12 @@
-#!/usr/bin/env python3
-"""Turns packages that are there into publish and yank lines for `registryd serve`. It fetches nothing.
-
-    tools/import_index crates-io DIR [--from CRATE ..]   a checkout of crates.io's index, or Cargo's own copy of it
-    tools/import_index cargo DIR [--index DIR]           a folder of Cargo manifests, or a Cargo.lock, or both
-    tools/import_index debian [FILE] [--from CRATE ..]   the Rust crates that Debian packages, as this machine's apt knows them
-
-The lines go to standard output; to standard error what was left out or is told otherwise than it stood there, counted, each
-kind with its first example. Status 0: the lines are written; 1: there is nothing to write, or more than a session takes; 2:
-the words are wrong. docs/IMPORTING.md tells what becomes of what.
-"""
-import argparse
+"""Which releases of an index become publish and yank lines, and what is told of those that don't."""
 import bisect
-import difflib
-import json
-import os
-import sys
-from pathlib import Path
 
 from check_derivation import NAME, admits, read_requirement, read_version
-from index_readers import Cargo, CratesIo, Debian, Release, Unusable, need
 from limits import MOST_COMMANDS, MOST_NEEDS, MOST_PACKAGES, MOST_VERSIONS
 
-EXAMPLE = """for example, what does an HTTP client in Debian stand on?
-
-    tools/import_index debian --from reqwest --ask | ./registryd serve --workers 1 | tail -n 1
-"""
+from .indexes.index import Release, Unusable, need
+from .nearest import nearest
+from .needs import need_of
 
 
 def merged(needs, spelled):
@@ -125,21 +107,23 @@ def choose(shelf, roots, most):
     return dict(sorted(chosen.items())), most
 
 
-def write(value):
-    print(json.dumps(value, separators=(",", ":")))
-
-
-def write_lines(chosen):
+def commands_of(chosen):
     """A publish line for each release, crate by crate in order of publication, and a yank line behind it where it is yanked."""
     for name, releases in chosen.items():
         for release in releases:
-            write({"op": "publish", "name": name, "version": release.version, "needs": release.needs})
+            yield {"op": "publish", "name": name, "version": release.version, "needs": release.needs}
             if release.yanked:
-                write({"op": "yank", "name": name, "version": release.version})
+                yield {"op": "yank", "name": name, "version": release.version}
 
 
-def report(shelf, chosen, most, notes):
-    """Says on standard error what was written and what was not."""
+def counted(chosen):
+    """How much is taken, in words."""
+    releases = [it for held in chosen.values() for it in held]
+    return f"{len(releases)} versions of {len(chosen)} crates, {sum(it.yanked for it in releases)} of them yanked"
+
+
+def noted(shelf, chosen, most, notes):
+    """What was left out, is told otherwise or is missing, a line for each kind."""
     needs = {}
     for name, releases in chosen.items():
         notes.take(shelf.crate(name).notes)
@@ -152,91 +136,28 @@ def report(shelf, chosen, most, notes):
     for (target, requirement), example in needs.items():
         if not any(admits(requirement, read_version(it.version)) for it in reversed(chosen.get(target, []))):
             notes.missing("requirements that no version there meets" if target in chosen else "requirements on crates that are not there", example)
-    yanked = sum(it.yanked for releases in chosen.values() for it in releases)
-    print(f"written: {sum(map(len, chosen.values()))} versions of {len(chosen)} crates, {yanked} of them yanked",
-          *notes.lines(), sep="\n", file=sys.stderr)
+    return notes.lines()
 
 
-def roots(index, given):
+def roots(index, crates):
     """The needs to begin with, as pairs of a crate and a requirement; none where all that is there is wanted."""
-    if given.crates:
-        asked = [(index.spelled(name), requirement or "*") for name, _, requirement in (it.partition("@") for it in given.crates)]
+    if crates:
+        asked = [(index.spelled(name), requirement) for name, requirement in map(need_of, crates)]
         for name, requirement in asked:
             if not index.has(name):
-                near = ", ".join(difflib.get_close_matches(name, index.names()))
+                near = nearest(name, index.names())
                 raise Unusable(f"there is no crate {name} in the index" + (f"; there is {near}" if near else ""))
             if read_requirement(requirement) is None:
                 raise Unusable(f'"{requirement}" is no requirement')
         return asked
-    own = index.own() if given.format == "cargo" else []
+    own = index.own()
     return sorted((index.spelled(name), f"={version}") for name, version in own if read_version(version))
 
 
-def ask(index, needs, given):
+def request(index, needs, locked):
     """A resolve line for what was begun with, locked to what Cargo.lock has."""
     if not needs:
         raise Unusable("there is nothing to ask for: name it by --from")
     for name, _ in needs[MOST_NEEDS:]:
         index.notes.left_out(f"packages that are asked for beyond the {MOST_NEEDS} needs of a request", name)
-    lock = {"lock": index.locked()} if given.format == "cargo" and index.lock else {}
-    return {"op": "resolve", "needs": needs[:MOST_NEEDS], **lock, "explain": True}
-
-
-def opened(given):
-    """The reader of the index that was named."""
-    if given.format == "crates-io":
-        return CratesIo(given.folder)
-    if given.format == "cargo":
-        return Cargo(given.folder, CratesIo(given.index) if given.index else None)
-    return Debian(Path(given.file).read_text(errors="replace") if given.file else Debian.of_this_machine())
-
-
-def read_words(words):
-    told = {"description": __doc__, "epilog": EXAMPLE, "formatter_class": argparse.RawDescriptionHelpFormatter}
-    parser = argparse.ArgumentParser(prog="tools/import_index", **told)
-    formats = parser.add_subparsers(dest="format", required=True, metavar="crates-io | cargo | debian")
-    for name, first in (("crates-io", "DIR"), ("cargo", "DIR [--index DIR]"), ("debian", "[FILE]")):
-        # the folder or file comes first: behind --from it would be read as one more crate
-        each = formats.add_parser(name, usage=f"tools/import_index {name} {first} [--from CRATE ..] [--newest N] [--ask]", **told)
-        if name == "debian":
-            each.add_argument("file", nargs="?", metavar="FILE", help="a file Packages, or what `apt-cache show` or `apt-cache dumpavail` "
-                              "printed; without it apt-cache is asked")
-        else:
-            each.add_argument("folder", metavar="DIR")
-        if name == "cargo":
-            each.add_argument("--index", metavar="DIR", help="crates.io's index, or Cargo's copy of it, for crates that the folder lacks")
-        each.add_argument("--from", dest="crates", nargs="+", metavar="CRATE", help="only these and what they need, as rand or rand@^0.8; "
-                          "without it all, or of a workspace its own packages")
-        each.add_argument("--newest", type=int, default=MOST_VERSIONS, metavar="N", help="only the N newest versions of each crate")
-        each.add_argument("--ask", action="store_true", help="end with a resolve line for the crates of --from, or for the workspace's "
-                          "own packages with what Cargo.lock has as the lock")
-    given = parser.parse_args(words)
-    if not 1 <= given.newest <= MOST_VERSIONS:
-        parser.error(f"--newest is from 1 to {MOST_VERSIONS}")
-    return given
-
-
-def main(words):
-    given = read_words(words)
-    try:
-        index = opened(given)
-        needs = roots(index, given)
-        shelf = Shelf(index)
-        chosen, most = choose(shelf, [name for name, _ in needs] or index.names(), given.newest)
-        asked = ask(index, needs, given) if given.ask else None
-        write_lines(chosen)
-        if asked:
-            write(asked)
-        sys.stdout.flush()
-    except BrokenPipeError:
-        os.dup2(os.open(os.devnull, os.O_WRONLY), sys.stdout.fileno())  # the reader has enough: nothing is left to be said
-        return 1
-    except (Unusable, OSError) as fault:
-        print(f"import_index: {fault}", file=sys.stderr)
-        return 1
-    report(shelf, chosen, most, index.notes)
-    return 0
-
-
-if __name__ == "__main__":
-    sys.exit(main(sys.argv[1:]))
+    return {"op": "resolve", "needs": needs[:MOST_NEEDS], **({"lock": locked} if locked else {}), "explain": True}

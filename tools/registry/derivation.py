@@ -1,9 +1,6 @@
-"""The English of a refusal, from its derivation alone.
+"""What a derivation says, step by step in English: which versions a set is, what a fact says, and what a step concludes.
 
-How sentences are put in order and joined is told in Dart pub's doc/solver.md, "Error Reporting": a step that is cited more
-than once has a number, two steps of a chain may share a sentence, and of two branches the one that takes more is told
-first. Each sentence speaks of the selections that meet the request. A range of versions means those that are published,
-by precedence.
+A range of versions means those that are published, by precedence.
 """
 import json
 import re
@@ -77,8 +74,9 @@ class Fact:
     """A cause that follows from nothing else. Of two that are told together the one of the lower rank comes first."""
     rank = 2
 
-    def __init__(self, said):
-        self.said, self.admitted = said, {}
+    def __init__(self, said, lacking=None, names=()):
+        """`lacking` is a package and a requirement where it says that nothing published meets it. `names` are the packages it is of."""
+        self.said, self.lacking, self.names, self.admitted = said, lacking, names, {}
 
 
 class Question(Fact):
@@ -94,8 +92,8 @@ class Dependency(Fact):
         # in quotes where it could be taken for a range of versions, which is another thing
         quoted = requirement if PLAIN.fullmatch(requirement) else f'"{requirement}"'
         self.subject, self.whose, self.target, self.within, self.wanted = subject, whose, target, within, f"{target} {quoted}"
-        super().__init__(f"{subject} depends on {self.wanted}")
-        self.unmet = Fact(f"no version of {target} matches {quoted}")
+        super().__init__(f"{subject} depends on {self.wanted}", names=tuple(it for it in (whose[0], target) if it != ROOT))
+        self.unmet = Fact(f"no version of {target} matches {quoted}", (target, requirement), (target,))
 
     def leads_to(self, other, steps):
         """Whether all versions that are left here have the other dependency, and what further versions have it is not asked."""
@@ -134,12 +132,13 @@ class Step:
 class Derivation:
     """A derivation that follows, as the steps that its last one rests on; each stands after those that it cites."""
 
-    def __init__(self, registry, request, rows, asked=None):
-        """A need on the package `asked`, of a name and a version, is the question itself and no need of the request."""
+    def __init__(self, registry, request, rows, asked=None, names=()):
+        """A need on the package `asked`, of a name and a version, is the question itself and no need of the request. `names` are
+        the published packages, where the registry has not all of them."""
         self.request = {"lock": [], "explain": True, "budget": 0, **request}
         judge = Judge(registry, self.request)
         judge.judge(rows)
-        self.registry, self.versions, self.asked, self.facts = registry, Versions(registry), asked, {}
+        self.registry, self.versions, self.asked, self.facts, self.names = registry, Versions(registry), asked, {}, names
         lines = []
         for row, terms in zip(rows, judge.conclusions):
             causes, number = [self.cause(it, lines) for it in row["causes"]], len(lines) + 1
@@ -165,6 +164,17 @@ class Derivation:
                     open_steps.append(it)
         return [it for it in dict.fromkeys(lines) if it in used]
 
+    def reached(self):
+        """The steps, with those that have no line of their own."""
+        found = dict.fromkeys(self.steps)
+        for step in self.steps:
+            found.update(dict.fromkeys(step.below()))
+        return found
+
+    def lacking(self):
+        """Each package and requirement that nothing published meets, once."""
+        return dict.fromkeys(fact.lacking for step in self.reached() for fact in step.facts() if fact.lacking)
+
     def cause(self, cause, lines):
         """A cause as a step or a fact, equal ones as one."""
         if "line" in cause:
@@ -182,7 +192,7 @@ class Derivation:
         admitted = self.versions.matching(target, requirement)
         fact = Dependency("the request", THE_REQUEST, target, requirement, admitted)
         if self.asked and target == self.asked[0]:
-            fact = Question(" ".join(self.asked) + " is asked for")
+            fact = Question(" ".join(self.asked) + " is asked for", names=(target,))
         return self.depended(fact, target, requirement, admitted, dict(NEVER))
 
     def premise(self, name, need, target, versions, within):
@@ -193,7 +203,8 @@ class Derivation:
     def depended(self, fact, target, requirement, within, terms):
         """A dependency. Where it leaves no version to choose from, that is told as a fact of its own, and what both mean as a step."""
         if not within:
-            nothing = Fact(f"no version of {target} is published") if not self.registry.releases.get(target) else fact.unmet
+            unpublished = Fact(f"no version of {target} is published", (target, requirement), (target,))
+            nothing = fact.unmet if self.registry.releases.get(target) else unpublished
             return Step(terms, [fact, nothing])
         if within & frozenset(self.versions.order(target)) == self.versions.matching(target, requirement) and isinstance(fact, Dependency):
             fact.admitted = {target: (within, fact.wanted)}
@@ -206,7 +217,7 @@ class Derivation:
         missing = frozenset(versions) - published
         if missing:
             said.append(f"{self.versions.every(name, missing)} is not published")
-        return Fact(" and ".join(said) or NOTHING.format(name))
+        return Fact(" and ".join(said) or NOTHING.format(name), names=(name,))
 
     def conclusion(self, step):
         """What a step says."""
@@ -229,89 +240,3 @@ class Derivation:
     def wanted(self, step, name, ordinals):
         """What a step asks for of a package: by the requirement that admits just that, if one did, else by its versions."""
         return step.admitted[name][1] if name in step.admitted else self.versions.some(name, ordinals)
-
-
-class Telling:
-    """The sentences that tell a derivation, each with its number or none; an empty one is a break before another branch."""
-
-    def __init__(self, derivation, failed=FAILED):
-        self.derivation, self.failed = derivation, failed
-        self.sentences, self.numbers, self.cited = [], {}, {}
-        for step in self.reached():
-            for it in step.below():
-                self.cited[it] = self.cited.get(it, 0) + 1
-        self.tell(derivation.last)
-
-    def reached(self):
-        """The steps of the derivation, with those that have no line of their own."""
-        found = dict.fromkeys(self.derivation.steps)
-        for step in self.derivation.steps:
-            found.update(dict.fromkeys(step.below()))
-        return found
-
-    def tell(self, last):
-        """Tells a step after what it rests on. A step hands over those that are to be told first; this needs no stack of calls."""
-        open_steps = [self.steps_of(last)]
-        while open_steps:
-            first = next(open_steps[-1], None)
-            if first is None:
-                open_steps.pop()
-            else:
-                open_steps.append(self.steps_of(first))
-
-    def steps_of(self, step):
-        return (self.of_facts, self.of_one, self.of_two)[len(step.below())](step)
-
-    def of_facts(self, step):
-        self.write(step, f"Because {joined(*step.causes, [step])}")
-        yield from ()
-
-    def of_one(self, step):
-        """A step that rests on another and a fact."""
-        (other,), (fact,) = step.below(), step.facts()
-        if other in self.numbers:
-            self.write(step, f"Because {fact.said} and {self.citing(other)}")
-        elif self.may_share(other):
-            (prior,), (before,) = other.below(), other.facts()
-            yield prior
-            self.write(step, f"And because {joined(before, fact, [prior, step])}")
-        else:
-            yield other
-            self.write(step, f"And because {fact.said}")
-
-    def of_two(self, step):
-        """A step that rests on two others."""
-        first, second = sorted(step.below(), key=lambda it: (it in self.numbers, not it.below()))
-        if first in self.numbers:
-            self.write(step, f"Because {self.citing(first)} and {self.citing(second)}")
-            return
-        if second not in self.numbers and second.below():
-            # the first branch is cited from behind the second one
-            self.cited[first] += 1
-        yield first
-        if second in self.numbers:
-            self.write(step, f"And because {self.citing(second)}")
-            return
-        if second.below():
-            self.sentences.append((None, ""))
-        yield second
-        self.write(step, f"And because {self.citing(first)}" if second.below() else "Thus")
-
-    def may_share(self, step):
-        """Whether a step may be left unsaid: it is cited once, and rests on a fact and on what is told right before."""
-        return self.cited[step] == 1 and len(step.below()) == 1 and step.below()[0] not in self.numbers
-
-    def citing(self, step):
-        return f"{self.derivation.conclusion(step)} ({self.numbers[step]})"
-
-    def write(self, step, because):
-        is_last = step is self.derivation.last
-        if self.cited.get(step, 0) > 1:
-            self.numbers[step] = len(self.numbers) + 1
-        said = self.failed if is_last else self.derivation.conclusion(step)
-        self.sentences.append((self.numbers.get(step), f"{because}, {said}."))
-
-    def lines(self):
-        """The sentences as lines, with room for the numbers where there are some."""
-        width = max((len(f"({number}) ") for number in self.numbers.values()), default=0)
-        return [(f"({number}) " if number else "").ljust(width) + said if said else "" for number, said in self.sentences]

@@ -3,18 +3,17 @@
 A derivation is a column of boxes, one a line, each below those that it rests on; a line on the left leads from a box to those
 that cite it. A selection is a staircase of packages: what a package needs is found to the right of it and then down.
 """
-import html
 import textwrap
 
-import svg
 from check_derivation import ROOT, demand
-from telling import FAILED, Fact, joined
+
+from .derivation import FAILED, Fact, joined
+from .folding import MOST_SHOWN, cited, folded
+from .svg import arrow, dot, line, sheet, text, width
 
 MARGIN = 16
 INK, FAINT, PAPER, EDGE, ALARM = "#222222", "#5c6b7a", "#f4f6f8", "#44546a", "#b3261e"
 COLOURS = ["#3b6ea5", "#b5651d", "#3d8b57", "#8a4f9e", "#a33b5b", "#4f7f86"]
-# how wide a letter is, for the widest of the common fonts, in parts of its size
-NARROW, WIDE = set("fijlrt.,:;'|!()[] -"), set("mwMW@%")
 # a box of a derivation: its letters, the rows of them, what is left free, and how far the lines on its left are apart
 SAID, WHY, ROW, GAP, LANE, MOST_LETTERS = 13, 11, 15, 8, 11, 110
 # a step of the staircase
@@ -23,48 +22,20 @@ STAIR = 18
 HALO = '<text paint-order="stroke" stroke="#ffffff" stroke-width="3"'
 
 
-def text(x, y, said, size, colour=INK, anchor="start"):
-    return svg.text(x, y, html.escape(said, quote=False), size, colour, anchor)
-
-
-def width(said, size):
-    """About how wide a text is, rather too much than too little."""
-    return size * sum(0.4 if it in NARROW else 1.0 if it in WIDE else 0.72 if it.isupper() else 0.64 for it in said)
-
-
-def line(points, colour, thick=1.4):
-    said = "M" + " L".join(f"{x:.1f} {y:.1f}" for x, y in points)
-    return f'<path d="{said}" fill="none" stroke="{colour}" stroke-width="{thick}"/>'
-
-
-def dot(x, y, colour, size=3.0, told=None):
-    inside = f"<title>{html.escape(told, quote=False)}</title>" if told else ""
-    return f'<circle cx="{x:.1f}" cy="{y:.1f}" r="{size}" fill="{colour}">{inside}</circle>'
-
-
-def arrow(x, y, colour, right=0, down=0):
-    """The head of an arrow that ends here and looks to one side."""
-    back, beside = (x - 6 * right, y - 6 * down), (4 * down, 4 * right)
-    ends = [(back[0] + sign * beside[0], back[1] + sign * beside[1]) for sign in (1, -1)]
-    return f'<path d="M{x:.1f} {y:.1f} ' + " ".join(f"L{one:.1f} {other:.1f}" for one, other in ends) + f' Z" fill="{colour}"/>'
-
-
-def sheet(wide, high, said):
-    head = f'<svg xmlns="http://www.w3.org/2000/svg" width="{wide:.0f}" height="{high:.0f}" font-family="sans-serif">'
-    return "\n".join([head, '<rect width="100%" height="100%" fill="#ffffff"/>', *said, "</svg>"]) + "\n"
-
-
 # ---- a derivation
 
 class Box:
-    """A line of a derivation: its texts, and which lines it cites."""
+    """A line of a derivation: its texts, and which lines it cites. `hidden` says how many lines it rests on that have no box; its
+    other reasons are left out then."""
 
-    def __init__(self, derivation, step, failed):
-        self.number, self.is_last = step.number, step is derivation.last
-        self.cites = [it.number for it in step.below() if it.number]
+    def __init__(self, derivation, step, failed, hidden=0):
+        self.number, self.is_last, self.hidden = step.number, step is derivation.last, hidden
+        self.cites = [] if hidden else [it.number for it in cited(step)]
         # what has no line of its own is told by its facts
         alone = [fact for it in step.causes for fact in (it.causes if it in step.below() and not it.number else [it]) if isinstance(fact, Fact)]
         told = [joined(*alone, [step, *step.below()])] if len(alone) == 2 else [it.said for it in alone]
+        if hidden:
+            told = [f"of {hidden} line{'s' * (hidden > 1)}, folded here"]
         self.said = textwrap.wrap(failed if self.is_last else derivation.conclusion(step), MOST_LETTERS)
         self.why = textwrap.wrap("because " + " and ".join([*told, *(f"line {it}" for it in self.cites)]), MOST_LETTERS + 20)
         self.high = 12 + (ROW + 2) * len(self.said) + ROW * len(self.why)
@@ -83,8 +54,9 @@ class Box:
     def drawn(self, x, gutter, wide):
         """The box with its texts."""
         colour, y = ALARM if self.is_last else EDGE, self.top + 19
+        dashes = ' stroke-dasharray="5 4"' if self.hidden else ""
         said = [f'<rect x="{x:.0f}" y="{self.top:.0f}" width="{gutter + wide:.0f}" height="{self.high:.0f}" rx="5" fill="{PAPER}" '
-                f'stroke="{colour}" stroke-width="{2 if self.is_last else 1}"/>', text(x + gutter - 8, y, str(self.number), WHY, FAINT, "end")]
+                f'stroke="{colour}" stroke-width="{2 if self.is_last else 1}"{dashes}/>', text(x + gutter - 8, y, str(self.number), WHY, FAINT, "end")]
         for row in self.said:
             said.append(text(x + gutter, y, row, SAID, colour if self.is_last else INK))
             y += ROW + 2
@@ -125,20 +97,30 @@ def ways(boxes, lanes, left):
     return said
 
 
-def draw_derivation(derivation, title, failed=FAILED):
-    """The picture of a derivation."""
+def legend(derivation, boxes):
+    """How the picture is read, and how much of the derivation it shows."""
+    told = ["A box is a line of the derivation. It rests on what it names and on the boxes that lead to it from the left."]
+    lines = sum(it.number is not None for it in derivation.steps)
+    if lines > len(boxes):
+        told.append(f"{lines - len(boxes):,} of the {lines:,} lines are folded: a dashed box says what they lead to. The sentences tell all of them.")
+    return told
+
+
+def draw_derivation(derivation, title, failed=FAILED, most=MOST_SHOWN):
+    """The picture of a derivation, folded where it has more than so many lines."""
     title = textwrap.shorten(title, MOST_LETTERS, placeholder=" ..")
-    boxes = [Box(derivation, step, failed) for step in derivation.steps if step.number]
+    boxes = [Box(derivation, step, failed, hidden) for step, hidden in folded(derivation, most).items()]
+    told = legend(derivation, boxes)
     lanes = lanes_of(boxes)
     left = MARGIN + 14 + LANE * (max(lanes.values(), default=-1) + 1)
     gutter = 20 + width(str(boxes[-1].number), WHY)
-    told = "A box is a line of the derivation. It rests on what it names and on the boxes that lead to it from the left."
-    wide = 12 + max(*(box.wide() for box in boxes), width(title, SAID), width(told, WHY))
-    y = MARGIN + 42
+    wide = 12 + max(*(box.wide() for box in boxes), width(title, SAID), *(width(it, WHY) for it in told))
+    y = MARGIN + 28 + 14 * len(told)
     for box in boxes:
         box.top = y
         y += box.high + GAP
-    said = [text(left, MARGIN + 12, title, SAID), text(left, MARGIN + 28, told, WHY, FAINT), *ways(boxes, lanes, left)]
+    said = [text(left, MARGIN + 12, title, SAID), *(text(left, MARGIN + 28 + 14 * at, it, WHY, FAINT) for at, it in enumerate(told)),
+            *ways(boxes, lanes, left)]
     for box in boxes:
         said += box.drawn(left, gutter, wide)
     return sheet(left + gutter + wide + MARGIN, y - GAP + MARGIN, said)

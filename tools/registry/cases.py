@@ -1,0 +1,148 @@
+"""A request with its answer, told in English: what was selected, why nothing was, or why one version was not."""
+from check_derivation import PAIRS, Fault, admits, demand, formed, read_version
+from limits import MOST_LOCK_LINES, MOST_NEEDS, MOST_REQUIREMENT_BYTES
+
+from .derivation import FAILED, Derivation
+from .failures import Refused
+from .locks import changes
+from .packages import named
+from .refusals import english, unmatched, unpublished
+from .telling import Telling
+
+MOST_NAMED = 4
+
+
+def drawing():
+    """What draws pictures, which is loaded only where one is wanted."""
+    from . import drawing as found
+    return found
+
+
+def told_needs(needs):
+    """What is asked for, in short."""
+    told = [f"{name} {requirement}" for name, requirement in needs]
+    more = [f"{len(told) - MOST_NAMED} more"] if len(told) > MOST_NAMED else []
+    return ", ".join([*told[:MOST_NAMED], *more]) or "no needs"
+
+
+def hints(derivation):
+    """What is published in place of what a refusal misses: the versions of a package, or the nearest name."""
+    registry = derivation.registry
+    published = {name for name, held in registry.releases.items() if held} | set(derivation.names)
+    for name, requirement in derivation.lacking():
+        if name in published:
+            said = unmatched(name, requirement, [(it.text, it.yanked) for it in registry.releases[name]])
+        else:
+            said = unpublished(name, published)
+        if ";" in said:
+            yield said[0].upper() + said[1:] + "."
+
+
+class Case:
+    """A request with its reply. `registry` answers the registry in Python, with some packages; `ask` asks the program again; `names`
+    are the published packages."""
+
+    def __init__(self, request, reply, registry, ask, names=(), told=""):
+        self.request = {"op": "resolve", "needs": request["needs"], "lock": request.get("lock", [])}
+        self.registry, self.ask, self.names, self.told = registry, ask, names, told
+        self.reply = reply or self.again()
+        self.draw = None  # once it was told: what draws it, of a derivation at most so many lines unfolded
+
+    @property
+    def revision(self):
+        return self.reply["revision"]
+
+    def title(self):
+        """What was asked, in short."""
+        return self.told + told_needs(self.request["needs"])
+
+    def again(self, **other):
+        """The reply to this request with some members changed."""
+        request = {**self.request, "explain": True, **other}
+        reply = self.ask(request)
+        if "error" in reply:
+            raise Refused(f"{self.title()}: {english(request, reply, dict)}")
+        return reply
+
+    def answer(self):
+        """What was asked and how it was answered, as lines."""
+        if "selected" in self.reply:
+            return self.selection(f"{self.title()}: selected at revision {self.revision}", self.selected())
+        return self.refusal(f"{self.title()}: refused at revision {self.revision}", self.request, self.reply)
+
+    def selected(self):
+        """The versions by package that the reply has."""
+        demand(formed(self.reply["selected"], PAIRS), f"{self.title()}: the reply has no selection of the right form", Refused)
+        return dict(self.reply["selected"])
+
+    def selection(self, title, selected):
+        self.draw = lambda _: drawing().draw_selection(self.registry(selected), self.request, selected, title)
+        return [title, *(f"  {name} {version}" for name, version in selected.items())]
+
+    def derivation(self, title, request, reply, asked=None):
+        """The derivation of a refusal, which follows."""
+        rows = reply.get("derivation") or self.again().get("derivation")
+        demand(rows, f"{title}: asked again, the program answers a selection", Refused)
+        try:
+            return Derivation(self.registry(named(request, rows)), request, rows, asked, self.names)
+        except Fault as fault:
+            raise Refused(f"{title}: the derivation does not follow: {fault}") from None
+
+    def refusal(self, title, request, reply, asked=None, failed=FAILED):
+        """The English of a refusal, and what there is instead of what it misses."""
+        derivation = self.derivation(title, request, reply, asked)
+        self.draw = lambda most: drawing().draw_derivation(derivation, title, failed, most)
+        return [title, *("  " + it if it else "" for it in (*Telling(derivation, failed).lines(), *hints(derivation)))]
+
+    # ---- why a version is not what was selected
+
+    def why_not(self, name, version):
+        release = self.registry([name]).find(name, version)
+        if release is None:
+            return [f"{name} {version} is not published"]
+        if "selected" not in self.reply:
+            return self.answer()
+        selected, needs = self.selected(), dict(self.request["needs"])
+        if name in selected and read_version(selected[name]) == release.version:
+            return [f"{name} {selected[name]} is what was selected"]
+        if name in needs and not admits(needs[name], release.version):
+            return [f"{name} {release.text} can't be selected: the request depends on {name} {needs[name]}"]
+        return self.with_need(name, release.text, selected)
+
+    def just(self, name, text):
+        """The request for just this version, instead of the request's own need on the package, which admits it."""
+        needs = {**dict(self.request["needs"]), name: "=" + text.partition("+")[0]}
+        demand(len(needs) <= MOST_NEEDS, f"the request has {MOST_NEEDS} needs and can't be asked with one more", Refused)
+        demand(len(needs[name]) <= MOST_REQUIREMENT_BYTES, f"{name} {text} is too long to be asked for", Refused)
+        return {**self.request, "needs": [list(it) for it in needs.items()]}
+
+    def with_need(self, name, text, selected):
+        """What is answered where just this version is asked for."""
+        request = self.just(name, text)
+        reply, title = self.again(needs=request["needs"]), self.title()
+        if "selected" not in reply:
+            failed = f"{name} {text} can't be selected"
+            return self.refusal(f"{title}: {failed}", request, reply, (name, text), failed)
+        other = self.nearest(request, selected, reply)
+        further = [it for it in changes(selected, other) if it.split()[1] != name]
+        told = f"{name} {text} can be selected; {self.instead(name, text, selected)}"
+        lines = [told, "a selection with it changes besides:" if further else "a selection with it changes nothing else"]
+        self.request = request
+        self.selection(f"{title}: a selection with {name} {text}", other)
+        return [*lines, *("  " + it for it in further)]
+
+    def nearest(self, request, selected, reply):
+        """A selection for a request that keeps what was selected where it may, else the one of a reply."""
+        kept = {**dict(self.request["lock"]), **selected}
+        if len(kept) <= MOST_LOCK_LINES:
+            reply = {**reply, **self.again(needs=request["needs"], lock=[list(it) for it in kept.items()])}
+        return dict(reply["selected"])
+
+    def instead(self, name, text, selected):
+        """What was selected instead of a version, and how it differs."""
+        if name not in selected:
+            return f"no version of {name} was selected, since nothing that was selected needs one"
+        chosen, locked = selected[name], dict(self.request["lock"]).get(name)
+        one, other = read_version(chosen), read_version(text)
+        how = "which the lock names" if locked and read_version(locked) == one else "which is " + ("higher" if one > other else "lower")
+        return f"{name} {chosen} was, {how}"

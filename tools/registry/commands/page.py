@@ -1,0 +1,25 @@
+"""`registry page`: shows the journal in a browser of this machine, until a key ends it."""
+import sys
+
+from .. import near_limits
+from ..page.journal import Journal
+from ..page.server import Server
+from ..session import journal_of
+
+SECONDS = 10  # that a search may take
+
+
+def run(given, out):
+    journal = Journal(journal_of(given), given.seconds or SECONDS)
+    try:
+        near_limits.warn(journal.path, journal.view.text)
+        with Server(journal, given.port or 0) as server:
+            out.give({"address": server.address, "port": server.port}, [server.address])
+            if not out.is_json:
+                out.note(f"{journal.path} is shown there, to this machine alone; Ctrl-C ends it")
+            sys.stdout.flush()
+            server.serve_forever()
+    except KeyboardInterrupt:
+        pass
+    finally:
+        journal.leave()

@@ -1,0 +1,16 @@
+"""`registry publish`: a version of a package, with what it needs."""
+from ..needs import need_of
+from ..refusals import accepted, listed, unpublished
+from ..session import writing
+
+
+def run(given, out):
+    command = {"op": "publish", "name": given.name, "version": given.version, "needs": [need_of(it) for it in given.need]}
+    with writing(given) as session:
+        (reply,) = session.ask(command)
+        accepted(session, command, reply, out)
+        out.give(reply, [f"published {given.name} {given.version} (revision {reply['revision']})"])
+        packages = listed(session) if command["needs"] else {}
+    for name, _ in command["needs"]:
+        if name not in packages:
+            out.note(f"so far {unpublished(name, packages)}")

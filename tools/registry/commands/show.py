@@ -1,0 +1,27 @@
+"""`registry show`: one package, its versions, what the newest needs, and who needs it."""
+from ..catalog import Catalog
+from ..session import reading
+
+
+def run(given, out):
+    with reading(given) as session:
+        catalog = Catalog(session)
+    versions, newest = catalog.versions(given.name), catalog.newest(given.name)
+    needing = list(catalog.needing(given.name))
+    out.give({"name": given.name,
+              "versions": [{"version": it.text, "yanked": it.is_yanked, "needs": it.needs} for it in versions],
+              "newest": newest.text,
+              "needed_by": [{"name": name, "version": it.text, "requirement": requirement} for name, it, requirement in needing]},
+             told(given.name, versions, newest, needing, out))
+
+
+def told(name, versions, newest, needing, out):
+    yield out.style(name, "bold")
+    for it in versions:
+        yield f"  {it.text}" + (out.style("  yanked", "yellow") if it.is_yanked else "")
+    yield out.style(f"{newest.text} needs", "bold") + ("" if newest.needs else " nothing")
+    for target, requirement in newest.needs:
+        yield f"  {target} {requirement}"
+    yield out.style("needed by", "bold") + ("" if needing else " nothing")
+    for other, it, requirement in needing:
+        yield f"  {other} {it.text}, as {name} {requirement}"

@@ -1,0 +1,67 @@
+"""`registry tree`: a selection as a tree of who needs whom, each package with its needs once, as `cargo tree` shows it."""
+import sys
+
+from ..failures import Refused
+from ..nearest import nearest
+from ..requests import answered, needs_of, refused, request_of
+from ..session import reading
+
+UTF8 = {"tee": "├── ", "corner": "└── ", "down": "│   ", "none": "    "}
+ASCII = {"tee": "|-- ", "corner": "`-- ", "down": "|   ", "none": "    "}
+
+
+def run(given, out):
+    request = request_of(given)
+    with reading(given) as session:
+        reply = answered(session, request, out)
+        if "selected" not in reply:
+            return refused(session, request, reply, out)
+        selected = dict(reply["selected"])
+        needs = needs_of(session, selected)
+    below = {name: sorted(dict(needs[name])) for name in selected}
+    roots = [name for name, _ in request["needs"]]
+    if given.invert:
+        if given.invert not in selected:
+            near = nearest(given.invert, selected)
+            raise Refused(f"{given.invert} is not selected" + (f"; {near} is, which may be meant" if near else ""))
+        roots, below = [given.invert], inverted(below)
+    out.give({"revision": reply["revision"], "roots": roots,
+              "packages": [{"name": name, "version": version, "needs": needs[name]} for name, version in selected.items()]},
+             drawn(roots, below, lambda name: f"{out.style(name, 'bold')} {selected[name]}", given.depth, out))
+    return None
+
+
+def inverted(below):
+    """By package those that need it."""
+    above = {name: [] for name in below}
+    for name, targets in below.items():
+        for it in targets:
+            above[it].append(name)
+    return above
+
+
+def strokes():
+    """What branches are drawn with: letters that standard output has."""
+    try:
+        "".join(UTF8.values()).encode(sys.stdout.encoding or "ascii")
+    except (UnicodeEncodeError, LookupError):
+        return ASCII
+    return UTF8
+
+
+def drawn(roots, below, label, most, out):
+    """The lines of a tree. A package whose branches were drawn already is marked, and so is one inside itself."""
+    stroke, shown = strokes(), set()
+    # a line to draw: what stands before it, its own stroke, how deep it is, and the package
+    waiting = [("", "", 0, name) for name in reversed(roots)]
+    while waiting:
+        before, own, depth, name = waiting.pop()
+        is_repeated = name in shown and below[name]
+        yield before + own + label(name) + (out.style(" (*)", "faint") if is_repeated else "")
+        if is_repeated or (most is not None and depth >= most):
+            continue
+        shown.add(name)
+        inner = before + {"": "", stroke["tee"]: stroke["down"], stroke["corner"]: stroke["none"]}[own]
+        last = len(below[name]) - 1
+        rows = [(inner, stroke["corner" if at == last else "tee"], depth + 1, it) for at, it in enumerate(below[name])]
+        waiting += reversed(rows)

@@ -1,0 +1,94 @@
+"""`registry why`: in English why a request is refused, or why a version was not selected, from a derivation that is checked first."""
+import math
+
+from check_derivation import (NAME, RESOLVE, demand, formed, read_journal, read_lines, read_version, session as replayed)
+
+from ..cases import Case
+from ..failures import Failed, Refused, Usage
+from ..files import write_file
+from ..folding import MOST_SHOWN
+from ..packages import registry_of
+from ..requests import request_of
+from ..session import Session, reading
+
+
+def run(given, out):
+    """Tells what is asked, and draws it; of several requests the last one."""
+    check(given)
+    picture, answers = None, []
+    try:
+        for case in of_files(given) if given.asked else of_journal(given):
+            lines = case.why_not(*given.version) if given.version else case.answer()
+            answers.append({"request": case.request, "reply": case.reply, "told": lines})
+            if not out.is_json:
+                print("\n".join([""] * (len(answers) > 1) + lines))
+            picture = case.draw
+        if out.is_json:
+            out.give(answers, [])
+        if given.picture:
+            demand(picture, "there is nothing to draw", Refused)
+            write_file(given.picture, picture(math.inf if given.unfolded else MOST_SHOWN))
+    except ValueError as fault:  # what the checker of derivations says of files that can't be judged
+        raise Refused(str(fault)) from None
+
+
+def check(given):
+    """Words that don't go together."""
+    if given.asked and (given.need or given.lock or given.budget is not None):
+        raise Usage("--asked reads requests from a file: it goes with no needs, no --lock and no --budget")
+    if given.unfolded and not given.picture:
+        raise Usage("--unfolded goes with --picture FILE")
+    if not given.asked and (given.told or given.request):
+        raise Usage("--told and --request go with --asked FILE")
+    if given.version and not (NAME.fullmatch(given.version[0]) and read_version(given.version[1])):
+        raise Usage(f"these are no package name and version: {' '.join(given.version)!r}")
+
+
+def of_journal(given):
+    """The one case of needs that are asked for now."""
+    request = request_of(given)
+    with reading(given) as session:
+        commands = session.commands()
+        names = {it["name"] for it in commands if it["op"] == "publish"}
+        budget = {name: value for name, value in request.items() if name == "budget"}
+        yield Case(request, None, lambda named: registry_of(commands, named), lambda it: session.ask({**it, **budget})[0], names)
+
+
+def of_files(given):
+    """The cases of a session's request lines and replies that are asked for, each at its place."""
+    lines = lines_of(given.asked)
+    requests, replies = (lines, lines_of(given.told)) if given.told else (lines[::2], lines[1::2])
+    demand(len(requests) == len(replies), f"there are {len(requests)} request lines and {len(replies)} replies", Refused)
+    journal, commands, wanted = read_journal(given.journal) if given.journal else None, [], wanted_of(given, requests, replies)
+    for number, (request, reply, registry) in enumerate(replayed(requests, replies, journal), 1):
+        commands += [request] if reply.get("ok") is True else []
+        if number in wanted:
+            before = commands[:] if journal is None else journal[:registry.revision]
+            yield Case(request, reply, lambda _, registry=registry: registry, lambda it, before=before: asked_anew(before, it),
+                       told=f"request {number}, ")
+
+
+def lines_of(path):
+    try:
+        return read_lines(path)
+    except OSError as fault:
+        raise Failed(f"{path}: {fault.strerror}") from None
+
+
+def asked_anew(commands, request):
+    """The reply of a program that has obeyed these commands."""
+    with Session("the session", []) as session:
+        return session.ask(*commands, request)[-1]
+
+
+def wanted_of(given, requests, replies):
+    """The numbers of the requests that are told: one that is named, or the last one, or each that was refused."""
+    answered = [number for number, (request, reply) in enumerate(zip(requests, replies), 1)
+                if formed({"lock": [], "explain": True, "budget": 0, **request}, RESOLVE) and ("selected" in reply or reply.get("refused") is True)]
+    refused = [number for number in answered if "selected" not in replies[number - 1]]
+    if given.request:
+        demand(given.request in answered, f"request {given.request} is no request with a selection or a refusal", Refused)
+        return {given.request}
+    wanted = answered[-1:] if given.version or (given.picture and not refused) else refused
+    demand(wanted, "no request is refused" if answered else "there is no request with a selection or a refusal", Refused)
+    return set(wanted)

@@ -1,0 +1,30 @@
+"""Why a subcommand ends without what was asked for: the exit statuses, and exceptions whose text is the line that people read."""
+
+DONE, REFUSED, USAGE, FAILED = 0, 1, 2, 3
+INTERRUPTED, NO_READER = 130, 141  # as a shell tells of a program that SIGINT or SIGPIPE ended
+
+
+class Failure(Exception):
+    """One line that says what happened and what to do."""
+    status = FAILED
+
+
+class Refused(Failure):
+    """The registry refuses it, there is no selection, or what was asked for is not there."""
+    status = REFUSED
+
+
+class Usage(Failure):
+    """The words are wrong."""
+    status = USAGE
+
+
+class Failed(Failure):
+    """What is beyond the words and the registry: a file, the program, the machine."""
+    status = FAILED
+
+
+def told(fault):
+    """An operating system's error in one line, with its file."""
+    said = fault.strerror or str(fault)
+    return f"{fault.filename}: {said}" if fault.filename else said

@@ -1,0 +1,52 @@
+"""Reads and replaces files of people: what is written stands whole under its name, or what stood there is as it was."""
+import os
+import tempfile
+
+from .failures import Failed, told
+
+
+def read_file(path):
+    try:
+        with open(path, "rb") as file:
+            return file.read()
+    except OSError as fault:
+        raise Failed(told(fault)) from None
+
+
+def write_file(path, text):
+    """Puts a text in the place of a file. A link stays one, and the mode is as it was."""
+    path = os.path.realpath(path)
+    new = None
+    try:
+        if os.path.exists(path) and not os.path.isfile(path):  # a device is written itself
+            with open(path, "w", encoding="utf-8") as file:
+                file.write(text)
+            return
+        mode = os.stat(path).st_mode & 0o7777 if os.path.exists(path) else 0o666 & ~umask()
+        number, new = tempfile.mkstemp(prefix=os.path.basename(path) + ".", dir=os.path.dirname(path))
+        with open(number, "w", encoding="utf-8") as file:
+            file.write(text)
+            file.flush()
+            os.fchmod(number, mode)
+            os.fsync(number)
+        os.replace(new, path)
+        sync_folder(os.path.dirname(path))
+    except OSError as fault:
+        if new and os.path.exists(new):
+            os.unlink(new)
+        raise Failed(f"{path} is as it was: {fault.strerror or fault}") from None
+
+
+def umask():
+    """The mode that new files are made without."""
+    before = os.umask(0o077)
+    os.umask(before)
+    return before
+
+
+def sync_folder(folder):
+    number = os.open(folder, os.O_RDONLY)
+    try:
+        os.fsync(number)
+    finally:
+        os.close(number)

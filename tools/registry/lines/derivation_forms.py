@@ -1,0 +1,97 @@
+"""The forms of derivations, as a check line has them: see "Derivations" in docs/FORMATS.md. Their names and numbers belong to
+their form, so what is wrong in them is answered 19 too."""
+import json
+
+from ..nearest import nearest
+from .fault import shown
+from .forms import KINDS, Forms, listed
+from .texts import name_fault
+
+CAUSE = 'a cause, as {"line":1} or {"fact":"root"}'
+TERM = 'a term, as ["a",true,[0]]'
+
+
+def derivation(forms, value, whose):
+    for line in forms.items(value, whose, "an array of lines"):
+        forms.object(line, "a line of a derivation", {"causes": causes, "conclusion": conclusion, "pivot": whose_name})
+
+
+def causes(forms, value, whose):
+    held = forms.items(value, whose, "an array of two causes")
+    if isinstance(value.held, list) and len(held) != 2:
+        forms.fault(value.start, f"a line of a derivation has two causes, not {len(held)}")
+    for item in held:
+        cause(forms, item)
+
+
+def cause(forms, value):
+    """A line or a fact, which the member `fact` tells."""
+    if not isinstance(value.held, dict):
+        forms.wrong(value, "a cause", CAUSE)
+    elif "line" in value.held:
+        forms.object(value, 'a cause with "line"', {"line": Forms.whole})
+    elif "fact" not in value.held:
+        forms.fault(value.start, 'a cause has either "line" or "fact"')
+    else:
+        fact(forms, value, value.held["fact"])
+
+
+def fact(forms, value, kind):
+    if not isinstance(kind.held, str):
+        forms.wrong(kind, '"fact"', "a text in quotes")
+    elif kind.held not in FACTS:
+        meant = nearest(kind.held, FACTS)
+        forms.fault(kind.start, f"there is no fact {shown(kind.held)}" + ("" if meant else f": it is {listed(FACTS, 'or')}"),
+                    meant and (kind.start, kind.end, json.dumps(meant)))
+    else:
+        forms.object(value, f"the fact {shown(kind.held)}", {"fact": Forms.text_member, **FACTS[kind.held]})
+
+
+def conclusion(forms, value, whose):
+    for item in forms.items(value, whose, "an array of terms"):
+        held = item.held
+        if not isinstance(held, list) or len(held) != 3:
+            forms.fault(item.start, f"each item of {whose} is {TERM}")
+            continue
+        whose_name(forms, held[0], "the name of a term")
+        if not isinstance(held[1].held, bool):
+            forms.wrong(held[1], "the second part of a term", "true or false")
+        ordinals(forms, held[2], "the set of a term")
+
+
+def ordinals(forms, value, whose):
+    """An array of whole numbers that rise."""
+    before = len(forms.faults)
+    items = forms.items(value, whose, "an array of ordinals, as [0,1]")
+    for item in items:
+        forms.whole(item, f"an ordinal of {whose}")
+    if len(forms.faults) > before:
+        return
+    for low, high in zip(items, items[1:]):
+        if low.held >= high.held:
+            rising = sorted({it.held for it in items})
+            forms.fault(high.start, f"the ordinals of {whose} rise, and {high.held} stands behind {low.held}",
+                        (value.start, value.end, json.dumps(rising, separators=(",", ":"))))
+            return
+
+
+def name(forms, value, whose):
+    """A package's name."""
+    if not isinstance(value.held, str):
+        forms.fault(value.start, f"{whose} is a package name, not {KINDS[type(value.held)]}")
+        return
+    bad = name_fault(value.held)
+    if bad:
+        forms.fault(value.start, f"{whose}: {bad.what}")
+
+
+def whose_name(forms, value, whose):
+    """A package's name, or the empty text for the request."""
+    if value.held != "":
+        name(forms, value, whose)
+
+
+
+# by the word of a fact its other members
+FACTS = {"root": {}, "need": {"index": Forms.whole}, "disallowed": {"name": name, "versions": ordinals},
+         "premise": {"name": name, "need": Forms.text_member, "target": whose_name, "versions": ordinals, "within": ordinals}}

@@ -1,0 +1,45 @@
+"""What is wrong with a line, and how it is told."""
+import json
+from typing import NamedTuple
+
+NAMES = {1: "BadName", 2: "BadVersion", 3: "BadRequirement", 4: "RepeatedDependency", 5: "SelfDependency",
+         6: "TooManyDependencies", 19: "BadLine"}
+MOST_SHOWN = 40
+
+
+class Bad(Exception):
+    """Why a text is not what it should be: where in it, in words, and the edit that makes of it what was probably meant: the
+    places from and up to which a new text stands."""
+
+    def __init__(self, place, what, edit=None):
+        super().__init__(what)
+        self.place, self.what, self.edit = place, what, edit
+
+
+class Fault(NamedTuple):
+    """A fault of a line, by the number of the refusal. The place counts letters from 0."""
+    number: int
+    place: int
+    what: str
+    edit: tuple = None  # as that of a Bad
+
+    @property
+    def name(self):
+        return NAMES[self.number]
+
+    @property
+    def meant(self):
+        """What the edit puts in, where that says more than that something is missing or too much."""
+        return self.edit[2].rstrip(",") if self.edit and len(self.edit[2]) > 1 else None
+
+    @property
+    def told(self):
+        """What is wrong, and behind it what was probably meant."""
+        remedy = f"; did you mean {self.meant}?" if self.meant else "; leave it out" if self.edit and not self.edit[2] else ""
+        return self.what + remedy
+
+
+def shown(text):
+    """A text in quotes, cut where it is long, with nothing in it that a terminal would obey."""
+    cut = text if len(text) <= MOST_SHOWN else text[:MOST_SHOWN - 1] + "…"
+    return json.dumps(cut, ensure_ascii=not cut.isprintable())

@@ -1,0 +1,139 @@
+"""What people write where JSON wants something else, told with what they probably meant. Each function answers a Bad."""
+import json
+import re
+import unicodedata
+
+from .fault import Bad, shown
+
+OPENING = {"'": "'", "‘": "’", "’": "’", "“": "”", "”": "”", "„": "“", "`": "`", "«": "»"}
+WORD = re.compile(r"[A-Za-z_$][A-Za-z0-9_$.+-]*")
+LITERALS = {"true": "true", "false": "false", "null": "null", "none": "null", "nil": "null"}
+NUMBER_LIKE = re.compile(r"[0-9A-Za-z.+_-]+")
+CLOSING = {"{": "}", "[": "]"}
+KINDS = {"{": "object", "[": "array"}
+
+
+def no_value(text, at):
+    """Where a value should begin and none does."""
+    first = text[at:at + 1]
+    if not first:
+        return Bad(at, "the line ends where a value should stand" if text.strip() else "the line is empty")
+    odd = strange(text, at)
+    if odd:
+        return odd
+    if not text[:at].strip():
+        return Bad(at, 'a line is a request in JSON, as {"op":"list"}')
+    if first in OPENING:
+        return quoted_otherwise(text, at)
+    if first in "]}:,":
+        return Bad(at, f"a value is missing before {first}")
+    word = WORD.match(text, at)
+    if word:
+        return bare_word(at, word[0])
+    number = NUMBER_LIKE.match(text, at)
+    if number:
+        return Bad(at, f"{shown(number[0])[1:-1]} is no number of JSON")
+    return Bad(at, f"no value begins with {shown(first)}")
+
+
+def quoted_otherwise(text, at):
+    """A text in quotes that are not JSON's."""
+    end = text.find(OPENING[text[at]], at + 1)
+    edit = (at, end + 1, json.dumps(text[at + 1:end], ensure_ascii=False)) if end > 0 else None
+    told = "double quotes, not in single ones" if text[at] == "'" else f"straight double quotes, not in {text[at]}"
+    return Bad(at, f"a text stands in {told}", edit)
+
+
+def bare_word(at, word):
+    """A word without quotes."""
+    literal = LITERALS.get(word.lower())
+    if literal:
+        return Bad(at, f"{word} is no word of JSON", (at, at + len(word), literal))
+    if word in ("NaN", "Infinity"):
+        return Bad(at, f"{word} is no number of JSON")
+    return Bad(at, f"the text {shown(word)[1:-1]} has no quotes", (at, at + len(word), json.dumps(word)))
+
+
+def strange(text, at):
+    """What stands in a line where nothing may, or none."""
+    first = text[at:at + 1]
+    if first == "\ufeff":
+        return Bad(at, "a byte order mark, the bytes EF BB BF, stands here", (at, at + 1, ""))
+    if text.startswith(("//", "/*", "#", "--"), at):
+        return Bad(at, "JSON has no comments")
+    if first.isspace() or unicodedata.category(first) in ("Cf", "Cc"):
+        return Bad(at, f"the character U+{ord(first):04X} is no white space of JSON", (at, at + 1, " "))
+    return None
+
+
+def no_name(text, at):
+    """Where a member's name should begin."""
+    first = text[at:at + 1]
+    if not first:
+        return Bad(at, "the line ends where a member should stand")
+    if first in OPENING:
+        return quoted_otherwise(text, at)
+    if first == ",":
+        return Bad(at, "a member is missing before the comma", (at, at + 1, ""))
+    word = WORD.match(text, at)
+    if word:
+        return Bad(at, f"the name {shown(word[0])[1:-1]} has no quotes", (at, word.end(), json.dumps(word[0])))
+    return strange(text, at) or Bad(at, f"a member begins with its name in double quotes, not with {shown(first)}")
+
+
+def no_colon(text, end, at):
+    """What stands between a name, which ended, and a value."""
+    if at == len(text):
+        return Bad(at, "the line ends behind the name of a member")
+    if text[at] == "=":
+        return Bad(at, "a colon stands between a name and its value, not =", (at, at + 2 if text.startswith("=>", at) else at + 1, ":"))
+    if text[at] in ",}":
+        return Bad(end, "this member has a name and no value")
+    return strange(text, at) or Bad(end, "a colon is missing between a name and its value", (end, end, ":"))
+
+
+def no_comma(text, opened, end, at):
+    """What stands behind an item or a member, which ended, of what was opened, where a comma or the closing bracket should."""
+    bracket = text[opened]
+    if at == len(text):
+        kind = f"the {KINDS[bracket]} that begins at column {opened + 1}"
+        return Bad(at, f"the line ends and {kind} is not closed: a request stands whole on one line", (end, end, CLOSING[bracket]))
+    first = text[at]
+    if first in "]}":
+        return Bad(at, f"{first} closes what {bracket} opened at column {opened + 1}", (at, at + 1, CLOSING[bracket]))
+    if first == ";":
+        return Bad(at, "items are parted by commas", (at, at + 1, ","))
+    if first == ":" and bracket == "[":
+        return Bad(at, "an array has items and no names", (at, at + 1, ","))
+    if first in '"{[' or first.isalnum() or first in OPENING:
+        return Bad(end, "a comma is missing", (end, end, ","))
+    return strange(text, at) or Bad(at, f"a comma or {CLOSING[bracket]} should stand here, not {shown(first)}")
+
+
+def no_letter(text, opened, at):
+    """What a text in quotes may not have as it stands."""
+    if at == len(text):
+        return Bad(opened, "this text has no closing quote")
+    return Bad(at, f"the control character U+{ord(text[at]):04X} stands in a text as an escape alone",
+               (at, at + 1, json.dumps(text[at])[1:-1]))
+
+
+def no_escape(text, at):
+    """A backslash with something behind it that makes no escape."""
+    behind = text[at + 1:at + 2]
+    if not behind:
+        return Bad(at, "the line ends behind a backslash")
+    if behind == "u":
+        return Bad(at, "four hexadecimal digits stand behind \\u")
+    return Bad(at, f"\\{behind if behind.isprintable() else ''} is no escape of JSON", (at, at + 1, "\\\\"))
+
+
+def behind_the_value(text, at):
+    """What stands behind the whole value of a line."""
+    if text[at] == ",":
+        return Bad(at, "lines are not parted by commas", (at, at + 1, ""))
+    if text[at] in "]}":
+        return Bad(at, f"one {text[at]} too many", (at, at + 1, ""))
+    if text[at] in '"{[' or text[at].isalnum():
+        return Bad(at, "something stands behind the request: one line has one request")
+    return strange(text, at) or Bad(at, f"{shown(text[at])} stands behind the request")

@@ -1,0 +1,163 @@
+"""JSON as the program reads it, which is as the crate `serde_json` does, with the place of each value in its text.
+
+Python's own reader tells no places, and reads what the program does not: NaN, halves of a pair of surrogates, numbers out of
+range, what nests without an end.
+"""
+import re
+
+from . import json_slips
+from .fault import Bad
+
+MOST_DEPTH = 127
+SPACE = re.compile(r"[ \t\n\r]*")
+PLAIN = re.compile(r'[^"\\\x00-\x1f]*')
+NUMBER = re.compile(r"-?(?:0|[1-9][0-9]*)(\.[0-9]+)?([eE][+-]?[0-9]+)?")
+UNIT = re.compile(r"\\u([0-9A-Fa-f]{4})")
+ESCAPES = {'"': '"', "\\": "\\", "/": "/", "b": "\b", "f": "\f", "n": "\n", "r": "\r", "t": "\t"}
+WORDS = {"true": True, "false": False, "null": None}
+
+
+class Value:
+    """A value and where it stands in the text. An array holds values; an object holds values by name, and has the places of the
+    names beside them."""
+    __slots__ = ("held", "start", "end", "names")
+
+    def __init__(self, held, start, end, names=None):
+        self.held, self.start, self.end, self.names = held, start, end, names
+
+
+def read(text):
+    """The value of a text, or Bad."""
+    reader = Reader(text)
+    value = reader.value(reader.space(0))
+    end = reader.space(value.end)
+    if end < len(text):
+        raise json_slips.behind_the_value(text, end)
+    return value
+
+
+def place_in(text, value, index):
+    """Where in a text the letter of a string value stands that has this index; one past the last stands at its closing quote."""
+    place = value.start + 1
+    for _ in range(index):
+        if place >= value.end - 1:
+            break
+        _, place = Reader(text).letter(place) if text[place] == "\\" else (None, place + 1)
+    return place
+
+
+class Reader:
+    """Reads values of one text; each method takes the place where something begins."""
+
+    def __init__(self, text):
+        self.text, self.depth = text, 0
+
+    def space(self, at):
+        return SPACE.match(self.text, at).end()
+
+    def value(self, at):
+        first = self.text[at:at + 1]
+        if first == '"':
+            return self.string(at)
+        if first == "{":
+            return self.nested(at, self.object)
+        if first == "[":
+            return self.nested(at, self.array)
+        for word, held in WORDS.items():
+            if self.text.startswith(word, at):
+                return Value(held, at, at + len(word))
+        found = NUMBER.match(self.text, at)
+        if found and not json_slips.NUMBER_LIKE.match(self.text, found.end()):
+            return Value(self.number(found), at, found.end())
+        raise json_slips.no_value(self.text, at)
+
+    def nested(self, at, read_inside):
+        self.depth += 1
+        if self.depth > MOST_DEPTH:
+            raise Bad(at, f"more than {MOST_DEPTH} brackets are open")
+        value = read_inside(at)
+        self.depth -= 1
+        return value
+
+    def array(self, at):
+        items, place = [], self.space(at + 1)
+        if self.text.startswith("]", place):
+            return Value(items, at, place + 1)
+        while True:
+            items.append(self.value(place))
+            place = self.space(items[-1].end)
+            if self.text.startswith("]", place):
+                return Value(items, at, place + 1)
+            place = self.behind_comma(at, items[-1].end, place)
+
+    def object(self, at):
+        members, names, place = {}, {}, self.space(at + 1)
+        if self.text.startswith("}", place):
+            return Value(members, at, place + 1, names)
+        while True:
+            if not self.text.startswith('"', place):
+                raise json_slips.no_name(self.text, place)
+            name = self.string(place)
+            place = self.space(name.end)
+            if not self.text.startswith(":", place):
+                raise json_slips.no_colon(self.text, name.end, place)
+            # a member that comes twice is the one that comes last
+            names[name.held], members[name.held] = name, self.value(self.space(place + 1))
+            end = members[name.held].end
+            place = self.space(end)
+            if self.text.startswith("}", place):
+                return Value(members, at, place + 1, names)
+            place = self.behind_comma(at, end, place)
+
+    def behind_comma(self, opened, end, place):
+        """Where the next item or member of what was opened begins, behind the one that ended."""
+        if not self.text.startswith(",", place):
+            raise json_slips.no_comma(self.text, opened, end, place)
+        behind = self.space(place + 1)
+        if self.text[behind:behind + 1] in ("]", "}"):
+            raise Bad(place, "a comma stands before what closes", (place, place + 1, ""))
+        return behind
+
+    def number(self, found):
+        whole = not (found[1] or found[2]) and found[0] != "-0" and len(found[0]) <= 20
+        if whole and -2 ** 63 <= int(found[0]) < 2 ** 64:
+            return int(found[0])
+        number = float(found[0])
+        if number in (float("inf"), float("-inf")):
+            raise Bad(found.start(), "this number is out of range")
+        return number
+
+    def string(self, at):
+        parts, place = [], at + 1
+        while True:
+            plain = PLAIN.match(self.text, place)
+            parts.append(plain[0])
+            place = plain.end()
+            stop = self.text[place:place + 1]
+            if stop == '"':
+                return Value("".join(parts), at, place + 1)
+            if stop != "\\":
+                raise json_slips.no_letter(self.text, at, place)
+            letter, place = self.letter(place)
+            parts.append(letter)
+
+    def letter(self, at):
+        """The letter of an escape, and where that ends."""
+        plain = ESCAPES.get(self.text[at + 1:at + 2])
+        if plain:
+            return plain, at + 2
+        first = self.unit(at)
+        if 0xdc00 <= first < 0xe000:
+            raise Bad(at, "the second half of a pair of surrogates has no first one before it")
+        if not 0xd800 <= first < 0xdc00:
+            return chr(first), at + 6
+        second = self.unit(at + 6) if self.text.startswith("\\u", at + 6) else 0
+        if not 0xdc00 <= second < 0xe000:
+            raise Bad(at, "the first half of a pair of surrogates has no second one behind it")
+        return chr(0x10000 + ((first - 0xd800) << 10) + (second - 0xdc00)), at + 12
+
+    def unit(self, at):
+        found = UNIT.match(self.text, at)
+        if not found:
+            raise json_slips.no_escape(self.text, at)
+        return int(found[1], 16)

@@ -1,0 +1,182 @@
+"""The rules of requirements, as the crate `semver` reads what The Cargo Book tells: where a text breaks them, and what was
+probably meant, where another tool's requirement can be told in Cargo's way."""
+import re
+from functools import lru_cache
+
+from limits import MOST_REQUIREMENT_BYTES
+
+from .fault import Bad, shown
+from .texts import fault_of, number, tail, whole
+
+MOST_COMPARATORS = 32
+SIGNS = re.compile(r"[=<>~^!|&]+")
+OPERATOR = re.compile(r">=|<=|[=<>~^]")
+SPACES = re.compile(" *")
+WILDCARDS = tuple("*xX")
+ABROAD = {"~>": "Ruby", "~=": "Python", "==": "Python", "!=": "Python", "||": "npm", "<<": "Debian", ">>": "Debian"}
+
+
+@lru_cache(maxsize=100_000)
+def requirement_fault(text):
+    bad = fault_of(read_requirement, text)
+    return bad and Bad(bad.place, bad.what, whole(text, requirement_meant(text)))
+
+
+def read_requirement(text):
+    """Reads a requirement: a wildcard alone, or comparators that commas part."""
+    if len(text.encode()) > MOST_REQUIREMENT_BYTES:
+        raise Bad(0, f"a requirement of {len(text.encode())} bytes, and {MOST_REQUIREMENT_BYTES} are the most")
+    at = SPACES.match(text).end()
+    if at == len(text):
+        raise Bad(at, "a requirement is empty")
+    if text[at] in WILDCARDS:
+        behind = SPACES.match(text, at + 1).end()
+        if behind < len(text):
+            raise Bad(behind, f"{shown(text[at])} is a requirement alone, with nothing behind it")
+        return
+    for _ in range(MOST_COMPARATORS):
+        at = comparator(text, at)
+        if at == len(text):
+            return
+        if text[at] != ",":
+            raise no_comma(text, at)
+        at = SPACES.match(text, at + 1).end()
+    raise Bad(at, f"a requirement of more than {MOST_COMPARATORS} comparators")
+
+
+def comparator(text, at):
+    """Reads an operator, one to three numbers and what may stand behind them, and answers where it ends."""
+    signs = SIGNS.match(text, at)
+    found = OPERATOR.match(text, at)
+    if signs and (not found or found[0] != signs[0]):
+        raise unknown_operator(at, signs[0])
+    at = SPACES.match(text, found.end() if found else at).end()
+    first = text[at:at + 1]
+    if first in ("", ","):
+        raise Bad(at, f"a comparator of the requirement {shown(text)} is missing" if not found
+                  else f"the operator {found[0]} of the requirement {shown(text)} has no version behind it")
+    if first in WILDCARDS:
+        raise Bad(at, f"{shown(first)} stands alone in a requirement, without an operator or a comma")
+    at, parts = number(text, at, "major", "requirement"), ["minor", "patch"]
+    is_wild = False
+    while parts and text.startswith(".", at):
+        part = parts.pop(0)
+        if text.startswith(WILDCARDS, at + 1):
+            at, is_wild = at + 2, True
+        elif is_wild:
+            raise Bad(at + 1, f"behind a wildcard the requirement {shown(text)} has no more numbers")
+        else:
+            at = number(text, at + 1, part, "requirement")
+    if not parts and not is_wild:
+        at = tail(text, at)
+    return SPACES.match(text, at).end()
+
+
+def unknown_operator(at, signs):
+    whose = f" of {ABROAD[signs[:2]]}" if signs[:2] in ABROAD else ""
+    if signs[0] == "|":
+        return Bad(at, f"the operator {signs}{whose} is none of Cargo's, which has no \"or\": all comparators of a requirement must hold")
+    return Bad(at, f"the operator {signs}{whose} is none of Cargo's, which are ^ ~ = > >= < <=")
+
+
+def no_comma(text, at):
+    """What stands behind a comparator that is whole."""
+    signs = SIGNS.match(text, at)
+    if signs and signs[0][0] in "|&!":
+        return unknown_operator(at, signs[0])
+    if text[at] == "-" and text.startswith(" ", at - 1):
+        return Bad(at, "the operator - of npm, a range, is none of Cargo's")
+    if text[at] in "-+":
+        return Bad(at, f"a pre-release or build metadata stands behind three numbers alone, as in 1.2.0{text[at]}rc, not in {shown(text)}")
+    if text[at] == ".":
+        return Bad(at, f"a comparator of the requirement {shown(text)} has more than three numbers")
+    if text[at - 1] == " " or signs:
+        return Bad(at, f"a comma is missing between two comparators of {shown(text)}")
+    return Bad(at, f"{shown(text[at])} stands behind a comparator of the requirement {shown(text)}")
+
+
+# ---- what was probably meant
+
+ANYTHING = ("", "latest", "any", "all", "newest")
+SAME = {"=>": ">=", "=<": "<=", "==": "=", "===": "=", "<<": "<", ">>": ">", "≥": ">=", "≤": "<=", "^=": "^", "~=": "~>"}
+WHOLE = re.compile(r"([=<>~^]*) *[vV]?(\d+)(?:\.(\d+|[xX*]))?(?:\.(\d+|[xX*]))?"
+                   r"(?:[-.]?([A-Za-z][0-9A-Za-z.-]*|-[0-9A-Za-z.-]+))?(?:\+[0-9A-Za-z.-]+)?", re.ASCII)
+BETWEEN = re.compile(r"(?<=[0-9A-Za-z*]) +(?=[=<>~^vV\d])")
+INTERVAL = re.compile(r"([\[(]) *([^,\[\]()]*) *, *([^,\[\]()]*) *([\])])")
+
+
+def requirement_meant(text):
+    """A requirement that Cargo reads for one that it does not; none where there is no telling."""
+    if len(text) > MOST_REQUIREMENT_BYTES:
+        return None
+    plain = re.sub(r"\s+", " ", text).strip()
+    if plain.lower() in ANYTHING:
+        return "*"
+    made = either(plain) if "||" in plain else interval(plain) or hyphened(plain) or every(plain)
+    return made if made and not fault_of(read_requirement, made) else None
+
+
+def every(plain):
+    """Comparators that all must hold, parted in some way."""
+    plain = re.sub(r"&&|\band\b|[()]|;", ",", plain)
+    plain = re.sub(r"([=<>~^≥≤]) +", r"\1", plain)
+    parts = [it.strip() for it in BETWEEN.sub(",", plain).split(",") if it.strip()]
+    made = [one(it) for it in parts if not re.fullmatch(r"[=<>~^]*[*xX]", it)] if parts else [None]
+    return None if None in made else ", ".join(made) or "*"
+
+
+def one(part):
+    """One comparator in Cargo's words."""
+    for abroad in sorted(SAME, key=len, reverse=True):
+        if part.startswith(abroad):
+            part = SAME[abroad] + part[len(abroad):]
+            break
+    found = WHOLE.fullmatch(part)
+    if not found:
+        return None
+    sign, *numbers, pre = found.groups()
+    numbers = [str(int(it)) if it.isdigit() else "*" for it in numbers if it]
+    if "*" in numbers:
+        numbers = numbers[:numbers.index("*") + 1]
+    if sign == "~>":
+        return pessimistic(numbers, pre)
+    if pre:
+        numbers += ["0"] * (3 - len(numbers))
+    return sign + ".".join(numbers) + (f"-{pre.lstrip('-')}" if pre else "")
+
+
+def pessimistic(numbers, pre):
+    """Ruby's `~>`: the last number may rise, those before it may not."""
+    text = ".".join(numbers) + (f"-{pre.lstrip('-')}" if pre else "")
+    if len(numbers) == 3:
+        return f"~{text}"
+    return f"^{text}" if numbers[0] != "0" else f">={text}, <1"
+
+
+def hyphened(plain):
+    """npm's range, `1.2.3 - 2.3.4`."""
+    low, dash, high = plain.partition(" - ")
+    return f">={low.strip()}, <={high.strip()}" if dash else None
+
+
+def interval(plain):
+    """Maven's and NuGet's range, `[1.0,2.0)`."""
+    found = INTERVAL.fullmatch(plain)
+    if not found:
+        return None
+    opened, low, high, closed = found.groups()
+    parts = [(">=" if opened == "[" else ">") + low.strip()] if low.strip() else []
+    parts += [("<=" if closed == "]" else "<") + high.strip()] if high.strip() else []
+    return ", ".join(parts) or "*"
+
+
+def either(plain):
+    """Carets of which each begins where the one before it ends are one range."""
+    bounds = [re.fullmatch(r"\^?(\d+)(?:\.(\d+))?(?:\.(\d+))?(?:\.[xX*])?", it.strip(), re.ASCII) for it in plain.split("||")]
+    if None in bounds:
+        return None
+    majors = [int(it[1]) for it in bounds]
+    joined = majors == list(range(majors[0], majors[0] + len(majors))) and majors[0] > 0
+    joined = joined and all(not int(it[2] or 0) and not int(it[3] or 0) for it in bounds[1:])
+    first = ".".join(it for it in bounds[0].groups() if it)
+    return f">={first}, <{majors[-1] + 1}" if joined else None

@@ -1,0 +1,171 @@
+"""The journal that a page shows: as it stood when it was read last, with the program that selects from it."""
+import functools
+import os
+import threading
+
+from .. import near_limits
+from ..catalog import Catalog
+from ..failures import Failed, Failure
+from ..session import Reading, snapshot
+
+MOST_PAGES = 1_000  # whose last search is known
+
+
+class Unanswered(Failure):
+    """A search that was ended before it had an answer."""
+
+
+class View(Catalog):
+    """A journal as it stood at one moment."""
+
+    def __init__(self, path):
+        self.path, self.text, self.searches, self.ranks = path, snapshot(path), 0, {}
+        self.session = Reading(path, self.text)
+        try:
+            super().__init__(self.session)
+        except BaseException:
+            self.session.leave()
+            raise
+        self.names = sorted({*self.listed, *self.above})
+        self.warnings = list(near_limits.warnings(path, self.text))
+        self.counts = {"packages": len(self.listed), "versions": sum(map(len, self.listed.values())),
+                       "yanked": sum(is_yanked for held in self.listed.values() for _, is_yanked in held)}
+
+    @functools.cached_property
+    def above(self):
+        """By package those with a version that needs it."""
+        found = {}
+        for (name, _), needs in self.needs.items():
+            for target, _ in needs:
+                found.setdefault(target, {})[name] = None
+        return found
+
+    def versions(self, name):
+        if name not in self.ranks:
+            self.ranks[name] = super().versions(name)
+        return self.ranks[name]
+
+    def users(self, name):
+        return self.above.get(name, ())
+
+    @property
+    def revision(self):
+        return len(self.commands)
+
+    def program(self):
+        """The program over this text, begun anew where a search was ended with it."""
+        if self.session is None:
+            self.session = Reading(self.path, self.text)
+        return self.session
+
+    def leave(self):
+        session, self.session = self.session, None
+        if session:
+            session.leave()
+
+
+class Search:
+    """A search that runs, for one page."""
+
+    def __init__(self, page, session):
+        self.page, self.session, self.why = page, session, ""
+
+    def end(self, why):
+        """Ends it, with the program: nothing else ends a search."""
+        self.why = self.why or why
+        self.session.process.kill()
+
+
+class Journal:
+    """What stands in a journal's file, for a server whose threads ask at once."""
+
+    def __init__(self, path, seconds):
+        self.path, self.seconds = path, seconds
+        # of what is held; of loading; of searching, one at a time
+        self.lock, self.loading, self.turn = threading.Lock(), threading.Lock(), threading.Lock()
+        self.fault, self.running, self.last, self.count = "", None, {}, 0
+        self.mark = self.mark_of_file()
+        self.view = View(path)
+
+    def mark_of_file(self):
+        """What changes when the file does."""
+        try:
+            found = os.stat(self.path)
+        except OSError:
+            return None
+        return found.st_ino, found.st_size, found.st_mtime_ns
+
+    def refresh(self):
+        """Reads the file again where it has changed; answers what is shown then. What can't be read leaves that as it was."""
+        mark = self.mark_of_file()
+        if mark != self.mark and self.loading.acquire(blocking=False):
+            try:
+                view = View(self.path)
+                self.mark, self.fault = mark, ""
+                self.show(view)
+            except Failed as fault:
+                self.fault = str(fault)
+            finally:
+                self.loading.release()
+        return self.view
+
+    def show(self, view):
+        """Shows this from now on. A search in what was shown before ends in that."""
+        with self.lock:
+            old, self.view = self.view, view
+            is_free = not old.searches
+        if is_free:
+            old.leave()
+
+    # ---- searches
+
+    def ask(self, request, page=""):
+        """What is shown, and the reply to a request. A page has one search at a time: its next one ends it. Others wait their turn."""
+        with self.lock:
+            self.count += 1
+            number = self.count
+            self.last[page] = number
+            if len(self.last) > MOST_PAGES:
+                self.last.pop(next(iter(self.last)))
+            if self.running and self.running.page == page:
+                self.running.end("another request came from the same page")
+        with self.turn:
+            if self.last.get(page, number) != number:
+                raise Unanswered("another request came from the same page")
+            with self.lock:
+                view = self.view
+                view.searches += 1
+            try:
+                return view, self.searched(view, request, page)
+            finally:
+                with self.lock:
+                    view.searches -= 1
+                    is_old = view is not self.view and not view.searches
+                if is_old:
+                    view.leave()
+
+    def searched(self, view, request, page):
+        """The reply of the program, which has some seconds for it."""
+        search = Search(page, view.program())
+        limit = f"{self.seconds:g} second{'s' * (self.seconds != 1)}"
+        timer = threading.Timer(self.seconds, search.end, [f"no answer was found in {limit}, and the search was ended"])
+        with self.lock:
+            self.running = search
+        timer.start()
+        try:
+            (reply,) = search.session.ask(request)
+            return reply
+        except Failed:
+            if search.why:
+                raise Unanswered(search.why) from None
+            search.why = "failed"
+            raise
+        finally:
+            timer.cancel()
+            with self.lock:
+                self.running = None
+            if search.why:
+                view.leave()
+
+    def leave(self):
+        self.view.leave()

@@ -1,0 +1,214 @@
+"""Asks the program. A session that reads takes a journal as it stands at one moment, also while another one writes it, and needs
+neither its lock nor the right to write; one that writes holds the lock, and what it is told as accepted stands in the file."""
+import contextlib
+import fcntl
+import json
+import os
+import re
+import subprocess
+import sys
+import tempfile
+import threading
+import time
+
+from . import near_limits
+from .failures import Failed, Refused, told
+from .program import program
+
+DEFAULT, VARIABLE = "registry.journal", "REGISTRY_JOURNAL"
+HEAD, END = b"registry-journal 2\n", re.compile(rb"^end [0-9]+\n", re.M)
+TRIES, PAUSE = 20, 0.01  # of a file that changes while it is read
+# what the program says as it ends, and what is told of that
+REASONS = [
+    (r"journal .*: in use by another session", "{path} is in use by another session: try again once that has ended"),
+    (r"journal (?:.*: )?line (\d+)(?: .*)?", "{path}: line {0} is at fault: `registry journal verify {path}` says more, and `registry journal "
+                                             "repair {path}` keeps what stands before it"),
+    (r"journal .*?: (.+?)(?: \(os error \d+\))?", "{path}: {0}: --journal FILE names another"),
+    (r"input failed", "{path} can't be read"),
+    (r"output failed", "{path} can't be written: what was told as accepted before stands in it"),
+    (r"no memory", "there is not enough memory for {path}"),
+]
+
+
+standing = None  # what a shell keeps open: see shell.py
+
+
+def journal_of(given):
+    """The path of the journal that the words name, else that of the shell, else the environment, else the one in this folder."""
+    return given.journal or (standing and standing.path) or os.environ.get(VARIABLE) or DEFAULT
+
+
+def reading(given):
+    """A session that reads. It answers `ask`, `each`, `commands` and `close`; one over a service would answer the same."""
+    path = journal_of(given)
+    return (standing and standing.lent(path)) or Reading(path)
+
+
+def writing(given):
+    """A session whose commands are kept."""
+    path = journal_of(given)
+    return (standing and standing.lent(path, is_writing=True)) or Writing(path)
+
+
+def snapshot(path):
+    """The text of a journal as it stands, up to its last whole line, with an end. While a session writes it there is none."""
+    for _ in range(TRIES):
+        try:
+            with open(path, "rb") as file:
+                text = file.read()
+        except FileNotFoundError:
+            raise Failed(f"{path}: there is no such journal: `registry publish` or `registry import` begins one, and --journal FILE "
+                         f"names another") from None
+        except OSError as fault:
+            raise Failed(told(fault)) from None
+        found = END.search(text)
+        if found is None:
+            text = text[:text.rfind(b"\n") + 1] or HEAD
+            return text + b"end %d\n" % (text.count(b"\n") - 1)
+        if found.end() == len(text):
+            return text
+        time.sleep(PAUSE)  # its end was cut off and lines were written over it meanwhile
+    return text
+
+
+def shared(text):
+    """A file without a name that has this text, for a program to read."""
+    if hasattr(os, "memfd_create"):
+        file = open(os.memfd_create("journal"), "w+b")
+    else:
+        file = tempfile.TemporaryFile()
+    file.write(text)
+    file.seek(0)
+    return file
+
+
+def tie(process, watched):
+    """Ends a process once nobody holds the other end of this pipe, which the system closes however this one ends: a signal tells it
+    then, which ends who does not expect it. So no search goes on for nobody."""
+    with contextlib.suppress(OSError):
+        fcntl.fcntl(watched, fcntl.F_SETOWN, process)
+        fcntl.fcntl(watched, fcntl.F_SETFL, os.O_ASYNC)
+
+
+class Session:
+    """A program that answers request lines, begun with these words."""
+    group = None  # of processes: that of this command, so that a key that ends it ends the program too
+
+    def __init__(self, path, words, handed=()):
+        self.path = path
+        command, (watched, self.held) = [*program(), "serve", "--workers", "1", *words], os.pipe()
+        try:
+            self.process = subprocess.Popen(command, stdin=subprocess.PIPE, stdout=subprocess.PIPE, stderr=subprocess.PIPE,
+                                            pass_fds=[watched, *handed], process_group=self.group)
+            tie(self.process.pid, watched)
+        except OSError as fault:
+            os.close(self.held)
+            raise Failed(f"the program can't be started: {told(fault)}") from None
+        finally:
+            os.close(watched)
+        self.said = ""
+        self.hearing = threading.Thread(target=self.hear, daemon=True)
+        self.hearing.start()
+
+    def hear(self):
+        """Keeps why the program ends, and passes on what else is said on standard error, as how far it is where it is built first."""
+        for line in self.process.stderr:
+            text = line.decode(errors="replace")
+            if any(re.fullmatch(f"registryd: {form}\n", text) for form, _ in REASONS):
+                self.said = text
+            else:
+                sys.stderr.write(text)
+                sys.stderr.flush()
+
+    def each(self, requests):
+        """The replies to requests, each as it comes."""
+        text = b"".join(json.dumps(it, separators=(",", ":")).encode() + b"\n" for it in requests)
+        threading.Thread(target=self.write, args=(text,), daemon=True).start()
+        for _ in requests:
+            line = self.process.stdout.readline()
+            if not line.endswith(b"\n"):
+                raise self.ended()
+            yield json.loads(line)
+
+    def write(self, text):
+        try:
+            self.process.stdin.write(text)
+            self.process.stdin.flush()
+        except (OSError, ValueError):
+            pass  # who waits for a reply is told how the program ended
+
+    def ask(self, *requests):
+        """The replies to requests, together."""
+        return list(self.each(requests))
+
+    def ended(self):
+        """Why the program has ended, or is ended since it wrote no reply."""
+        try:
+            status = self.process.wait(timeout=1)
+        except subprocess.TimeoutExpired:
+            self.process.kill()
+            status = self.process.wait()
+        self.hearing.join()
+        for form, reason in REASONS:
+            found = re.fullmatch(f"registryd: {form}\n", self.said)
+            if found:
+                return Failed(reason.format(*found.groups(), path=self.path))
+        return Failed(f"the program {' '.join(program())} ended with status {status} before it had answered")
+
+    def close(self):
+        """Ends the input and waits for the program."""
+        with contextlib.suppress(OSError):
+            self.process.stdin.close()
+        if self.process.stdout.read() or self.process.wait():
+            raise self.ended()
+
+    def leave(self):
+        """Ends the program, whatever it does."""
+        if self.process.poll() is None:
+            self.process.kill()
+            self.process.wait()
+        self.hearing.join(timeout=1)  # what it has begun may hold the pipe a little longer
+        os.close(self.held)
+        for pipe in (self.process.stdin, self.process.stdout, self.process.stderr):
+            with contextlib.suppress(OSError):
+                pipe.close()
+
+    def __enter__(self):
+        return self
+
+    def __exit__(self, kind, *_):
+        try:
+            if kind is None or issubclass(kind, Refused):
+                self.close()
+                self.warn()
+        finally:
+            self.leave()
+
+    def warn(self):
+        """Tells on standard error where the journal is near a limit."""
+
+
+class Reading(Session):
+    """A session on a journal as it stood when this was begun, or as it is told to have stood."""
+
+    def __init__(self, path, text=None):
+        self.text = snapshot(path) if text is None else text
+        with shared(self.text) as file:
+            super().__init__(path, [f"--load=/dev/fd/{file.fileno()}"], [file.fileno()])
+
+    def commands(self):
+        """The accepted commands, in order."""
+        return [json.loads(line) for line in self.text.split(b"\n")[1:-2] if not line.endswith(b'"op":"learn"}')]
+
+    def warn(self):
+        near_limits.warn(self.path, self.text)
+
+
+class Writing(Session):
+    """A session that goes on with a journal's file, or begins one."""
+
+    def __init__(self, path):
+        super().__init__(path, [f"--journal={path}"])
+
+    def warn(self):
+        near_limits.warn(self.path)

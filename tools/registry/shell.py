@@ -1,0 +1,172 @@
+"""A shell: command lines one after the other, over one session that stays open. On a terminal they are typed, with a history and
+completion; else they are read to their end."""
+import contextlib
+import os
+import shlex
+import sys
+
+from . import near_limits, session
+from .failures import DONE, INTERRUPTED, USAGE, Refused
+from .main import guarded
+
+PROMPT, MOST_KEPT = "registry> ", 1000
+LEAVING = (["exit"], ["quit"])
+
+
+class Kept(session.Writing):
+    """The session that stays open. What a command does not read of its replies is read when that ends."""
+    group = 0  # its own, since Ctrl-C at the prompt ends a line and no session
+    commands = session.Reading.commands
+
+    def __init__(self, standing):
+        self.standing, self.waiting, self.is_writing = standing, 0, False
+        super().__init__(standing.path)
+
+    @property
+    def text(self):
+        """The journal as it stands: what was accepted stands in the file."""
+        return session.snapshot(self.path)
+
+    def each(self, requests):
+        requests = list(requests)
+        self.waiting += len(requests)
+        for reply in super().each(requests):
+            self.waiting -= 1
+            yield reply
+
+    def __exit__(self, kind, *_):
+        if kind is None or issubclass(kind, Refused):
+            while self.waiting and self.process.stdout.readline():
+                self.waiting -= 1
+            if self.is_writing:
+                self.warn()
+        else:
+            self.standing.session = None
+            self.leave()
+
+
+class Standing:
+    """Lends the session to each command that asks the shell's journal. It is begun when it is first asked for, and anew where a
+    command broke it off."""
+
+    def __init__(self, path):
+        self.path, self.session = path, None
+
+    def lent(self, path, is_writing=False):
+        """The session; none on another journal, and none for what only reads where there is no journal yet."""
+        if path != self.path or not (is_writing or os.path.exists(path)):
+            return None
+        self.session = self.session or Kept(self)
+        self.session.is_writing = is_writing
+        return self.session
+
+    def close(self):
+        if self.session:
+            try:
+                self.session.close()
+            finally:
+                self.session.leave()
+
+
+def run(path):
+    """Obeys lines until they end; answers the status of the last one, 0 at a terminal."""
+    session.standing = Standing(path)
+    try:
+        near_limits.warn(path)
+        is_typed = sys.stdin.isatty() and sys.stdout.isatty()
+        return typed() if is_typed else read(sys.stdin)
+    finally:
+        standing, session.standing = session.standing, None
+        standing.close()
+
+
+def read(lines):
+    status = DONE
+    for line in lines:
+        words = words_of(line)
+        if words in LEAVING:
+            break
+        if words != []:
+            status = obey(words)
+    return status
+
+
+def typed():
+    """Reads lines at the prompt. Ctrl-C ends a line, and Ctrl-D the shell."""
+    remember = history()
+    while True:
+        try:
+            line = input(PROMPT)
+        except KeyboardInterrupt:
+            print()
+            continue
+        except EOFError:
+            print()
+            return DONE
+        words = words_of(line)
+        if words:
+            remember()
+        if words in LEAVING:
+            return DONE
+        if words != []:
+            obey(words)
+
+
+def words_of(line):
+    """The words of a line, as a shell splits them; none where a quote does not end. The name of the command may stand before them."""
+    try:
+        words = shlex.split(line, comments=True)
+    except ValueError:
+        print("registry: a quote does not end, or nothing stands behind a backslash", file=sys.stderr)
+        return None
+    words = words[1:] if words[:1] == ["registry"] else words
+    return [*words[1:], "--help"] if words[:1] == ["help"] else words
+
+
+def obey(words):
+    """The status of one command line."""
+    if words is None:
+        return USAGE
+    if words[:1] == ["shell"]:
+        print("registry: this is the shell: Ctrl-D ends it", file=sys.stderr)
+        return USAGE
+    try:
+        return guarded(words)
+    except KeyboardInterrupt:
+        print("registry: interrupted", file=sys.stderr)
+        return INTERRUPTED
+    except SystemExit as ended:  # argparse, when it has shown its help
+        return ended.code or DONE
+
+
+# ---- at a terminal
+
+def history():
+    """Begins with the lines of before, and answers what keeps one more; nothing is kept where that can't be."""
+    try:
+        import readline
+    except ImportError:
+        return lambda: None
+    from .line_completion import complete
+    readline.set_completer(complete)
+    readline.set_completer_delims(" \t\n")
+    readline.parse_and_bind("bind ^I rl_complete" if "libedit" in (readline.__doc__ or "") else "tab: complete")
+    readline.set_auto_history(True)
+    path = history_path()
+    with contextlib.suppress(OSError):
+        os.makedirs(os.path.dirname(path), mode=0o700, exist_ok=True)
+        os.close(os.open(path, os.O_CREAT | os.O_WRONLY, 0o600))
+        readline.read_history_file(path)
+    readline.set_history_length(MOST_KEPT)
+
+    def remember():
+        with contextlib.suppress(OSError):
+            readline.append_history_file(1, path)
+    return remember
+
+
+def history_path():
+    """Where the lines are kept: see the XDG Base Directory Specification."""
+    state = os.environ.get("XDG_STATE_HOME", "")
+    folder = state if os.path.isabs(state) else os.path.join(os.path.expanduser("~"), ".local", "state")
+    return os.path.join(folder, "registry", "history")

@@ -1,0 +1,162 @@
+"""The subcommands of `registry`, with their words. What reads words, the help, the completions and the manual page are made of it."""
+from typing import NamedTuple
+
+from limits import MOST_VERSIONS
+
+# what a word or an option takes: for completion, and, where it is a range of numbers or a tuple of words, for what is read
+FILE, FOLDER, PACKAGE, NEED, VERSION, TEXT = "file", "folder", "package", "need", "version", "text"
+BUDGETS, COUNTS, VERSIONS = range(2 ** 32), range(1, 2 ** 32), range(4097)
+
+
+class Word(NamedTuple):
+    """A word of a subcommand, or an option where it has a flag. `many` says how many: one, `?`, `*` or `+`, as argparse does."""
+    names: tuple
+    about: str
+    takes: object = TEXT
+    flag: str = ""
+    many: str = ""
+    kept_as: str = ""  # under which name its value is found, where its own can't be one
+
+    @property
+    def member(self):
+        """Where its value is found when the words were read."""
+        return self.kept_as or (self.flag.lstrip("-") or self.names[0].lower()).replace("-", "_")
+
+
+class Subcommand(NamedTuple):
+    name: str  # one word or two, as `journal verify`
+    module: str  # in `commands`
+    summary: str
+    words: tuple
+    examples: tuple
+    more: str = ""  # sentences for its help and for the manual page
+
+
+def word(name, about, takes=TEXT, many=""):
+    return Word((name,), about, takes, many=many)
+
+
+def option(flag, name, about, takes=TEXT, many=""):
+    return Word((name,), about, takes, flag, many)
+
+
+def flag(name, about):
+    return Word((), about, flag=name)
+
+
+COMMON = (
+    option("--journal", "FILE", "the journal (else: REGISTRY_JOURNAL, else registry.journal in this folder)", FILE),
+    flag("--json", "the answer as JSON, one line"),
+)
+NEEDS = word("NEED", "a package and a requirement, as app@^1; app alone is app@*", NEED, "*")
+LOCK = option("--lock", "FILE", "a lock file: its versions are preferred", FILE)
+LOCK_FILE = option("--lock", "FILE", "the lock file (else: registry.lock)", FILE)
+BUDGET = option("--budget", "N", "give up after N conflicts", BUDGETS)
+NOT = Word(("NAME", "VERSION"), "why this version is not what is selected", PACKAGE, flag="--not", kept_as="version")
+BESIDE = ("Where no NEED is typed, the needs file beside the lock file says what is needed: its name has .needs for .lock, and each of its "
+          "lines a name and a requirement. Without a lock file it is registry.needs.")
+IMPORTING = (
+    option("--from", "CRATE", "only these and what they need, as rand or rand@^0.8 (else: all, or of a workspace its own packages)", NEED, "+"),
+    option("--newest", "N", "only the N newest versions of each crate", range(1, MOST_VERSIONS + 1)),
+    flag("--lines", "write request lines to standard output, and publish nothing"),
+    flag("--ask", "end these lines with a request for the crates of --from, or for a workspace's own packages"),
+)
+IMPORTED = ("Nothing is fetched. What is published already is passed over. What is left out, or told otherwise than it stands there, is counted "
+            "on standard error, each kind with its first example.")
+
+SUBCOMMANDS = (
+    Subcommand("publish", "publish", "Publish a version of a package",
+               (word("NAME", "the package", PACKAGE), word("VERSION", "the version, as 1.0.0"), NEEDS),
+               ("registry publish log 1.3.0", "registry publish app 1.0.0 log@^1.2 zlib"),
+               "A publication is permanent. What it needs may be published later."),
+    Subcommand("yank", "yank", "Keep a version from being selected anew",
+               (word("NAME", "the package", PACKAGE), word("VERSION", "the version", VERSION)),
+               ("registry yank log 1.3.0",), "Nothing is deleted: a lock file that names the version still has it."),
+    Subcommand("unyank", "yank", "Undo a yank",
+               (word("NAME", "the package", PACKAGE), word("VERSION", "the version", VERSION)),
+               ("registry unyank log 1.3.0",)),
+    Subcommand("import crates-io", "import_index", "Publish crates from a copy of crates.io's index",
+               (word("DIR", "a checkout of the index, or what Cargo keeps of it", FOLDER), *IMPORTING),
+               ("registry import crates-io ~/.cargo/registry/index/index.crates.io-* --from rand@^0.8",), IMPORTED),
+    Subcommand("import cargo", "import_index", "Publish the packages of a Cargo folder, and what Cargo.lock has",
+               (word("DIR", "a workspace, or what `cargo vendor` wrote", FOLDER),
+                option("--index", "DIR", "crates.io's index, or Cargo's copy of it, for crates that the folder lacks", FOLDER),
+                option("--write", "FILE", "keep what Cargo.lock has as a lock file, and beside it the workspace's own packages as needs", FILE),
+                *IMPORTING),
+               ("registry import cargo ~/mine --index ~/.cargo/registry/index/index.crates.io-* --write mine.lock",), IMPORTED),
+    Subcommand("import debian", "import_index", "Publish the Rust crates that Debian packages",
+               (word("FILE", "a file Packages, or what `apt-cache dumpavail` printed; without it apt-cache is asked", FILE, "?"), *IMPORTING),
+               ("registry import debian --from reqwest", "registry import debian --from cargo --lines --ask"), IMPORTED),
+    Subcommand("show", "show", "Show a package: its versions, what the newest needs, and who needs it",
+               (word("NAME", "the package", PACKAGE),), ("registry show log",),
+               "Versions stand by precedence, the newest first. Of each package that needs it the newest version that does is told."),
+    Subcommand("search", "listing", "Find packages whose names have a text in them",
+               (word("TEXT", "a part of the name"),), ("registry search json",)),
+    Subcommand("list", "listing", "List all packages, each with its newest version", (), ("registry list",)),
+    Subcommand("resolve", "resolve", "Select versions that fit together",
+               (NEEDS, LOCK, option("--write", "FILE", "keep the selection as a lock file, and beside it what was needed", FILE), BUDGET),
+               ("registry resolve app@^1 zlib", "registry resolve app@^1 --write registry.lock", "registry resolve --lock registry.lock"),
+               BESIDE),
+    Subcommand("tree", "tree", "Show a selection as a tree of who needs whom",
+               (NEEDS, LOCK, option("--invert", "NAME", "who needs this package, in place of what is needed", PACKAGE),
+                option("--depth", "N", "no more than N steps deep", BUDGETS), BUDGET),
+               ("registry tree app@^1", "registry tree app@^1 --invert log", "registry tree --lock registry.lock --depth 1"),
+               "The needs of a package are shown once: (*) marks it where it comes again. " + BESIDE),
+    Subcommand("why", "why", "Tell why a request is refused, or why a version is not selected",
+               (NEEDS, LOCK, BUDGET, NOT, option("--picture", "FILE", "draw it too, as SVG: the derivation, or the selection", FILE),
+                flag("--unfolded", "draw each line of a derivation, however long it is"),
+                option("--asked", "FILE", "the request lines of a session; without --told each followed by its reply", FILE),
+                option("--told", "FILE", "the reply lines of that session", FILE),
+                option("--request", "N", "of a session this request line alone, counted from 1", COUNTS)),
+               ("registry why app@^1 log@^2", "registry why app@^1 --not log 1.2.0", "registry why app@^1 --picture why.svg",
+                "registry why --asked asked.lines --told told.lines"),
+               "A refusal is told from its derivation alone, and only where that follows. Of a session whose packages are a journal's, "
+               "as a race prints it, --journal names that: each reply is told at its revision. " + BESIDE),
+    Subcommand("outdated", "outdated", "Tell what in a lock file is not the newest, and what holds it back",
+               (NEEDS, LOCK_FILE, option("--budget", "N", "give a question up after N conflicts (else: 10000)", BUDGETS)),
+               ("registry outdated", "registry outdated --lock app.lock"),
+               "Of each package it tells what is locked, what an upgrade of all would select, the newest version that is not yanked, and "
+               "why that is not selected. " + BESIDE),
+    Subcommand("upgrade", "upgrade", "Take packages off a lock file, and keep what is selected then",
+               (word("NAME", "a package of the lock file; without any all are taken off", PACKAGE, "*"), LOCK_FILE,
+                option("--need", "NEED", "what is needed, in place of what the needs file says", NEED, "+"), BUDGET,
+                flag("--yes", "write it without a question")),
+               ("registry upgrade log", "registry upgrade --yes", "registry upgrade --lock app.lock --need app@^2"),
+               "It shows what would change and asks before it writes. " + BESIDE),
+    Subcommand("diff", "diff", "Tell what changed between two lock files",
+               (word("OLD", "a lock file", FILE), word("NEW", "another one", FILE)), ("registry diff old.lock new.lock",),
+               "A line begins with + where a package came, with - where it went, with ~ where its version changed."),
+    Subcommand("check", "check", "Check request lines: where each would be refused, why, and what was probably meant",
+               (word("FILE", "a file of request lines; - is standard input", FILE),),
+               ("registry check team.lines", "registry check - < team.lines"),
+               "Nothing is asked of a registry: a line is judged for its form, its names, versions and requirements, and what it repeats "
+               "(refusals 1 to 6 and 19). The first fault of a line is the refusal that it would be answered."),
+    Subcommand("journal verify", "journal_verify", "Tell what stands in a journal's file, and the first line that is at fault",
+               (word("FILE", "a journal", FILE),), ("registry journal verify registry.journal",),
+               "A file without its end, as a session has it while it runs and leaves it where it is killed, is cut, and no fault: a session "
+               "goes on with it. The exit status is 1 where a line is at fault."),
+    Subcommand("journal repair", "journal_repair", "Keep the longest lawful beginning of a journal's file, in a new file",
+               (word("FILE", "a journal", FILE), option("--output", "NEW", "the new file (else: FILE.repaired)", FILE)),
+               ("registry journal repair registry.journal", "registry journal repair old.journal --output registry.journal"),
+               "It tells what it dropped. The file itself stays as it is, and no file is written over."),
+    Subcommand("journal renew", "journal_renew", "Begin a smaller journal, for a registry that nears its limits",
+               (word("OLD", "a journal", FILE), word("NEW", "the new file", FILE),
+                option("--lock", "FILE", "lock files that have to be selected as before", FILE, "+"),
+                option("--newest", "N", "keep the N newest versions of each package that are not yanked (else: 3)", VERSIONS)),
+               ("registry journal renew registry.journal new.journal --lock app.lock tools.lock", "registry journal renew old.journal new.journal --newest 1"),
+               "Kept is what the lock files select, the newest versions of each package, and what those need, in the order of before. Yanks are "
+               "kept, and what was learnt is not. It tells what it left out."),
+    Subcommand("shell", "shell", "Open a prompt for these subcommands, over one session that stays open", (),
+               ("registry shell", "registry shell --journal team.journal", "registry shell < some.commands"),
+               "Words are quoted as a shell of the system quotes them. Ctrl-C ends a line or a search, Ctrl-D the shell. Where its input is no "
+               "terminal it obeys each line, and its exit status is the last one's."),
+    Subcommand("page", "page", "Show the journal on a page in a browser of this machine",
+               (option("--port", "N", "the port (else: one that is free)", range(65_536)),
+                option("--seconds", "N", "end a search after N seconds (else: 10)", range(1, 3_601))),
+               ("registry page", "registry page --port 8000 --journal team.journal"),
+               "It prints the page's address, and shows there until Ctrl-C. The page changes nothing. Only this machine reaches it, but each of its users."),
+)
+
+
+def subcommand(name):
+    return next((it for it in SUBCOMMANDS if it.name == name), None)

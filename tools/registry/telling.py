@@ -1,0 +1,93 @@
+"""The English of a refusal, from its derivation alone.
+
+How sentences are put in order and joined is told in Dart pub's doc/solver.md, "Error Reporting": a step that is cited more
+than once has a number, two steps of a chain may share a sentence, and of two branches the one that takes more is told
+first. Each sentence speaks of the selections that meet the request.
+"""
+from .derivation import FAILED, joined
+
+
+class Telling:
+    """The sentences that tell a derivation, each with its number or none; an empty one is a break before another branch.
+
+    `places` has where each step is told that has a sentence, and `leading` the steps that are told for its sake right before it.
+    """
+
+    def __init__(self, derivation, failed=FAILED):
+        self.derivation, self.failed = derivation, failed
+        self.sentences, self.numbers, self.cited = [], {}, {}
+        self.places, self.leading = {}, {}
+        for step in derivation.reached():
+            for it in step.below():
+                self.cited[it] = self.cited.get(it, 0) + 1
+        self.tell(derivation.last)
+
+    def tell(self, last):
+        """Tells a step after what it rests on. A step hands over those that are to be told first; this needs no stack of calls."""
+        open_steps = [(last, self.steps_of(last))]
+        while open_steps:
+            step, rest = open_steps[-1]
+            first = next(rest, None)
+            if first is None:
+                open_steps.pop()
+            else:
+                self.leading.setdefault(step, []).append(first)
+                open_steps.append((first, self.steps_of(first)))
+
+    def steps_of(self, step):
+        return (self.of_facts, self.of_one, self.of_two)[len(step.below())](step)
+
+    def of_facts(self, step):
+        self.write(step, f"Because {joined(*step.causes, [step])}")
+        yield from ()
+
+    def of_one(self, step):
+        """A step that rests on another and a fact."""
+        (other,), (fact,) = step.below(), step.facts()
+        if other in self.numbers:
+            self.write(step, f"Because {fact.said} and {self.citing(other)}")
+        elif self.may_share(other):
+            (prior,), (before,) = other.below(), other.facts()
+            yield prior
+            self.write(step, f"And because {joined(before, fact, [prior, step])}")
+        else:
+            yield other
+            self.write(step, f"And because {fact.said}")
+
+    def of_two(self, step):
+        """A step that rests on two others."""
+        first, second = sorted(step.below(), key=lambda it: (it in self.numbers, not it.below()))
+        if first in self.numbers:
+            self.write(step, f"Because {self.citing(first)} and {self.citing(second)}")
+            return
+        if second not in self.numbers and second.below():
+            # the first branch is cited from behind the second one
+            self.cited[first] += 1
+        yield first
+        if second in self.numbers:
+            self.write(step, f"And because {self.citing(second)}")
+            return
+        if second.below():
+            self.sentences.append((None, ""))
+        yield second
+        self.write(step, f"And because {self.citing(first)}" if second.below() else "Thus")
+
+    def may_share(self, step):
+        """Whether a step may be left unsaid: it is cited once, and rests on a fact and on what is told right before."""
+        return self.cited[step] == 1 and len(step.below()) == 1 and step.below()[0] not in self.numbers
+
+    def citing(self, step):
+        return f"{self.derivation.conclusion(step)} ({self.numbers[step]})"
+
+    def write(self, step, because):
+        is_last = step is self.derivation.last
+        if self.cited.get(step, 0) > 1:
+            self.numbers[step] = len(self.numbers) + 1
+        self.places[step] = len(self.sentences)
+        said = self.failed if is_last else self.derivation.conclusion(step)
+        self.sentences.append((self.numbers.get(step), f"{because}, {said}."))
+
+    def lines(self):
+        """The sentences as lines, with room for the numbers where there are some."""
+        width = max((len(f"({number}) ") for number in self.numbers.values()), default=0)
+        return [(f"({number}) " if number else "").ljust(width) + said if said else "" for number, said in self.sentences]
