@@ -10,7 +10,7 @@ import sys
 from statistics import mean
 
 from progress import TOP
-from svg import text
+from registry.svg import plain_text as text
 
 PROGRAM = "registryd"
 PICTURE = os.path.join(TOP, "docs", "crates.svg")
@@ -211,7 +211,7 @@ def picture():
         said += box(places[name], MARGIN + depths[name] * DOWN, name, kit_of(crates, name))
     for_tests, height = apart(crates, edges, [name for name in crates if name not in depths], MARGIN + len(rows) * DOWN)
     width = max(max(places.values()) + WIDTH / 2, 520) + MARGIN
-    head = (f'<svg xmlns="http://www.w3.org/2000/svg" width="{width:.0f}" height="{height + MARGIN:.0f}" '
+    head = (f'<svg xmlns="http://www.w3.org/2000/svg" width="{width:.0f}" height="{height + MARGIN:.0f}" viewBox="0 0 {width:.0f} {height + MARGIN:.0f}" '
             'font-family="sans-serif">')
     return "\n".join([head, '<rect width="100%" height="100%" fill="#ffffff"/>', *said, *for_tests, "</svg>"]) + "\n"
 

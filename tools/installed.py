@@ -13,18 +13,19 @@ import completions
 import programs
 from prefix import Refused
 from programs import NAME, TOP
+from registry import completion, manual
 
 LIB, SHARE, DOC, MAN = f"lib/{NAME}", f"share/{NAME}", f"share/doc/{NAME}", "share/man/man1"
 # The tools in Python, by the names that they have in bin.
 TOOLS = {
-    "registry-why": "why",
-    "registry-lock": "lock",
-    "registry-import-index": "import_index",
     "registry-check-derivation": "check_derivation.py",
     "registryd-etcd": "registryd-etcd",
 }
+# The command for people: its own file stands above the tools, as in a checkout.
+COMMAND = "registry"
 # Files that are copied as they stand, by the folder that they go to; what stands in a folder of the sources keeps its place in it.
 COPIES = {
+    LIB: ["tools/registry/page/files/*"],
     SHARE: ["docs/lines.schema.json", "clients/python/*.py", "clients/c/*.[ch]", "clients/c/*.rs", "clients/rust/*.toml",
             "clients/rust/Cargo.lock",
             "clients/rust/src/*.rs", "clients/rust/examples/*.rs", "clients/rust/tests/*.rs"],
@@ -33,15 +34,16 @@ COPIES = {
 # Pages: the links in them lead to where the other files are installed.
 PAGES = {
     SHARE: ["clients/README.md", "clients/c/README.md", "clients/rust/README.md"],
-    DOC: ["CHANGELOG.md", "docs/USING.md", "docs/FORMATS.md", "docs/REGISTRY.md", "docs/WHY.md", "docs/IMPORTING.md", "docs/SCALE.md"],
+    DOC: ["CHANGELOG.md", "docs/USING.md", "docs/FORMATS.md", "docs/REGISTRY.md", "docs/WHY.md", "docs/IMPORTING.md", "docs/SCALE.md",
+          "docs/REGISTRY_COMMAND.md"],
 }
 # Manual pages, each with the other names that it is found by.
 MANUALS = {"docs/registryd.1": [], "docs/registry-tools.1": list(TOOLS)}
-# Where each shell looks for completions, below a prefix and where a distribution's package has them.
+# Where each shell looks for completions of a command, below a prefix and where a distribution's package has them.
 COMPLETIONS = {
-    "bash": ("share/bash-completion/completions/registryd", "share/bash-completion/completions/registryd"),
-    "zsh": ("share/zsh/site-functions/_registryd", "share/zsh/vendor-completions/_registryd"),
-    "fish": ("share/fish/vendor_completions.d/registryd.fish", "share/fish/vendor_completions.d/registryd.fish"),
+    "bash": ("share/bash-completion/completions/{}", "share/bash-completion/completions/{}"),
+    "zsh": ("share/zsh/site-functions/_{}", "share/zsh/vendor-completions/_{}"),
+    "fish": ("share/fish/vendor_completions.d/{}.fish", "share/fish/vendor_completions.d/{}.fish"),
 }
 TOLD = {
     programs.PROVED: "The program is proved: it was built from proofs of all its sources.",
@@ -91,11 +93,12 @@ def program_pieces(program):
 
 @functools.cache
 def imported(file):
-    """The files of modules that a file of tools names in its imports, where they are in this repository."""
+    """The files of modules that a file of tools names in its imports, where they are in this repository. Those of its own package
+    are not looked for: a package is taken as a whole."""
     found = []
     for node in ast.walk(ast.parse((TOP / "tools" / file).read_text(encoding="utf-8"))):
         names = [it.name for it in node.names] if isinstance(node, ast.Import) else []
-        for name in [*names, *([node.module] if isinstance(node, ast.ImportFrom) else [])]:
+        for name in [*names, *([node.module] if isinstance(node, ast.ImportFrom) and not node.level else [])]:
             package, dot, _ = name.partition(".")
             found += [f"{name.replace('.', '/')}.py", *([f"{package}/__init__.py"] if dot else [])]
     return [it for it in found if (TOP / "tools" / it).is_file()]
@@ -115,16 +118,26 @@ def tool_pieces():
     for name, file in TOOLS.items():
         command = f'#!/bin/sh\n{FIND}exec python3 -B "$here/../{LIB}/tools/{file}" "$@"\n'
         yield Piece(f"bin/{name}", command.encode(), 0o755)
-    for file in sorted(modules_below(TOOLS.values())):
+    files = modules_below({*TOOLS.values(), *(str(it.relative_to(TOP / "tools")) for it in (TOP / "tools" / COMMAND).rglob("*.py"))})
+    for file in sorted(files):
         text = (TOP / "tools" / file).read_text(encoding="utf-8").removeprefix("#!/usr/bin/env python3\n")
         yield Piece(f"{LIB}/tools/{file}", renamed(text).encode())
+
+
+def command_pieces():
+    """The command for people, with its manual page, which is made of its table of words. Of its version the program's command tells."""
+    command = (f'#!/bin/sh\n{FIND}if [ "$*" = --version ]; then exec "$here/{NAME}" --version; fi\n'
+               f'exec python3 -B -S "$here/../{LIB}/{COMMAND}" "$@"\n')
+    text = (TOP / COMMAND).read_text(encoding="utf-8").partition("\n")[2]
+    return [Piece(f"bin/{COMMAND}", command.encode(), 0o755), Piece(f"{LIB}/{COMMAND}", text.encode()),
+            Piece(f"{MAN}/{COMMAND}.1", manual.page(f"{NAME} {programs.version()}").encode())]
 
 
 def renamed(text):
     """A text that speaks of the program and its tools as they are called in a checkout, with their installed names."""
     for name, file in TOOLS.items():
         text = re.sub(rf"(?<![\w/.])tools/{re.escape(file)}(?![\w/])", name, text)
-    return re.sub(rf"(?<![\w/.])\./{NAME}(?![\w/-])", NAME, text)
+    return re.sub(rf"(?<![\w/.])\./({NAME}|{COMMAND})(?![\w/-])", r"\1", text)
 
 
 def sources(table):
@@ -162,5 +175,6 @@ def page_pieces():
 
 def pieces(program, is_packaged=False):
     """All that is installed, for one program; a distribution's package has it in its own places."""
-    shells = [Piece(COMPLETIONS[shell][is_packaged], text().encode()) for shell, text in completions.SHELLS.items()]
-    return sorted([*program_pieces(program), *tool_pieces(), *page_pieces(), *shells], key=lambda it: it.path)
+    scripts = {NAME: {shell: text() for shell, text in completions.SHELLS.items()}, COMMAND: completion.SCRIPTS}
+    shells = [Piece(COMPLETIONS[shell][is_packaged].format(name), text.encode()) for name, of in scripts.items() for shell, text in of.items()]
+    return sorted([*program_pieces(program), *command_pieces(), *tool_pieces(), *page_pieces(), *shells], key=lambda it: it.path)

@@ -8,7 +8,10 @@ import os
 import sys
 from unittest import mock
 
-from program import TOP
+from program import PROGRAM, TOP
+
+sys.path.insert(0, os.path.join(TOP, "tools"))
+from registry import main
 
 
 @functools.cache
@@ -23,10 +26,22 @@ def tool(name):
 def called(name, *words, given=""):
     """The status that a tool ends with, called with these words and this standard input, and what it prints: on standard output,
     and on standard error."""
+    return captured(lambda: tool(name).main(list(words)), given)
+
+
+def registry(*words, given="", **environment):
+    """The same of the command `registry`, over the program under test, with these variables of the environment alone."""
+    variables = {"REGISTRY_PROGRAM": PROGRAM, **{name: os.environ[name] for name in ("PATH", "HOME") if name in os.environ}, **environment}
+    with mock.patch.dict(os.environ, variables, clear=True):
+        return captured(lambda: main.main(list(map(str, words))), given)
+
+
+def captured(call, given):
+    """What a call answers or exits with, and what it prints, with this standard input."""
     stdin, stdout, stderr = (io.TextIOWrapper(io.BytesIO(text), encoding="utf-8") for text in (given.encode(), b"", b""))
     with mock.patch.multiple(sys, stdin=stdin, stdout=stdout, stderr=stderr):
         try:
-            status = tool(name).main(list(words))
+            status = call()
         except SystemExit as ended:
             status = ended.code or 0
     return status, *(printed(stream) for stream in (stdout, stderr))

@@ -97,6 +97,12 @@ def children():
                 yield int(path.parent.name)
 
 
+def heed_signals():
+    """Has what is begun end at these, also where the tests run in the background and pass them over."""
+    for number in (signal.SIGINT, signal.SIGTERM, signal.SIGHUP):
+        signal.signal(number, signal.SIG_DFL)
+
+
 @contextlib.contextmanager
 def in_time(seconds=None):
     """A test that waits for more than so many seconds meanwhile fails, and what it has started is ended: so a program that never

@@ -22,7 +22,7 @@ from programs import COMPILED, PROVED, UNCHECKED, Program
 
 VERSION = Path(TOP, "VERSION").read_text(encoding="ascii").strip()
 LIST = '{"op":"list"}\n'
-TOOLS = ["registry-check-derivation", "registry-import-index", "registry-lock", "registry-why", "registryd-etcd"]
+TOOLS = ["registry", "registry-check-derivation", "registryd-etcd"]
 
 
 def below(folder):
@@ -70,8 +70,10 @@ class Whole(unittest.TestCase):
     def test_what_stands_where(self):
         there = below(self.prefix)
         self.assertEqual({it for it in there if it.startswith("bin/")}, {"bin/", "bin/registryd", *(f"bin/{it}" for it in TOOLS)})
-        for path in ("lib/registryd/registryd", "lib/registryd/tools/why", "lib/registryd/tools/etcd/front.py",
-                     "share/man/man1/registryd.1", "share/man/man1/registry-tools.1",
+        for path in ("lib/registryd/registryd", "lib/registryd/registry", "lib/registryd/tools/registry/commands/why.py",
+                     "lib/registryd/tools/registry/page/files/page.html", "lib/registryd/tools/etcd/front.py",
+                     "share/man/man1/registryd.1", "share/man/man1/registry.1", "share/man/man1/registry-tools.1",
+                     "share/bash-completion/completions/registry", "share/zsh/site-functions/_registry", "share/fish/vendor_completions.d/registry.fish",
                      "share/bash-completion/completions/registryd", "share/zsh/site-functions/_registryd",
                      "share/fish/vendor_completions.d/registryd.fish",
                      "share/registryd/lines.schema.json", "share/doc/registryd/FORMATS.md",
@@ -121,14 +123,11 @@ class Whole(unittest.TestCase):
         self.assertEqual((done.returncode, done.stderr), (2, "registryd: bad words\n"))
 
     def test_the_first_session_and_the_refusal_of_the_first_page(self):
-        typed, told, tests, refused, why = blocks()[:5]
-        # the second command is for a checkout alone
-        self.assertEqual(tests, ["./test"])
+        # the second command of the page is for a checkout alone
+        shown = [it for it in blocks() if it != ["./test"]]
         folder = self.enterContext(tempfile.TemporaryDirectory())
-        for lines, wanted in ((typed, told), (refused, why)):
-            text = "\n".join(lines).replace("./registryd", "registryd")
-            for name in TOOLS:
-                text = re.sub(f"tools/{name.removeprefix('registry-').replace('-', '_')}(\\.py)?", name, text)
+        for lines, wanted in zip(shown[:4:2], shown[1:4:2]):
+            text = installed.renamed("\n".join(lines))
             self.assertEqual(self.typed(text, folder), (wanted, ""))
 
     def typed(self, text, folder):
@@ -140,7 +139,7 @@ class Whole(unittest.TestCase):
         # a block that names a tool is typed; those up to the next one are printed, with an empty line between them
         said = []
         for block in blocks(os.path.relpath(self.prefix / "share/doc/registryd/WHY.md", TOP)):
-            if re.search("^registry-|[|] registry-", "\n".join(block), re.M):
+            if re.search("^registry ", "\n".join(block), re.M):
                 said.append((block, []))
             else:
                 said[-1][1].extend([""] * bool(said[-1][1]) + block)
@@ -158,7 +157,7 @@ class Whole(unittest.TestCase):
             self.assertNotRegex(said.stdout, r"tools/|\./registryd")
 
     def test_nothing_is_kept_beside_the_tools(self):
-        run([self.bin / "registry-lock", "diff", "/dev/null", "/dev/null"], env={"PATH": os.environ["PATH"]})
+        run([self.bin / "registry", "diff", "/dev/null", "/dev/null"], env={"PATH": os.environ["PATH"]})
         self.assertEqual([it for it in below(self.prefix) if "__pycache__" in it], [])
 
     def test_the_links_of_pages_lead_somewhere(self):
@@ -246,11 +245,11 @@ class Places(Case):
 
     def test_a_file_of_another_is_not_replaced(self):
         (self.prefix / "bin").mkdir(parents=True)
-        (self.prefix / "bin/registry-why").write_text("mine", encoding="ascii")
+        (self.prefix / "bin/registry").write_text("mine", encoding="ascii")
         before = below(self.folder)
-        with self.assertRaisesRegex(Refused, "bin/registry-why is there already"):
+        with self.assertRaisesRegex(Refused, "bin/registry is there already"):
             install(self.prefix, self.pieces())
-        self.assertEqual((below(self.folder), (self.prefix / "bin/registry-why").read_text(encoding="ascii")), (before, "mine"))
+        self.assertEqual((below(self.folder), (self.prefix / "bin/registry").read_text(encoding="ascii")), (before, "mine"))
 
     def test_an_earlier_install_is_replaced_while_it_runs(self):
         install(self.prefix, [*self.pieces(COMPILED), Piece("bin/registry-old", b""), Piece("share/old/file", b"")])

@@ -14,8 +14,7 @@ from completions import COMMANDS
 
 VERSION = open(os.path.join(TOP, "VERSION"), encoding="ascii").read().strip()
 # The tools of the second page, each with the words before its options.
-TOOLS = {name: (file, {"lock": ["write", "need", "diff"], "import_index": ["crates-io", "cargo", "debian"]}.get(file, [""]))
-         for name, file in installed.TOOLS.items()}
+TOOLS = {name: (file, [""]) for name, file in installed.TOOLS.items()}
 
 
 def page(name):

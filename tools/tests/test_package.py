@@ -139,7 +139,7 @@ class Made(unittest.TestCase):
     def test_manual_pages_are_packed_and_found(self):
         for name in os.listdir(os.path.join(self.usr, "bin")):
             page = self.usr / f"share/man/man1/{name}.1.gz"
-            self.assertIn(".Sh NAME", gzip.decompress(page.read_bytes()).decode())
+            self.assertRegex(gzip.decompress(page.read_bytes()).decode(), r"(?mi)^\.sh NAME$")
 
     def test_the_same_whenever_and_wherever_it_is_made(self):
         other = self.folder / "another folder"
@@ -180,7 +180,7 @@ class Made(unittest.TestCase):
             self.assertEqual(done.returncode, 0, done.stderr)
             self.assertEqual(run(["/usr/bin/registryd", "serve", "--workers", "1"], SESSION[0]).stdout, SESSION[1])
             self.assertIn("It is not proved.", run(["/usr/bin/registryd", "--version"]).stdout)
-            self.assertEqual(run(["/usr/bin/registry-lock", "--help"]).returncode, 0)
+            self.assertEqual(run(["/usr/bin/registry", "--help"]).returncode, 0)
             self.assertEqual(dpkg("-r", "registryd").returncode, 0)
             self.assertEqual([it for it in files if os.path.lexists(it)], [])
             self.assertEqual(dpkg("-P", "registryd").returncode, 0)

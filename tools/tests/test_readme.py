@@ -26,7 +26,10 @@ def blocks(name="README.md"):
 def answers(folder, lines):
     """What a shell in a folder prints for lines that are typed, and its exit status."""
     typed = "\n".join(lines).replace("./registryd", PROGRAM).replace("tools/", os.path.join(TOP, "tools", ""))
-    done = subprocess.run(["sh", "-c", typed], cwd=folder, stdout=subprocess.PIPE, text=True, timeout=60)
+    typed = re.sub(r"\./registry\b", os.path.join(TOP, "registry"), typed)
+    variables = {**os.environ, "REGISTRY_PROGRAM": PROGRAM, "NO_COLOR": "1"}
+    variables.pop("REGISTRY_JOURNAL", None)
+    done = subprocess.run(["sh", "-c", typed], cwd=folder, env=variables, stdin=subprocess.DEVNULL, stdout=subprocess.PIPE, text=True, timeout=60)
     return done.stdout.splitlines(), done.returncode
 
 
@@ -38,9 +41,9 @@ BEGUN = re.compile(r"""(?:--save |--journal |\./example \./registryd |journal="|
 
 class Readme(unittest.TestCase):
     def test_each_file_that_is_typed_can_be_run(self):
-        words = [line.split()[0] for name in ("README.md", "docs/BENCHMARKS.md") for block in blocks(name) for line in block]
+        words = [line.split()[0] for name in ("README.md", "docs/WHY.md", "docs/BENCHMARKS.md") for block in blocks(name) for line in block]
         files = {word for word in words if re.fullmatch(r"[a-z./_]+", word) and "/" in word}
-        self.assertLessEqual({"./registryd", "bench/resolve.py", "tools/check_derivation.py", "tools/why"}, files)
+        self.assertLessEqual({"./registryd", "./registry", "bench/resolve.py", "tools/check_derivation.py"}, files)
         files.add("./test")
         self.assertEqual([file for file in sorted(files) if not os.access(os.path.join(TOP, file), os.X_OK)], [])
 
@@ -91,8 +94,8 @@ class Readme(unittest.TestCase):
                 typed = ["./registryd serve --workers 1 --load journal --save saved < /dev/null", "cat saved"]
                 self.assertEqual(answers(folder, typed), (["registry-journal 2", *block[1:]], 0))
 
-    def test_the_refusal_that_is_told(self):
-        at = next(at for at, block in enumerate(blocks()) if "asked.lines" in block[0])
+    def test_the_command_for_people(self):
+        at = next(at for at, block in enumerate(blocks()) if block[0].startswith("./registry "))
         typed, told = blocks()[at:at + 2]
         with tempfile.TemporaryDirectory() as folder:
             self.assertEqual(answers(folder, typed), (told, 0))

@@ -43,6 +43,8 @@ class Counted(unittest.TestCase):
             os.makedirs(tests)
             for file in glob.glob(os.path.join(TOP, "tools", "*.py")):
                 shutil.copy(file, os.path.join(top, "tools"))
+            # the tools draw with what the command for people draws with
+            shutil.copytree(os.path.join(TOP, "tools", "registry"), os.path.join(top, "tools", "registry"))
             shutil.copy(os.path.join(TOP, "test"), top)
             for name in ("said.py", *names, "test_written_lines.py"):
                 with open(os.path.join(tests, name), "w", encoding="utf-8") as file:

@@ -4,6 +4,7 @@ sentence; the pictures; and the command line.
 The first two examples are those of Dart pub's doc/solver.md, "Linear Error Reporting" and "Branching Error Reporting".
 """
 import json
+import math
 import os
 import random
 import re
@@ -12,8 +13,8 @@ import tempfile
 import unittest
 from xml.etree import ElementTree
 
-from called import called
-from program import PROGRAM, TOP, publish, resolve, run, serve, yank
+from called import registry
+from program import TOP, publish, resolve, run, serve, yank
 from refuter import Known, Refuter
 from test_check_derivation import CHAIN, EITHER, WORKED, tangle
 from test_readme import answers, page
@@ -21,12 +22,13 @@ from test_readme import answers, page
 sys.path.insert(0, os.path.join(TOP, "tools"))
 sys.path.append(os.path.join(TOP, "bench"))
 import check_derivation
-import drawing
 import generated_lines
 import hostile_lines
 import workloads
 from read_english import Reader, Unread
-from telling import Derivation, Telling, Versions
+from registry import drawing
+from registry.derivation import Derivation, Versions
+from registry.telling import Telling
 
 
 def line(conclusion, *causes, pivot):
@@ -324,7 +326,9 @@ def drawn(picture):
     """The texts, with their places, of a picture, and how far it goes."""
     top = ElementTree.fromstring(picture)
     texts = [(it.text, float(it.get("x")), float(it.get("y"))) for it in top.iter(SVG + "text")]
-    return top, texts, (float(top.get("width")), float(top.get("height")))
+    wide, high = float(top.get("width")), float(top.get("height"))
+    assert top.get("viewBox") == f"0 0 {wide:.0f} {high:.0f}", "a picture that can't be shown at another size"
+    return top, texts, (wide, high)
 
 
 def upright(top):
@@ -345,7 +349,7 @@ class Pictures(unittest.TestCase):
     def test_derivations(self):
         for derivation in (self.refusal(3), self.refusal(25)):
             steps = {it.number: it for it in derivation.steps}
-            top, texts, (wide, high) = drawn(drawing.draw_derivation(derivation, "what was asked"))
+            top, texts, (wide, high) = drawn(drawing.draw_derivation(derivation, "what was asked", most=math.inf))
             boxes = [[float(it.get(side)) for side in ("x", "y", "width", "height")] for it in top.iter(SVG + "rect") if it.get("rx")]
             self.assertEqual([int(it) for it, _, _ in texts if it.isdigit()], list(steps))
             self.assertEqual(len(boxes), len(steps))
@@ -413,7 +417,8 @@ NOT = [(["app *"], [], "log 1.0.0", "log 1.0.0 can be selected; log 2.1.0 was, w
        (["log ^2"], [], "log 1.0.0", "log 1.0.0 can't be selected: the request depends on log ^2"),
        (["app *"], [], "log 2.2.0", "app *: log 2.2.0 can't be selected\n"
                                     "  Because log 2.2.0 is asked for and log 2.2.0 is yanked, log 2.2.0 can't be selected."),
-       (["app ^2"], [], "log 2.1.0", "app ^2: refused at revision 8\n  Because the request depends on app ^2 and no version of app matches ^2, resolving failed.")]
+       (["app ^2"], [], "log 2.1.0", "app ^2: refused at revision 8\n  Because the request depends on app ^2 and no version of app matches ^2, resolving failed.\n"
+                               "  No version of app matches ^2; there are 1.1.0 and 1.0.0.")]
 
 
 class Typed(unittest.TestCase):
@@ -429,7 +434,7 @@ class Typed(unittest.TestCase):
         return path
 
     def why(self, *words):
-        return called("why", "--program", PROGRAM, *words)
+        return registry("why", *words)
 
     def journal(self, lines, name="journal"):
         path = os.path.join(self.folder, name)
@@ -437,7 +442,8 @@ class Typed(unittest.TestCase):
         return path
 
     def session(self, lines, name="session"):
-        return self.file(f"{name}.asked", lines), self.file(f"{name}.told", serve(lines))
+        """The options that name the files of a session."""
+        return "--asked", self.file(f"{name}.asked", lines), "--told", self.file(f"{name}.told", serve(lines))
 
     def english(self, name, title):
         return "\n".join([title, *("  " + it if it else "" for it in TOLD[name][3][1:-1].split("\n"))]) + "\n"
@@ -450,7 +456,7 @@ class Typed(unittest.TestCase):
                  ["the request needs app *", "the request needs log =1.0.0", "app 1.0.0 needs log ^1"]),
                 ("2.2.0", ["app *: log 2.2.0 can't be selected", "1", "log 2.2.0 can't be selected",
                            "because log 2.2.0 is asked for and log 2.2.0 is yanked"], [])):
-            self.assertEqual(self.why("--load", journal, "app *", "--not", "log", version, "--picture", picture)[0], 0)
+            self.assertEqual(self.why("--journal", journal, "app *", "--not", "log", version, "--picture", picture)[0], 0)
             with open(picture, encoding="utf-8") as file:
                 top, texts, _ = drawn(file.read())
             # without what says how the picture is read
@@ -470,15 +476,15 @@ class Typed(unittest.TestCase):
             with open(picture, encoding="utf-8") as file:
                 self.assertEqual([said for said, _, _ in drawn(file.read())[1] if said.isdigit()], list("123456"))
         turns = [line for pair in zip(explained, serve(explained)) for line in pair]
-        self.assertEqual(self.why(self.file("turns", turns)), (0, said, ""))
+        self.assertEqual(self.why("--asked", self.file("turns", turns)), (0, said, ""))
         self.assertEqual(self.why(*files, "--request", "10"), (0, "request 10, b *: selected at revision 8\n  b 2.0.0\n", ""))
         self.assertEqual(self.why(*files, "--request", "10", "--not", "b", "1.0.0"),
                          (0, "b 1.0.0 can be selected; b 2.0.0 was, which is higher\na selection with it changes nothing else\n", ""))
 
     def test_a_journal_and_needs(self):
         journal = self.journal(BRANCHING[0])
-        self.assertEqual(self.why("--load", journal, "foo ^1.0.0"), (0, self.english("branching", "foo ^1.0.0: refused at revision 8"), ""))
-        self.assertEqual(self.why("--load", journal, "b *", "--lock", self.file("lock", ['[["b","1.0.0"]]'])),
+        self.assertEqual(self.why("--journal", journal, "foo ^1.0.0"), (0, self.english("branching", "foo ^1.0.0: refused at revision 8"), ""))
+        self.assertEqual(self.why("--journal", journal, "b *", "--lock", self.file("lock", ['[["b","1.0.0"]]'])),
                          (0, "b *: selected at revision 8\n  b 1.0.0\n", ""))
 
     def test_a_race(self):
@@ -487,19 +493,21 @@ class Typed(unittest.TestCase):
         files = [self.file("one", [request]), self.file("two", [publish("a", "2.0.0"), request])]
         done = run(["race", *files]).stdout.decode().splitlines()
         journal = self.file("journal", done[3:])
-        nothing = "Because the request depends on a ^1 and no version of a matches ^1, resolving failed.\n"
-        self.assertEqual(self.why("--journal", journal, files[1], self.file("told", done[1:3])),
-                         (0, "request 2, a ^1: refused at revision 1\n  " + nothing, ""))
+        unmet = ("Because the request depends on a ^1 and no version of a matches ^1, resolving failed.\n"
+                 "  No version of a matches ^1; there is 2.0.0.\n")
+        unpublished = "Because the request depends on a ^1 and no version of a is published, resolving failed.\n"
+        self.assertEqual(self.why("--journal", journal, "--asked", files[1], "--told", self.file("told", done[1:3])),
+                         (0, "request 2, a ^1: refused at revision 1\n  " + unmet, ""))
         revision = json.loads(done[0])["revision"]
-        self.assertEqual(self.why("--journal", journal, files[0], self.file("told", done[:1])),
-                         (0, f"request 1, a ^1: refused at revision {revision}\n  " + (nothing if revision else nothing.replace("matches ^1", "is published")), ""))
+        self.assertEqual(self.why("--journal", journal, "--asked", files[0], "--told", self.file("told", done[:1])),
+                         (0, f"request 1, a ^1: refused at revision {revision}\n  " + (unmet if revision else unpublished), ""))
 
     def test_not_this_version(self):
         journal = self.journal(ASKED)
         for needs, lock, version, said in NOT:
             locked = ["--lock", self.file("lock", [json.dumps([it.split(" ") for it in lock])])] if lock else []
-            self.assertEqual(self.why("--load", journal, *needs, *locked, "--not", *version.split(" ")), (0, said + "\n", ""))
-        status, said, _ = self.why("--load", journal, "app ^1.1", "--not", "log", "1.0.0")
+            self.assertEqual(self.why("--journal", journal, *needs, *locked, "--not", *version.split(" ")), (0, said + "\n", ""))
+        status, said, _ = self.why("--journal", journal, "app ^1.1", "--not", "log", "1.0.0")
         failed = "log 1.0.0 can't be selected"
         title, *english = said.splitlines()
         self.assertEqual((status, title), (0, f"app ^1.1: {failed}"))
@@ -509,53 +517,53 @@ class Typed(unittest.TestCase):
     def test_what_can_t_be_told(self):
         lines, request, rows, _ = TOLD["linear"]
         files = self.session([*lines, json.dumps({**json.loads(request), "explain": True})])
-        with open(files[1], encoding="utf-8") as file:
+        with open(files[3], encoding="utf-8") as file:
             replies = file.read().splitlines()
         broken = json.loads(replies[-1])
         broken["derivation"][0]["pivot"] = "baz"
         journal = self.journal(lines)
         with open(journal, encoding="utf-8") as file:
-            cut_short = self.file("cut", file.read().splitlines()[:-2])
+            damaged = self.file("damaged", file.read().replace(":[],", ":[ ],", 1).splitlines())
         many = [f"p{number} *" for number in range(64)]
-        bad = [((files[0], self.file("broken", [*replies[:-1], json.dumps(broken)])), "does not follow: line 1:"),
-               ((files[0], self.file("fewer", replies[:-1])), "5 request lines and 4 replies"),
-               ((files[0], self.file("other", [*replies[:-1], '{"refused":true,"revision":9}'])), "reply 5 is not of revision 4"),
-               ((files[0], os.path.join(self.folder, "nowhere")), "No such file"), ((*files, "--request", "2"), "request 2 is no request"),
-               (self.session(lines, "short"), "no request"), (("--load", cut_short, "foo *"), "a cut journal"),
-               (("--load", journal, "foo *", "--lock", journal), "19 BadLine"), (("--load", journal, "foo *", "foo *"), "RepeatedDependency"),
-               (("--load", self.journal([publish(f"p{number}", "1.0.0") for number in range(65)], "many"), *many, "--not", "p64", "1.0.0"), "64 needs"),
-               (("--load", self.journal([publish("p", "1.0.0-" + "x" * 250), publish("p", "2.0.0")], "long"), "p >=1.0.0-a", "--not", "p", "1.0.0-" + "x" * 250),
-                "too long to be asked for"),
-               ((files[0], self.file("unselected", [*replies[:-1], '{"revision":4,"selected":5}'])), "no request is refused"),
-               ((files[0], self.file("unselected", [*replies[:-1], '{"revision":4,"selected":5}']), "--request", "5"), "no selection of the right form"),
-               ((files[0], self.file("unclosed", [*replies[:-1], '{"revision":4,"selected":[["foo","1.0.0"]]}']), "--request", "5", "--picture",
-                 os.path.join(self.folder, "x.svg")), "lacks what it needs"),
-               (("--load", journal, "p1 *", "--not", "zed", "1.0.0", "--picture", os.path.join(self.folder, "x.svg")), "nothing to draw")]
-        for words, told in bad:
-            status, _, fault = self.why(*words)
-            self.assertEqual((status, fault.count("\n"), fault[:11]), (1, 1, "tools/why: "), fault)
+        asked, told = files[:2], lambda name, lines: ("--told", self.file(name, lines))
+        bad = [((*asked, *told("broken", [*replies[:-1], json.dumps(broken)])), 1, "does not follow: line 1:"),
+               ((*asked, *told("fewer", replies[:-1])), 1, "5 request lines and 4 replies"),
+               ((*asked, *told("other", [*replies[:-1], '{"refused":true,"revision":9}'])), 1, "reply 5 is not of revision 4"),
+               ((*asked, "--told", os.path.join(self.folder, "nowhere")), 3, "No such file"), ((*files, "--request", "2"), 1, "request 2 is no request"),
+               (self.session(lines, "short"), 1, "no request"), (("--journal", damaged, "foo *"), 3, "damaged: line 4 is at fault"),
+               (("--journal", journal, "foo *", "--lock", journal), 3, "journal is no lock file: 19 BadLine"),
+               (("--journal", journal, "foo *", "foo *"), 1, "foo comes twice"), (("--journal", journal, "app"), 0, ""),
+               (("--journal", journal, "app@nonsense"), 1, 'of the requirement "nonsense"'), (("--journal", journal, "A"), 1, 'the name "A"'),
+               (("--journal", self.journal([publish(f"p{number}", "1.0.0") for number in range(65)], "many"), *many, "--not", "p64", "1.0.0"), 1, "64 needs"),
+               (("--journal", self.journal([publish("p", "1.0.0-" + "x" * 250), publish("p", "2.0.0")], "long"), "p >=1.0.0-a", "--not", "p", "1.0.0-" + "x" * 250),
+                1, "too long to be asked for"),
+               ((*asked, *told("unselected", [*replies[:-1], '{"revision":4,"selected":5}'])), 1, "no request is refused"),
+               ((*asked, *told("unselected", [*replies[:-1], '{"revision":4,"selected":5}']), "--request", "5"), 1, "no selection of the right form"),
+               ((*asked, *told("unclosed", [*replies[:-1], '{"revision":4,"selected":[["foo","1.0.0"]]}']), "--request", "5", "--picture",
+                 os.path.join(self.folder, "x.svg")), 1, "lacks what it needs"),
+               (("--journal", journal, "p1 *", "--not", "zed", "1.0.0", "--picture", os.path.join(self.folder, "x.svg")), 1, "nothing to draw")]
+        for words, status, told in bad:
+            ended, _, fault = self.why(*words)
+            self.assertEqual((ended, fault.count("\n"), fault[:10]), (status, *((1, "registry: ") if status else (0, ""))), (words, fault))
             self.assertIn(told, fault)
 
     def test_words(self):
         journal = self.journal([])
-        for words in ([], ["--load", journal], ["--load", journal, "app"], ["--load", journal, "app nonsense"], ["--load", journal, "A *"],
-                      ["a", "b", "c"], ["a", "b", "--lock", "c"], ["--load", journal, "app *", "--request", "1"], ["a", "b", "--none"],
-                      ["--load", journal, "app *", "--journal", journal], ["a", "b", "--not", "app"], ["a", "b", "--not", "app", "1"], ["a", "--request", "x"]):
-            status, said, fault = self.why(*words)
-            self.assertEqual((status, said), (2, ""), words)
-            self.assertIn("usage: tools/why", fault)
+        for words in ([], ["--asked", "a", "app"], ["--asked", "a", "--lock", "c"], ["--asked", "a", "--budget", "1"], ["app", "--told", "a"], ["app", "--request", "1"],
+                      ["app", "--none"], ["app", "--unfolded"], ["app", "--not", "app"], ["app", "--not", "app", "1"], ["--asked", "a", "--request", "x"], ["--asked", "a", "--request", "0"]):
+            status, said, fault = self.why("--journal", journal, *words)
+            self.assertEqual((status, said, fault.count("\n"), fault[:10]), (2, "", 1, "registry: "), words)
         status, said, _ = self.why("--help")
         self.assertEqual(status, 0)
-        self.assertIn("tools/why --load app.journal 'app ^1'", said)
+        self.assertIn("  registry why app@^1 --not log 1.2.0\n", said)
 
     def test_the_page(self):
         # what docs/WHY.md tells to type prints what it says, and its pictures are those that are drawn
         shown = [re.sub("(?m)^    ", "", block.strip("\n")).split("\n")
                  for block in re.findall(r"(?:^    .*\n|^\n(?=    ))+", page("docs/WHY.md"), re.M)]
-        self.assertEqual(len(shown), 6)
+        self.assertEqual(len(shown), 8)
         for typed, told in zip(shown[::2], shown[1::2]):
-            typed = [it.replace("tools/why", "tools/why --program ./registryd").replace("docs/", "") for it in typed]
-            self.assertEqual(answers(self.folder, typed), (told, 0))
+            self.assertEqual(answers(self.folder, [it.replace("docs/", "") for it in typed]), (told, 0))
         for picture in ("why.svg", "selection.svg"):
             with open(os.path.join(self.folder, picture), encoding="utf-8") as new, open(os.path.join(TOP, "docs", picture), encoding="utf-8") as old:
                 self.assertEqual(new.read(), old.read(), f"docs/{picture}")

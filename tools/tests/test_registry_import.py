@@ -9,15 +9,16 @@ import tomllib
 import unittest
 from pathlib import Path
 
-from called import called
-from program import LIST, TOP, publish, resolve, serve, yank
+from called import registry
+from program import LIST, PROGRAM, TOP, publish, resolve, run, serve, yank
+from registry_folder import Folder, at_terminal
 from test_readme import answers, blocks
 
 sys.path.insert(0, os.path.join(TOP, "tools"))
-from index_readers import BEYOND, NOTHING, comparator, joined
+from registry.indexes.debian import BEYOND, NOTHING, comparator, joined
 from limits import MOST_COMMANDS, MOST_NEEDS, MOST_PACKAGES, MOST_VERSIONS
 
-TOOL = os.path.join(TOP, "tools", "import_index")
+TOOL = os.path.join(TOP, "registry")
 DATA = Path(TOP, "tools", "tests", "data")
 CRATES_IO, CARGO, DEBIAN = (str(DATA / name) for name in ("crates-io", "cargo", "debian.txt"))
 
@@ -57,8 +58,9 @@ PACKAGED_COUNTS = [
 
 
 def made(*words):
-    """What the tool writes: its lines, what it counts, and its status."""
-    status, lines, counts = called("import_index", *map(str, words))
+    """What `registry import --lines` writes: its lines, what it counts, and its status."""
+    first, *more = words
+    status, lines, counts = registry("import", first, "--lines", *more)
     return lines.splitlines(), counts.splitlines(), status
 
 
@@ -315,20 +317,74 @@ class Debian(Imported):
         with tempfile.TemporaryDirectory() as folder:
             Path(folder, "python3").symlink_to(sys.executable)
             bare = {**os.environ, "PATH": folder}
-            done = subprocess.run([sys.executable, TOOL, "debian"], env=bare, stdout=subprocess.PIPE, stderr=subprocess.PIPE, text=True)
-            self.assertIn("import_index: apt-cache can't be asked", done.stderr)
+            done = subprocess.run([sys.executable, TOOL, "import", "debian"], env=bare, stdout=subprocess.PIPE, stderr=subprocess.PIPE, text=True)
+            self.assertIn("registry: apt-cache can't be asked", done.stderr)
             Path(folder, "apt-cache").write_text("#!/bin/sh\necho Package: fog\n")
             os.chmod(Path(folder, "apt-cache"), 0o755)
-            again = subprocess.run([sys.executable, TOOL, "debian"], env=bare, stdout=subprocess.PIPE, stderr=subprocess.PIPE, text=True)
+            again = subprocess.run([sys.executable, TOOL, "import", "debian"], env=bare, stdout=subprocess.PIPE, stderr=subprocess.PIPE, text=True)
             self.assertIn("`apt-get update` fetches the index", again.stderr)
         self.assertEqual([done.returncode, again.returncode, done.stdout + again.stdout], [1, 1, ""])
 
 
+class Published(Folder):
+    """What the subcommand puts into a journal."""
+
+    def test_the_sample_is_published_and_counted(self):
+        status, said, counts = self.registry("import", "crates-io", CRATES_IO)
+        self.assertEqual((status, said, counts.splitlines()), (0, "imported: 13 versions of 6 crates, 1 of them yanked (revision 14)\n", sorted(REACHED + ALONE)))
+        told = serve([*FOG, *IO, *MAKER, *PAD, *Q, *SOLITARY, LIST])[-1]
+        self.assertEqual(json.loads(told), json.loads(serve_loaded(self.journal, LIST)))
+
+    def test_what_is_there_already_is_passed_over(self):
+        self.registry("import", "crates-io", CRATES_IO, "--from", "io")
+        status, said, counts = self.registry("import", "crates-io", CRATES_IO)
+        self.assertEqual((status, said), (0, "imported: 13 versions of 6 crates, 1 of them yanked (revision 14)\n"))
+        self.assertEqual(counts.splitlines()[-1], "passed over: commands that were carried out before: 13")
+        status, said, counts = self.registry("import", "crates-io", CRATES_IO, "--json")
+        told = json.loads(said)
+        self.assertEqual((status, counts, told["accepted"], told["passed_over"], told["refused"], told["revision"]), (0, "", 0, 14, 0, 14))
+        self.assertEqual(told["notes"][:-1], sorted(REACHED + ALONE))
+
+    def test_what_the_registry_refuses_is_told(self):
+        # 49,151 versions are there: the first one more is the last that a journal takes
+        most = "".join(f'{{"name":"n{number}","needs":[],"op":"publish","version":"1.0.{version}"}}\n' for number in range(12) for version in range(4096))
+        self.path("registry.journal", "registry-journal 2\n" + most[:most.rindex("{")] + "end 49151\n")
+        status, said, counts = self.registry("import", "debian", DEBIAN)
+        self.assertEqual((status, said), (1, "imported: 7 versions of 6 crates, 0 of them yanked (revision 49152)\n"))
+        self.assertEqual(counts.splitlines()[-1], "refused: the journal is full: `registry journal renew` begins a smaller one: 6 (first: fog 1.4.2)")
+
+    def test_what_cargo_locked_is_kept_as_a_lock_file(self):
+        path = self.path("mine.lock")
+        status, said, counts = self.registry("import", "cargo", CARGO, "--index", CRATES_IO, "--write", path)
+        self.assertEqual((status, said), (0, "imported: 14 versions of 7 crates, 1 of them yanked (revision 15)\n"))
+        self.assertEqual(counts.splitlines()[-1], "registry: mine.lock and mine.needs are written")
+        locked = tomllib.loads(Path(CARGO, "Cargo.lock").read_text())["package"]
+        self.assertEqual(json.loads(self.text("mine.lock")), sorted([it["name"].lower(), it["version"]] for it in locked))
+        self.assertEqual(self.text("mine.needs"), "app =0.3.0\nlib =0.1.0\n")
+        selected = "".join(f"{name} {version}\n" for name, version in json.loads(self.text("mine.lock")))
+        self.assertEqual(self.registry("resolve", "--lock", path), (0, selected, ""))
+
+    def test_a_bar_on_a_terminal(self):
+        # it is rewritten, and is gone at the end
+        status, told = at_terminal([TOOL, "import", "debian", DEBIAN, "--journal", self.journal], {"REGISTRY_PROGRAM": PROGRAM})
+        self.assertEqual(status, 0)
+        self.assertIn("\rimporting [##############################] 100%, 7 of 7\r\x1b[K", told)
+        self.assertIn("\rimporting [####..........................] 14%, 1 of 7\r", told)
+        self.assertIn("left out: packages of features", told)
+        self.assertTrue(told.startswith("reading the index\r\x1b[K"))
+
+
+def serve_loaded(journal, *lines):
+    """The last reply of a session that begins with a journal."""
+    return run(["serve", "--workers", "1", "--load", journal], "".join(line + "\n" for line in lines).encode()).stdout.decode().splitlines()[-1]
+
+
 class Words(unittest.TestCase):
     def test_what_the_page_has_typed_prints_what_it_says(self):
-        typed, told = blocks("docs/IMPORTING.md")[:2]
+        shown = blocks("docs/IMPORTING.md")
         with tempfile.TemporaryDirectory() as folder:
-            self.assertEqual(answers(folder, ["exec 2> counts", *typed]), (told, 0))
+            for typed, told in zip(shown[:4:2], shown[1:4:2]):
+                self.assertEqual(answers(folder, ["exec 2> counts", *typed]), (told, 0))
 
     def test_what_can_not_be_done_is_told_with_its_status(self):
         with tempfile.TemporaryDirectory() as bare:
@@ -337,23 +393,25 @@ class Words(unittest.TestCase):
                                         (["debian", DEBIAN, "--from", "padleft"], 1, "there is no crate padleft in the index; there is pad-left"),
                                         (["crates-io", CRATES_IO, "--from", "io@new"], 1, '"new" is no requirement'),
                                         (["crates-io", CRATES_IO, "--ask"], 1, "name it by --from"),
-                                        (["debian", os.path.join(bare, "none")], 1, "No such file"),
-                                        (["crates-io", CRATES_IO, "--newest", "0"], 2, f"--newest is from 1 to {MOST_VERSIONS}"),
-                                        (["npm", bare], 2, "invalid choice"), ([], 2, "required")]:
+                                        (["debian", os.path.join(bare, "none")], 3, "No such file"),
+                                        (["crates-io", CRATES_IO, "--newest", "0"], 2, f"0 is no number from 1 to {MOST_VERSIONS}"),
+                                        (["crates-io"], 2, "required: DIR"), (["npm", bare], 2, "not with npm")]:
                 lines, said, ended = made(*words)
-                self.assertEqual((lines, ended), ([], status), words)
+                self.assertEqual((lines, ended, len(said)), ([], status, 1), words)
                 self.assertIn(told, said[-1])
+        self.assertEqual(registry("import"), (2, "", "registry: import goes with one of crates-io, cargo, debian: `registry --help` has all\n"))
+        self.assertEqual(registry("import", "debian", DEBIAN, "--ask"), (2, "", "registry: --ask goes with --lines: `registry resolve` asks the registry\n"))
 
     def test_help_shows_an_example_of_each(self):
-        for words in ([], ["crates-io"], ["cargo"], ["debian"]):
+        for words in (["crates-io"], ["cargo"], ["debian"]):
             lines, told, status = made(*words, "--help")
             self.assertEqual((told, status), ([], 0))
-            self.assertIn("    tools/import_index debian --from reqwest --ask | ./registryd serve --workers 1 | tail -n 1", lines)
+            self.assertEqual([it[:2] for it in lines if it.strip().startswith(f"registry import {words[0]}")][:1], ["  "])
 
     def test_a_reader_that_has_enough_ends_it(self):
         with tempfile.TemporaryDirectory() as top:
             fill(top, {"2/up": "".join(entry("up", f"0.0.{number}") for number in range(4000))})
-            done = subprocess.run(f"{TOOL} crates-io {top} | head -n 1", shell=True, stdout=subprocess.PIPE, stderr=subprocess.PIPE, text=True)
+            done = subprocess.run(f"{TOOL} import crates-io {top} --lines | head -n 1", shell=True, stdout=subprocess.PIPE, stderr=subprocess.PIPE, text=True)
         self.assertEqual((done.stdout.count("\n"), done.stderr), (1, ""))
 
 

@@ -1,0 +1,206 @@
+"""Lock files: what is read and refused is what the tables of the program's own readers want, what is written is read by it; and
+how `registry resolve` keeps a selection, and `registry diff` tells what changed between two."""
+import json
+import os
+import stat
+import sys
+import unittest
+from unittest import mock
+
+from program import PROGRAM, TOP, publish, yank
+from registry_folder import Folder
+
+sys.path.insert(0, os.path.join(TOP, "tools"))
+from limits import MOST_LOCK_LINES
+from registry.locks import Unread, changes, lock_text, read_lock
+
+TABLE = os.path.join(TOP, "rows", "texts", "locks.rows")
+# two locks, and what changed
+CHANGED = [
+    ([], [], []),
+    (["a 1.0.0"], ["a 1.0.0"], []),
+    ([], ["b 1.0.0", "a 2.0.0"], ["+ a 2.0.0", "+ b 1.0.0"]),
+    (["b 1.0.0", "a 2.0.0"], ["b 1.0.0"], ["- a 2.0.0"]),
+    (["a 1.2.0", "b 0.3.1", "c 1.0.0", "d 2.0.0", "e 1.0.0+x", "f 1.0.0-rc.1", "g 0.0.3", "h 1.9.0", "i 1.0.0"],
+     ["a 1.10.0", "b 0.4.0", "c 2.0.0", "d 1.9.9", "e 1.0.0+y", "f 1.0.0", "g 0.0.4", "h 1.9.0-a", "j 1.0.0"],
+     ["~ a 1.2.0 -> 1.10.0", "~ b 0.3.1 -> 0.4.0 (beyond ^0.3.1)", "~ c 1.0.0 -> 2.0.0 (beyond ^1.0.0)", "~ d 2.0.0 -> 1.9.9 (older)",
+      "~ e 1.0.0+x -> 1.0.0+y (of equal precedence)", "~ f 1.0.0-rc.1 -> 1.0.0", "~ g 0.0.3 -> 0.0.4 (beyond ^0.0.3)",
+      "~ h 1.9.0 -> 1.9.0-a (older)", "- i 1.0.0", "+ j 1.0.0"]),
+]
+
+
+def rows(call):
+    """The rows of the program's table for one call."""
+    with open(TABLE, encoding="utf-8") as lines:
+        found = [json.loads(line) for line in lines if line.startswith("{")]
+    return [row for row in found if row["call"] == call]
+
+
+def versions(lines):
+    return dict(line.split(" ") for line in lines)
+
+
+def an_entry_a_line(text):
+    """A lock list of the program's, which is one line, as a lock file has it."""
+    return text if text == "[]\n" else "[\n  " + text[1:-2].replace("],[", "],\n  [").replace('","', '", "') + "\n]\n"
+
+
+class Lists(unittest.TestCase):
+    def test_what_is_read(self):
+        table = rows("read_lock")
+        self.assertGreater(len(table), 10)
+        for row in table:
+            text = row["text"] if isinstance(row["text"], str) else "".join(piece * count for piece, count in row["text"])
+            if isinstance(row["gives"], list):
+                self.assertEqual(list(read_lock(text.encode()).items()), [tuple(it) for it in row["gives"]])
+            else:
+                self.refused(text.encode(), row["gives"]["refused"])
+
+    def refused(self, text, number):
+        with self.assertRaises(Unread) as told:
+            read_lock(text)
+        self.assertEqual(str(told.exception).split(" ")[0], str(number), text[:100])
+
+    def test_what_else_is_refused(self):
+        for text in (b"\xff", b'[["a","\\ud800"]]', b"[" * 100_000, b"[[1e999,1]]", b"null", b'[["a"]]', b'[{"a":"1.0.0"}]', b"[] x"):
+            self.refused(text, 19)
+        many = [[f"a{number}", "1.0.0"] for number in range(MOST_LOCK_LINES + 1)]
+        text = json.dumps(many, separators=(",", ":")).encode()
+        # so many lines are longer than a lock may be: they are refused for that
+        self.assertGreater(len(text), 1_048_576)
+        self.refused(text, 19)
+
+    def test_what_is_written(self):
+        # the entries of the program's own lists, in its order, one a line
+        written = [row for row in rows("write_lock") if row["gives"]["end"] == "done"]
+        self.assertGreater(len(written), 3)
+        for row in written:
+            self.assertEqual(lock_text(dict(row["lock"])), an_entry_a_line(row["gives"]["written"]))
+        self.assertEqual(lock_text({"b": "1.0.0+x", "a": "2.0.0"}), '[\n  ["a", "2.0.0"],\n  ["b", "1.0.0+x"]\n]\n')
+
+    def test_what_is_written_is_read(self):
+        for old, new, _ in CHANGED:
+            for lines in (old, new):
+                self.assertEqual(read_lock(lock_text(versions(lines)).encode()), versions(lines))
+
+    def test_what_changed(self):
+        for old, new, told in CHANGED:
+            self.assertEqual(changes(versions(old), versions(new)), told)
+
+
+class Kept(Folder):
+    OLD = [publish("app", "1.0.0", ["log ^1"]), publish("log", "1.0.0"), publish("log", "2.0.0")]
+    LOCK = '[\n  ["app", "1.0.0"],\n  ["log", "1.0.0"]\n]\n'
+
+    def test_a_selection_and_back(self):
+        # what was selected is kept, and selected again although a newer version is there by then
+        self.hold(*self.OLD)
+        path, selected = self.path("app.lock"), "app 1.0.0\nlog 1.0.0\n"
+        self.assertEqual(self.registry("resolve", "app", "--write", path),
+                         (0, selected, "registry: app.lock is written: 2 came, 0 went, 0 changed\nregistry: app.needs is written: what app.lock was made for\n"))
+        self.assertEqual((self.text("app.lock"), self.text("app.needs")), (self.LOCK, "app *\n"))
+        self.hold(*self.OLD, publish("log", "1.1.0"), publish("app", "1.1.0", ["log *"]))
+        self.assertEqual(self.registry("resolve", "app@^1", "log@>=1.0.0, <3", "--lock", path, "--budget", "7"), (0, selected, ""))
+        self.assertEqual(self.registry("resolve", "--lock", path), (0, selected, ""))
+        self.assertEqual(self.registry("resolve", "app"), (0, "app 1.1.0\nlog 2.0.0\n", ""))
+        new = self.path("new.lock")
+        self.assertEqual(self.registry("resolve", "app", "--write", new)[0], 0)
+        self.assertEqual(self.registry("diff", path, new), (0, "~ app 1.0.0 -> 1.1.0\n~ log 1.0.0 -> 2.0.0 (beyond ^1.0.0)\n0 came, 0 went, 2 changed\n", ""))
+        self.assertEqual(self.registry("diff", path, path), (0, "0 came, 0 went, 0 changed\n", ""))
+        told = [{"name": "app", "from": "1.0.0", "to": "1.1.0"}, {"name": "log", "from": "1.0.0", "to": "2.0.0"}]
+        self.assertEqual(json.loads(self.registry("diff", path, new, "--json")[1]), told)
+        self.assertEqual(json.loads(self.registry("diff", self.path("none.lock", "[]"), path, "--json")[1])[0], {"name": "app", "from": None, "to": "1.0.0"})
+
+    def test_a_lock_of_another_hand(self):
+        self.hold(publish("a", "1.0.0"), publish("a", "2.0.0"), publish("b", "1.0.0"))
+        path = self.path("some.lock", '[ ["b", "1.0.0"],\n ["a", "1.0.0"] ]')
+        self.assertEqual(self.registry("resolve", "a", "b@^1", "--lock", path), (0, "a 1.0.0\nb 1.0.0\n", ""))
+
+    def test_the_line_that_asks(self):
+        # the lock in byte order, however the file has it; members that are not asked for are left out
+        self.hold(publish("a", "1.0.0"), publish("b", "1.0.0"))
+        path, line = self.path("some.lock", '[["b","1.0.0"],["a","2.0.0-rc.1"]]'), '{"op":"resolve","needs":[["b","^1"],["a",">=1, <3"]],"lock":'
+        recording = self.path("recording", f'#!/bin/sh\ntee "{self.folder}/asked" | {PROGRAM} "$@"\n')
+        os.chmod(recording, 0o755)
+        for words, lock, more in ((["--lock", path], '[["a","2.0.0-rc.1"],["b","1.0.0"]]', ""), ([], "[]", ""), (["--budget", "0"], "[]", ',"budget":0'),
+                                  (["--budget", "4294967295", "--lock", path], '[["a","2.0.0-rc.1"],["b","1.0.0"]]', ',"budget":4294967295')):
+            self.registry("resolve", "b ^1", "a >=1, <3", *words, REGISTRY_PROGRAM=recording)
+            self.assertEqual(self.text("asked").splitlines()[0], line + lock + ',"explain":true' + more + "}")
+
+    def test_entries_that_are_yanked_or_not_there_are_told(self):
+        self.hold(publish("a", "1.0.0"), publish("a", "2.0.0"), publish("b", "1.0.0"), yank("a", "1.0.0"))
+        path = self.path("some.lock", '[["a","1.0.0+x"],["b","3.0.0"],["c","1.0.0"]]')
+        self.assertEqual(self.registry("resolve", "a", "b", "--lock", path),
+                         (0, "a 1.0.0\nb 1.0.0\n", "registry: some.lock names a 1.0.0+x, which is yanked\nregistry: some.lock names b 3.0.0, which is not "
+                          "published\nregistry: some.lock names c 1.0.0, which is not published\n"))
+
+    def test_needs_beside_a_lock(self):
+        self.hold(publish("a", "1.0.0"), publish("b", "1.0.0"), publish("b", "2.0.0"))
+        path = self.path("x.lock")
+        self.path("x.needs", "# what x asks for\n\na\n  b  >=1, <2  \n")
+        self.assertEqual(self.registry("resolve", "--write", path), (0, "a 1.0.0\nb 1.0.0\n", "registry: x.lock is written: 2 came, 0 went, 0 changed\n"))
+        # needs that are typed go before those of the file, and are kept where they are others
+        self.assertEqual(self.registry("resolve", "a@*", "b@>=1, <2", "--write", path)[2], "registry: x.lock is written: 0 came, 0 went, 0 changed\n")
+        self.assertIn("# what x asks for", self.text("x.needs"))
+        self.assertEqual(self.registry("resolve", "b", "--write", path)[:2], (0, "b 2.0.0\n"))
+        self.assertEqual(self.text("x.needs"), "b *\n")
+        self.assertEqual(self.registry("resolve", "--lock", self.path("y.lock", "[]")),
+                         (2, "", "registry: name what is needed, as app@^1, or write it into y.needs, a name and a requirement a line\n"))
+        self.assertEqual(self.registry("resolve", "--lock", self.path("lockfile", "[]"))[2].count("lockfile.needs"), 1)
+        with open(self.path("y.needs"), "wb") as out:
+            out.write(b"a \xff\n")
+        self.assertEqual(self.registry("resolve", "--lock", self.path("y.lock")), (3, "", "registry: y.needs is not UTF-8\n"))
+
+    def test_where_nothing_is_selected_the_files_are_as_they_were(self):
+        self.hold(*self.OLD)
+        path = self.path("app.lock", "[]\n")
+        status, said, fault = self.registry("resolve", "app@^2", "--write", path)
+        self.assertEqual((status, said, fault.splitlines()[0]), (1, "", "app ^2: refused at revision 3"))
+        self.assertEqual((self.text("app.lock"), sorted(os.listdir(self.folder))), ("[]\n", ["app.lock", "registry.journal"]))
+
+    def test_a_file_is_replaced_whole(self):
+        # a link stays a link, and what stood there keeps its mode
+        self.hold(*self.OLD)
+        path, link = self.path("kept.lock", "[]"), self.path("app.lock")
+        os.chmod(path, 0o640)
+        os.symlink("kept.lock", link)
+        self.assertEqual(self.registry("resolve", "app", "--write", link)[0], 0)
+        self.assertEqual((self.text("kept.lock"), os.path.islink(link), stat.S_IMODE(os.stat(path).st_mode)), (self.LOCK, True, 0o640))
+        self.assertEqual(sorted(os.listdir(self.folder)), ["app.lock", "app.needs", "kept.lock", "registry.journal"])
+        status, said, fault = self.registry("resolve", "app", "--write", self.path("nowhere/app.lock"))
+        self.assertEqual((status, said, fault), (3, "app 1.0.0\nlog 1.0.0\n", "registry: nowhere/app.lock is as it was: No such file or directory\n"))
+
+    def test_a_write_that_fails_leaves_the_file(self):
+        self.hold(*self.OLD)
+        path = self.path("app.lock", "[]\n")
+        for call in ("os.fsync", "os.replace", "os.fchmod", "tempfile.mkstemp"):
+            with mock.patch(call, side_effect=OSError(28, "No space left on device")):
+                self.assertEqual(self.registry("resolve", "app", "--write", path), (3, "app 1.0.0\nlog 1.0.0\n", "registry: app.lock is as it was: No space left on device\n"))
+            self.assertEqual((self.text("app.lock"), sorted(os.listdir(self.folder))), ("[]\n", ["app.lock", "registry.journal"]), call)
+
+    def test_what_is_no_lock(self):
+        good, bad = self.path("good", '[["a","1.0.0"]]\n'), self.path("bad", '[["a","1.0"]]')
+        self.hold(publish("a", "1.0.0"))
+        for words, told in ((["diff", good, bad], 'bad is no lock file: 2 BadVersion: "1.0" is no version'), (["diff", bad, good], "2 BadVersion"),
+                            (["resolve", "a", "--lock", bad], "2 BadVersion"), (["diff", good, self.path("nowhere")], "nowhere: there is no such lock file"),
+                            (["diff", good, self.path("x1", '[["A","1.0.0"]]')], "1 BadName"), (["diff", good, self.path("x2", '[["a",1]]')], "19 BadLine"),
+                            (["diff", good, self.folder], "Is a directory"), (["tree", "a", "--lock", bad], "2 BadVersion"),
+                            (["resolve", "a", "--write", bad], "2 BadVersion"), (["outdated", "--lock", bad], "2 BadVersion"), (["upgrade", "--lock", bad], "2 BadVersion")):
+            status, printed, fault = self.registry(*words)
+            self.assertEqual((status, printed, fault.count("\n"), fault[:10]), (3, "", 1, "registry: "), words)
+            self.assertIn(told, fault)
+
+    def test_words(self):
+        good = self.path("good", "[]\n")
+        self.hold(publish("a", "1.0.0"))
+        for words in (["diff"], ["diff", good], ["diff", good, good, good], ["resolve", "a", "--budget", "-1"], ["resolve", "a", "--budget", "4294967296"],
+                      ["resolve", "a", "--budget", "x"], ["resolve", "a", "--lock"], ["resolve", "a", "--write"], ["resolve", "a", "--explain"]):
+            status, printed, fault = self.registry(*words)
+            self.assertEqual((status, printed, fault.count("\n"), fault[:10]), (2, "", 1, "registry: "), words)
+        status, printed, _ = self.registry("diff", "--help")
+        self.assertEqual(status, 0)
+        self.assertIn("registry diff old.lock new.lock", printed)
+
+
+if __name__ == "__main__":
+    unittest.main()

@@ -1,0 +1,83 @@
+"""`registry show`, `search` and `list`: small registries, and what is to be told of them by hand."""
+import json
+import unittest
+
+from program import publish, yank
+from registry_folder import Folder
+
+# log has versions in another order than that of precedence; 2.1.0 is yanked, and 3.0.0-rc.1 is a pre-release
+LINES = [publish("log", "1.10.0", ["zlib ^1"]), publish("log", "1.9.0"), publish("log", "3.0.0-rc.1"), publish("log", "2.1.0", ["zlib ^2"]), yank("log", "2.1.0"),
+         publish("log", "2.0.0+b", ["zlib >=1, <3", "json-2 *"]), publish("app", "1.0.0", ["log ^1"]), publish("app", "2.0.0", ["log ^2", "zlib *"]),
+         publish("app", "2.1.0", ["zlib *"]), publish("json-log", "0.1.0-a", ["log *"]), publish("json-log", "0.1.0-b")]
+
+
+class Show(Folder):
+    def test_a_package(self):
+        self.hold(*LINES)
+        self.assertEqual(self.registry("show", "log"), (0, """log
+  3.0.0-rc.1
+  2.1.0  yanked
+  2.0.0+b
+  1.10.0
+  1.9.0
+2.0.0+b needs
+  zlib >=1, <3
+  json-2 *
+needed by
+  app 2.0.0, as log ^2
+  json-log 0.1.0-a, as log *
+""", ""))
+
+    def test_one_that_needs_nothing_and_is_needed_by_nobody(self):
+        self.hold(publish("a", "1.0.0-a"), publish("a", "1.0.0-b"), yank("a", "1.0.0-b"))
+        self.assertEqual(self.registry("show", "a"), (0, "a\n  1.0.0-b  yanked\n  1.0.0-a\n1.0.0-a needs nothing\nneeded by nothing\n", ""))
+
+    def test_one_whose_versions_are_all_yanked(self):
+        self.hold(publish("a", "1.0.0", ["b *"]), publish("a", "2.0.0", ["c *"]), yank("a", "1.0.0"), yank("a", "2.0.0"))
+        self.assertEqual(self.registry("show", "a"), (0, "a\n  2.0.0  yanked\n  1.0.0  yanked\n2.0.0 needs\n  c *\nneeded by nothing\n", ""))
+
+    def test_json(self):
+        self.hold(publish("a", "1.0.0", ["b *"]), publish("a", "2.0.0"), yank("a", "2.0.0"), publish("c", "1.0.0", ["a ^1"]))
+        status, said, fault = self.registry("show", "a", "--json")
+        self.assertEqual((status, said.count("\n"), fault), (0, 1, ""))
+        self.assertEqual(json.loads(said), {"name": "a", "newest": "1.0.0", "versions": [{"version": "2.0.0", "yanked": True, "needs": []},
+                                                                                       {"version": "1.0.0", "yanked": False, "needs": [["b", "*"]]}],
+                                            "needed_by": [{"name": "c", "version": "1.0.0", "requirement": "^1"}]})
+
+    def test_one_that_is_not_there(self):
+        self.hold(*LINES)
+        for name, said in (("lgo", "no version of lgo is published; log is, which may be meant"), ("json-2", "no version of json-2 is published"),
+                           ("json_log", "no version of json_log is published; json-log is, which may be meant"), ("Log", "no version of Log is published; log is, which may be meant")):
+            self.assertEqual(self.registry("show", name), (1, "", f"registry: {said}\n"))
+
+
+class Lists(Folder):
+    def test_all(self):
+        self.hold(*LINES)
+        self.assertEqual(self.registry("list"), (0, "app       2.1.0    3 versions\njson-log  0.1.0-b  2 versions\nlog       2.0.0+b  5 versions, 1 yanked\n", ""))
+        self.assertEqual(json.loads(self.registry("list", "--json")[1])[2], {"name": "log", "newest": "2.0.0+b", "versions": 5, "yanked": 1})
+
+    def test_none(self):
+        self.hold()
+        self.assertEqual(self.registry("list"), (0, "", ""))
+        self.assertEqual(self.registry("list", "--json"), (0, "[]\n", ""))
+
+    def test_search(self):
+        self.hold(*LINES)
+        for text, found in (("log", ["json-log", "log"]), ("LOG", ["json-log", "log"]), ("n-l", ["json-log"]), ("p", ["app"])):
+            status, said, fault = self.registry("search", text)
+            self.assertEqual((status, [line.split()[0] for line in said.splitlines()], fault), (0, found, ""))
+            self.assertEqual([it["name"] for it in json.loads(self.registry("search", text, "--json")[1])], found)
+        self.assertEqual(self.registry("search", "lgo"), (1, "", "registry: no package's name has lgo in it; log may be meant\n"))
+        self.assertEqual(self.registry("search", "zebra"), (1, "", "registry: no package's name has zebra in it\n"))
+        self.assertEqual(self.registry("search", "zebra", "--json")[:2], (1, "[]\n"))
+
+    def test_wrong_words(self):
+        self.hold()
+        for words in (["show"], ["show", "a", "b"], ["search"], ["search", "a", "b"], ["list", "a"], ["list", "--all"]):
+            status, said, fault = self.registry(*words)
+            self.assertEqual((status, said, fault.count("\n"), fault[:10]), (2, "", 1, "registry: "), words)
+
+
+if __name__ == "__main__":
+    unittest.main()
