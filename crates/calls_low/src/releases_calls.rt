@@ -63,7 +63,6 @@ fn about(alloc: Global, releases: &Releases, name: &str, row: &Value) -> Result<
     match name {
         "len" => Ok(Answer::Number(releases.len())),
         "list" => listed(alloc, releases.as_slice()),
-        "rising" => given_if(alloc, releases.rising().to_vec(alloc)),
         "find" => find(alloc, releases, row),
         "highest" | "highest_where" => highest(alloc, releases, name, row),
         _ => by_need(alloc, releases, name, row),

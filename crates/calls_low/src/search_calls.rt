@@ -2,10 +2,10 @@
 
 ghost use Rattle.std.specs.Prelude.{◌≡◌, ◌↔◌, [], IsTrue};
 ghost use Rattle.std.specs.Bool.{OnTrue};
-ghost use Rattle.derivations.specs.Known.{AreOrdered, EndsAt, IsBefore, IsResolved, IsResolvedAt};
+ghost use Rattle.derivations.specs.Known.{AreOrdered, EndsAt, IsBefore, IsResolved};
 
-use derivations::{Derivation, Known, Learnt, Line, Reason, cut, lines_of};
-use rows::{Answer, Unread, at, given, shown, size_at};
+use derivations::{Derivation, Known, Reason, cut};
+use rows::{Answer, Unread, at, shown, size_at};
 use serde_json::Value;
 use std::alloc::Global;
 
@@ -13,8 +13,6 @@ pub fn search_call(alloc: Global, name: &str, row: &Value) -> Result<Answer, Unr
     let place = size_at(row, "place")?;
     match name {
         "cut" => cut_at(alloc, row, place),
-        "lines_of" => lines_at_place(alloc, row, place, false),
-        "learn" => lines_at_place(alloc, row, place, true),
         _ => Err(Unread::Row),
     }
 }
@@ -38,22 +36,6 @@ fn are_ordered(known: &[Known]) -> bool
         }
     }
     true
-}
-
-fn is_resolved(line: &Known) -> bool
-    ensures { IsTrue result ↔ IsResolved line.now.reason }
-{
-    match line.reason {
-        Reason::Fact(_) => false,
-        Reason::Resolved(_, _, _) => true,
-    }
-}
-
-/// Whether the line at the place, if there is one, follows from others.
-fn is_resolved_at(known: &[Known], place: usize) -> bool
-    ensures { OnTrue result (IsResolvedAt known.now place) }
-{
-    place < known.len() && is_resolved(&known[place])
 }
 
 fn is_empty_end(line: &Known) -> bool
@@ -86,31 +68,4 @@ fn cut_at(alloc: Global, row: &Value, place: usize) -> Result<Answer, Unread> {
 
 fn cut_told(alloc: Global, derivation: &Derivation) -> Result<Answer, Unread> {
     shown(alloc, &derivation.lines())
-}
-
-/// The lines that show the line at a place, or how many of them are learnt.
-fn lines_at_place(
-    alloc: Global,
-    row: &Value,
-    place: usize,
-    learns: bool,
-) -> Result<Answer, Unread> {
-    let known = at::<Vec<Known>>(alloc, row, "known")?;
-    if !are_ordered(&known) || !is_resolved_at(&known, place) {
-        drop(known);
-        return Ok(Answer::Skipped);
-    }
-    let lines = lines_of(alloc, &known, place);
-    drop(known);
-    told(alloc, lines?, learns)
-}
-
-fn told(alloc: Global, lines: Vec<Line>, learns: bool) -> Result<Answer, Unread> {
-    if learns {
-        let learnt = Learnt::new(alloc, lines)?;
-        let count = learnt.lines().len();
-        drop(learnt);
-        return Ok(Answer::Number(count));
-    }
-    given(alloc, lines)
 }

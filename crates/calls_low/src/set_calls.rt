@@ -57,7 +57,6 @@ fn about_both(alloc: Global, name: &str, row: &Value, first: &VSet) -> Result<An
 fn beside(name: &str, first: &VSet, second: &VSet) -> Answer {
     match name {
         "is_subset" => Answer::Bool(first.is_subset(second)),
-        "is_disjoint" => Answer::Bool(first.is_disjoint(second)),
         "is_same" => Answer::Bool(first.is_same(second)),
         _ => Answer::BadRow,
     }

@@ -1,6 +1,6 @@
 //! Calls of terms.
 
-use rows::{Answer, Unread, at, both, given, given_if, whole_at};
+use rows::{Answer, Unread, at, given, given_if, whole_at};
 use serde_json::Value;
 use std::alloc::Global;
 use terms::{Relation, Term, VSet, relation};
@@ -18,7 +18,6 @@ fn about(alloc: Global, name: &str, row: &Value, term: &Term) -> Result<Answer, 
         "copy" => given_if(alloc, term.copy(alloc)),
         "allows" => allows(row, term),
         "count_in" => count_in(alloc, row, term),
-        "highest_in" => highest_in(alloc, row, term),
         _ => about_both(alloc, name, row, term),
     }
 }
@@ -43,13 +42,6 @@ fn count_in(alloc: Global, row: &Value, term: &Term) -> Result<Answer, Unread> {
     let count = term.count_in(&set);
     drop(set);
     Ok(Answer::Number(count))
-}
-
-fn highest_in(alloc: Global, row: &Value, term: &Term) -> Result<Answer, Unread> {
-    let sets = both::<VSet, Vec<u32>>(alloc, row, "set", "ranked")?;
-    let highest = term.highest_in(&sets.0, &sets.1);
-    drop(sets);
-    Ok(Answer::choice(highest))
 }
 
 fn beside(alloc: Global, name: &str, first: &Term, second: &Term) -> Result<Answer, Unread> {

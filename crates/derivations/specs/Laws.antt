@@ -30,10 +30,6 @@ LearntHolds = (packages : Packages) (lines : List Line) (terms : Terms) → IsLe
 abbrev pub DerivationsRefute : Type 0
 DerivationsRefute = (packages : Packages) (wanted : Wanted) (lines : List Line) → IsDerivation packages wanted lines → NoSelection packages wanted
 
--- the premises stand of lines that are derived from facts
-abbrev pub DerivedPremisesStand : Type 0
-DerivedPremisesStand = (packages : Packages) (wanted : Wanted) (earlier : List Terms) (lines : List Line) → AreDerived packages wanted earlier lines → AllStand packages lines
-
 -- in lines that are derived from facts the one without terms is no fact, so it ends what can be cut
 abbrev pub EmptyIsNoFact : Type 0
 EmptyIsNoFact = (packages : Packages) (wanted : Wanted) (known : List Known) (end : ℕ) (line : Known) → AreLawful packages wanted known → slice_get known end ≡ Some line → line.conclusion ≡ [] → EndsAt known end

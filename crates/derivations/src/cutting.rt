@@ -272,7 +272,10 @@ pub fn few_lines_of(
     Ok((Some(lines_copied(alloc, known, walked.steps)?), zeros))
 }
 
-/// The steps to the lines of [`lines_of`].
+/// The steps to the lines that the one at a place rests on, with itself as the last: from facts, each
+/// written once and before the lines that cite it. Of two lines that are first cited together the one
+/// that takes more lines comes first, so that each stands as near as it can to the first line that
+/// cites it. Linear in the lines of the search, without recursion.
 fn steps_of(alloc: Global, known: &[Known], place: usize) -> Result<Vec<Step>, AllocError>
     requires ordered { AreOrdered known.now }
     requires resolved { IsResolvedAt known.now place }
@@ -283,19 +286,6 @@ fn steps_of(alloc: Global, known: &[Known], place: usize) -> Result<Vec<Step>, A
     let weights = weights_of(alloc, known)?;
     let walked = numbered_steps(alloc, known, &weights, numbers, place, None)?;
     Ok(walked.steps)
-}
-
-/// The lines that the one at a place rests on, with itself as the last: from facts, each written
-/// once and before the lines that cite it. Of two lines that are first cited together the one that
-/// takes more lines comes first, so that each stands as near as it can to the first line that cites
-/// it. Linear in the lines of the search, without recursion.
-pub fn lines_of(alloc: Global, known: &[Known], place: usize) -> Result<Vec<Line>, AllocError>
-    requires ordered { AreOrdered known.now }
-    requires resolved { IsResolvedAt known.now place }
-    ensures { IfOk result (λ lines. ShowsLine known.now place lines.items) }
-{
-    let steps = steps_of(alloc, known, place)?;
-    lines_copied(alloc, known, steps)
 }
 
 /// Whether the line follows from others.

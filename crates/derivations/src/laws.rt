@@ -1,6 +1,6 @@
 // Laws: why derivations and what is learnt can be trusted.
 
-ghost use Rattle.derivations.specs.Laws.{CommandsKeep, CommandsKeepLearnt, DerivationsRefute, DerivedPremisesStand, EmptyIsNoFact, KeptLinesRefute, LearningKeeps, LearntHolds, PremisesHold, ResolventsHold};
+ghost use Rattle.derivations.specs.Laws.{CommandsKeep, CommandsKeepLearnt, DerivationsRefute, EmptyIsNoFact, KeptLinesRefute, LearningKeeps, LearntHolds, PremisesHold, ResolventsHold};
 
 use registry::{matching_is_what_meets, numbers_last};
 
@@ -26,12 +26,6 @@ pub fn derivations_refute()
 {
     matching_is_what_meets();
 }
-
-/// The premises stand of lines that are derived from facts, so that what is learnt of such lines
-/// stands. It does nothing when it runs.
-pub fn derived_premises_stand()
-    ensures { DerivedPremisesStand }
-{}
 
 /// In the lines of a search one without terms is no fact, so that [`cut`](crate::cut) can be asked
 /// for what it rests on. It does nothing when it runs.

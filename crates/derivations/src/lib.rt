@@ -14,6 +14,7 @@ mod index;
 mod keys;
 mod laws;
 mod learnt;
+mod limits;
 mod line;
 mod members;
 mod offering;
@@ -26,15 +27,16 @@ mod taking;
 mod wants;
 
 pub use causes::{ROOT, need_incompat};
-pub use cutting::{Known, Reason, cut, lines_of};
+pub use cutting::{Known, Reason, cut};
 pub use derivation::{Derivation, check};
 pub use facts::{Cause, Premise};
 pub use index::{Index, Link};
 pub use laws::{
-    commands_keep, derivations_refute, derived_premises_stand, empty_is_no_fact, kept_lines_refute,
-    learning_keeps, learnt_holds, premises_hold, resolvents_hold,
+    commands_keep, derivations_refute, empty_is_no_fact, kept_lines_refute, learning_keeps,
+    learnt_holds, premises_hold, resolvents_hold,
 };
 pub use learnt::{LINE_LIMIT, Learnt};
+pub use limits::limits_in_numbers;
 pub use line::Line;
 pub use members::Members;
 pub use offering::offers;

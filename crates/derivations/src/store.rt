@@ -167,6 +167,7 @@ impl Store {
         ensures accepted { OnOk result (learn_refusal registry.now.packages self.old.members learnt ≡ None) }
         ensures learnt { OnOk result (self.new.members ≡ self.old.members ++ learnt ∷ []) }
         ensures refused { IfErr result (λ e. (learn_refusal registry.now.packages self.old.members learnt ≡ Some e) ⊎ (e ≡ Refusal.NoMemory)) }
+        ensures numbered { 0 < self.old.room → IfErr result (λ e. learn_refusal registry.now.packages self.old.members learnt ≡ Some e) }
         ensures unchanged { OnErr result (self.new.members ≡ self.old.members) }
         ensures succeeds { learn_refusal registry.now.packages self.old.members learnt ≡ None → 0 < self.old.room → IsOk result }
         ensures stand { All (AllStand registry.now.packages) self.old.members → All (AllStand registry.now.packages) self.new.members }
@@ -179,6 +180,7 @@ impl Store {
         ensures accepted { OnOk result (learn_refusal registry.now.packages self.old.members learnt ≡ None) }
         ensures learnt { OnOk result (self.new.members ≡ self.old.members ++ learnt ∷ []) }
         ensures refused { IfErr result (λ e. (learn_refusal registry.now.packages self.old.members learnt ≡ Some e) ⊎ (e ≡ Refusal.NoMemory)) }
+        ensures numbered { 0 < self.old.room → IfErr result (λ e. learn_refusal registry.now.packages self.old.members learnt ≡ Some e) }
         ensures unchanged { OnErr result (self.new.members ≡ self.old.members) }
         ensures succeeds { learn_refusal registry.now.packages self.old.members learnt ≡ None → 0 < self.old.room → IsOk result }
     {

@@ -6,6 +6,7 @@
 
 mod buffer;
 mod laws;
+mod limits;
 mod outbox;
 mod read;
 mod retry;
@@ -14,6 +15,7 @@ mod write;
 
 pub use buffer::{LINE_LIMIT, LineBuffer, Next};
 pub use laws::{lines_end_at_feeds, reading_goes_on};
+pub use limits::limits_in_numbers;
 pub use outbox::Outbox;
 pub use slices::{count_lines, first_line};
 pub use write::{write_text, write_texts};

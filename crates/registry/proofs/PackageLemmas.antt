@@ -7,7 +7,7 @@ use Rattle.std.specs.Str.{bytes_eq}
 use Rattle.std.proofs.lemmas.Bool.{cases_Bool}
 use Rattle.versions.specs.Words.{Text}
 use Rattle.std.proofs.lemmas.List.Sums.{sum_by-cons}
-use Rattle.interner.specs.Interned.{insert_key}
+use Rattle.indexmap.specs.IndexSet.{insert_key}
 use Rattle.std.specs.Cmp.Lexicographic.{nat_list_eq_equiv}
 use Rattle.registry.specs.Needs.{has_name, names_of, repeats_name}
 use Rattle.registry.specs.Registry.{Package, Packages, Publication, is_known, is_named, number_from, number_of, is_published, package_at, publication_at, versions_of, versions_or_none}

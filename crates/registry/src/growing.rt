@@ -3,6 +3,7 @@
 ghost use Rattle.std.specs.Prelude.{◌≡◌, ◌<◌, ◌≤◌, ◌+◌, ℕ, [], count_by, not, length, slice_index, position, Some, vec_len, vec_capacity};
 ghost use Rattle.std.specs.List.{list_any};
 ghost use Rattle.std.specs.Str.{bytes_eq};
+ghost use Rattle.indexmap.specs.IndexSet.{spare};
 ghost use Rattle.registry.specs.Publications.{packages_in, rooms_of};
 ghost use Rattle.registry.specs.Registry.{number_of};
 ghost use Rattle.registry.specs.Rooms.{names_in, room_where, AreEmpty};
@@ -10,11 +11,11 @@ ghost use Rattle.registry.specs.Step as step;
 ghost use Rattle.registry.specs.Step.{with_listed, with_name, with_versions};
 
 use crate::publications::Publications;
-use interner::{Interner, Twice};
+use indexmap::IndexSet;
 use versions::{Name, Need, Published};
 
 /// How many of these needs have a name that is not numbered.
-pub fn count_new(names: &Interner<Name>, needs: &[(Name, Need)]) -> usize
+pub fn count_new(names: &IndexSet<Name>, needs: &[(Name, Need)]) -> usize
     ensures count { result ≡ count_by (λ d. not (list_any (bytes_eq d.0) names.now.keys)) needs.now }
     ensures few { result ≤ length needs.now }
 {
@@ -23,20 +24,20 @@ pub fn count_new(names: &Interner<Name>, needs: &[(Name, Need)]) -> usize
 
 /// Numbers a name where it has no place, with this list, and answers its place.
 pub fn enter_name(
-    names: &mut Interner<Name>,
+    names: &mut IndexSet<Name>,
     lists: &mut Vec<Publications>,
-    name: Twice<Name>,
+    name: Name,
     own: Publications,
     place: Option<usize>,
 ) -> usize
     requires paired { length names.old.keys ≡ length lists.old.items }
     requires placed { place ≡ position (bytes_eq name) names.old.keys }
-    requires names_room { 0 < names.old.room }
+    requires names_room { 0 < spare names.old }
     requires lists_room { vec_len lists.old < vec_capacity lists.old }
     requires empty { own.publications ≡ [] }
     ensures paired { length names.new.keys ≡ length lists.new.items }
     ensures packages { packages_in names.new.keys lists.new.items ≡ with_name (packages_in names.old.keys lists.old.items) name }
-    ensures names_room { names.old.room ≤ names.new.room + 1 }
+    ensures names_room { spare names.old ≤ spare names.new + 1 }
     ensures lists_room { (vec_capacity lists.old ≤ vec_capacity lists.new) × (vec_len lists.new ≤ vec_len lists.old + 1) }
     ensures place { result < length lists.new.items }
     ensures number { number_of (packages_in names.new.keys lists.new.items) name ≡ Some (result + 1) }
@@ -50,7 +51,7 @@ pub fn enter_name(
         }
         None => {
             let last = lists.len();
-            names.insert(name);
+            names.insert(name).unwrap();
             lists.push(own).unwrap();
             last
         }
@@ -59,22 +60,22 @@ pub fn enter_name(
 
 /// Numbers a name, as the last, where it is new, with this list.
 fn add_name(
-    names: &mut Interner<Name>,
+    names: &mut IndexSet<Name>,
     lists: &mut Vec<Publications>,
-    name: Twice<Name>,
+    name: Name,
     publications: Publications,
 )
     requires paired { length names.old.keys ≡ length lists.old.items }
-    requires names_room { 0 < names.old.room }
+    requires names_room { 0 < spare names.old }
     requires lists_room { vec_len lists.old < vec_capacity lists.old }
     requires empty { publications.publications ≡ [] }
     ensures paired { length names.new.keys ≡ length lists.new.items }
     ensures stay { (i : ℕ) → i < length lists.old.items → (i < length lists.new.items) × (slice_index (rooms_of lists.new.items) i ≡ slice_index (rooms_of lists.old.items) i) }
     ensures packages { packages_in names.new.keys lists.new.items ≡ with_name (packages_in names.old.keys lists.old.items) name }
-    ensures names_room { names.old.room ≤ names.new.room + 1 }
+    ensures names_room { spare names.old ≤ spare names.new + 1 }
     ensures lists_room { (vec_capacity lists.old ≤ vec_capacity lists.new) × (vec_len lists.new ≤ vec_len lists.old + 1) }
 {
-    if names.insert(name) {
+    if names.insert(name).unwrap() {
         lists.push(publications).unwrap();
     } else {
         drop(publications);
@@ -83,12 +84,12 @@ fn add_name(
 
 /// Numbers each of these names in turn, with its list.
 pub fn add_names(
-    names: &mut Interner<Name>,
+    names: &mut IndexSet<Name>,
     lists: &mut Vec<Publications>,
-    added: Vec<(Twice<Name>, Publications)>,
+    added: Vec<(Name, Publications)>,
 )
     requires paired { length names.old.keys ≡ length lists.old.items }
-    requires names_room { length added.items ≤ names.old.room }
+    requires names_room { length added.items ≤ spare names.old }
     requires lists_room { vec_len lists.old + length added.items ≤ vec_capacity lists.old }
     requires empty { AreEmpty added.items }
     ensures paired { length names.new.keys ≡ length lists.new.items }
@@ -102,7 +103,7 @@ pub fn add_names(
 
 /// Marks a version of a package as yanked or not, if there is one.
 pub fn set_yanked_in(
-    names: &Interner<Name>,
+    names: &IndexSet<Name>,
     lists: &mut Vec<Publications>,
     name: &Name,
     version: &Published,

@@ -6,6 +6,7 @@ mod commands;
 mod dependencies;
 mod growing;
 mod laws;
+mod limits;
 mod listed;
 mod publications;
 mod ready;
@@ -19,6 +20,7 @@ pub use laws::{
     one_preferred_selection, ordinals_are_below_the_count, publications_are_lawful,
     the_highest_is_one,
 };
+pub use limits::limits_in_numbers;
 pub use registry::{Facts, NEED_LIMIT, PACKAGE_LIMIT, Registry, VERSION_LIMIT};
 pub use releases::Matching;
 pub use requests::{LOCK_LIMIT, Request, admits, locks};

@@ -4,13 +4,14 @@ ghost use Rattle.std.specs.Prelude.{◌≡◌, ◌<◌, ◌≤◌, ◌-◌, ◌�
 ghost use Rattle.std.specs.List.{list_any};
 ghost use Rattle.std.specs.Option.{ForSome, option_map};
 ghost use Rattle.std.specs.Str.{bytes_eq};
+ghost use Rattle.indexmap.specs.IndexSet.{spare};
 ghost use Rattle.registry.specs.Publications.{lists_of, rooms_of};
 ghost use Rattle.registry.specs.Rooms.{names_in, publication_for, room_where, unknown_names, AreEmpty, IsReady};
 
 use crate::dependencies::{Dependencies, are_same};
 use crate::listed::{Listed, Place};
 use crate::publications::Publications;
-use interner::{Interner, Twice};
+use indexmap::IndexSet;
 use std::alloc::{AllocError, Global};
 use versions::{Name, Need};
 
@@ -28,7 +29,7 @@ pub struct Ready {
     /// The list of the package, where it is new.
     pub own: Publications,
     /// The names of the needs that are new.
-    pub added: Vec<(Twice<Name>, Publications)>,
+    pub added: Vec<(Name, Publications)>,
 }
 
 /// What was made ready for this publication.
@@ -50,14 +51,11 @@ pub fn ready_for<'a>(
 }
 
 /// A package that is new, which keeps the matching set of the need that names it.
-fn new_package(
-    alloc: Global,
-    need: &(Name, Need),
-) -> Result<(Twice<Name>, Publications), AllocError>
+fn new_package(alloc: Global, need: &(Name, Need)) -> Result<(Name, Publications), AllocError>
     ensures name { IfOk result (λ new. new.0 ≡ need.now.0) }
     ensures empty { IfOk result (λ new. new.1.publications ≡ []) }
 {
-    let name = Twice::new(need.0.clone()?, need.0.clone()?);
+    let name = need.0.clone()?;
     let mut publications = Publications::new(alloc);
     if let Err(error) = publications.name_need(&need.1) {
         drop(publications);
@@ -74,11 +72,11 @@ struct Named {
     /// places of these texts once the publication is entered.
     needs: Listed,
     /// The names that are new, each with its list of publications.
-    added: Vec<(Twice<Name>, Publications)>,
+    added: Vec<(Name, Publications)>,
 }
 
 /// Where a name stands, and the equal name there.
-fn kept_in<'a>(names: &'a Interner<Name>, name: &Name) -> Option<(usize, &'a Name)>
+fn kept_in<'a>(names: &'a IndexSet<Name>, name: &Name) -> Option<(usize, &'a Name)>
     ensures place { option_map (λ found. found.0) result ≡ position (bytes_eq name.now) names.now.keys }
     ensures there { is_some result ≡ list_any (bytes_eq name.now) names.now.keys }
     ensures within { IfSome result (λ found. found.0 < length names.now.keys) }
@@ -88,7 +86,7 @@ fn kept_in<'a>(names: &'a Interner<Name>, name: &Name) -> Option<(usize, &'a Nam
 }
 
 /// As [`kept_in`], of a name that may stand at this place: where it does, no look-up is made.
-fn kept_near<'a>(names: &'a Interner<Name>, place: usize, name: &Name) -> Option<(usize, &'a Name)>
+fn kept_near<'a>(names: &'a IndexSet<Name>, place: usize, name: &Name) -> Option<(usize, &'a Name)>
     ensures there { is_some result ≡ list_any (bytes_eq name.now) names.now.keys }
     ensures within { IfSome result (λ found. found.0 < length names.now.keys) }
     ensures same { IfSome result (λ found. found.1.now ≡ name.now) }
@@ -135,9 +133,9 @@ fn kept_need(list: &mut Publications, need: &Need, hint: usize) -> Result<(Need,
 }
 
 /// The place that is next for a name, once the package's own has one.
-fn next_place(names: &Interner<Name>, own: Option<usize>) -> usize {
+fn next_place(names: &IndexSet<Name>, own: Option<usize>) -> usize {
     match own {
-        None => names.len().saturating_add(1),
+        None => names.len() + 1,
         Some(_) => names.len(),
     }
 }
@@ -189,7 +187,7 @@ fn hint_at(lists: &[Publications], own: Option<usize>, index: usize) -> Place {
 /// Adds a need, and names its requirement on the package that it is on. It may stand at this place.
 fn add_need(
     alloc: Global,
-    names: &Interner<Name>,
+    names: &IndexSet<Name>,
     lists: &mut Vec<Publications>,
     need: &(Name, Need),
     next: usize,
@@ -216,7 +214,7 @@ fn add_need(
 /// place on, in order. The package's own place is where a look at its last publication saves look-ups.
 fn name_needs(
     alloc: Global,
-    names: &Interner<Name>,
+    names: &IndexSet<Name>,
     lists: &mut Vec<Publications>,
     needs: &[(Name, Need)],
     next: usize,
@@ -244,11 +242,11 @@ fn name_needs(
 /// new, each with its list of publications. Their requirements are named on the packages.
 fn named_needs(
     alloc: Global,
-    names: &Interner<Name>,
+    names: &IndexSet<Name>,
     lists: &mut Vec<Publications>,
     needs: &Dependencies,
     place: Option<usize>,
-) -> Result<(Dependencies, Vec<(Twice<Name>, Publications)>), AllocError>
+) -> Result<(Dependencies, Vec<(Name, Publications)>), AllocError>
     requires paired { length names.now.keys ≡ length lists.old.items }
     ensures lists { lists_of lists.new.items ≡ lists_of lists.old.items }
     ensures length { length lists.new.items ≡ length lists.old.items }
@@ -287,7 +285,7 @@ fn make_list_room(
 
 /// Makes room for one publication, and for so many packages.
 fn make_room(
-    names: &mut Interner<Name>,
+    names: &mut IndexSet<Name>,
     lists: &mut Vec<Publications>,
     own: &mut Publications,
     place: Option<usize>,
@@ -298,7 +296,7 @@ fn make_room(
     ensures lists { lists_of lists.new.items ≡ lists_of lists.old.items }
     ensures length { length lists.new.items ≡ length lists.old.items }
     ensures own { own.new.publications ≡ own.old.publications }
-    ensures names_room { OnOk result (count ≤ names.new.room) }
+    ensures names_room { OnOk result (count ≤ spare names.new) }
     ensures lists_room { OnOk result (count ≤ vec_capacity lists.new - vec_len lists.new) }
     ensures room { OnOk result (0 < room_where (rooms_of lists.new.items) own.new.room place) }
 {
@@ -308,7 +306,7 @@ fn make_room(
 }
 
 /// Where a name stands, if it does, and an equal name: the one that stands there, where there is one.
-fn kept_name(names: &Interner<Name>, name: &Name) -> Result<(Option<usize>, Name), AllocError>
+fn kept_name(names: &IndexSet<Name>, name: &Name) -> Result<(Option<usize>, Name), AllocError>
     ensures place { IfOk result (λ found. found.0 ≡ position (bytes_eq name.now) names.now.keys) }
     ensures same { IfOk result (λ found. found.1 ≡ name.now) }
 {
@@ -321,7 +319,7 @@ fn kept_name(names: &Interner<Name>, name: &Name) -> Result<(Option<usize>, Name
 /// Makes ready for a publication. The packages stay as they were.
 pub fn make_ready(
     alloc: Global,
-    names: &mut Interner<Name>,
+    names: &mut IndexSet<Name>,
     lists: &mut Vec<Publications>,
     name: &Name,
     needs: &Dependencies,
@@ -330,7 +328,7 @@ pub fn make_ready(
     ensures keys { names.new.keys ≡ names.old.keys }
     ensures lists { lists_of lists.new.items ≡ lists_of lists.old.items }
     ensures length { length lists.new.items ≡ length lists.old.items }
-    ensures ready { IfOk result (IsReady names.new.keys names.new.room lists.new.items (vec_capacity lists.new - vec_len lists.new)) }
+    ensures ready { IfOk result (IsReady names.new.keys (spare names.new) lists.new.items (vec_capacity lists.new - vec_len lists.new)) }
     ensures publication { IfOk result (λ ready. publication_for (Some ready) ≡ Some (name.now, needs.now)) }
 {
     let (place, name) = kept_name(names, name)?;

@@ -23,7 +23,7 @@ use crate::growing::{add_names, count_new, enter_name, set_yanked_in};
 use crate::publications::{Publications, check_unyank, check_yank, count, has_version};
 use crate::ready::{Ready, make_ready, ready_for};
 use crate::requests::Request;
-use interner::{Interner, Twice};
+use indexmap::IndexSet;
 use releases::Matching;
 use std::alloc::{AllocError, Global};
 use std::marker::Model;
@@ -54,7 +54,7 @@ pub struct Facts<'a> {
 /// for that publication, and each version that is published is tested once against each.
 #[derive(Drop)]
 pub struct Registry {
-    names: Interner<Name>,
+    names: IndexSet<Name>,
     lists: Vec<Publications>,
     revision: u64,
     ready: Option<Ready>,
@@ -63,6 +63,7 @@ pub struct Registry {
 
 impl Model for Registry {
     ghost use Rattle.std.specs.Prelude.{◌≡◌, ◌-◌, length, vec_capacity, vec_len};
+    ghost use Rattle.indexmap.specs.IndexSet.{spare};
     ghost use Rattle.registry.specs.Lawful.{IsRegistry};
     ghost use Rattle.registry.specs.Publications.{packages_in};
     ghost use Rattle.registry.specs.Rooms.{publication_for, IsReadyIfAny, State};
@@ -78,7 +79,7 @@ impl Model for Registry {
     ghost invariant = { λ r.
         (length r.names.keys ≡ length r.lists.items)
         × IsRegistry (packages_in r.names.keys r.lists.items)
-        × IsReadyIfAny r.names.keys r.names.room r.lists.items (vec_capacity r.lists - vec_len r.lists) r.ready };
+        × IsReadyIfAny r.names.keys (spare r.names) r.lists.items (vec_capacity r.lists - vec_len r.lists) r.ready };
 }
 
 impl Registry {
@@ -88,7 +89,7 @@ impl Registry {
         ensures revision { result.revision ≡ 0 }
     {
         Registry {
-            names: Interner::new(alloc),
+            names: IndexSet::new(alloc),
             lists: Vec::new(alloc),
             revision: 0,
             ready: None,
@@ -546,7 +547,7 @@ impl Registry {
         let index = enter_name(
             &mut self.names,
             &mut self.lists,
-            Twice::new(name, ready.name),
+            name,
             ready.own,
             ready.place,
         );

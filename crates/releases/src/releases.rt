@@ -13,7 +13,7 @@ use crate::matching::{Matching, computed, keep_set, keep_up, make_room};
 use crate::release::Release;
 use crate::rising::{highest_of, place_of, raise};
 use crate::tested::Tested;
-use interner::{Interner, Twice};
+use indexmap::IndexSet;
 use std::alloc::{AllocError, Global};
 use std::marker::Model;
 use terms::{GrowingSet, VSet};
@@ -30,7 +30,7 @@ use versions::{
 pub struct Releases {
     releases: Vec<Release>,
     rising: Vec<u32>,
-    needs: Interner<Need>,
+    needs: IndexSet<Need>,
     sets: Vec<GrowingSet>,
     bounds: Vec<Bounds>,
     alloc: Global,
@@ -60,7 +60,7 @@ impl Releases {
         Releases {
             releases: Vec::new(alloc),
             rising: Vec::new(alloc),
-            needs: Interner::new(alloc),
+            needs: IndexSet::new(alloc),
             sets: Vec::new(alloc),
             bounds: Vec::new(alloc),
             alloc,
@@ -79,13 +79,6 @@ impl Releases {
         ensures { result.now ≡ self.now.releases }
     {
         &self.releases
-    }
-
-    /// The ordinals of the releases in rising precedence.
-    pub fn rising(&self) -> &[u32]
-        ensures { IsRising (versions_of self.now.releases) result.now }
-    {
-        &self.rising
     }
 
     /// The ordinal of the release of equal precedence. The cost grows with the logarithm of the
@@ -244,7 +237,7 @@ impl Releases {
         }
         self.needs.reserve(1)?;
         self.bounds.reserve(1)?;
-        let named = Twice::new(need.clone()?, need.clone()?);
+        let named = need.clone()?;
         let bounds = Bounds::of(need);
         let place = self.needs.len();
         keep_set(
@@ -255,7 +248,7 @@ impl Releases {
             place,
             &mut self.sets,
         )?;
-        self.needs.insert(named);
+        self.needs.insert(named).unwrap();
         self.bounds.push(bounds).unwrap();
         Ok(place)
     }

@@ -1,21 +1,21 @@
 -- One more ordinal comes in, at the place of its word.
 use Rattle.std.proofs.Common.{◌≡◌, ◌<◌, ◌≤◌, ◌-◌, ◌*◌, ◌/◌, ◌%◌, ◌^◌, ◌∙◌, inl, inr, ℕ, zero, suc, List, [], ◌∷◌, ◌++◌, take, drop, get_or, set, length, refl, sym, ap, subst, arith, false, ◌||◌, true≢false, nat_eq, if◌then◌else◌}
-use Rattle.std.specs.Prelude.{bit_or, slice_get, Some, Result, Ok, Err}
-use Rattle.std.specs.List.{insert}
+use Rattle.std.specs.Prelude.{bit_or, slice_get, slice_index_or, slice_set, Some, Result, Ok, Err}
+use Rattle.std.specs.List.{insert, refill}
 use Rattle.std.specs.List.Sorted.{IsBinarySearchResult, IsSearchInRange}
 use Rattle.std.specs.Ordering.{nat_cmp, ordering_index}
 use Rattle.std.proofs.lemmas.Bool.{cases_Bool, eqb-true}
 use Rattle.std.proofs.lemmas.Bool.Decides.{nat_tests}
 use Rattle.std.proofs.lemmas.Nat.{le_or_l, or_comm, or_lt, pow_below, pow_pos}
 use Rattle.std.proofs.lemmas.Nat.Bits.{bit_at-zero}
-use Rattle.std.proofs.lemmas.List.{take-append-drop}
+use Rattle.std.proofs.lemmas.List.{length-set, take-append-drop}
 use Rattle.std.proofs.Math.Seq.{take-length}
 use Rattle.std.proofs.lemmas.Option.{get_or_from_slice_get, slice_get-get_or}
+use Rattle.smallvec.specs.SmallVec.{SmallVec, small_vec_len}
+use Rattle.smallvec.proofs.SmallVecLemmas.{items-with_items}
 use Rattle.terms.specs.Sets.{has}
 use Rattle.terms.specs.Words.{AreWords, IsPlace, NumbersBelow, WordsFrom, bits_of, has_bit, is_bit, ordinals_of}
-use Rattle.terms.specs.Stored.{joined_at}
 use Rattle.terms.proofs.Ascending.{differ, nat_eq-itself}
-use Rattle.terms.proofs.Joining.{joined_at-set}
 use Rattle.terms.proofs.MergedWords.{kept_ordinals}
 use Rattle.terms.proofs.WordBits.{is_bit-pow}
 use Rattle.terms.proofs.WordLists.{NumbersBelow-push, WordsFrom-between, WordsFrom-parts, bits_of-absent, bits_of-between-other, bits_of-between-same, has-ordinals_of}
@@ -243,12 +243,15 @@ grown-at k word ws place w r m h at same is_r =
     let g = grown-in k word m (take place ws) (drop (suc place) ws) w joined (subst (λ l. AreWords l) split h) same (ap (λ v. v.number) is_w) (ap (λ v. bit_or v.bits word.bits) is_w) in
     subst (λ l. Grown k l (set ws place joined)) (sym split) (rw (set-at ws place joined w at) g)
 
--- the same, of bits that are joined to the word's
-pub grown-joined : (k : ℕ) (word : Word) (ws : List Word) (place : ℕ) (w : Word) → IsWordOf k word → AreWords ws → slice_get ws place ≡ Some w → w.number ≡ word.number
-    → Grown k ws (joined_at ws place word.bits)
-grown-joined k word ws place w m h at same =
-    let is : w ≡ get_or ws place w = sym (get_or_from_slice_get ws place w w at) in
-    subst (λ l. Grown k ws l) (joined_at-set ws place word.bits w is) (grown-at k word ws place w w m h at same is)
+-- the same, written through the slice of the vector
+pub grown-through : (k : ℕ) (word : Word) (v : SmallVec Word) (shown : List Word) (place : ℕ) (w : Word) → IsWordOf k word → AreWords v.items → slice_get v.items place ≡ Some w → w.number ≡ word.number → shown ≡ v.items
+    → Grown k v.items (refill (small_vec_len v) v.items (slice_set shown place (record { number = (slice_index_or shown place no_word).number; bits = bit_or (slice_index_or shown place no_word).bits word.bits })))
+grown-through k word v shown place w m h at same is =
+    let r : Word = slice_index_or v.items place no_word in
+    let joined : Word = record { number = r.number; bits = bit_or r.bits word.bits } in
+    let is_r : r ≡ get_or v.items place r = get_or_from_slice_get v.items place w no_word at ∙ sym (get_or_from_slice_get v.items place w r at) in
+    let kept = items-with_items v (set v.items place joined) (length-set v.items place joined) in
+    rw is (subst (λ l. Grown k v.items l) (sym kept) (grown-at k word v.items place w r m h at same is_r))
 
 pub grown-with : (k : ℕ) (word : Word) (ws : List Word) (place : ℕ) → IsWordOf k word → AreWords ws → NumbersBelow word.number (take place ws) → WordsFrom (suc word.number) (drop place ws)
     → Grown k ws (insert ws place word)

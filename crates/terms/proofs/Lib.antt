@@ -7,7 +7,6 @@ pub mod MergedTerms
 pub mod SameIncompats
 pub mod WorkedConclusion
 pub mod Inserting
-pub mod Joining
 pub mod Cursor
 pub mod SameWords
 pub mod TermLists

@@ -7,4 +7,3 @@ pub mod Growing
 pub mod Merges
 pub mod Fronts
 pub mod TermLists
-pub mod Stored

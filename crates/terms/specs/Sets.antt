@@ -14,10 +14,6 @@ HasExactly set ordinals = (k : ℕ) → has set k ≡ has ordinals k
 abbrev pub IsSubset : List ℕ → List ℕ → Type 0
 IsSubset first second = (k : ℕ) → has first k ≡ true → has second k ≡ true
 
--- no ordinal of the first is in the second
-abbrev pub IsDisjoint : List ℕ → List ℕ → Type 0
-IsDisjoint first second = (k : ℕ) → has first k ≡ true → has second k ≡ false
-
 -- the new set has the ordinals of the old one, and this one
 abbrev pub AddsOrdinal : List ℕ → List ℕ → ℕ → Type 0
 AddsOrdinal old new ordinal = (k : ℕ) → has new k ≡ (has old k || nat_eq ordinal k)

@@ -4,8 +4,8 @@ ghost use Rattle.std.specs.Prelude.{◌≡◌, ◌<◌, ◌≤◌, ◌+◌, [], 
 ghost use Rattle.terms.specs.Sets.{has, AddsOrdinal, IsAscending};
 
 use crate::sets::VSet;
-use crate::stored::Words;
-use crate::words::{has_ordinal, insert_ordinal};
+use crate::words::{Words, has_ordinal, insert_ordinal};
+use smallvec::SmallVec;
 use std::alloc::{AllocError, Global};
 use std::marker::Model;
 
@@ -17,6 +17,8 @@ pub struct GrowingSet {
 }
 
 impl Model for GrowingSet {
+    ghost use Rattle.smallvec.specs.SmallVec.{small_vec_len};
+    ghost use Rattle.std.specs.Prelude.{◌-◌};
     ghost use Rattle.terms.specs.Growing.{Growing};
     ghost use Rattle.terms.specs.Words.{AreWords, ordinals_of};
 
@@ -24,7 +26,7 @@ impl Model for GrowingSet {
 
     ghost view = { λ s. record {
       ordinals = ordinals_of s.words.items;
-      room = s.words.room;
+      room = s.words.capacity - small_vec_len s.words;
     } };
 
     ghost invariant = { λ s. AreWords s.words.items };
@@ -36,7 +38,7 @@ impl GrowingSet {
         ensures { result.ordinals ≡ [] }
     {
         GrowingSet {
-            words: Words::new(alloc),
+            words: SmallVec::new(alloc),
         }
     }
 
@@ -47,7 +49,7 @@ impl GrowingSet {
         ensures unchanged { OnErr result (self.new ≡ self.old) }
         ensures succeeds { 0 < self.old.room → IsOk result }
     {
-        self.words.reserve()
+        self.words.reserve(1)
     }
 
     /// Puts an ordinal in. It costs one step where none above it is there.
@@ -65,7 +67,7 @@ impl GrowingSet {
     pub fn has(&self, ordinal: u32) -> bool
         ensures { result ≡ has self.now.ordinals ordinal }
     {
-        has_ordinal(self.words.as_slice(), ordinal)
+        has_ordinal(&self.words, ordinal)
     }
 
     /// The set as it is now.
@@ -73,6 +75,6 @@ impl GrowingSet {
         ensures same { IfOk result (λ set. set ≡ self.now.ordinals) }
         ensures ascending { IfOk result IsAscending }
     {
-        VSet::of_words(alloc, self.words.as_slice())
+        VSet::of_words(alloc, &self.words)
     }
 }

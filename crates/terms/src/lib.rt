@@ -13,7 +13,6 @@ mod ordinals;
 mod relations;
 mod resolving;
 mod sets;
-mod stored;
 mod term;
 mod term_list;
 mod words;

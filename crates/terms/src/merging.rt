@@ -9,8 +9,8 @@ ghost use Rattle.terms.specs.Merges as spec;
 ghost use Rattle.terms.specs.Sets.{has, IsAscending};
 ghost use Rattle.terms.specs.Words.{AreWords, ordinals_of};
 
-use crate::stored::Words;
-use crate::words::{WORD_BITS, Word};
+use crate::words::{WORD_BITS, Word, Words};
+use smallvec::SmallVec;
 use std::alloc::{AllocError, Global};
 
 /// Which ordinals of two sets are kept.
@@ -114,7 +114,7 @@ pub(crate) fn combined(
     ensures kept { IfOk result (λ words.
         IsKept rule (ordinals_of first.now) (ordinals_of second.now) (ordinals_of words.items)) }
 {
-    let mut kept = Words::new(alloc);
+    let mut kept = SmallVec::new(alloc);
     if let Some(word) = only_word(rule, first, second) {
         push_word(&mut kept, word)?;
         return Ok(kept);

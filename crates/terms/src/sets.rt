@@ -2,13 +2,15 @@
 
 ghost use Rattle.std.specs.Prelude.{◌≡◌, ◌↔◌, ◌∷◌, [], count_by, find, length, reverse, true, IfNone, IfOk, IfSome, IsTrue, OnErr, OnOk};
 ghost use Rattle.terms.specs.Merges.{keeps, IsKept, IsWithinFirst};
-ghost use Rattle.terms.specs.Sets.{has, AddsOrdinal, HasExactly, IsAscending, IsDisjoint, IsSubset};
+ghost use Rattle.terms.specs.Sets.{has, AddsOrdinal, HasExactly, IsAscending, IsSubset};
 ghost use Rattle.terms.specs.Words.{AreWords, ordinals_of};
 
 use crate::merging::{Rule, combined, count_kept, first_kept};
 use crate::ordinals::{Ordinals, ordinals_in};
-use crate::stored::Words;
-use crate::words::{Word, are_same, count, has_ordinal, insert_ordinal, words_of, words_of_one};
+use crate::words::{
+    Word, Words, are_same, copied, count, has_ordinal, insert_ordinal, words_of, words_of_one,
+};
+use smallvec::SmallVec;
 use std::alloc::{AllocError, Global};
 use std::marker::Model;
 
@@ -35,7 +37,7 @@ impl VSet {
         ensures { result ≡ [] }
     {
         VSet {
-            words: Words::new(alloc),
+            words: SmallVec::new(alloc),
         }
     }
 
@@ -75,21 +77,21 @@ impl VSet {
     pub fn has(&self, ordinal: u32) -> bool
         ensures { result ≡ has self.now ordinal }
     {
-        has_ordinal(self.words.as_slice(), ordinal)
+        has_ordinal(&self.words, ordinal)
     }
 
     /// How many ordinals the set has.
     pub fn len(&self) -> usize
         ensures { result ≡ length self.now }
     {
-        count(self.words.as_slice())
+        count(&self.words)
     }
 
     /// Whether the set has no ordinal.
     pub fn is_empty(&self) -> bool
         ensures { IsTrue result ↔ (self.now ≡ []) }
     {
-        self.words.as_slice().is_empty()
+        self.words.is_empty()
     }
 
     /// The ordinals of the set, ascending, without memory.
@@ -97,7 +99,7 @@ impl VSet {
         ensures same { result ≡ self.now }
         ensures ascending { IsAscending self.now }
     {
-        ordinals_in(self.words.as_slice())
+        ordinals_in(&self.words)
     }
 
     /// The ordinals of the set, ascending.
@@ -123,18 +125,11 @@ impl VSet {
         self.first_of_rule(Rule::FirstOnly, other).is_none()
     }
 
-    /// Whether no ordinal of the set is in the other.
-    pub fn is_disjoint(&self, other: &VSet) -> bool
-        ensures { IsTrue result ↔ IsDisjoint self.now other.now }
-    {
-        self.first_of_rule(Rule::Both, other).is_none()
-    }
-
     /// Whether both sets have the same ordinals.
     pub fn is_same(&self, other: &VSet) -> bool
         ensures { IsTrue result ↔ (self.now ≡ other.now) }
     {
-        are_same(self.words.as_slice(), other.words.as_slice())
+        are_same(&self.words, &other.words)
     }
 
     /// An equal set.
@@ -143,7 +138,7 @@ impl VSet {
         ensures same { IfOk result (λ set. set ≡ self.now) }
         ensures ascending { IfOk result IsAscending }
     {
-        VSet::of_words(alloc, self.words.as_slice())
+        VSet::of_words(alloc, &self.words)
     }
 
     /// Tells a caller that the set ascends, as each does. It does nothing when it runs.
@@ -168,7 +163,7 @@ impl VSet {
         ensures same { IfOk result (λ set. set ≡ ordinals_of words.now) }
         ensures ascending { IfOk result IsAscending }
     {
-        Ok(VSet::from_words(Words::of(alloc, words)?))
+        Ok(VSet::from_words(copied(alloc, words)?))
     }
 
     /// What the rule keeps of two sets.
@@ -182,12 +177,7 @@ impl VSet {
         ensures exact { IfOk result (IsKept rule first.now second.now) }
         ensures ascending { IfOk result IsAscending }
     {
-        Ok(VSet::from_words(combined(
-            alloc,
-            rule,
-            first.words.as_slice(),
-            second.words.as_slice(),
-        )?))
+        Ok(VSet::from_words(combined(alloc, rule, &first.words, &second.words)?))
     }
 
     /// The lowest ordinal that the rule keeps of this set and another.
@@ -196,7 +186,7 @@ impl VSet {
         ensures none { IfNone result (IsKept rule self.now other.now []) }
         ensures some { IfSome result (λ k. keeps rule (has self.now k) (has other.now k) ≡ true) }
     {
-        first_kept(rule, self.words.as_slice(), other.words.as_slice())
+        first_kept(rule, &self.words, &other.words)
     }
 
     /// How many ordinals of this set are in the other, or are not.
@@ -204,6 +194,6 @@ impl VSet {
         requires { IsWithinFirst rule }
         ensures { result ≡ count_by (λ k. keeps rule true (has other.now k)) self.now }
     {
-        count_kept(rule, self.words.as_slice(), other.words.as_slice())
+        count_kept(rule, &self.words, &other.words)
     }
 }

@@ -88,19 +88,6 @@ impl Term {
         }
     }
 
-    /// The last of `ranked` that is in a set and of which the term is true: of ordinals in rising
-    /// rank the one of highest rank.
-    pub fn highest_in(&self, set: &VSet, ranked: &[u32]) -> Option<u32>
-        ensures { result
-            ≡ find (λ k. has set.now k && true_of self.now (Some k)) (reverse ranked.now) }
-    {
-        ranked
-            .iter()
-            .rev()
-            .copied()
-            .find(|k| set.has(*k) && self.allows(*k))
-    }
-
     /// Whether both are true of the same choices.
     pub fn is_same(&self, other: &Term) -> bool
         ensures { IsTrue result ↔ (self.now ≡ other.now) }

@@ -1,11 +1,12 @@
 // The words of a set: where one stands, and how an ordinal comes in.
 
 ghost use Rattle.std.specs.Prelude.{◌≡◌, ◌↔◌, ◌<◌, ◌≤◌, ◌+◌, ◌*◌, ◌/◌, ◌%◌, ◌^◌, [], length, IfOk, IsOk, IsTrue, OnErr, OnOk};
+ghost use Rattle.smallvec.specs.SmallVec.{small_vec_len};
 ghost use Rattle.terms.specs.Sets.{has, AddsOrdinal, HasExactly};
 ghost use Rattle.terms.specs.Words.{AreWords, IsPlace, ordinals_of};
 ghost use Rattle.terms.specs.Words as spec;
 
-use crate::stored::Words;
+use smallvec::SmallVec;
 use std::alloc::{AllocError, Global};
 use std::cmp::Ordering;
 
@@ -18,6 +19,9 @@ pub struct Word {
     pub number: u32,
     pub bits: u64,
 }
+
+/// The words of a set. Most sets have at most one, which lies in the value and takes no memory.
+pub type Words = SmallVec<Word, 1>;
 
 /// The word that has one ordinal.
 #[inline(always)]
@@ -78,12 +82,13 @@ pub(crate) fn insert_ordinal(words: &mut Words, ordinal: u32) -> Result<(), Allo
     ensures added { OnOk result
         (AddsOrdinal (ordinals_of words.old.items) (ordinals_of words.new.items) ordinal) }
     ensures unchanged { OnErr result (words.new.items ≡ words.old.items) }
-    ensures room { words.old.room ≤ words.new.room + 1 }
-    ensures succeeds { 0 < words.old.room → IsOk result }
+    ensures room { words.old.capacity ≤ words.new.capacity }
+    ensures grown { small_vec_len words.new ≤ small_vec_len words.old + 1 }
+    ensures succeeds { small_vec_len words.old < words.old.capacity → IsOk result }
 {
     let word = word_of(ordinal);
-    match place_of(words.as_slice(), word.number) {
-        Ok(place) => words.join(place, word.bits),
+    match place_of(words, word.number) {
+        Ok(place) => words[place].bits |= word.bits,
         Err(place) => words.insert(place, word)?,
     }
     Ok(())
@@ -95,7 +100,8 @@ pub(crate) fn words_of_one(alloc: Global, ordinal: u32) -> Words
     ensures words { AreWords result.items }
     ensures added { AddsOrdinal [] (ordinals_of result.items) ordinal }
 {
-    Words::single(alloc, word_of(ordinal))
+    let word = word_of(ordinal);
+    SmallVec::from_buf(alloc, [word])
 }
 
 /// The words of these ordinals. It is linear in ascending ones.
@@ -103,11 +109,23 @@ pub(crate) fn words_of(alloc: Global, ordinals: &[u32]) -> Result<Words, AllocEr
     ensures words { IfOk result (λ words. AreWords words.items) }
     ensures members { IfOk result (λ words. HasExactly (ordinals_of words.items) ordinals.now) }
 {
-    let mut words = Words::new(alloc);
+    let mut words = SmallVec::new(alloc);
     for ordinal in ordinals {
         insert_ordinal(&mut words, *ordinal)?;
     }
     Ok(words)
+}
+
+/// A copy of the words, without memory where there is at most one.
+#[inline(always)]
+pub(crate) fn copied(alloc: Global, words: &[Word]) -> Result<Words, AllocError>
+    ensures { IfOk result (λ copy. copy.items ≡ words.now) }
+{
+    match words {
+        [] => Ok(SmallVec::new(alloc)),
+        [only] => Ok(SmallVec::from_buf(alloc, [*only])),
+        _ => SmallVec::from_slice(alloc, words),
+    }
 }
 
 /// How many ordinals the words have.

@@ -9,6 +9,7 @@
 mod bounds;
 mod faults;
 mod kept;
+mod limits;
 mod name;
 mod need;
 mod precedence;
@@ -16,6 +17,7 @@ mod published;
 mod refusal;
 
 pub use bounds::Bounds;
+pub use limits::limits_in_numbers;
 pub use name::{NAME_LIMIT, Name, is_name_text};
 pub use need::{Need, REQUIREMENT_LIMIT, pre_releases_are_named};
 pub use precedence::{equal_precedence_is_an_equivalence, order, precedence_is_a_total_preorder};

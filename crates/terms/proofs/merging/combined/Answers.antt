@@ -6,10 +6,10 @@ use Rattle.terms.proofs.merging.combined.Goals as goal
 pub returns-in-Some-clause-kept : goal.returns-in-Some-clause-kept
 returns-in-Some-clause-kept c =
     only-kept c.args.rule c.args.first.now c.args.second.now c.in-Some.word c.requires.first c.requires.second c.in-Some.ensures c.push_word.new.words.items
-    (c.in_ok-push_word.ensures ∙ ap (λ l. pushed l c.in-Some.word.number c.in-Some.word.bits) c.new-kept.ensures)
+    (c.in_ok-push_word.ensures ∙ ap (λ l. pushed l c.in-Some.word.number c.in-Some.word.bits) c.new-kept.ensures.items)
 
 pub merge-init : goal.merge-init
-merge-init c = rw c.new-kept.ensures (begin c.args.rule c.args.first.now c.args.second.now c.requires.first c.requires.second)
+merge-init c = rw c.new-kept.ensures.items (begin c.args.rule c.args.first.now c.args.second.now c.requires.first c.requires.second)
 
 pub merge-preserved : goal.merge-preserved
 merge-preserved c =

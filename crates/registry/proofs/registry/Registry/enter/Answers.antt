@@ -41,16 +41,13 @@ accepted c = subst (λ (s : State). publish_refusal s.packages c.args.name c.arg
 
 -- the names are numbered, with nothing published yet
 named : (c : After-index_mut-list) → packages_in c.add_names.new.names.keys c.add_names.new.lists.items ≡ with_listed (with_name (before c) c.args.name) (names_in c.in-Some.ready.added.items)
-named c =
-    c.add_names.ensures.packages
-    ∙ ap (λ (ps : Packages). with_listed ps (names_in c.in-Some.ready.added.items)) (c.enter_name-index.ensures.packages ∙ ap (λ (n : Text). with_name (before c) n) c.new.ensures)
+named c = c.add_names.ensures.packages ∙ ap (λ (ps : Packages). with_listed ps (names_in c.in-Some.ready.added.items)) c.enter_name-index.ensures.packages
 
 number : (c : After-index_mut-list) → number_of (packages_in c.add_names.new.names.keys c.add_names.new.lists.items) c.args.name ≡ Some (c.enter_name-index.result + 1)
 number c =
     ap (λ (ps : Packages). number_of ps c.args.name) c.add_names.ensures.packages
     ∙ number_of-with_listed (packages_in c.enter_name-index.new.names.keys c.enter_name-index.new.lists.items) (names_in c.in-Some.ready.added.items) c.args.name
-    (c.enter_name-index.result + 1)
-    (ap (λ (n : Text). number_of (packages_in c.enter_name-index.new.names.keys c.enter_name-index.new.lists.items) n) (sym c.new.ensures) ∙ c.enter_name-index.ensures.number)
+    (c.enter_name-index.result + 1) c.enter_name-index.ensures.number
 
 -- the list that the version comes into has the publications of the package
 listed : (c : After-index_mut-list) → c.index_mut-list.result.now.publications ≡ versions_of (before c) c.args.name
@@ -76,7 +73,7 @@ pub enter_name-index-requires-clause-placed : goal.enter_name-index-requires-cla
 enter_name-index-requires-clause-placed c =
     let ready = ready-taken c.self.inside.names.keys _ c.self.inside.lists.items _ c.self.inside.ready c.in-Some.ready c.self.invariant.2 (sym c.take.ensures.value ∙ c.in-Some.is) in
     let same = ready-for c.self.inside.ready c.in-Some.ready c.args.name c.args.needs (ap (λ (s : State). s.ready) c.self.view_is ∙ c.requires.ready) (sym c.take.ensures.value ∙ c.in-Some.is) in
-    ready.placed ∙ ap (λ (n : Text). position (bytes_eq n) c.self.inside.names.keys) (same.0 ∙ sym c.new.ensures)
+    ready.placed ∙ ap (λ (n : Text). position (bytes_eq n) c.self.inside.names.keys) same.0
 
 pub enter_name-index-requires-clause-names_room : goal.enter_name-index-requires-clause-names_room
 enter_name-index-requires-clause-names_room c =

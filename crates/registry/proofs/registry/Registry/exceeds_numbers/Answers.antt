@@ -10,5 +10,5 @@ returns-then-len-needs-le-PACKAGE_LIMIT c =
     let len = length-packages_in c.self.inside.names.keys c.self.inside.lists.items c.self.invariant.0 in
     let seen = ap (λ (s : State). length s.packages) c.self.view_is in
     let most : length (with_named c.args.self.now.packages c.args.name.now c.args.needs.now) ≤ PACKAGE_LIMIT =
-    omega (arith, length-most c.args.self.now.packages c.args.name.now c.args.needs.now, len, seen, c.len.ensures, c.if-len-needs-le-PACKAGE_LIMIT.true) in
+    omega (arith, length-most c.args.self.now.packages c.args.name.now c.args.needs.now, len, seen, c.len.ensures.len, c.if-len-needs-le-PACKAGE_LIMIT.true) in
     search rules

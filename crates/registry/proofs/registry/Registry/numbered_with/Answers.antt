@@ -25,5 +25,5 @@ returns c =
     ] in
     let others : c.count_new.result ≡ new_count packages c.args.needs.now =
     c.count_new.ensures.count ∙ sym (ap (λ (f : Text → Bool). count_by (λ (d : Text × Text). not (f d.0)) c.args.needs.now) (λ i name. is_known-packages_of names lists name both i)) in
-    let seen : length (with_named packages c.args.name.now c.args.needs.now) ≡ c.len.result + c.if-known.own + c.count_new.result = omega (arith, whole, many, own, others, c.len.ensures) in
+    let seen : length (with_named packages c.args.name.now c.args.needs.now) ≡ c.len.result + c.if-known.own + c.count_new.result = omega (arith, whole, many, own, others, c.len.ensures.len) in
     sym seen ∙ ap (λ (s : State). length (with_named s.packages c.args.name.now c.args.needs.now)) c.self.view_is

@@ -51,20 +51,17 @@ returns-in_err-reserve-clause-succeeds c = λ named. absurd (unnamed _ _ c.args.
 pub returns-in_err-reserve-2-clause-succeeds : goal.returns-in_err-reserve-2-clause-succeeds
 returns-in_err-reserve-2-clause-succeeds c = λ named. absurd (unnamed _ _ c.args.need.now c.self.view_is c.in_default.ensures.found named)
 
-pub returns-in_err-clone-clause-succeeds : goal.returns-in_err-clone-clause-succeeds
-returns-in_err-clone-clause-succeeds c = λ named. absurd (unnamed _ _ c.args.need.now c.self.view_is c.in_default.ensures.found named)
-
-pub returns-in_err-clone-2-clause-succeeds : goal.returns-in_err-clone-2-clause-succeeds
-returns-in_err-clone-2-clause-succeeds c = λ named. absurd (unnamed _ _ c.args.need.now c.self.view_is c.in_default.ensures.found named)
+pub returns-in_err-named-clause-succeeds : goal.returns-in_err-named-clause-succeeds
+returns-in_err-named-clause-succeeds c = λ named. absurd (unnamed _ _ c.args.need.now c.self.view_is c.in_default.ensures.found named)
 
 pub returns-in_err-keep_set-clause-succeeds : goal.returns-in_err-keep_set-clause-succeeds
 returns-in_err-keep_set-clause-succeeds c = λ named. absurd (unnamed _ _ c.args.need.now c.self.view_is c.in_default.ensures.found named)
 
 pub returns-clause-ok : goal.returns-clause-ok
 returns-clause-ok c =
-    let keys = c.insert.ensures.keys in
+    let keys = rw c.unwrap.ensures at c.insert.ensures.keys in
     let same : c.reserve.new.self.keys ≡ c.self.inside.needs.keys = c.in_ok-reserve.ensures.keys in
-    rw (← c.self.view_is) (grown c.self.inside.needs.keys _ c.args.need.now c.new-named.result (c.new-named.ensures ∙ c.in_ok-clone.ensures.cases) (sym c.in_default.ensures.found) (rw same at keys)
+    rw (← c.self.view_is) (grown c.self.inside.needs.keys _ c.args.need.now c.in_ok-named.named c.in_ok-named.ensures.cases (sym c.in_default.ensures.found) (rw same at keys)
     ∙ sym (ap (λ b. if b then c.self.inside.needs.keys else c.self.inside.needs.keys ++ c.args.need.now ∷ []) (sym c.in_default.ensures.found)))
 
 pub returns-in-Some-clause-place : goal.returns-in-Some-clause-place
@@ -72,19 +69,19 @@ returns-in-Some-clause-place c = rw (← c.self.view_is) (known c.self.inside.ne
 
 pub returns-clause-place : goal.returns-clause-place
 returns-clause-place c =
-    let keys = c.insert.ensures.keys in
+    let keys = rw c.unwrap.ensures at c.insert.ensures.keys in
     let same : c.reserve.new.self.keys ≡ c.self.inside.needs.keys = c.in_ok-reserve.ensures.keys in
-    last c.self.inside.needs.keys _ c.args.need.now c.new-named.result c.len-place.result (c.new-named.ensures ∙ c.in_ok-clone.ensures.cases) (c.len-place.ensures ∙ ap length same) (sym c.in_default.ensures.found)
+    last c.self.inside.needs.keys _ c.args.need.now c.in_ok-named.named c.len-place.result c.in_ok-named.ensures.cases (c.len-place.ensures.len ∙ ap length same) (sym c.in_default.ensures.found)
     (rw same at keys)
 
 pub invariant_of-self-2 : goal.invariant_of-self-2
 invariant_of-self-2 c =
-    let bounds_in = rw c.unwrap.ensures at c.push.ensures.items in
+    let bounds_in = rw c.unwrap-2.ensures at c.push.ensures.items in
     let bounds : c.push.new.self.items ≡ c.self.inside.bounds.items ++ c.of-bounds.result ∷ [] = bounds_in ∙ ap (λ (l : List Reach). l ++ c.of-bounds.result ∷ []) c.in_ok-reserve-2.ensures.items in
-    let keys = c.insert.ensures.keys in
+    let keys = rw c.unwrap.ensures at c.insert.ensures.keys in
     let same : c.reserve.new.self.keys ≡ c.self.inside.needs.keys = c.in_ok-reserve.ensures.keys in
-    let placed : c.len-place.result ≡ length c.self.inside.needs.keys = c.len-place.ensures ∙ ap length same in
+    let placed : c.len-place.result ≡ length c.self.inside.needs.keys = c.len-place.ensures.len ∙ ap length same in
     let kept = rw (c.deref.ensures.value, placed) at c.in_ok-keep_set.ensures.kept in
-    let needs = grown c.self.inside.needs.keys _ c.args.need.now c.new-named.result (c.new-named.ensures ∙ c.in_ok-clone.ensures.cases) (sym c.in_default.ensures.found) (rw same at keys) in
+    let needs = grown c.self.inside.needs.keys _ c.args.need.now c.in_ok-named.named c.in_ok-named.ensures.cases (sym c.in_default.ensures.found) (rw same at keys) in
     IsKept-named c.self.inside.releases.items c.self.inside.rising.items c.self.inside.needs.keys _ c.self.inside.sets.items _ c.self.inside.bounds.items _ c.args.need.now c.of-bounds.result
     c.self.invariant kept c.of-bounds.ensures needs bounds

@@ -4,4 +4,4 @@ use Rattle.terms.proofs.WordLists.{nil_ordinals}
 use Rattle.terms.proofs.growing.GrowingSet.new.Goals as goal
 
 pub returns : goal.returns
-returns c = ap ordinals_of c.new.ensures ∙ nil_ordinals
+returns c = ap ordinals_of c.new.ensures.items ∙ nil_ordinals
