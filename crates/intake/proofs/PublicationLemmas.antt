@@ -1,5 +1,5 @@
 -- The tokens of a publish line are those of a value, whose shape is that of a publication.
-use Rattle.std.proofs.Common.{◌≡◌, ◌≤◌, ℕ, List, [], ◌∷◌, ◌++◌, map, Bool, true, Option, Some, Ok, codes, option_and_then, refl, sym, ap, ◌∙◌, arith, append-nil}
+use Rattle.std.proofs.Common.{◌≡◌, ◌<◌, ◌≤◌, ℕ, List, [], ◌∷◌, ◌++◌, length, map, Bool, true, false, nat_le, Option, Some, Ok, Err, rules, codes, option_and_then, refl, sym, ap, ◌∙◌, arith, append-nil}
 use Rattle.std.specs.List.{list_all}
 use Rattle.std.specs.Str.{IsUtf8}
 use Rattle.std.proofs.lemmas.List.{map-append}
@@ -17,10 +17,11 @@ use Rattle.serde_json.specs.Data.{Data}
 use Rattle.serde_json.specs.Read.{max_depth, of_items, of_json, read}
 use Rattle.serde_json.proofs.OnLiterals.{serde_json_on_literals}
 use Rattle.versions.specs.Readings.{version_in}
-use Rattle.versions.specs.declared.refusal.Refusal.TheVariants.{BadVersion}
+use Rattle.versions.specs.declared.refusal.Refusal.TheVariants.{BadLine, BadVersion}
 use Rattle.versions.specs.Words.{Text, is_name, is_requirement, is_version}
 use Rattle.registry.specs.Step.{Publish}
-use Rattle.wire.specs.Requests.{request_of}
+use Rattle.lines.specs.Unread.{line_limit}
+use Rattle.wire.specs.Requests.{request_of, request_of_text}
 use Rattle.wire.specs.Shapes.{command, pairs_of, shape_of}
 use Rattle.intake.proofs.WrittenLemmas.{version_is}
 use Rattle.intake.specs.Publications.{AreNeeds, pair_tokens, publication_tokens}
@@ -125,9 +126,17 @@ line_shape name version needs = rw (pairs_back needs) refl
 
 -- ---- the line
 
--- a line of these tokens asks for the publication, where its texts are what they are to be
-pub publication_read : (line : List ℕ) (name version : Text) (needs : List (Text × Text)) → IsUtf8 line → tokens line ≡ publication_tokens name version needs
-    → is_name name ≡ true → is_version version ≡ true → AreNeeds needs → request_of line ≡ Ok (command (Publish name version needs))
+-- a line that is too long
+pub asked_long : (line : List ℕ) → line_limit < length line → request_of line ≡ Err BadLine
 unfolding request_of
-publication_read line name version needs utf8 told named versioned are =
-    rw (is_utf8-from_IsUtf8 line utf8, line_reads line name version needs told, line_shape name version needs, named, are.0, versioned, are.1) refl
+asked_long line long = let over : nat_le (length line) line_limit ≡ false = search rules in rw over refl
+
+asked_short : (line : List ℕ) → length line ≤ line_limit → request_of line ≡ request_of_text line
+unfolding request_of
+asked_short line short = let fits : nat_le (length line) line_limit ≡ true = search rules in rw fits refl
+
+-- a line of these tokens asks for the publication, where its texts are what they are to be
+pub publication_read : (line : List ℕ) (name version : Text) (needs : List (Text × Text)) → length line ≤ line_limit → IsUtf8 line → tokens line ≡ publication_tokens name version needs
+    → is_name name ≡ true → is_version version ≡ true → AreNeeds needs → request_of line ≡ Ok (command (Publish name version needs))
+publication_read line name version needs short utf8 told named versioned are =
+    rw (asked_short line short, is_utf8-from_IsUtf8 line utf8, line_reads line name version needs told, line_shape name version needs, named, are.0, versioned, are.1) refl

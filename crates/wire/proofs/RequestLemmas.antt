@@ -1,6 +1,6 @@
 -- Lines that ask nothing, and arrays of another length.
 use Rattle.std.proofs.Common.{◌≡◌, ◌≢◌, ℕ, ◌+◌, List, Bool, true, false, refl, Option, None, Some, Err, length, ◌==◌, if◌then◌else◌, nat_le, ne_eqb, codes, rules}
-use Rattle.std.proofs.Common.{◌∙◌, [], ◌∷◌, ◌<◌, get_or, option_map, ap, arith, sym}
+use Rattle.std.proofs.Common.{◌∙◌, [], ◌∷◌, ◌<◌, ◌≤◌, get_or, option_map, ap, arith, sym}
 use Rattle.std.specs.Option.{option_and_then, option_zip}
 use Rattle.std.specs.Str.{IsUtf8, is_utf8}
 use Rattle.std.proofs.lemmas.Str.{IsUtf8-from_is_utf8, is_utf8-from_IsUtf8}
@@ -22,15 +22,30 @@ use Rattle.registry.specs.Requests.{Wanted}
 use Rattle.registry.specs.Step.{Publish}
 use Rattle.terms.specs.declared.term.Term.{Term}
 use Rattle.wire.specs.Shapes.{budget_in, check, checking_in, command, explain_in, lock_in, listing, listing_in, pair_of_items, pairs_at, publication_in, resolution_in, resolution_with, shape_by, shape_of}
-use Rattle.wire.specs.Requests.{request_in, request_of}
+use Rattle.lines.specs.Unread.{line_limit}
+use Rattle.wire.specs.Requests.{request_in, request_of, request_of_text}
 use Rattle.wire.specs.Learn.{judged_learn, learn_in, learn_of}
 use Rattle.wire.specs.Locks.{lock_in as lock_list_in, lock_of, lock_of_text}
 use Rattle.wire.specs.declared.request.lock.TheConstants.{LOCK_BYTES}
 
-bad_by : (line : List ℕ) (b : Bool) → is_utf8 line ≡ b → (IsUtf8 line → read line ≡ None) → request_of line ≡ Err BadLine
+-- a line that is too long
+pub request_of-long : (line : List ℕ) → line_limit < length line → request_of line ≡ Err BadLine
+unfolding request_of
+request_of-long line long = let over : nat_le (length line) line_limit ≡ false = search rules in rw over refl
+
+-- and one that is not
+pub request_of-short : (line : List ℕ) → length line ≤ line_limit → request_of line ≡ request_of_text line
+unfolding request_of
+request_of-short line short = let fits : nat_le (length line) line_limit ≡ true = search rules in rw fits refl
+
+bad_text : (line : List ℕ) (b : Bool) → is_utf8 line ≡ b → (IsUtf8 line → read line ≡ None) → request_of_text line ≡ Err BadLine
+bad_text line false is none = rw is refl
+bad_text line true is none = rw (is, none (IsUtf8-from_is_utf8 line is)) refl
+
+bad_by : (line : List ℕ) (b : Bool) → nat_le (length line) line_limit ≡ b → (IsUtf8 line → read line ≡ None) → request_of line ≡ Err BadLine
 unfolding request_of
 bad_by line false is none = rw is refl
-bad_by line true is none = rw (is, none (IsUtf8-from_is_utf8 line is)) refl
+bad_by line true is none = rw is (bad_text line _ refl none)
 
 -- a line that is no JSON
 pub request_of-bad : (line : List ℕ) → (IsUtf8 line → read line ≡ None) → request_of line ≡ Err BadLine
@@ -45,9 +60,8 @@ pub other_count : {A : Type 0} (n m : ℕ) (found : Option A) → n ≢ m → No
 other_count n m found other = let no : (n == m) ≡ false = ne_eqb n m other in rw no refl
 
 -- a line that is JSON
-pub request_of-read : (line : List ℕ) (d : Data) → IsUtf8 line → read line ≡ Some d → request_of line ≡ request_in d
-unfolding request_of
-request_of-read line d text is = rw (is_utf8-from_IsUtf8 line text, is) refl
+pub request_of-read : (line : List ℕ) (d : Data) → length line ≤ line_limit → IsUtf8 line → read line ≡ Some d → request_of line ≡ request_in d
+request_of-read line d short text is = rw (request_of-short line short, is_utf8-from_IsUtf8 line text, is) refl
 
 -- ---- learn lines
 

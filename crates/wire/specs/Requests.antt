@@ -1,5 +1,5 @@
 -- What a request line asks.
-use Rattle.std.specs.Prelude.{ℕ, Bool, List, [], ◌∷◌, ◌++◌, if◌then◌else◌, Option, Some, None, Result, Ok, Err, map}
+use Rattle.std.specs.Prelude.{ℕ, Bool, List, [], ◌∷◌, ◌++◌, length, nat_le, if◌then◌else◌, Option, Some, None, Result, Ok, Err, map}
 use Rattle.std.specs.List.{list_all}
 use Rattle.std.specs.Str.{is_utf8}
 use Rattle.serde_json.specs.Data.{Data}
@@ -7,6 +7,7 @@ use Rattle.serde_json.specs.Read.{read}
 use Rattle.versions.specs.Words.{Text, is_name, is_version, is_requirement}
 use Rattle.versions.specs.declared.refusal.Refusal.{Refusal}
 use Rattle.versions.specs.declared.refusal.Refusal.TheVariants.{BadName, BadVersion, BadRequirement, BadLine}
+use Rattle.lines.specs.Unread.{line_limit}
 use Rattle.registry.specs.Needs.{names_of}
 use Rattle.registry.specs.Requests.{request_refusal}
 use Rattle.registry.specs.Step.{Publish, Yank, Unyank}
@@ -86,6 +87,9 @@ abbrev pub request_read : Option Data → Result Request Refusal
 request_read None = Err BadLine
 request_read (Some d) = request_in d
 
--- what a line asks, or the refusal that it is given
+abbrev pub request_of_text : List ℕ → Result Request Refusal
+request_of_text line = if is_utf8 line then request_read (read line) else Err BadLine
+
+-- what a line asks, or the refusal that it is given; one that is too long is at fault whatever it says
 unfoldable pub request_of : List ℕ → Result Request Refusal
-request_of line = if is_utf8 line then request_read (read line) else Err BadLine
+request_of line = if nat_le (length line) line_limit then request_of_text line else Err BadLine

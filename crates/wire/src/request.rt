@@ -26,6 +26,7 @@ mod term_shapes;
 use by_name::NamedDerivation;
 use judging::judge;
 pub use learn::read_learn;
+use lines::LINE_LIMIT;
 pub use lock::{LOCK_BYTES, read_lock};
 use registry::{Command, Request};
 use serde_json::Value;
@@ -56,13 +57,16 @@ pub enum Asked {
 
 /// Reads what a line asks.
 ///
-/// A line that is not of its form is [`Refusal::BadLine`] and is judged for nothing else. Of the refusals of its names,
+/// A line that is longer than [`LINE_LIMIT`] or not of its form is [`Refusal::BadLine`] and is judged for nothing else. Of the refusals of its names,
 /// versions and requirements, and of what a resolve or a check line repeats or asks too much, it is given the lowest.
 /// Whether the registry takes a command is not judged here, nor whether a derivation follows. The cost grows with
 /// n log n of the line.
 pub fn read_request(alloc: Global, line: &[u8]) -> Result<Asked, Refusal>
     ensures { Gives asked_of result (request_of line.now) }
 {
+    if line.len() > LINE_LIMIT {
+        return Err(Refusal::BadLine);
+    }
     match Value::from_slice(alloc, line) {
         Ok(value) => request_in(alloc, &value),
         Err(fault) => {
