@@ -1,5 +1,5 @@
 //! What a seat answers to requests.
-ghost use Rattle.std.specs.Prelude.{◌≡◌, ◌⊎◌, None, Some, IfErr, IfOk};
+ghost use Rattle.std.specs.Prelude.{◌≡◌, ◌⊎◌, None, Some, Err, IfErr, IfOk, IfSome};
 ghost use Rattle.solver.specs.Outcomes as outcomes;
 ghost use Rattle.solver.specs.Outcomes.{IfPreferredServes};
 ghost use Rattle.chronicle.specs.Answers.{MayStop, NonePreferred, OnlyWhereNone, Resolves};
@@ -17,6 +17,7 @@ impl<'a> Seat<'a> {
     /// Resolves a request at the place where the seat then stands, which the stamp names.
     pub fn resolve(&mut self, request: &Request) -> Result<(Stamp, Outcome), Refusal>
         ensures seen { MayHaveSeen self.old self.new }
+        ensures again { IfSome self.old.stray (λ e. result ≡ Err Refusal.Stray) }
         ensures answered { IfOk result (λ r. Resolves self.new.journal request.now r.0.place r.0.revision r.1) }
         ensures none { IfOk result (λ r. OnlyWhereNone (packages_of self.new.journal) request.now r.1) }
         ensures preferred { IfPreferredServes (packages_of self.new.journal) request.now (λ s. IfOk result (λ r. outcomes.Answers (packages_of self.new.journal) s r.1)) }
@@ -35,6 +36,7 @@ impl<'a> Seat<'a> {
         budget: u32,
     ) -> Result<(Stamp, Outcome), Refusal>
         ensures seen { MayHaveSeen self.old self.new }
+        ensures again { IfSome self.old.stray (λ e. result ≡ Err Refusal.Stray) }
         ensures answered { IfOk result (λ r. Resolves self.new.journal request.now r.0.place r.0.revision r.1) }
         ensures none { IfOk result (λ r. OnlyWhereNone (packages_of self.new.journal) request.now r.1) }
         ensures preferred { IfPreferredServes (packages_of self.new.journal) request.now (λ s. IfOk result (λ r. outcomes.Answers (packages_of self.new.journal) s r.1)) }

@@ -4,8 +4,9 @@ use Rattle.versions.specs.declared.refusal.Refusal.{Refusal}
 use Rattle.derivations.specs.declared.line.Line.{Line}
 use Rattle.chronicle.specs.Seats.{Place}
 use Rattle.replies.specs.Replies.{Reply}
+use Rattle.wire.specs.Requests.{request_of}
 use Rattle.wire.specs.Shapes.{Request, check, command, listing, resolve}
-use Rattle.answers.specs.Lawful.{IsLawful, IsRefused, Learns, MayAnswer, asked}
+use Rattle.answers.specs.Lawful.{IsLawful, IsRefused, Learns, MayAnswer}
 use Rattle.race.specs.Racing.{seat_ways}
 
 row_learns : (offered : List (List Line)) (old new : Place) → Learns seat_ways old offered new → new.row ≡ old.row
@@ -30,4 +31,4 @@ row_told (Err fault) old reply new (same, tells) = ap (λ (p : Place). p.row) sa
 -- over a line
 pub row_kept : (line : List ℕ) (old : Place) (reply : Reply) (new : Place) → IsLawful seat_ways line old reply new → new.row ≡ old.row
 row_kept line old reply new (inl (same, tells)) = ap (λ (p : Place). p.row) same
-row_kept line old reply new (inr answers) = row_told (asked line) old reply new answers
+row_kept line old reply new (inr answers) = row_told (request_of line) old reply new answers

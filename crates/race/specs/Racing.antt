@@ -1,12 +1,12 @@
 -- The seats of a race: their ledgers, what they answer, and what a race prints.
-use Rattle.std.specs.Prelude.{◌≡◌, ◌<◌, ◌⊎◌, ℕ, ◌+◌, List, [], ◌∷◌, ◌++◌, All, Contains, flat_map, length, Option, Some}
+use Rattle.std.specs.Prelude.{◌≡◌, ◌⊎◌, ℕ, ◌+◌, List, [], ◌∷◌, ◌++◌, All, Contains, flat_map, length, Option, Some, None}
 use Rattle.std.specs.Io.KnownBytes.{Appends}
 use Rattle.versions.specs.Words.{Text}
 use Rattle.versions.specs.declared.refusal.Refusal.TheVariants.{Stray}
 use Rattle.book.specs.declared.item.Item.{Item}
 use Rattle.chronicle.specs.Cells.{Cells}
 use Rattle.chronicle.specs.Journals.{Begins, items_of, packages_of, refusal_at, revision_of}
-use Rattle.chronicle.specs.Seats.{Accepted, MayHaveSeen, Place}
+use Rattle.chronicle.specs.Seats.{Accepted, IsStray, MayHaveSeen, Place}
 use Rattle.chronicle.specs.declared.entry.Entry.{Entry}
 use Rattle.chronicle.specs.declared.entry.Stamp.{Stamp}
 use Rattle.chronicle.specs.declared.row.TheConstants.{CAPACITY_LIMIT}
@@ -32,12 +32,12 @@ seat_ways = record {
   looks = MayHaveSeen;
   enters = λ old i new. (stamp : Stamp) × Accepted old new i stamp;
   refusal = λ seat i. refusal_at seat.row.capacity seat.journal i;
-  halts = λ seat refusal. (refusal ≡ Stray) × (length seat.journal < seat.row.capacity);
+  halts = λ seat refusal. (refusal ≡ Stray) × IsStray seat;
 }
 
 -- the seat of a row with this number, before it has seen anything
 abbrev pub fresh_seat : Cells → ℕ → Place
-fresh_seat row number = record { row = row; number = number; journal = [] }
+fresh_seat row number = record { row = row; number = number; journal = []; stray = None }
 
 -- ---- files
 

@@ -2,7 +2,7 @@
 ghost use Rattle.std.specs.Prelude.{◌≡◌, ◌≤◌, List, [], length, vec_capacity, IfOk};
 ghost use Rattle.lines.specs.Lines.{lines_of};
 ghost use Rattle.replies.specs.Replies.{Reply, replies_text, reply_text};
-ghost use Rattle.race.specs.Kept.{Answered, kept_line, kept_text};
+ghost use Rattle.race.specs.Kept.{Answered, AnsweredTo, kept_line, kept_text};
 ghost use Rattle.answers.specs.Lawful.{AreLawful, IsLawful};
 ghost use Rattle.race.specs.Racing.{seat_ways};
 
@@ -45,7 +45,7 @@ pub fn run_file<'a>(job: Job<'a>) -> Run<'a>
     requires empty { job.replies.items ≡ [] }
     requires room { length (lines_of job.file.items) ≤ vec_capacity job.replies }
     ensures row { IfOk result.mark (λ m. m.row ≡ job.entry.seat.row) }
-    ensures answered { IfOk result.mark (λ m. Answered job.entry.seat job.entry.file.items result.replies.items m.entries) }
+    ensures answered { IfOk result.mark (AnsweredTo job.entry.seat job.entry.file.items result.replies.items) }
 {
     let Job {
         seat,
@@ -67,7 +67,7 @@ fn answer_lines(alloc: Global, seat: &mut Racer<'_>, file: &[u8], replies: &mut 
     requires empty { replies.old.items ≡ [] }
     requires room { length (lines_of file.now) ≤ vec_capacity replies.old }
     ensures row { seat.new.row ≡ seat.old.row }
-    ensures answered { Answered seat.old file.now replies.new.items seat.new.journal }
+    ensures answered { Answered seat.old file.now replies.new.items seat.new }
 {
     lawful_replies_add_up::<Racer>();
     let mut rest = file;

@@ -37,6 +37,7 @@ impl<'a> Racer<'a> {
     pub fn mark(&mut self) -> Result<Mark<'a>, Refusal>
         ensures row { IfOk result (λ m. m.row ≡ self.old.row) }
         ensures whole { IfOk result (λ m. m.entries ≡ self.old.journal) }
+        ensures stray { IfOk result (λ m. m.stray ≡ self.old.stray) }
     {
         self.seat.mark()
     }

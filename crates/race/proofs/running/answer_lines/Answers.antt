@@ -1,4 +1,4 @@
-use Rattle.std.proofs.Common.{◌++◌, ◌∷◌, [], List, ℕ, length, refl, sym, ap, ◌∙◌, arith}
+use Rattle.std.proofs.Common.{◌++◌, ◌∷◌, [], List, None, ℕ, length, refl, sym, ap, ◌∙◌, arith}
 use Rattle.std.proofs.lemmas.List.{append_assoc}
 use Rattle.lines.specs.Lines.{lines_of}
 use Rattle.race.specs.Kept.{kept_text}
@@ -34,7 +34,7 @@ answering-preserved c =
         done.0 ++ line.now ∷ [],
         done.1 ++ reply.0 ∷ [],
         append_assoc done.0 (line.now ∷ []) (lines_of behind.now) ∙ (ap (λ (ls : List (List ℕ)). done.0 ++ ls) (sym lines) ∙ done.2),
-        c.lawful_replies_add_up.ensures.lines done.0 (line.now ∷ []) done.1 (reply.0 ∷ []) c.args.seat.now at.seat c.answer-kept.new.seat done.3 (c.answer-kept.new.seat, reply.1, refl),
+        c.lawful_replies_add_up.ensures.lines None done.0 (line.now ∷ []) done.1 (reply.0 ∷ []) c.args.seat.now at.seat c.answer-kept.new.seat done.3 (c.answer-kept.new.seat, reply.1, refl),
         ap kept_text grown.items ∙ kept_more at.replies.items c.answer-kept.result done.1 reply.0 done.4 reply.2,
       );
       room = omega arith;
