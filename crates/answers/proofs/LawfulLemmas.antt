@@ -1,5 +1,5 @@
 -- Lawful replies to one line, and to lines one after another.
-use Rattle.std.proofs.Common.{◌≡◌, ◌⊎◌, Bool, ℕ, ◌<◌, ◌≤◌, ◌++◌, true, false, List, [], ◌∷◌, length, refl, sym, ap, subst, ◌∙◌, inl, inr, rules, Option, Some, Result, Ok, Err, MatchResult, nat_le}
+use Rattle.std.proofs.Common.{◌≡◌, ◌⊎◌, Bool, ℕ, ◌<◌, ◌≤◌, ◌++◌, true, false, List, [], ◌∷◌, length, refl, sym, ap, subst, ◌∙◌, inl, inr, rules, Option, None, Some, Result, Ok, Err, MatchResult, nat_le}
 use Rattle.std.specs.Prelude.{IfErr, OnOk}
 use Rattle.versions.specs.Refusals.{Refuses}
 use Rattle.versions.specs.declared.refusal.Refusal.{Refusal}
@@ -14,13 +14,12 @@ use Rattle.derivations.specs.declared.line.Line.{Line}
 use Rattle.book.specs.declared.item.Item.{Item}
 use Rattle.book.specs.declared.item.Item.TheVariants as item
 use Rattle.solver.specs.Outcomes.{MayStop}
-use Rattle.lines.specs.Unread.{line_limit}
 use Rattle.replies.specs.Replies.{Body, Reply, accepted, refused}
 use Rattle.wire.specs.Requests.{request_of}
 use Rattle.wire.specs.Shapes.{Request, check, command, listing, resolve}
 use Rattle.by_name.specs.declared.derivation.NamedLine.{NamedLine}
 use Rattle.answers.specs.Answering.{LeadsTo}
-use Rattle.answers.specs.Lawful.{AreLawful, IsLawful, IsRefused, IsStopped, Learns, LearnsSome, LooksAndTells, MayAnswer, Ways, asked, item_of, reply_at}
+use Rattle.answers.specs.Lawful.{AreLawfulWithin, IsLawfulWithin, IsRefused, IsStopped, Learns, LearnsSome, LooksAndTells, MayAnswer, Ways, asked_within, bounded, bounded_if, item_of, reply_at}
 use Rattle.answers.specs.Outcomes.{MayTell, TellsFound, TellsListing, TellsVerdict}
 use Rattle.answers.specs.declared.answer.Answer.{Answer}
 use Rattle.answers.specs.declared.answer.Answer.TheVariants as answer
@@ -51,12 +50,36 @@ told TooLong said is = inr is
 told NotADerivation said is = inr is
 told BudgetSpent said is = inr is
 
-pub asked-short : (line : List ℕ) → length line ≤ line_limit → asked line ≡ request_of line
-asked-short line short = let fits : nat_le (length line) line_limit ≡ true = search rules in rw fits refl
+-- ---- a budget of each request that names none
 
--- a line that is too long
-pub asked-long : (line : List ℕ) → line_limit < length line → asked line ≡ Err BadLine
-asked-long line long = let over : nat_le (length line) line_limit ≡ false = search rules in rw over refl
+-- a refusal of what a line asks is one of what it asks within a budget
+pub refused_within : (budget : ℕ) (e : Refusal) (said : Result Request Refusal) → Refuses e said → Refuses e (bounded_if budget said)
+refused_within budget NoMemory said is = tt
+refused_within budget BadName said is = ap (bounded_if budget) is
+refused_within budget BadVersion said is = ap (bounded_if budget) is
+refused_within budget BadRequirement said is = ap (bounded_if budget) is
+refused_within budget RepeatedDependency said is = ap (bounded_if budget) is
+refused_within budget SelfDependency said is = ap (bounded_if budget) is
+refused_within budget TooManyDependencies said is = ap (bounded_if budget) is
+refused_within budget AlreadyPublished said is = ap (bounded_if budget) is
+refused_within budget TooManyVersions said is = ap (bounded_if budget) is
+refused_within budget TooManyPackages said is = ap (bounded_if budget) is
+refused_within budget JournalFull said is = ap (bounded_if budget) is
+refused_within budget NoSuchVersion said is = ap (bounded_if budget) is
+refused_within budget AlreadyYanked said is = ap (bounded_if budget) is
+refused_within budget NotYanked said is = ap (bounded_if budget) is
+refused_within budget Stale said is = ap (bounded_if budget) is
+refused_within budget Known said is = ap (bounded_if budget) is
+refused_within budget StoreFull said is = ap (bounded_if budget) is
+refused_within budget Stray said is = ap (bounded_if budget) is
+refused_within budget BadLine said is = ap (bounded_if budget) is
+refused_within budget TooLong said is = ap (bounded_if budget) is
+refused_within budget NotADerivation said is = ap (bounded_if budget) is
+refused_within budget BudgetSpent said is = ap (bounded_if budget) is
+
+pub refused_within_if : (limit : Option ℕ) (e : Refusal) (line : List ℕ) → Refuses e (request_of line) → Refuses e (asked_within limit line)
+refused_within_if None e line is = is
+refused_within_if (Some budget) e line is = refused_within budget e (request_of line) is
 
 -- the item of a command's change is the command
 item_of-change : (c : Command) → item_of (change_of c) ≡ item.Command c
@@ -68,16 +91,17 @@ module _ {S : Type 0} (w : Ways S) where
   -- ---- one line
 
   -- what a line is answered where it asks this
-  pub as_asked : (line : List ℕ) (old : S) (reply : Reply) (new : S) (said : Result Request Refusal) → asked line ≡ said
-      → MatchResult said (λ request. MayAnswer w request old reply new) (λ fault. IsRefused w fault old reply new) → IsLawful w line old reply new
-  as_asked line old reply new said is h =
+  pub as_asked : (limit : Option ℕ) (line : List ℕ) (old : S) (reply : Reply) (new : S) (said : Result Request Refusal) → asked_within limit line ≡ said
+      → MatchResult said (λ request. MayAnswer w request old reply new) (λ fault. IsRefused w fault old reply new) → IsLawfulWithin limit w line old reply new
+  as_asked limit line old reply new said is h =
       inr (subst (λ (r : Result Request Refusal). MatchResult r (λ request. MayAnswer w request old reply new) (λ fault. IsRefused w fault old reply new)) (sym is) h)
 
   -- a line that is at fault
-  pub lawful_bad : (line : List ℕ) (old : S) (e : Refusal) → Refuses e (asked line) → IsLawful w line old (reply_at w old (refused e)) old
-  lawful_bad line old e said = elim (told e (asked line) said) [
+  pub lawful_bad : (limit : Option ℕ) (line : List ℕ) (old : S) (e : Refusal) → Refuses e (asked_within limit line)
+      → IsLawfulWithin limit w line old (reply_at w old (refused e)) old
+  lawful_bad limit line old e said = elim (told e (asked_within limit line) said) [
     | inl memory ↦ inl (refl, ap (λ (r : Refusal). reply_at w old (refused r)) memory)
-    | inr bad ↦ as_asked line old _ old _ bad (refl, refl)
+    | inr bad ↦ as_asked limit line old _ old _ bad (refl, refl)
   ]
 
   leads_weaker : (P Q : Reply → S → Type 0) (a : Answer) (here : S) → ((reply : Reply) (new : S) → P reply new → Q reply new) → LeadsTo w P a here → LeadsTo w Q a here
@@ -86,11 +110,11 @@ module _ {S : Type 0} (w : Ways S) where
   leads_weaker P Q answer.Listing here f leads = λ body may. f _ here (leads body may)
 
   -- a line that was answered as what it asks
-  pub lawful_answered : (line : List ℕ) (old : S) (request : Request) (a : Answer) (here : S) → asked line ≡ Ok request
-      → LeadsTo w (λ reply new. MayAnswer w request old reply new) a here → LeadsTo w (λ reply new. IsLawful w line old reply new) a here
-  lawful_answered line old request a here said leads =
-      leads_weaker (λ reply new. MayAnswer w request old reply new) (λ reply new. IsLawful w line old reply new) a here
-      (λ reply new answers. as_asked line old reply new _ said answers) leads
+  pub lawful_answered : (limit : Option ℕ) (line : List ℕ) (old : S) (request : Request) (a : Answer) (here : S) → asked_within limit line ≡ Ok request
+      → LeadsTo w (λ reply new. MayAnswer w request old reply new) a here → LeadsTo w (λ reply new. IsLawfulWithin limit w line old reply new) a here
+  lawful_answered limit line old request a here said leads =
+      leads_weaker (λ reply new. MayAnswer w request old reply new) (λ reply new. IsLawfulWithin limit w line old reply new) a here
+      (λ reply new answers. as_asked limit line old reply new _ said answers) leads
 
   -- ---- what answers a request
 
@@ -158,10 +182,10 @@ module _ {S : Type 0} (w : Ways S) where
 
   -- ---- lines one after another
 
-  pub lawful_append : (lines more : List (List ℕ)) (replies after : List Reply) (old mid new : S) → AreLawful w lines old replies mid → AreLawful w more mid after new
-      → AreLawful w (lines ++ more) old (replies ++ after) new
-  lawful_append [] more [] after old mid new first then = subst (λ (here : S). AreLawful w more here after new) first then
-  lawful_append [] more (reply ∷ replies) after old mid new first then = absurd first
-  lawful_append (line ∷ lines) more [] after old mid new first then = absurd first
-  lawful_append (line ∷ lines) more (reply ∷ replies) after old mid new (here, lawful, rest) then =
-      (here, lawful, lawful_append lines more replies after here mid new rest then)
+  pub lawful_append : (limit : Option ℕ) (lines more : List (List ℕ)) (replies after : List Reply) (old mid new : S) → AreLawfulWithin limit w lines old replies mid
+      → AreLawfulWithin limit w more mid after new → AreLawfulWithin limit w (lines ++ more) old (replies ++ after) new
+  lawful_append limit [] more [] after old mid new first then = subst (λ (here : S). AreLawfulWithin limit w more here after new) first then
+  lawful_append limit [] more (reply ∷ replies) after old mid new first then = absurd first
+  lawful_append limit (line ∷ lines) more [] after old mid new first then = absurd first
+  lawful_append limit (line ∷ lines) more (reply ∷ replies) after old mid new (here, lawful, rest) then =
+      (here, lawful, lawful_append limit lines more replies after here mid new rest then)

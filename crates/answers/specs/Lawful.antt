@@ -1,7 +1,7 @@
 -- Which replies are lawful for a line, whether a session answers it or a seat of a race.
-use Rattle.std.specs.Prelude.{◌≡◌, ◌⊎◌, ℕ, List, [], ◌∷◌, length, nat_le, if◌then◌else◌, Bool, Option, Some, Result, Err, MatchResult}
+use Rattle.std.specs.Prelude.{◌≡◌, ◌⊎◌, ℕ, List, [], ◌∷◌, Bool, Option, Some, None, Result, Ok, Err, MatchResult}
 use Rattle.versions.specs.declared.refusal.Refusal.{Refusal}
-use Rattle.versions.specs.declared.refusal.Refusal.TheVariants.{BadLine, NoMemory}
+use Rattle.versions.specs.declared.refusal.Refusal.TheVariants.{NoMemory}
 use Rattle.registry.specs.Registry.{Packages}
 use Rattle.registry.specs.Requests.{Wanted}
 use Rattle.registry.specs.Step.{Change, Publish, Unyank, Yank}
@@ -10,7 +10,6 @@ use Rattle.derivations.specs.Learning.{IsLearnt}
 use Rattle.derivations.specs.declared.line.Line.{Line}
 use Rattle.book.specs.declared.item.Item.{Item}
 use Rattle.book.specs.declared.item.Item.TheVariants as item
-use Rattle.lines.specs.Unread.{line_limit}
 use Rattle.wire.specs.Shapes.{Request, check, command, listing, resolve}
 use Rattle.wire.specs.Requests.{request_of}
 use Rattle.replies.specs.Replies.{Body, Reply, accepted, refused}
@@ -94,20 +93,42 @@ MayAnswer w request old reply new = LooksAndRefuses w (IsStopped w) old reply ne
 
 -- ---- one line
 
--- what a line asks, or that it is at fault, also by its length
-abbrev pub asked : List ℕ → Result Request Refusal
-asked line = if nat_le (length line) line_limit then request_of line else Err BadLine
+-- the same request, with this budget where it names none
+abbrev pub bounded : ℕ → Request → Request
+bounded budget (resolve wanted explain None) = resolve wanted explain (Some budget)
+bounded budget (resolve wanted explain (Some own)) = resolve wanted explain (Some own)
+bounded budget (command change) = command change
+bounded budget (check wanted lines) = check wanted lines
+bounded budget listing = listing
 
--- A line may be answered so: for want of memory, or as what it asks is.
+abbrev pub bounded_if : ℕ → Result Request Refusal → Result Request Refusal
+bounded_if budget (Ok request) = Ok (bounded budget request)
+bounded_if budget (Err fault) = Err fault
+
+-- what a line asks where this is the budget of each request that names none, if there is one
+abbrev pub asked_within : Option ℕ → List ℕ → Result Request Refusal
+asked_within None line = request_of line
+asked_within (Some budget) line = bounded_if budget (request_of line)
+
+-- A line may be answered so, by such a budget: for want of memory, or as what it asks is.
+abbrev pub IsLawfulWithin : {S : Type 0} → Option ℕ → Ways S → List ℕ → S → Reply → S → Type 0
+IsLawfulWithin budget w line old reply new = IsRefused w NoMemory old reply new
+    ⊎ MatchResult (asked_within budget line) (λ request. MayAnswer w request old reply new) (λ fault. IsRefused w fault old reply new)
+
+-- The same without such a budget.
 abbrev pub IsLawful : {S : Type 0} → Ways S → List ℕ → S → Reply → S → Type 0
-IsLawful w line old reply new = IsRefused w NoMemory old reply new
-    ⊎ MatchResult (asked line) (λ request. MayAnswer w request old reply new) (λ fault. IsRefused w fault old reply new)
+IsLawful w line old reply new = IsLawfulWithin None w line old reply new
 
 -- ---- lines one after another
 
--- The lines may be answered so, one reply a line, each after what those before it left.
+-- The lines may be answered so, by such a budget, one reply a line, each after what those before it left.
+abbrev pub AreLawfulWithin : {S : Type 0} → Option ℕ → Ways S → List (List ℕ) → S → List Reply → S → Type 0
+AreLawfulWithin {S} budget w [] old [] new = new ≡ old
+AreLawfulWithin {S} budget w (line ∷ lines) old (reply ∷ replies) new =
+    (mid : S) × IsLawfulWithin budget w line old reply mid × AreLawfulWithin budget w lines mid replies new
+AreLawfulWithin {S} budget w [] old (reply ∷ replies) new = ⊥
+AreLawfulWithin {S} budget w (line ∷ lines) old [] new = ⊥
+
+-- The same without such a budget.
 abbrev pub AreLawful : {S : Type 0} → Ways S → List (List ℕ) → S → List Reply → S → Type 0
-AreLawful {S} w [] old [] new = new ≡ old
-AreLawful {S} w (line ∷ lines) old (reply ∷ replies) new = (mid : S) × IsLawful w line old reply mid × AreLawful w lines mid replies new
-AreLawful {S} w [] old (reply ∷ replies) new = ⊥
-AreLawful {S} w (line ∷ lines) old [] new = ⊥
+AreLawful w lines old replies new = AreLawfulWithin None w lines old replies new

@@ -6,16 +6,16 @@ use Rattle.solver.specs.Outcomes.{MayStop}
 use Rattle.wire.specs.Shapes.{Request, resolve}
 use Rattle.replies.specs.Replies.{Body, Reply, refused}
 use Rattle.answers.specs.Outcomes.{TellsFound}
-use Rattle.answers.specs.Lawful.{AreLawful, IsLawful, LearnsSome, MayAnswer, Ways, asked, reply_at}
+use Rattle.answers.specs.Lawful.{AreLawfulWithin, IsLawfulWithin, LearnsSome, MayAnswer, Ways, asked_within, reply_at}
 
 -- replies, and others after them
 pub record RepliesAddUp {S : Type 0} (w : Ways S) : Type 0 where
   -- those to lines, and then to more, are lawful for all of them
-  pub lines : (lines more : List (List ℕ)) (replies after : List Reply) (old mid new : S) → AreLawful w lines old replies mid → AreLawful w more mid after new
-      → AreLawful w (lines ++ more) old (replies ++ after) new
+  pub lines : (limit : Option ℕ) (lines more : List (List ℕ)) (replies after : List Reply) (old mid new : S) → AreLawfulWithin limit w lines old replies mid
+      → AreLawfulWithin limit w more mid after new → AreLawfulWithin limit w (lines ++ more) old (replies ++ after) new
   -- what answers a request is lawful for a line that asks it
-  pub asked : (line : List ℕ) (request : Request) (old : S) (reply : Reply) (new : S) → asked line ≡ Ok request → MayAnswer w request old reply new
-      → IsLawful w line old reply new
+  pub asked : (limit : Option ℕ) (line : List ℕ) (request : Request) (old : S) (reply : Reply) (new : S) → asked_within limit line ≡ Ok request
+      → MayAnswer w request old reply new → IsLawfulWithin limit w line old reply new
   -- what the solver found may be told, and some of what it offers learnt then
   pub found : (wanted : Wanted) (explain : Bool) (budget : Option ℕ) (old mid : S) (body : Body) → w.looks old mid → TellsFound (w.packages mid) wanted explain body
       → (new : S) → LearnsSome w mid new → MayAnswer w (resolve wanted explain budget) old (reply_at w mid body) new

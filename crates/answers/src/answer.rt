@@ -1,10 +1,10 @@
 //! The answer to one line, of a session and of a seat of a race alike.
-ghost use Rattle.std.specs.Prelude.{◌⊎◌, ℕ, List, IfErr, IfOk};
+ghost use Rattle.std.specs.Prelude.{◌⊎◌, ℕ, List, IfErr, IfOk, None, Option};
 ghost use Rattle.registry.specs.Commands.{change_of};
 ghost use Rattle.solver.specs.Outcomes.{MayStop};
 ghost use Rattle.wire.specs.Shapes as shapes;
-ghost use Rattle.answers.specs.Answering.{IsRead, LeadsTo};
-ghost use Rattle.answers.specs.Lawful.{IsLawful, IsStopped, MayAnswer};
+ghost use Rattle.answers.specs.Answering.{IsRead, IsReadWithin, LeadsTo};
+ghost use Rattle.answers.specs.Lawful.{IsLawful, IsLawfulWithin, IsStopped, MayAnswer};
 ghost use Rattle.answers.specs.Outcomes.{TellsFound};
 ghost use Rattle.answers.specs.Told.{told_body};
 
@@ -14,7 +14,6 @@ use book::Item;
 use by_name::NamedDerivation;
 use derivations::Learnt;
 use intake::Intake;
-use lines::LINE_LIMIT;
 use registry::{Command, Request};
 use solver::decide_under;
 use std::alloc::Global;
@@ -43,19 +42,37 @@ pub fn answer_line<L: Ledger>(
     answer_read(alloc, ledger, read_line(alloc, intake, line))
 }
 
-/// Reads what a line asks. One that is too long is at fault.
+/// Reads what a line asks.
 pub fn read_line(alloc: Global, intake: &mut Intake, line: &[u8]) -> Result<Asked, Refusal>
     ensures { IsRead result line.now }
 {
-    if line.len() > LINE_LIMIT {
-        return Err(Refusal::BadLine);
-    }
     intake.read(alloc, line)
 }
 
-/// Answers a line of which this was read.
+/// What was read of a line, with this budget where it asks to resolve and names none.
+pub fn within(read: Result<Asked, Refusal>, limit: Option<u32>) -> Result<Asked, Refusal>
+    ensures { (line : List ℕ) → IsRead read line → IsReadWithin limit result line }
+{
+    match read {
+        Ok(
+            Asked::Resolve {
+                request,
+                explain,
+                budget,
+            },
+        ) => Ok(Asked::Resolve {
+            request,
+            explain,
+            budget: budget.or(limit),
+        }),
+        Ok(asked) => Ok(asked),
+        Err(fault) => Err(fault),
+    }
+}
+
+/// Answers a line of which this was read, also by a budget of each request that names none.
 pub fn answer_read<L: Ledger>(alloc: Global, ledger: &mut L, read: Result<Asked, Refusal>) -> Answer
-    ensures { (line : List ℕ) → IsRead read line → LeadsTo L.ways (IsLawful L.ways line ledger.old) result ledger.new }
+    ensures { (limit : Option ℕ) (line : List ℕ) → IsReadWithin limit read line → LeadsTo L.ways (IsLawfulWithin limit L.ways line ledger.old) result ledger.new }
 {
     match read {
         Ok(Asked::Command(command)) => enter(ledger, command),

@@ -20,7 +20,7 @@ mod put;
 mod reasons;
 mod told;
 
-pub use answer::{Answer, answer_line, answer_read, read_line};
+pub use answer::{Answer, answer_line, answer_read, read_line, within};
 pub use fault::RunFault;
 pub use laws::lawful_replies_add_up;
 pub use ledger::{Ledger, learn_all};

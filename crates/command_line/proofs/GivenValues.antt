@@ -20,14 +20,17 @@ use Rattle.clap.specs.declared.builder.value_parser.Reading.TheVariants.{AsWritt
 use Rattle.clap.specs.declared.error.ErrorKind.{ErrorKind}
 use Rattle.clap.specs.declared.error.ErrorKind.TheVariants as kind
 use Rattle.clap.specs.declared.parser.matches.ValueSource.{ValueSource}
-use Rattle.command_line.specs.CommandLine.{program_app, serve_app, race_app, workers_rule, files_rule, option_rule}
-use Rattle.command_line.specs.declared.words.TheConstants.{MOST_WORKERS}
-use Rattle.command_line.specs.Words.{HasFiles, HasWorkers, IsGiven}
+use Rattle.command_line.specs.CommandLine.{program_app, serve_app, race_app, workers_rule, budget_rule, files_rule, option_rule}
+use Rattle.command_line.specs.declared.words.TheConstants.{MOST_CONFLICTS, MOST_WORKERS}
+use Rattle.command_line.specs.Words.{HasBudget, HasFiles, HasWorkers, IsGiven}
 use Rattle.command_line.proofs.CommandWalk.{Keeps, no_fault, walk_keeps, settle_keeps}
 
 append_all : {X : Type 0} (P : X → Type 0) (xs ys : List X) → AllByRecursion P xs → AllByRecursion P ys → AllByRecursion P (xs ++ ys)
 append_all P [] ys first then = then
 append_all P (x ∷ xs) ys (here, rest) then = (here, append_all P xs ys rest then)
+
+some_same : {x y : Text} → Some x ≡ Some y → x ≡ y
+some_same is = cc
 
 module _ (id : Text) (test : Text → Bool) where
   -- the values begin with one that passes the test, and are read as they were written
@@ -95,6 +98,20 @@ module _ (id : Text) (test : Text → Bool) where
         passes.4,
       )
 
+  -- an argument that was read has such a value, whether it was given or not
+  pub read_passes : (rows : List Row) → Good rows → (text : Text) → one_of id rows ≡ Some text → test text ≡ true
+  read_passes [] good text is = absurd (cc)
+  read_passes (r ∷ rs) (here, rest) text is = go (λ later. read_passes rs rest text later) (bytes_eq r.id id) refl is
+    where
+      go : (one_of id rs ≡ Some text → test text ≡ true) → (b : Bool) → bytes_eq r.id id ≡ b
+          → option_and_then row_text (cond b (Some r) (find (λ q. bytes_eq q.id id) rs)) ≡ Some text → test text ≡ true
+      go later true same has =
+          let passes = here same in
+          let row_is : row_text r ≡ Some passes.0 = ap (λ v. option_map (read_as r.reading) (slice_get v 0)) passes.2 ∙ ap (λ how. Some (read_as how passes.0)) passes.3 in
+          let both : Some passes.0 ≡ Some text = sym row_is ∙ has in
+          subst (λ t. test t ≡ true) (some_same both) passes.4
+      go later false same has = later has
+
 -- ---- one level of the parse
 
 with_default_none : (rows : List Row) (a : Rule) → a.defaults ≡ [] → with_default rows a ≡ rows
@@ -138,14 +155,19 @@ accepted : (b : Bool) (k : ErrorKind) (ks : Kinds) → or_else (cond b [] (k ∷
 accepted true k ks none = refl
 accepted false k ks none = absurd (cc)
 
+abbrev is_budget : Text → Bool
+is_budget = accepts false (Unsigned 0 MOST_CONFLICTS)
+
 WorkersGood : List Row → Type 0
 WorkersGood = Good (codes "workers") is_worker_count
 
+BudgetGood : List Row → Type 0
+BudgetGood = Good (codes "budget") is_budget
+
 -- a use of an option that takes one value, and is not the one in question
-keeps_option : (a : Rule) → action_of a ≡ action.Set → bytes_eq a.id (codes "workers") ≡ false → Keeps WorkersGood serve_shape a
-unfolding WorkersGood
-keeps_option a is other values rows good none =
-    used_good (codes "workers") is_worker_count (action_of a) a.id (reading_by a) (values_or_missing a values) rows (λ count. cc) good (λ same. absurd (true≢false (sym same ∙ other)))
+keeps_option : (id : Text) (test : Text → Bool) (a : Rule) → action_of a ≡ action.Set → bytes_eq a.id id ≡ false → Keeps (Good id test) serve_shape a
+keeps_option id test a is other values rows good none =
+    used_good id test (action_of a) a.id (reading_by a) (values_or_missing a values) rows (λ count. cc) good (λ same. absurd (true≢false (sym same ∙ other)))
 
 keeps_workers : Keeps WorkersGood serve_shape (filled workers_rule)
 unfolding WorkersGood
@@ -157,11 +179,40 @@ keeps_workers (v ∷ vs) rows good none =
     let passes = accepted (is_worker_count v) kind.ValueValidation (values_fault (filled workers_rule) vs) once.1 in
     used_good (codes "workers") is_worker_count action.Set (codes "workers") AsWritten (v ∷ vs) rows (λ count. cc) good (λ same. (v, vs, refl, refl, passes))
 
+keeps_budget : Keeps BudgetGood serve_shape (filled budget_rule)
+unfolding BudgetGood
+keeps_budget [] rows good none = absurd (cc)
+keeps_budget (v ∷ vs) rows good none =
+    let again = serve_shape.args_override_self in
+    let used_well = no_fault (range_kinds 1 1 (length (v ∷ vs))) (set_fault again (filled budget_rule) (v ∷ vs) rows) none in
+    let once = no_fault (repeat_fault again (codes "budget") rows) (values_fault (filled budget_rule) (v ∷ vs)) used_well.1 in
+    let passes = accepted (is_budget v) kind.ValueValidation (values_fault (filled budget_rule) vs) once.1 in
+    used_good (codes "budget") is_budget action.Set (codes "budget") AsWritten (v ∷ vs) rows (λ count. cc) good (λ same. (v, vs, refl, refl, passes))
+
 keeps_help : (Good : List Row → Type 0) (s : Shape) → Keeps Good s (filled help_rule)
 keeps_help Good s values rows good none = good
 
+-- the options that name files
+files_options : (id : Text) (test : Text → Bool) → bytes_eq (codes "journal") id ≡ false → bytes_eq (codes "load") id ≡ false → bytes_eq (codes "save") id ≡ false
+    → Keeps (Good id test) serve_shape (filled (option_rule (codes "journal"))) × Keeps (Good id test) serve_shape (filled (option_rule (codes "load")))
+    × Keeps (Good id test) serve_shape (filled (option_rule (codes "save")))
+files_options id test journal load save = (
+  keeps_option id test (filled (option_rule (codes "journal"))) refl journal,
+  keeps_option id test (filled (option_rule (codes "load"))) refl load,
+  keeps_option id test (filled (option_rule (codes "save"))) refl save,
+)
+
 workers_kept : AllByRecursion (Keeps WorkersGood serve_shape) serve_shape.rules
-workers_kept = (keeps_workers, (keeps_option (filled (option_rule (codes "journal"))) refl refl, (keeps_option (filled (option_rule (codes "load"))) refl refl, (keeps_option (filled (option_rule (codes "save"))) refl refl, (keeps_help WorkersGood serve_shape, tt)))))
+unfolding WorkersGood
+workers_kept =
+    let files = files_options (codes "workers") is_worker_count refl refl refl in
+    (keeps_workers, (files.0, (files.1, (files.2, (keeps_option (codes "workers") is_worker_count (filled budget_rule) refl refl, (keeps_help WorkersGood serve_shape, tt))))))
+
+budget_kept : AllByRecursion (Keeps BudgetGood serve_shape) serve_shape.rules
+unfolding BudgetGood
+budget_kept =
+    let files = files_options (codes "budget") is_budget refl refl refl in
+    (keeps_option (codes "budget") is_budget (filled workers_rule) refl refl, (files.0, (files.1, (files.2, (keeps_budget, (keeps_help BudgetGood serve_shape, tt))))))
 
 FilesGood : List Row → Type 0
 FilesGood = Good (codes "files") (λ _. true)
@@ -185,10 +236,19 @@ workers_given : (words : List Text) → level_fault serve_shape [] nothing_held 
     → HasWorkers (finished serve_shape.rules (walk serve_shape.rules [] nothing_held words).held)
 unfolding WorkersGood
 workers_given words none =
-    let left = level_leaves WorkersGood serve_shape words workers_kept (refl, (refl, (refl, (refl, (refl, tt))))) tt none in
+    let left = level_leaves WorkersGood serve_shape words workers_kept (refl, (refl, (refl, (refl, (refl, (refl, tt)))))) tt none in
     let rows = finished serve_shape.rules (walk serve_shape.rules [] nothing_held words).held in
     let read = first_read (codes "workers") is_worker_count rows left.0 (asked_for (is_given (codes "workers") rows) left.1) in
     (read.0, read.2, accepts-Accepts false (Unsigned 1 MOST_WORKERS) read.0 read.4)
+
+-- and a budget, if at all, that is a number
+budget_given : (words : List Text) → level_fault serve_shape [] nothing_held words false [] ≡ []
+    → HasBudget (finished serve_shape.rules (walk serve_shape.rules [] nothing_held words).held)
+unfolding BudgetGood
+budget_given words none text is =
+    let left = level_leaves BudgetGood serve_shape words budget_kept (refl, (refl, (refl, (refl, (refl, (refl, tt)))))) tt none in
+    let rows = finished serve_shape.rules (walk serve_shape.rules [] nothing_held words).held in
+    accepts-Accepts false (Unsigned 0 MOST_CONFLICTS) text (read_passes (codes "budget") is_budget rows left.0 text is)
 
 -- what `race` was given: a file or more
 files_given : (words : List Text) → level_fault race_shape [] nothing_held words false [] ≡ []
@@ -212,7 +272,7 @@ subcommand_wanted rows false none = absurd (cc)
 
 entered_by : (words : List Text) (is_serve is_race : Bool) → let met = cond is_serve (Some serve_shape) (cond is_race (Some race_shape) None) in
     option_map_or (λ s. level_fault s [] nothing_held words false []) met [] ≡ [] → is_some (option_map (λ s. rows_at s words) met) ≡ true → IsGiven (option_map (λ s. rows_at s words) met)
-entered_by words true is_race below has = ((rows_at serve_shape words).1, inl (refl, workers_given words below))
+entered_by words true is_race below has = ((rows_at serve_shape words).1, inl (refl, workers_given words below, budget_given words below))
 entered_by words false true below has = ((rows_at race_shape words).1, inr (refl, files_given words below))
 entered_by words false false below has = absurd (true≢false (sym has))
 

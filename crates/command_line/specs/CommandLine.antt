@@ -3,7 +3,7 @@ use Rattle.std.specs.Prelude.{Some, true, codes}
 use Rattle.clap.specs.Words.{App, Rule, Text, new_app, new_rule, with_rule, with_subcommand}
 use Rattle.clap.specs.declared.builder.action.ArgAction.TheVariants.{Set, Append}
 use Rattle.clap.specs.declared.builder.ValueParser.TheVariants.{Unsigned}
-use Rattle.command_line.specs.declared.words.TheConstants.{MOST_WORKERS}
+use Rattle.command_line.specs.declared.words.TheConstants.{MOST_CONFLICTS, MOST_WORKERS}
 
 -- `--name VALUE`, which may be left out
 abbrev pub option_rule : Text → Rule
@@ -12,6 +12,10 @@ option_rule name = record (new_rule name) { long = Some name; action = Some Set;
 -- `--workers N`, which has to be there, N from 1 to MOST_WORKERS
 abbrev pub workers_rule : Rule
 workers_rule = record (option_rule (codes "workers")) { required = true; parser = Some (Unsigned 1 MOST_WORKERS) }
+
+-- `--budget N`, which may be left out, N up to MOST_CONFLICTS
+abbrev pub budget_rule : Rule
+budget_rule = record (option_rule (codes "budget")) { parser = Some (Unsigned 0 MOST_CONFLICTS) }
 
 -- one file or more
 abbrev pub files_rule : Rule
@@ -22,9 +26,10 @@ files_rule = record (new_rule (codes "files")) {
   value_names = 1;
 }
 
--- `serve --workers N [--journal FILE] [--load FILE] [--save FILE]`
+-- `serve --workers N [--journal FILE] [--load FILE] [--save FILE] [--budget N]`
 abbrev pub serve_app : App
-serve_app = with_rule (with_rule (with_rule (with_rule (new_app (codes "serve")) workers_rule) (option_rule (codes "journal"))) (option_rule (codes "load"))) (option_rule (codes "save"))
+serve_app =
+    with_rule (with_rule (with_rule (with_rule (with_rule (new_app (codes "serve")) workers_rule) (option_rule (codes "journal"))) (option_rule (codes "load"))) (option_rule (codes "save"))) budget_rule
 
 -- `race FILE...`
 abbrev pub race_app : App

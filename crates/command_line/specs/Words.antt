@@ -4,7 +4,7 @@ use Rattle.std.specs.Str.Parse.{IsNumeral, digits_value, without_leading_plus}
 use Rattle.std.specs.declared.alloc.Global.{Global}
 use Rattle.clap.specs.Words.{IsUnsignedIn, Row, Text, fault_of, subcommand_of, first_of, all_of, one_of}
 use Rattle.command_line.specs.CommandLine.{program_app}
-use Rattle.command_line.specs.declared.words.TheConstants.{MOST_FILES, MOST_WORKERS}
+use Rattle.command_line.specs.declared.words.TheConstants.{MOST_CONFLICTS, MOST_FILES, MOST_WORKERS}
 use Rattle.command_line.specs.declared.words.Words.{Words}
 use Rattle.command_line.specs.declared.words.Words.TheVariants.{Keep, Serve, Race}
 
@@ -20,11 +20,16 @@ abbrev pub SaysWorkers : ℕ → List Row → Type 0
 SaysWorkers workers rows = (1 ≤ workers) × (workers ≤ MOST_WORKERS)
     × ((text : Text) × (one_of (codes "workers") rows ≡ Some text) × Writes text workers)
 
--- to serve by so many workers, with these files to begin from, to leave and to keep
-abbrev pub AreWords : Words → ℕ → Option Text → Option Text → Option Text → Type 0
-AreWords (Serve workers load save) n from to kept = (workers ≡ n) × (option_map string_bytes load ≡ from) × (option_map string_bytes save ≡ to) × (kept ≡ None)
-AreWords (Keep workers journal) n from to kept = (workers ≡ n) × (kept ≡ Some (string_bytes journal)) × (from ≡ None) × (to ≡ None)
-AreWords (Race files) n from to kept = ⊥
+-- the budget of conflicts is the one that was given, if one was
+abbrev pub SaysBudget : Option ℕ → List Row → Type 0
+SaysBudget None rows = one_of (codes "budget") rows ≡ None
+SaysBudget (Some budget) rows = (text : Text) × (one_of (codes "budget") rows ≡ Some text) × Writes text budget
+
+-- to serve by so many workers and by this budget, with these files to begin from, to leave and to keep
+abbrev pub AreWords : Words → ℕ → Option ℕ → Option Text → Option Text → Option Text → Type 0
+AreWords (Serve workers budget load save) n b from to kept = (workers ≡ n) × (budget ≡ b) × (option_map string_bytes load ≡ from) × (option_map string_bytes save ≡ to) × (kept ≡ None)
+AreWords (Keep workers budget journal) n b from to kept = (workers ≡ n) × (budget ≡ b) × (kept ≡ Some (string_bytes journal)) × (from ≡ None) × (to ≡ None)
+AreWords (Race files) n b from to kept = ⊥
 
 -- a file to keep is named, and one to begin from or to leave as well
 abbrev pub NamesBoth : Option Text → Option Text → Option Text → Type 0
@@ -32,11 +37,11 @@ NamesBoth from to kept = IsSome kept × (IsSome from ⊎ IsSome to)
 
 -- the options of `serve` are those that were given, and none of its files is left out
 abbrev pub SaysServe : Words → List Row → Type 0
-SaysServe (Serve workers load save) rows = SaysWorkers workers rows
+SaysServe (Serve workers budget load save) rows = SaysWorkers workers rows × SaysBudget budget rows
     × (option_map string_bytes load ≡ first_of (codes "load") rows)
     × (option_map string_bytes save ≡ first_of (codes "save") rows)
     × (first_of (codes "journal") rows ≡ None)
-SaysServe (Keep workers journal) rows = SaysWorkers workers rows
+SaysServe (Keep workers budget journal) rows = SaysWorkers workers rows × SaysBudget budget rows
     × (first_of (codes "journal") rows ≡ Some (string_bytes journal))
     × (first_of (codes "load") rows ≡ None)
     × (first_of (codes "save") rows ≡ None)
@@ -44,8 +49,8 @@ SaysServe (Race files) rows = ⊥
 
 -- the files of `race`, 1 to MOST_FILES, are those that were given
 abbrev pub SaysRace : Words → List Row → Type 0
-SaysRace (Serve workers load save) rows = ⊥
-SaysRace (Keep workers journal) rows = ⊥
+SaysRace (Serve workers budget load save) rows = ⊥
+SaysRace (Keep workers budget journal) rows = ⊥
 SaysRace (Race files) rows = (0 < length files.items) × (length files.items ≤ MOST_FILES)
     × (Some (texts files.items) ≡ all_of (codes "files") rows)
 
@@ -68,23 +73,23 @@ AreMixed rows = NamesBoth (first_of (codes "load") rows) (first_of (codes "save"
 abbrev pub HasMixedFiles : Option (Text × List Row) → Type 0
 HasMixedFiles given = (rows : List Row) × (given ≡ Some (codes "serve", rows)) × AreMixed rows
 
--- `serve` is given, with these files to begin from and to leave, where they are named, and with no journal to keep
-abbrev pub IsServe : Option Text → Option Text → Option (Text × List Row) → Type 0
-IsServe load save given = (rows : List Row) × (given ≡ Some (codes "serve", rows))
+-- `serve` is given, with this budget, if it is given, with these files to begin from and to leave, where they are named, and with no journal to keep
+abbrev pub IsServe : Option ℕ → Option Text → Option Text → Option (Text × List Row) → Type 0
+IsServe budget load save given = (rows : List Row) × (given ≡ Some (codes "serve", rows)) × SaysBudget budget rows
     × (first_of (codes "load") rows ≡ load) × (first_of (codes "save") rows ≡ save) × (first_of (codes "journal") rows ≡ None)
 
--- `serve` is given, with this journal to keep, and with none to begin from or to leave
-abbrev pub IsKeep : Text → Option (Text × List Row) → Type 0
-IsKeep journal given = (rows : List Row) × (given ≡ Some (codes "serve", rows))
+-- `serve` is given, with this budget, if it is given, with this journal to keep, and with none to begin from or to leave
+abbrev pub IsKeep : Option ℕ → Text → Option (Text × List Row) → Type 0
+IsKeep budget journal given = (rows : List Row) × (given ≡ Some (codes "serve", rows)) × SaysBudget budget rows
     × (first_of (codes "journal") rows ≡ Some journal) × (first_of (codes "load") rows ≡ None) × (first_of (codes "save") rows ≡ None)
 
--- clap finds no fault in the words, and they ask to serve with these files
-abbrev pub AskToServe : List Text → Option Text → Option Text → Type 0
-AskToServe words load save = (fault_of program_app words ≡ []) × IsServe load save (subcommand_of program_app words)
+-- clap finds no fault in the words, and they ask to serve by this budget, if they name one, with these files
+abbrev pub AskToServe : List Text → Option ℕ → Option Text → Option Text → Type 0
+AskToServe words budget load save = (fault_of program_app words ≡ []) × IsServe budget load save (subcommand_of program_app words)
 
--- clap finds no fault in the words, and they ask to serve with this journal to keep
-abbrev pub AskToKeep : List Text → Text → Type 0
-AskToKeep words journal = (fault_of program_app words ≡ []) × IsKeep journal (subcommand_of program_app words)
+-- clap finds no fault in the words, and they ask to serve by this budget, if they name one, with this journal to keep
+abbrev pub AskToKeep : List Text → Option ℕ → Text → Type 0
+AskToKeep words budget journal = (fault_of program_app words ≡ []) × IsKeep budget journal (subcommand_of program_app words)
 
 -- a race of so many files is given, at most MOST_FILES
 abbrev pub IsRaceOf : ℕ → Option (Text × List Row) → Type 0
@@ -101,11 +106,15 @@ AskToRace words count = (fault_of program_app words ≡ []) × IsRaceOf count (s
 abbrev pub HasWorkers : List Row → Type 0
 HasWorkers rows = (text : Text) × (one_of (codes "workers") rows ≡ Some text) × IsUnsignedIn 1 MOST_WORKERS text
 
+-- a budget that is given is a number up to MOST_CONFLICTS
+abbrev pub HasBudget : List Row → Type 0
+HasBudget rows = (text : Text) → one_of (codes "budget") rows ≡ Some text → IsUnsignedIn 0 MOST_CONFLICTS text
+
 -- a file is given
 abbrev pub HasFiles : List Row → Type 0
 HasFiles rows = (files : List Text) × (all_of (codes "files") rows ≡ Some files) × (0 < length files)
 
 -- a subcommand is given, with the values that it has to have
 abbrev pub IsGiven : Option (Text × List Row) → Type 0
-IsGiven given = (rows : List Row) × (((given ≡ Some (codes "serve", rows)) × HasWorkers rows)
+IsGiven given = (rows : List Row) × (((given ≡ Some (codes "serve", rows)) × HasWorkers rows × HasBudget rows)
     ⊎ ((given ≡ Some (codes "race", rows)) × HasFiles rows))

@@ -2,9 +2,9 @@
 ghost use Rattle.std.specs.Prelude.{◌≡◌, IfOk, true, false};
 ghost use Rattle.clap.specs.Words.{app_of, rule_of, with_subcommand};
 ghost use Rattle.clap.specs.declared.Command.TheViews.{out-Command as fields_of};
-ghost use Rattle.command_line.specs.CommandLine.{option_rule, workers_rule, files_rule, serve_app, race_app, bare_app, program_app};
+ghost use Rattle.command_line.specs.CommandLine.{option_rule, workers_rule, budget_rule, files_rule, serve_app, race_app, bare_app, program_app};
 
-use crate::words::MOST_WORKERS;
+use crate::words::{MOST_CONFLICTS, MOST_WORKERS};
 use clap::builder::ValueParser;
 use clap::{Arg, ArgAction, Command};
 use std::alloc::{AllocError, Global};
@@ -16,8 +16,8 @@ const SERVE_EXAMPLE: &str =
 // What the help of `race` shows.
 const RACE_EXAMPLE: &str = "Example: registryd race first.lines second.lines";
 
-/// `registryd serve --workers N [--journal FILE] [--load FILE] [--save FILE]` or `registryd race FILE...`, without the
-/// program's name.
+/// `registryd serve --workers N [--journal FILE] [--load FILE] [--save FILE] [--budget N]` or `registryd race FILE...`,
+/// without the program's name.
 pub fn program<'a>(alloc: Global) -> Result<Command<'a>, AllocError>
     ensures { IfOk result (λ c. app_of c ≡ program_app) }
 {
@@ -76,7 +76,12 @@ fn serve_command<'a>(alloc: Global) -> Result<Command<'a>, AllocError>
         "The journal to go on with; it has each accepted line before its reply is written",
     ))?;
     let with_load = with_journal.arg(file_option(alloc, "load", "A journal to begin from"))?;
-    with_load.arg(file_option(alloc, "save", "Where to write the journal at the end"))
+    let with_save = with_load.arg(file_option(
+        alloc,
+        "save",
+        "Where to write the journal at the end",
+    ))?;
+    with_save.arg(budget_option(alloc))
 }
 
 fn race_command<'a>(alloc: Global) -> Result<Command<'a>, AllocError>
@@ -100,6 +105,18 @@ fn workers_option<'a>(alloc: Global) -> Arg<'a>
         .required(true)
         .action(ArgAction::Set)
         .value_parser(ValueParser::Unsigned(1, MOST_WORKERS))
+}
+
+fn budget_option<'a>(alloc: Global) -> Arg<'a>
+    ensures rule { rule_of result ≡ budget_rule }
+    ensures local { result.global ≡ false }
+{
+    Arg::new(alloc, "budget")
+        .long("budget")
+        .value_name("N")
+        .help("The budget of conflicts of each request that names none")
+        .action(ArgAction::Set)
+        .value_parser(ValueParser::Unsigned(0, MOST_CONFLICTS))
 }
 
 fn file_option<'a>(alloc: Global, name: &'a str, help: &'a str) -> Arg<'a>

@@ -2,6 +2,10 @@
 #![tactic(auto)]
 
 mod command_line;
+mod limits;
 mod words;
 
-pub use words::{MOST_FILES, MOST_WORKERS, WordFault, Words, advice_on, read_words};
+pub use limits::limits_in_numbers;
+pub use words::{
+    MOST_CONFLICTS, MOST_FILES, MOST_WORKERS, WordFault, Words, advice_on, read_words,
+};

@@ -2,7 +2,7 @@
 ghost use Rattle.std.specs.Prelude.{◌≡◌, ◌≢◌, ◌⊎◌, [], IfOk, OnOk, IsErrOf, option_map, true, map, string_bytes};
 ghost use Rattle.clap.specs.Words.{fault_of, takes, subcommand_of, subcommand_rows_of, rows_of, found_of, kind_of};
 ghost use Rattle.command_line.specs.CommandLine.{program_app};
-ghost use Rattle.command_line.specs.Words.{texts, Says, SaysServe, SaysRace, HasManyFiles, HasMixedFiles, IsManyFiles, AreMixed, HasWorkers, HasFiles, IsGiven, AreWords, NamesBoth};
+ghost use Rattle.command_line.specs.Words.{texts, Says, SaysServe, SaysRace, HasManyFiles, HasMixedFiles, IsManyFiles, AreMixed, HasWorkers, HasBudget, HasFiles, IsGiven, AreWords, NamesBoth};
 ghost use Rattle.command_line.specs.declared.words.WordFault.TheVariants.{Memory};
 
 use crate::command_line::program;
@@ -14,23 +14,29 @@ use thiserror::Error as ThisError;
 /// The most threads that resolve requests.
 pub const MOST_WORKERS: u64 = 64;
 
+/// The largest budget of conflicts.
+pub const MOST_CONFLICTS: u64 = 4_294_967_295;
+
 /// The most files that a race takes: with the seat that prints the journal they are 64 seats.
 pub const MOST_FILES: usize = 63;
 
 /// What the words ask for.
 #[derive(Drop)]
 pub enum Words {
-    /// Answer the lines of standard input, by so many resolving threads, from a journal's commands on
-    /// and with a journal at the end, where files are named for them.
+    /// Answer the lines of standard input, by so many resolving threads, with this budget of each request
+    /// that names none, if one is given, from a journal's commands on and with a journal at the end, where
+    /// files are named for them.
     Serve {
         workers: usize,
+        budget: Option<u32>,
         load: Option<String>,
         save: Option<String>,
     },
-    /// Answer the lines of standard input, by so many resolving threads, from the commands of a journal's
-    /// file on, which is kept as they are answered.
+    /// Answer the lines of standard input, by so many resolving threads and by such a budget, from the
+    /// commands of a journal's file on, which is kept as they are answered.
     Keep {
         workers: usize,
+        budget: Option<u32>,
         journal: String,
     },
     /// Answer the lines of each file, side by side.
@@ -142,33 +148,37 @@ fn words_of(alloc: Global, matches: &ArgMatches) -> Result<Words, WordFault>
 }
 
 fn serve_words(alloc: Global, given: &ArgMatches) -> Result<Words, WordFault>
-    requires { HasWorkers (rows_of (found_of given.now)) }
+    requires workers { HasWorkers (rows_of (found_of given.now)) }
+    requires budget { HasBudget (rows_of (found_of given.now)) }
     ensures ok { IfOk result (λ w. SaysServe w (rows_of (found_of given.now))) }
     ensures bad { IsErrOf result WordFault.Bad → AreMixed (rows_of (found_of given.now)) }
 {
     let Some(workers) = given.get_one::<usize>("workers") else {
         unreachable!()
     };
+    let budget = given.get_one::<u32>("budget");
     let load = given.get_str("load");
     let save = given.get_str("save");
     let journal = given.get_str("journal");
-    words_with(alloc, workers, load, save, journal)
+    words_with(alloc, workers, budget, load, save, journal)
 }
 
 fn words_with(
     alloc: Global,
     workers: usize,
+    budget: Option<u32>,
     load: Option<&str>,
     save: Option<&str>,
     journal: Option<&str>,
 ) -> Result<Words, WordFault>
-    ensures ok { IfOk result (λ w. AreWords w workers (option_map (λ t. t.now) load.entry) (option_map (λ t. t.now) save.entry) (option_map (λ t. t.now) journal.entry)) }
+    ensures ok { IfOk result (λ w. AreWords w workers budget (option_map (λ t. t.now) load.entry) (option_map (λ t. t.now) save.entry) (option_map (λ t. t.now) journal.entry)) }
     ensures bad { IsErrOf result WordFault.Bad
         → NamesBoth (option_map (λ t. t.now) load.entry) (option_map (λ t. t.now) save.entry) (option_map (λ t. t.now) journal.entry) }
 {
     match journal {
         None => Ok(Words::Serve {
             workers,
+            budget,
             load: copied(alloc, load)?,
             save: copied(alloc, save)?,
         }),
@@ -178,6 +188,7 @@ fn words_with(
             }
             Ok(Words::Keep {
                 workers,
+                budget,
                 journal: String::from_str(alloc, journal)?,
             })
         }

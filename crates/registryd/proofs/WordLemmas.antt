@@ -22,33 +22,33 @@ use Rattle.command_line.specs.declared.words.Words.{Words}
 use Rattle.command_line.specs.declared.words.Words.TheVariants.{Keep, Serve}
 
 -- serving, with the files that are named
-serve_asked : (words : Words) (workers : ℕ) (load save : Option (String Global)) (given : Option (Text × List Row)) (from to : Option Text) → Says words given
-    → words ≡ Serve workers load save → from ≡ option_map string_bytes load → to ≡ option_map string_bytes save → IsServe from to given
-serve_asked words workers load save given from to says is from_is to_is =
-    let read : Says (Serve workers load save) given = subst (λ (w : Words). Says w given) is says in
+serve_asked : (words : Words) (workers : ℕ) (budget : Option ℕ) (load save : Option (String Global)) (given : Option (Text × List Row)) (from to : Option Text) → Says words given
+    → words ≡ Serve workers budget load save → from ≡ option_map string_bytes load → to ≡ option_map string_bytes save → IsServe budget from to given
+serve_asked words workers budget load save given from to says is from_is to_is =
+    let read : Says (Serve workers budget load save) given = subst (λ (w : Words). Says w given) is says in
     elim read.1 [
-      | inl serve ↦ (read.0, serve.0, sym serve.1.1 ∙ sym from_is, sym serve.1.2 ∙ sym to_is, serve.1.3)
+      | inl serve ↦ (read.0, serve.0, serve.1.1, sym serve.1.2 ∙ sym from_is, sym serve.1.3 ∙ sym to_is, serve.1.4)
       | inr race ↦ absurd race.1
     ]
 
-pub serve_asks : (line : List Text) (words : Words) (workers : ℕ) (load save : Option (String Global)) (from to : Option Text) → fault_of program_app line ≡ []
-    → Says words (subcommand_of program_app line) → words ≡ Serve workers load save → from ≡ option_map string_bytes load → to ≡ option_map string_bytes save → AskToServe line from to
-serve_asks line words workers load save from to taken says is from_is to_is =
-    (taken, serve_asked words workers load save (subcommand_of program_app line) from to says is from_is to_is)
+pub serve_asks : (line : List Text) (words : Words) (workers : ℕ) (budget : Option ℕ) (load save : Option (String Global)) (from to : Option Text) → fault_of program_app line ≡ []
+    → Says words (subcommand_of program_app line) → words ≡ Serve workers budget load save → from ≡ option_map string_bytes load → to ≡ option_map string_bytes save → AskToServe line budget from to
+serve_asks line words workers budget load save from to taken says is from_is to_is =
+    (taken, serve_asked words workers budget load save (subcommand_of program_app line) from to says is from_is to_is)
 
 -- serving, with a journal that is kept
-keep_asked : (words : Words) (workers : ℕ) (journal : String Global) (given : Option (Text × List Row)) (name : Text) → Says words given → words ≡ Keep workers journal → name ≡ string_bytes journal
-    → IsKeep name given
-keep_asked words workers journal given name says is name_is =
-    let read : Says (Keep workers journal) given = subst (λ (w : Words). Says w given) is says in
+keep_asked : (words : Words) (workers : ℕ) (budget : Option ℕ) (journal : String Global) (given : Option (Text × List Row)) (name : Text) → Says words given → words ≡ Keep workers budget journal → name ≡ string_bytes journal
+    → IsKeep budget name given
+keep_asked words workers budget journal given name says is name_is =
+    let read : Says (Keep workers budget journal) given = subst (λ (w : Words). Says w given) is says in
     elim read.1 [
-      | inl serve ↦ (read.0, serve.0, serve.1.1 ∙ ap (λ (t : Text). Some t) (sym name_is), serve.1.2, serve.1.3)
+      | inl serve ↦ (read.0, serve.0, serve.1.1, serve.1.2 ∙ ap (λ (t : Text). Some t) (sym name_is), serve.1.3, serve.1.4)
       | inr race ↦ absurd race.1
     ]
 
-pub keep_asks : (line : List Text) (words : Words) (workers : ℕ) (journal : String Global) (name : Text) → fault_of program_app line ≡ [] → Says words (subcommand_of program_app line)
-    → words ≡ Keep workers journal → name ≡ string_bytes journal → AskToKeep line name
-keep_asks line words workers journal name taken says is name_is = (taken, keep_asked words workers journal (subcommand_of program_app line) name says is name_is)
+pub keep_asks : (line : List Text) (words : Words) (workers : ℕ) (budget : Option ℕ) (journal : String Global) (name : Text) → fault_of program_app line ≡ [] → Says words (subcommand_of program_app line)
+    → words ≡ Keep workers budget journal → name ≡ string_bytes journal → AskToKeep line budget name
+keep_asks line words workers budget journal name taken says is name_is = (taken, keep_asked words workers budget journal (subcommand_of program_app line) name says is name_is)
 
 -- ---- words that ask for nothing
 
@@ -82,11 +82,11 @@ module _ (line : List Text) (bad : fault_of program_app line ≡ [] → HasManyF
     | inr mixed ↦ subst AreMixed (one_rows (subcommand_of program_app line) (codes "serve") (codes "serve") mixed.0 rows mixed.1 is) mixed.2
   ]
 
-  pub asks_no_serve : (load save : Option Text) → AskToServe line load save → ⊥
-  asks_no_serve load save (taken, (rows, is, load_is, save_is, none)) = none_named (first_of (codes "journal") rows) none (mixed_rows rows taken is).0
+  pub asks_no_serve : (budget : Option ℕ) (load save : Option Text) → AskToServe line budget load save → ⊥
+  asks_no_serve budget load save (taken, (rows, is, budget_is, load_is, save_is, none)) = none_named (first_of (codes "journal") rows) none (mixed_rows rows taken is).0
 
-  pub asks_no_keep : (journal : Text) → AskToKeep line journal → ⊥
-  asks_no_keep journal (taken, (rows, is, journal_is, no_load, no_save)) = elim (mixed_rows rows taken is).1 [
+  pub asks_no_keep : (budget : Option ℕ) (journal : Text) → AskToKeep line budget journal → ⊥
+  asks_no_keep budget journal (taken, (rows, is, budget_is, journal_is, no_load, no_save)) = elim (mixed_rows rows taken is).1 [
     | inl load ↦ none_named (first_of (codes "load") rows) no_load load
     | inr save ↦ none_named (first_of (codes "save") rows) no_save save
   ]
@@ -112,36 +112,36 @@ load_ends unloaded.Input = tt
 
 -- ---- what comes of the words
 
-module _ (words : List Text) (r0 r w0 w : Option (List ℕ)) (load save : Option Text) (asked : AskToServe words load save) where
-  pub has_served : (lines_in : List ℕ → List (List ℕ)) → ((loaded items : List Item) × MayBegin load loaded × Serves r0 r w0 w lines_in loaded items) → HasServed words r0 r w0 w lines_in
+module _ (words : List Text) (r0 r w0 w : Option (List ℕ)) (budget : Option ℕ) (load save : Option Text) (asked : AskToServe words budget load save) where
+  pub has_served : (lines_in : List ℕ → List (List ℕ)) → ((loaded items : List Item) × MayBegin load loaded × Serves budget r0 r w0 w lines_in loaded items) → HasServed words r0 r w0 w lines_in
   has_served lines_in (loaded, items, begins, serves) =
-      record { load = load; save = save; asked = asked; loaded = loaded; begins = begins; accepted = items; serves = serves }
+      record { budget = budget; load = load; save = save; asked = asked; loaded = loaded; begins = begins; accepted = items; serves = serves }
 
-  pub has_broken : ((loaded : List Item) × MayBegin load loaded × Breaks r0 r w0 w loaded) → HasBroken words r0 r w0 w
-  has_broken (loaded, begins, breaks) = record { load = load; save = save; asked = asked; loaded = loaded; begins = begins; breaks = breaks }
+  pub has_broken : ((loaded : List Item) × MayBegin load loaded × Breaks budget r0 r w0 w loaded) → HasBroken words r0 r w0 w
+  has_broken (loaded, begins, breaks) = record { budget = budget; load = load; save = save; asked = asked; loaded = loaded; begins = begins; breaks = breaks }
 
 -- a journal is named
-pub has_no_journal : (words : List Text) (r0 r w0 w : Option (List ℕ)) (load save : Option Text) → AskToServe words load save → IsSome load → Keeps r0 r → Keeps w0 w
+pub has_no_journal : (words : List Text) (r0 r w0 w : Option (List ℕ)) (budget : Option ℕ) (load save : Option Text) → AskToServe words budget load save → IsSome load → Keeps r0 r → Keeps w0 w
     → HasNoJournal words r0 r w0 w
-has_no_journal words r0 r w0 w None save asked some read written = absurd (true≢false (sym some))
-has_no_journal words r0 r w0 w (Some load) save asked some read written = record { load = load; save = save; asked = asked; read = read; written = written }
+has_no_journal words r0 r w0 w budget None save asked some read written = absurd (true≢false (sym some))
+has_no_journal words r0 r w0 w budget (Some load) save asked some read written = record { budget = budget; load = load; save = save; asked = asked; read = read; written = written }
 
 -- a journal is kept
-module _ (words : List Text) (r0 r w0 w : Option (List ℕ)) (journal : Text) (asked : AskToKeep words journal) where
-  pub has_kept : Ends r0 r w0 w → HasKept words r0 r w0 w
-  has_kept ends = record { journal = journal; asked = asked; ends = ends }
+module _ (words : List Text) (r0 r w0 w : Option (List ℕ)) (budget : Option ℕ) (journal : Text) (asked : AskToKeep words budget journal) where
+  pub has_kept : Ends budget r0 r w0 w → HasKept words r0 r w0 w
+  has_kept ends = record { budget = budget; journal = journal; asked = asked; ends = ends }
 
-  pub has_stopped : Stops r0 r w0 w → HasStopped words r0 r w0 w
-  has_stopped stops = record { journal = journal; asked = asked; stops = stops }
+  pub has_stopped : Stops budget r0 r w0 w → HasStopped words r0 r w0 w
+  has_stopped stops = record { budget = budget; journal = journal; asked = asked; stops = stops }
 
-  pub has_fallen : Falls r0 r w0 w → HasFallen words r0 r w0 w
-  has_fallen falls = record { journal = journal; asked = asked; falls = falls }
+  pub has_fallen : Falls budget r0 r w0 w → HasFallen words r0 r w0 w
+  has_fallen falls = record { budget = budget; journal = journal; asked = asked; falls = falls }
 
   pub has_not_begun : Keeps r0 r → Keeps w0 w → HasNotBegun words r0 r w0 w
-  has_not_begun read written = record { journal = journal; asked = asked; read = read; written = written }
+  has_not_begun read written = record { budget = budget; journal = journal; asked = asked; read = read; written = written }
 
-pub tells_of_file : (words : List Text) (journal : Text) → AskToKeep words journal → (fault : FileFault) → fault.name.items ≡ shown_text journal → TellsOfFile words fault
-tells_of_file words journal asked fault named = record { journal = journal; asked = asked; named = named }
+pub tells_of_file : (words : List Text) (budget : Option ℕ) (journal : Text) → AskToKeep words budget journal → (fault : FileFault) → fault.name.items ≡ shown_text journal → TellsOfFile words fault
+tells_of_file words budget journal asked fault named = record { budget = budget; journal = journal; asked = asked; named = named }
 
 -- an end that tells a failed read comes of one
 pub input_ended : (fault : RunFault) → end_of_run fault ≡ end.Input → fault ≡ Input

@@ -88,7 +88,8 @@ where
         → Keeps (R.remaining reader.old) (R.remaining reader.new) × Keeps (W.contents writer) (W.contents result.writer) }
     // Nothing was read, and the words ask neither to serve nor for a race.
     ensures words { result.end ≡ End.Words → Keeps (R.remaining reader.old) (R.remaining reader.new)
-        × ((load save : Option Text) → AskToServe (texts words.now) load save → ⊥) × ((journal : Text) → AskToKeep (texts words.now) journal → ⊥)
+        × ((budget : Option ℕ) (load save : Option Text) → AskToServe (texts words.now) budget load save → ⊥)
+        × ((budget : Option ℕ) (journal : Text) → AskToKeep (texts words.now) budget journal → ⊥)
         × ((count : ℕ) → AskToRace (texts words.now) count → ⊥) }
     // Words that clap takes are told nothing, but for too many files, and for files that are not named together.
     ensures quiet { result.end ≡ End.Words → fault_of program_app (texts words.now) ≡ [] → (HasManyFiles (subcommand_of program_app (texts words.now)) → ⊥)
@@ -99,18 +100,23 @@ where
         Ok(
             Words::Serve {
                 workers,
+                budget,
                 load,
                 save,
             },
         ) => {
             let from = lent_name(&load);
             let to = lent_name(&save);
-            let end = serve(rt, alloc, reader, &mut writer, workers, from, to);
+            let end = serve(rt, alloc, reader, &mut writer, workers, budget, from, to);
             Obeyed { end, writer }
         }
-        Ok(Words::Keep { workers, journal }) => {
-            keep(rt, alloc, reader, writer, workers, journal.as_str())
-        }
+        Ok(
+            Words::Keep {
+                workers,
+                budget,
+                journal,
+            },
+        ) => { keep(rt, alloc, reader, writer, workers, budget, journal.as_str()) }
         Ok(Words::Race(files)) => {
             let end = race_files(rt, alloc, files.as_slice(), &mut writer);
             Obeyed { end, writer }
@@ -140,13 +146,14 @@ fn lent_name(name: &Option<String>) -> Option<&str>
 }
 
 /// Serves the lines of a reader: from the items of a journal on where its file is named, and with a journal at the end
-/// where a file is named for it.
+/// where a file is named for it. A request that names no budget has this one, if there is one.
 fn serve<H: Threads + Wait + Sync + Files, R: Read, W: Write>(
     rt: &H,
     alloc: Global,
     reader: &mut R,
     writer: &mut W,
     workers: usize,
+    budget: Option<u32>,
     load: Option<&str>,
     save: Option<&str>,
 ) -> End
@@ -154,14 +161,14 @@ where
     H::File: SystemFile,
     requires { (1 ≤ workers) × (workers ≤ MOST_WORKERS) }
     ensures done { result ≡ End.Done → IsAtEnd (R.remaining reader.new) × ((loaded items : List Item) × MayBegin (option_map (λ t. t.now) load.entry) loaded
-        × Serves (R.remaining reader.old) (R.remaining reader.new) (W.contents writer.old) (W.contents writer.new) lines_of loaded items) }
+        × Serves budget (R.remaining reader.old) (R.remaining reader.new) (W.contents writer.old) (W.contents writer.new) lines_of loaded items) }
     ensures input { result ≡ End.Input → ((loaded items : List Item) × MayBegin (option_map (λ t. t.now) load.entry) loaded
-        × Serves (R.remaining reader.old) (R.remaining reader.new) (W.contents writer.old) (W.contents writer.new) whole_lines_of loaded items)
+        × Serves budget (R.remaining reader.old) (R.remaining reader.new) (W.contents writer.old) (W.contents writer.new) whole_lines_of loaded items)
         ⊎ (IsSome (option_map (λ t. t.now) load.entry) × Keeps (R.remaining reader.old) (R.remaining reader.new) × Keeps (W.contents writer.old) (W.contents writer.new)) }
     ensures output { result ≡ End.Output → ((loaded : List Item) × MayBegin (option_map (λ t. t.now) load.entry) loaded
-        × Breaks (R.remaining reader.old) (R.remaining reader.new) (W.contents writer.old) (W.contents writer.new) loaded)
+        × Breaks budget (R.remaining reader.old) (R.remaining reader.new) (W.contents writer.old) (W.contents writer.new) loaded)
         ⊎ (IsAtEnd (R.remaining reader.new) × ((loaded items : List Item) × MayBegin (option_map (λ t. t.now) load.entry) loaded
-        × Serves (R.remaining reader.old) (R.remaining reader.new) (W.contents writer.old) (W.contents writer.new) lines_of loaded items)) }
+        × Serves budget (R.remaining reader.old) (R.remaining reader.new) (W.contents writer.old) (W.contents writer.new) lines_of loaded items)) }
     ensures journal { (line : ℕ) → result ≡ End.Journal line
         → IsSome (option_map (λ t. t.now) load.entry) × Keeps (R.remaining reader.old) (R.remaining reader.new) × Keeps (W.contents writer.old) (W.contents writer.new) }
     ensures memory { result ≡ End.Memory
@@ -170,7 +177,7 @@ where
     ensures words { result ≢ End.Words }
 {
     match loaded_from(rt, alloc, load) {
-        Ok(served) => serve_to(rt, alloc, reader, writer, workers, served, save),
+        Ok(served) => serve_to(rt, alloc, reader, writer, workers, budget, served, save),
         Err(end) => end,
     }
 }
@@ -182,6 +189,7 @@ fn serve_to<H: Threads + Wait + Sync + Files, R: Read, W: Write>(
     reader: &mut R,
     writer: &mut W,
     workers: usize,
+    budget: Option<u32>,
     begun: Served,
     save: Option<&str>,
 ) -> End
@@ -189,13 +197,13 @@ where
     H::File: SystemFile,
     requires { (1 ≤ workers) × (workers ≤ MOST_WORKERS) }
     ensures done { result ≡ End.Done → IsAtEnd (R.remaining reader.new) × ((accepted : List Item)
-        × Serves (R.remaining reader.old) (R.remaining reader.new) (W.contents writer.old) (W.contents writer.new) lines_of begun accepted) }
+        × Serves budget (R.remaining reader.old) (R.remaining reader.new) (W.contents writer.old) (W.contents writer.new) lines_of begun accepted) }
     ensures input { result ≡ End.Input → (accepted : List Item)
-        × Serves (R.remaining reader.old) (R.remaining reader.new) (W.contents writer.old) (W.contents writer.new) whole_lines_of begun accepted }
+        × Serves budget (R.remaining reader.old) (R.remaining reader.new) (W.contents writer.old) (W.contents writer.new) whole_lines_of begun accepted }
     ensures output { result ≡ End.Output
-        → Breaks (R.remaining reader.old) (R.remaining reader.new) (W.contents writer.old) (W.contents writer.new) begun
+        → Breaks budget (R.remaining reader.old) (R.remaining reader.new) (W.contents writer.old) (W.contents writer.new) begun
         ⊎ (IsAtEnd (R.remaining reader.new) × ((accepted : List Item)
-        × Serves (R.remaining reader.old) (R.remaining reader.new) (W.contents writer.old) (W.contents writer.new) lines_of begun accepted)) }
+        × Serves budget (R.remaining reader.old) (R.remaining reader.new) (W.contents writer.old) (W.contents writer.new) lines_of begun accepted)) }
     ensures memory { result ≡ End.Memory
         → Keeps (R.remaining reader.old) (R.remaining reader.new) × Keeps (W.contents writer.old) (W.contents writer.new) }
     ensures kept { (fault : FileFault) → result ≢ End.Kept fault }
@@ -203,7 +211,7 @@ where
     ensures no_journal { (line : ℕ) → result ≢ End.Journal line }
 {
     match target_of(rt, alloc, save) {
-        Ok(target) => serve_from(rt, alloc, reader, writer, workers, begun, target),
+        Ok(target) => serve_from(rt, alloc, reader, writer, workers, budget, begun, target),
         Err(e) => {
             drop(begun);
             end_of_making(&e)
@@ -218,6 +226,7 @@ fn serve_from<H: Threads + Wait + Sync + Files, R: Read, W: Write>(
     reader: &mut R,
     writer: &mut W,
     workers: usize,
+    budget: Option<u32>,
     begun: Served,
     target: Target<H::File>,
 ) -> End
@@ -225,20 +234,20 @@ where
     H::File: SystemFile,
     requires { (1 ≤ workers) × (workers ≤ MOST_WORKERS) }
     ensures done { result ≡ End.Done → IsAtEnd (R.remaining reader.new) × ((accepted : List Item)
-        × Serves (R.remaining reader.old) (R.remaining reader.new) (W.contents writer.old) (W.contents writer.new) lines_of begun accepted) }
+        × Serves budget (R.remaining reader.old) (R.remaining reader.new) (W.contents writer.old) (W.contents writer.new) lines_of begun accepted) }
     ensures input { result ≡ End.Input → (accepted : List Item)
-        × Serves (R.remaining reader.old) (R.remaining reader.new) (W.contents writer.old) (W.contents writer.new) whole_lines_of begun accepted }
+        × Serves budget (R.remaining reader.old) (R.remaining reader.new) (W.contents writer.old) (W.contents writer.new) whole_lines_of begun accepted }
     ensures output { result ≡ End.Output
-        → Breaks (R.remaining reader.old) (R.remaining reader.new) (W.contents writer.old) (W.contents writer.new) begun
+        → Breaks budget (R.remaining reader.old) (R.remaining reader.new) (W.contents writer.old) (W.contents writer.new) begun
         ⊎ (IsAtEnd (R.remaining reader.new) × ((accepted : List Item)
-        × Serves (R.remaining reader.old) (R.remaining reader.new) (W.contents writer.old) (W.contents writer.new) lines_of begun accepted)) }
+        × Serves budget (R.remaining reader.old) (R.remaining reader.new) (W.contents writer.old) (W.contents writer.new) lines_of begun accepted)) }
     ensures memory { result ≡ End.Memory
         → Keeps (R.remaining reader.old) (R.remaining reader.new) × Keeps (W.contents writer.old) (W.contents writer.new) }
     ensures kept { (fault : FileFault) → result ≢ End.Kept fault }
     ensures words { result ≢ End.Words }
     ensures no_journal { (line : ℕ) → result ≢ End.Journal line }
 {
-    match serve_session(rt, alloc, reader, writer, begun, workers) {
+    match serve_session(rt, alloc, reader, writer, begun, workers, budget) {
         Ok(served) => {
             let end = saved_to(rt, alloc, target, &served);
             // The program ends here, so what they hold needs no walk to be given back.
@@ -256,16 +265,17 @@ fn keep<H: Threads + Wait + Sync + Files, R: Read, W: Write>(
     reader: &mut R,
     writer: W,
     workers: usize,
+    budget: Option<u32>,
     journal: &str,
 ) -> Obeyed<W>
 where
     H::File: SystemFile,
     requires { (1 ≤ workers) × (workers ≤ MOST_WORKERS) }
-    ensures done { result.end ≡ End.Done → Ends (R.remaining reader.old) (R.remaining reader.new) (W.contents writer) (W.contents result.writer) }
-    ensures input { result.end ≡ End.Input → Stops (R.remaining reader.old) (R.remaining reader.new) (W.contents writer) (W.contents result.writer) }
-    ensures output { result.end ≡ End.Output → Falls (R.remaining reader.old) (R.remaining reader.new) (W.contents writer) (W.contents result.writer) }
+    ensures done { result.end ≡ End.Done → Ends budget (R.remaining reader.old) (R.remaining reader.new) (W.contents writer) (W.contents result.writer) }
+    ensures input { result.end ≡ End.Input → Stops budget (R.remaining reader.old) (R.remaining reader.new) (W.contents writer) (W.contents result.writer) }
+    ensures output { result.end ≡ End.Output → Falls budget (R.remaining reader.old) (R.remaining reader.new) (W.contents writer) (W.contents result.writer) }
     ensures kept { (fault : FileFault) → result.end ≡ End.Kept fault → (fault.name.items ≡ shown_text journal.now)
-        × ((Keeps (R.remaining reader.old) (R.remaining reader.new) × Keeps (W.contents writer) (W.contents result.writer)) ⊎ Falls (R.remaining reader.old) (R.remaining reader.new) (W.contents writer) (W.contents result.writer)) }
+        × ((Keeps (R.remaining reader.old) (R.remaining reader.new) × Keeps (W.contents writer) (W.contents result.writer)) ⊎ Falls budget (R.remaining reader.old) (R.remaining reader.new) (W.contents writer) (W.contents result.writer)) }
     ensures memory { result.end ≡ End.Memory → Keeps (R.remaining reader.old) (R.remaining reader.new) × Keeps (W.contents writer) (W.contents result.writer) }
     ensures words { result.end ≢ End.Words }
     ensures no_journal { (line : ℕ) → result.end ≢ End.Journal line }
@@ -277,7 +287,7 @@ where
         };
     };
     match open_journal(rt, alloc, journal) {
-        Ok(opened) => keep_in(rt, alloc, reader, writer, workers, name, opened),
+        Ok(opened) => keep_in(rt, alloc, reader, writer, workers, budget, name, opened),
         Err(why) => Obeyed {
             end: end_without(alloc, name, why),
             writer,
@@ -307,6 +317,7 @@ fn keep_in<H: Threads + Wait + Sync, R: Read, F: Write + OpenFile + Drop, W: Wri
     reader: &mut R,
     writer: W,
     workers: usize,
+    budget: Option<u32>,
     name: Vec<u8>,
     opened: Opened<F>,
 ) -> Obeyed<W>
@@ -314,13 +325,13 @@ fn keep_in<H: Threads + Wait + Sync, R: Read, F: Write + OpenFile + Drop, W: Wri
     requires served { MayBeServed opened.begun }
     requires history { IsHistory Two opened.begun }
     // Each line has its lawful reply, and at the end the file has the lines of all items.
-    ensures done { result.end ≡ End.Done → Ends (R.remaining reader.old) (R.remaining reader.new) (W.contents writer) (W.contents result.writer) }
+    ensures done { result.end ≡ End.Done → Ends budget (R.remaining reader.old) (R.remaining reader.new) (W.contents writer) (W.contents result.writer) }
     // Each whole line that was read has its lawful reply.
-    ensures input { result.end ≡ End.Input → Stops (R.remaining reader.old) (R.remaining reader.new) (W.contents writer) (W.contents result.writer) }
+    ensures input { result.end ≡ End.Input → Stops budget (R.remaining reader.old) (R.remaining reader.new) (W.contents writer) (W.contents result.writer) }
     // A beginning of the lawful replies is written.
-    ensures output { result.end ≡ End.Output → Falls (R.remaining reader.old) (R.remaining reader.new) (W.contents writer) (W.contents result.writer) }
+    ensures output { result.end ≡ End.Output → Falls budget (R.remaining reader.old) (R.remaining reader.new) (W.contents writer) (W.contents result.writer) }
     // The same, and a call failed at the file, whose name is told.
-    ensures fallen { (fault : FileFault) → result.end ≡ End.Kept fault → Falls (R.remaining reader.old) (R.remaining reader.new) (W.contents writer) (W.contents result.writer) }
+    ensures fallen { (fault : FileFault) → result.end ≡ End.Kept fault → Falls budget (R.remaining reader.old) (R.remaining reader.new) (W.contents writer) (W.contents result.writer) }
     ensures kept { (fault : FileFault) → result.end ≡ End.Kept fault → fault.name ≡ name }
     ensures memory { result.end ≡ End.Memory → Keeps (R.remaining reader.old) (R.remaining reader.new) × Keeps (W.contents writer) (W.contents result.writer) }
     ensures words { result.end ≢ End.Words }
@@ -333,7 +344,7 @@ fn keep_in<H: Threads + Wait + Sync, R: Read, F: Write + OpenFile + Drop, W: Wri
         len,
         failure: None,
     };
-    let ended = serve_durably(rt, alloc, reader, &mut devices, begun, workers);
+    let ended = serve_durably(rt, alloc, reader, &mut devices, begun, workers, budget);
     let Kept {
         file,
         replies: writer,

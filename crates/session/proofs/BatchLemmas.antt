@@ -17,10 +17,11 @@ use Rattle.lines.specs.Texts.{Puts, Writes}
 use Rattle.std.specs.Io.KnownBytes.{Appends}
 use Rattle.replies.specs.Putting.{IsCut, IsPut, PutsAddUp}
 use Rattle.replies.specs.Replies.{Body, Reply, refused, replies_text, reply_text}
+use Rattle.wire.specs.Requests.{request_of}
 use Rattle.wire.specs.Shapes.{Request, resolve}
 use Rattle.session.specs.Batches.{AreAsked, AreReplied, LearnsOf, MayBeTold, Tells, requests_of}
 use Rattle.answers.specs.Laws.{RepliesAddUp}
-use Rattle.answers.specs.Lawful.{AreLawful, Learns, LearnsSome, MayAnswer, Ways, asked as asked_by, reply_at}
+use Rattle.answers.specs.Lawful.{AreLawfulWithin, Learns, LearnsSome, MayAnswer, Ways, asked_within, bounded_if, reply_at}
 use Rattle.answers.specs.Outcomes.{TellsFound}
 use Rattle.answers.specs.Told.{reply_from}
 use Rattle.solver.specs.Outcomes.{MayStop}
@@ -90,15 +91,15 @@ module _ {S : Type 0} (w : Ways S) where
       (here, answers, replied_append requests others replies more here mid new rest behind)
 
   -- lines that ask these requests are answered by the replies to them
-  pub replied_lines : RepliesAddUp w → (lines : List (List ℕ)) (requests : List Request) (old new : S) (replies : List Reply) → AreAsked lines requests → AreReplied w requests old replies new
-      → AreLawful w lines old replies new
-  replied_lines laws [] [] old new [] are replied = replied
-  replied_lines laws [] [] old new (reply ∷ replies) are replied = absurd replied
-  replied_lines laws [] (request ∷ requests) old new replies are replied = absurd are
-  replied_lines laws (line ∷ lines) [] old new replies are replied = absurd are
-  replied_lines laws (line ∷ lines) (request ∷ requests) old new [] are replied = absurd replied
-  replied_lines laws (line ∷ lines) (request ∷ requests) old new (reply ∷ replies) (is, are) (mid, answers, rest) =
-      (mid, laws.asked line request old reply mid is answers, replied_lines laws lines requests mid new replies are rest)
+  pub replied_lines : (limit : Option ℕ) → RepliesAddUp w → (lines : List (List ℕ)) (requests : List Request) (old new : S) (replies : List Reply) → AreAsked limit lines requests → AreReplied w requests old replies new
+      → AreLawfulWithin limit w lines old replies new
+  replied_lines limit laws [] [] old new [] are replied = replied
+  replied_lines limit laws [] [] old new (reply ∷ replies) are replied = absurd replied
+  replied_lines limit laws [] (request ∷ requests) old new replies are replied = absurd are
+  replied_lines limit laws (line ∷ lines) [] old new replies are replied = absurd are
+  replied_lines limit laws (line ∷ lines) (request ∷ requests) old new [] are replied = absurd replied
+  replied_lines limit laws (line ∷ lines) (request ∷ requests) old new (reply ∷ replies) (is, are) (mid, answers, rest) =
+      (mid, laws.asked limit line request old reply mid is answers, replied_lines limit laws lines requests mid new replies are rest)
 
 -- each request may be told that memory is wanting
 wanting : List Item → List Request → List Reply
@@ -439,20 +440,25 @@ puts_last laws (Ok u) a b c p q s replies reply one two =
 puts_last laws (Err e) a b c p q s replies reply one two =
     subst (IsCut a c p) (sym (replies_text-more replies reply)) (laws.second_cut a b c p q (replies_text replies) (reply_text reply) one two)
 
+-- a line at fault is at fault within every budget
+pub refuses_within : (limit : Option ℕ) (line : List ℕ) (e : Refusal) → request_of line ≡ Err e → asked_within limit line ≡ Err e
+refuses_within None line e is = is
+refuses_within (Some budget) line e is = ap (bounded_if budget) is
+
 -- ---- lines that ask what waits
 
-pub asked_more : (lines : List (List ℕ)) (requests : List Request) (line : List ℕ) (request : Request) → AreAsked lines requests → asked_by line ≡ Ok request
-    → AreAsked (lines ++ line ∷ []) (requests ++ request ∷ [])
-asked_more [] [] line request are is = (is, tt)
-asked_more [] (other ∷ requests) line request are is = absurd are
-asked_more (other ∷ lines) [] line request are is = absurd are
-asked_more (first ∷ lines) (other ∷ requests) line request (here, are) is = (here, asked_more lines requests line request are is)
+pub asked_more : (limit : Option ℕ) (lines : List (List ℕ)) (requests : List Request) (line : List ℕ) (request : Request) → AreAsked limit lines requests → asked_within limit line ≡ Ok request
+    → AreAsked limit (lines ++ line ∷ []) (requests ++ request ∷ [])
+asked_more limit [] [] line request are is = (is, tt)
+asked_more limit [] (other ∷ requests) line request are is = absurd are
+asked_more limit (other ∷ lines) [] line request are is = absurd are
+asked_more limit (first ∷ lines) (other ∷ requests) line request (here, are) is = (here, asked_more limit lines requests line request are is)
 
 -- the lines that ask the first of the requests, and those that ask the others
-pub asked_split : (lines : List (List ℕ)) (first others : List Request) → AreAsked lines (first ++ others)
-    → (front : List (List ℕ)) × (back : List (List ℕ)) × (lines ≡ front ++ back) × AreAsked front first × AreAsked back others
-asked_split lines [] others are = ([], lines, refl, tt, are)
-asked_split [] (request ∷ first) others are = absurd are
-asked_split (line ∷ lines) (request ∷ first) others (is, are) =
-    let rest = asked_split lines first others are in
+pub asked_split : (limit : Option ℕ) (lines : List (List ℕ)) (first others : List Request) → AreAsked limit lines (first ++ others)
+    → (front : List (List ℕ)) × (back : List (List ℕ)) × (lines ≡ front ++ back) × AreAsked limit front first × AreAsked limit back others
+asked_split limit lines [] others are = ([], lines, refl, tt, are)
+asked_split limit [] (request ∷ first) others are = absurd are
+asked_split limit (line ∷ lines) (request ∷ first) others (is, are) =
+    let rest = asked_split limit lines first others are in
     (line ∷ rest.0, rest.1, ap (λ ls. line ∷ ls) rest.2, (is, rest.3), rest.4)

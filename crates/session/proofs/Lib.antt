@@ -6,6 +6,8 @@ pub mod SessionLemmas
 pub mod SessionRows
 pub mod WaitLemmas
 pub mod FaultLemmas
+pub mod FedLemmas
+pub mod CallLemmas
 pub mod DurableLemmas
 pub mod CommitLemmas
 pub mod LearntLemmas

@@ -1,5 +1,5 @@
 -- The lines of a text, as a session finds them.
-use Rattle.std.proofs.Common.{◌≡◌, ℕ, ◌<◌, List, [], ◌∷◌, length, refl, sym, subst}
+use Rattle.std.proofs.Common.{◌≡◌, ℕ, ◌<◌, List, [], ◌∷◌, length, Option, refl, sym, subst}
 use Rattle.book.specs.declared.item.Item.{Item}
 use Rattle.lines.specs.Lines.{HasNoFeed, lines_of}
 use Rattle.lines.specs.Unread.{Unread, BeginsWith, IsFound, Finds, FindsLast}
@@ -7,7 +7,7 @@ use Rattle.lines.specs.declared.buffer.Next.{Next}
 use Rattle.lines.specs.declared.buffer.Next.TheVariants.{Line, TooLong, More}
 use Rattle.lines.specs.Laws.{LastLine}
 use Rattle.replies.specs.Replies.{Reply}
-use Rattle.answers.specs.Lawful.{AreLawful, IsLawful}
+use Rattle.answers.specs.Lawful.{AreLawfulWithin, IsLawfulWithin}
 use Rattle.session.specs.Session.{session_ways}
 
 -- a last line that is there
@@ -23,7 +23,7 @@ found_next TooLong text u some found = found
 found_next More text u some found = absurd (some refl)
 
 -- one line that is the whole text
-pub session_one : LastLine → (old : List Item) (text : List ℕ) (new : List Item) (reply : Reply) → HasNoFeed text → 0 < length text → IsLawful session_ways text old reply new
-    → AreLawful session_ways (lines_of text) old (reply ∷ []) new
-session_one last old text new reply no_feed some lawful =
-    subst (λ ls. AreLawful session_ways ls old (reply ∷ []) new) (sym (last text no_feed some)) (new, lawful, refl)
+pub session_one : (limit : Option ℕ) → LastLine → (old : List Item) (text : List ℕ) (new : List Item) (reply : Reply) → HasNoFeed text → 0 < length text → IsLawfulWithin limit session_ways text old reply new
+    → AreLawfulWithin limit session_ways (lines_of text) old (reply ∷ []) new
+session_one limit last old text new reply no_feed some lawful =
+    subst (λ ls. AreLawfulWithin limit session_ways ls old (reply ∷ []) new) (sym (last text no_feed some)) (new, lawful, refl)

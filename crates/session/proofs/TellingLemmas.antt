@@ -51,7 +51,7 @@ same_rest Q (Ok v) rest_of between rest (after, is) same = (after, is ∙ same)
 same_rest Q (Err e) rest_of between rest q same = q
 
 -- none is left but those behind
-pub telling_left : (r0 r : Option (List ℕ)) (e0 e : Seen) (old here : List Item) (unread : Unread) (waiting : List ℕ) (batch batch' : List Request) (offered : List (List Line)) (held : List ℕ) (at : Committed) (rest : List ℕ) → batch ≡ batch'
-    → (after : Telling r0 r e0 e old here unread waiting batch offered held at) × (after.waits.rest ≡ rest) → (after : Telling r0 r e0 e old here unread waiting batch' offered held at) × (after.waits.rest ≡ rest)
-telling_left r0 r e0 e old here unread waiting batch batch' offered held at rest left told =
-    subst (λ (l : List Request). (after : Telling r0 r e0 e old here unread waiting l offered held at) × (after.waits.rest ≡ rest)) left told
+pub telling_left : {limit : Option ℕ} (r0 r : Option (List ℕ)) (e0 e : Seen) (old here : List Item) (unread : Unread) (waiting : List ℕ) (batch batch' : List Request) (offered : List (List Line)) (held : List ℕ) (at : Committed) (rest : List ℕ) → batch ≡ batch'
+    → (after : Telling limit r0 r e0 e old here unread waiting batch offered held at) × (after.waits.rest ≡ rest) → (after : Telling limit r0 r e0 e old here unread waiting batch' offered held at) × (after.waits.rest ≡ rest)
+telling_left {limit} r0 r e0 e old here unread waiting batch batch' offered held at rest left told =
+    subst (λ (l : List Request). (after : Telling limit r0 r e0 e old here unread waiting l offered held at) × (after.waits.rest ≡ rest)) left told

@@ -9,16 +9,16 @@ use Rattle.replies.specs.Putting.{IsCut, IsPut}
 use Rattle.replies.specs.Replies.{Reply, replies_text}
 use Rattle.book.specs.Items.{packages_of, revision_of}
 use Rattle.book.specs.declared.item.Item.{Item}
-use Rattle.answers.specs.Lawful.{AreLawful, LearnsSome, MayAnswer, Ways, asked}
+use Rattle.answers.specs.Lawful.{AreLawfulWithin, LearnsSome, MayAnswer, Ways, asked_within}
 use Rattle.session.specs.Session.{session_ways}
 
 -- what each of these asks: a request, its budget or none, and whether a refusal is to be explained
 abbrev pub requests_of : List (Wanted × Option ℕ × Bool) → List Request
 requests_of = map (λ one. resolve one.0 one.2 one.1)
 
--- each of these lines asks what stands at its place
-abbrev pub AreAsked : List (List ℕ) → List Request → Type 0
-AreAsked = AllZip (λ line request. asked line ≡ Ok request)
+-- each of these lines asks what stands at its place, by this budget of each request that names none, if there is one
+abbrev pub AreAsked : Option ℕ → List (List ℕ) → List Request → Type 0
+AreAsked limit = AllZip (λ line request. asked_within limit line ≡ Ok request)
 
 -- The requests may be answered so, one reply a request, each after what those before it left.
 abbrev pub AreReplied : {S : Type 0} → Ways S → List Request → S → List Reply → S → Type 0
@@ -63,11 +63,11 @@ pub record Leaves {E : Type 0} (written_before written_after : Option (List ℕ)
   pub puts : Puts written_before written_after before after r (replies_text replies)
 
 -- Of these lines the first are answered, and what was put are the texts of their lawful replies. The others wait as what they ask.
-pub record Takes {E : Type 0} (written_before written_after : Option (List ℕ)) (before after : List ℕ) (r : Result Unit E) (lines : List (List ℕ)) (old new : List Item) (batch : List Request) : Type 0 where
+pub record Takes {E : Type 0} (limit : Option ℕ) (written_before written_after : Option (List ℕ)) (before after : List ℕ) (r : Result Unit E) (lines : List (List ℕ)) (old new : List Item) (batch : List Request) : Type 0 where
   pub answered : List (List ℕ)
   pub others : List (List ℕ)
   pub replies : List Reply
   pub split : lines ≡ answered ++ others
-  pub session : AreLawful session_ways answered old replies new
-  pub waits : OnOk r (AreAsked others batch)
+  pub session : AreLawfulWithin limit session_ways answered old replies new
+  pub waits : OnOk r (AreAsked limit others batch)
   pub puts : Puts written_before written_after before after r (replies_text replies)

@@ -1,8 +1,10 @@
 pub mod Served
 pub mod Putting
 pub mod Session
+pub mod Saving
 pub mod Batches
 pub mod Loaded
 pub mod Serving
 pub mod Durable
 pub mod Committing
+pub mod Fed

@@ -9,7 +9,7 @@ use Rattle.journals.specs.Fresh.{IsGoodLearnt}
 use Rattle.lines.specs.Lines.{lines_of, whole_lines_of}
 use Rattle.lines.specs.Texts.{IsBeginning}
 use Rattle.replies.specs.Replies.{Reply, replies_text}
-use Rattle.answers.specs.Lawful.{AreLawful, Ways}
+use Rattle.answers.specs.Lawful.{AreLawfulWithin, Ways}
 use Rattle.session.specs.Served.{is_full}
 
 -- ---- its ledger
@@ -36,16 +36,16 @@ session_ways = record {
 
 -- ---- what it reads and writes
 
--- Of what was read these lines were answered, and what was written are the texts of their lawful replies.
-pub record Serves (read_before read_after written_before written_after : Option (List ℕ)) (lines_in : List ℕ → List (List ℕ)) (old new : List Item) : Type 0 where
+-- Of what was read these lines were answered, by this budget of each request that names none, if there is one, and what was written are the texts of their lawful replies.
+pub record Serves (limit : Option ℕ) (read_before read_after written_before written_after : Option (List ℕ)) (lines_in : List ℕ → List (List ℕ)) (old new : List Item) : Type 0 where
   pub input : List ℕ
   pub replies : List Reply
   pub read : Consumes read_before read_after input
-  pub session : AreLawful session_ways (lines_in input) old replies new
+  pub session : AreLawfulWithin limit session_ways (lines_in input) old replies new
   pub written : Appends written_before written_after (replies_text replies)
 
 -- Of what was read the first lines were answered, each of them whole, and what was written is a beginning of the texts of their lawful replies.
-pub record Breaks (read_before read_after written_before written_after : Option (List ℕ)) (old : List Item) : Type 0 where
+pub record Breaks (limit : Option ℕ) (read_before read_after written_before written_after : Option (List ℕ)) (old : List Item) : Type 0 where
   pub input : List ℕ
   pub count : ℕ
   pub replies : List Reply
@@ -54,6 +54,6 @@ pub record Breaks (read_before read_after written_before written_after : Option 
   pub read : Consumes read_before read_after input
   -- the last line, where it lacks its line feed, is whole at the reader's end
   pub whole : (count ≤ length (whole_lines_of input)) ⊎ IsAtEnd read_after
-  pub session : AreLawful session_ways (take count (lines_of input)) old replies new
+  pub session : AreLawfulWithin limit session_ways (take count (lines_of input)) old replies new
   pub written : Appends written_before written_after text
   pub beginning : IsBeginning text (replies_text replies)

@@ -1,9 +1,9 @@
 //! Lines that were found: each is replied to, or waits to be answered with its neighbours.
-ghost use Rattle.std.specs.Prelude.{◌∷◌, ◌++◌, ℕ, List, []};
+ghost use Rattle.std.specs.Prelude.{◌∷◌, ◌++◌, ℕ, List, [], Option};
 ghost use Rattle.lines.specs.Unread.{IsFound};
-ghost use Rattle.answers.specs.Answering.{IsRead};
+ghost use Rattle.answers.specs.Answering.{IsReadWithin};
 ghost use Rattle.session.specs.Batches.{AreAsked, Takes};
-ghost use Rattle.answers.specs.Lawful.{IsLawful};
+ghost use Rattle.answers.specs.Lawful.{IsLawfulWithin};
 ghost use Rattle.session.specs.Putting.{PutsReply};
 ghost use Rattle.session.specs.Session.{session_ways};
 
@@ -11,7 +11,7 @@ use crate::batch::Batch;
 use crate::served::Served;
 use answers::{
     Answer, Ledger, answer_read, lawful_replies_add_up, learn_all, put_listing, put_or_send,
-    put_told, read_line,
+    put_told, read_line, within,
 };
 use intake::Intake;
 use lines::{LineBuffer, Next, Outbox};
@@ -24,18 +24,19 @@ use std::thread::Threads;
 use versions::Refusal;
 use wire::Asked;
 
-/// Reads what the line asks that was found.
+/// Reads what the line asks that was found, with this budget where it asks to resolve and names none.
 pub fn read_found(
     alloc: Global,
     intake: &mut Intake,
     lines: &LineBuffer,
     found: Next,
+    limit: Option<u32>,
 ) -> Result<Asked, Refusal>
     requires { (line : List ℕ) × IsFound found lines.now line }
-    ensures { (line : List ℕ) → IsFound found lines.now line → IsRead result line }
+    ensures { (line : List ℕ) → IsFound found lines.now line → IsReadWithin limit result line }
 {
     match found {
-        Next::Line => read_line(alloc, intake, lines.line()),
+        Next::Line => within(read_line(alloc, intake, lines.line()), limit),
         Next::TooLong => Err(Refusal::BadLine),
         Next::More => unreachable!(),
     }
@@ -52,8 +53,8 @@ pub fn take<H: Threads + Wait + Sync, W: Write>(
     writer: &mut W,
     read: Result<Asked, Refusal>,
 ) -> io::Result<()>
-    ensures { (waiting : List (List ℕ)) (line : List ℕ) → AreAsked waiting batch.old → IsRead read line
-        → Takes (W.contents writer.old) (W.contents writer.new) outbox.old outbox.new result (waiting ++ line ∷ []) served.old served.new batch.new }
+    ensures { (limit : Option ℕ) (waiting : List (List ℕ)) (line : List ℕ) → AreAsked limit waiting batch.old → IsReadWithin limit read line
+        → Takes limit (W.contents writer.old) (W.contents writer.new) outbox.old outbox.new result (waiting ++ line ∷ []) served.old served.new batch.new }
 {
     lawful_replies_add_up::<Served>();
     match read {
@@ -83,8 +84,8 @@ fn reply_behind<H: Threads + Wait + Sync, W: Write>(
     writer: &mut W,
     read: Result<Asked, Refusal>,
 ) -> io::Result<()>
-    ensures { (waiting : List (List ℕ)) (line : List ℕ) → AreAsked waiting batch.old → IsRead read line
-        → Takes (W.contents writer.old) (W.contents writer.new) outbox.old outbox.new result (waiting ++ line ∷ []) served.old served.new batch.new }
+    ensures { (limit : Option ℕ) (waiting : List (List ℕ)) (line : List ℕ) → AreAsked limit waiting batch.old → IsReadWithin limit read line
+        → Takes limit (W.contents writer.old) (W.contents writer.new) outbox.old outbox.new result (waiting ++ line ∷ []) served.old served.new batch.new }
 {
     puts_add_up();
     lawful_replies_add_up::<Served>();
@@ -106,8 +107,8 @@ pub fn reply_to<W: Write>(
     writer: &mut W,
     read: Result<Asked, Refusal>,
 ) -> io::Result<()>
-    ensures { (line : List ℕ) → IsRead read line
-        → PutsReply (λ reply. IsLawful session_ways line served.old reply served.new) (W.contents writer.old) (W.contents writer.new) outbox.old outbox.new result }
+    ensures { (limit : Option ℕ) (line : List ℕ) → IsReadWithin limit read line
+        → PutsReply (λ reply. IsLawfulWithin limit session_ways line served.old reply served.new) (W.contents writer.old) (W.contents writer.new) outbox.old outbox.new result }
 {
     match answer_read(alloc, served, read) {
         Answer::Told(told) => {

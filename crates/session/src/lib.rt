@@ -11,6 +11,7 @@
 //! | `serve` | serving the lines of a reader |
 //! | `committed` | how far a session's journal is in its file |
 //! | `durable` | the same as `serve`, with a file that has what was accepted before it is told |
+//! | `fed` | a session that lives between calls: it is fed bytes, and its replies are taken |
 //! | `learnt` | that what was learnt can be said again by its line |
 //! | `journal` | the journal's file from which a session begins, and the one that it leaves |
 #![tactic(auto)]
@@ -18,17 +19,21 @@
 mod batch;
 mod committed;
 mod durable;
+mod fed;
 mod found;
 mod journal;
 mod laws;
 mod learnt;
+mod limits;
 mod serve;
 mod served;
 mod telling;
 mod telling_kept;
 
 pub use durable::serve_durably;
+pub use fed::Fed;
 pub use journal::{Begun, load, recover_session, save_session};
-pub use laws::nothing_told_is_lost;
+pub use laws::{fed_calls_add_up, nothing_told_is_lost, saved_sessions_load};
+pub use limits::limits_in_numbers;
 pub use serve::{run, serve_session};
 pub use served::Served;

@@ -11,7 +11,7 @@ pub returns-in-Err-clause-input : goal.returns-in-Err-clause-input
 returns-in-Err-clause-input g c = λ is. absurd (subst IsUnmade is c.end_of_making.ensures.unmade)
 
 pub returns-in-Err-clause-output : goal.returns-in-Err-clause-output
-returns-in-Err-clause-output g c = λ is. inl (none_broken _ _ _)
+returns-in-Err-clause-output g c = λ is. inl (none_broken _ _ _ _)
 
 pub returns-in-Err-clause-words : goal.returns-in-Err-clause-words
 returns-in-Err-clause-words g c = λ is. subst IsUnmade is c.end_of_making.ensures.unmade

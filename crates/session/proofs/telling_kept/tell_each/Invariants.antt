@@ -10,7 +10,7 @@ use Rattle.session.proofs.telling_kept.tell_each.Given as goal
 abbrev pub invariant-loop-place : goal.invariant-loop-place
 invariant-loop-place g l = record {
   count : l.answers ≡ l.place;
-  told : (behind : List Request) (r0 r : Option (List ℕ)) (e0 : Seen) (old : List Item) (unread : Unread)
-      → (t : Telling r0 r e0 (g.D.Devices.seen l.initial.devices) old l.served unread l.initial.outbox (requests_of l.asked ++ behind) l.initial.offered.items l.initial.held.items l.initial.at)
-      → (after : Telling r0 r e0 (g.D.Devices.seen l.devices) old l.served unread l.outbox (drop l.place (requests_of l.asked) ++ behind) l.offered.items l.held.items l.at) × (after.waits.rest ≡ t.waits.rest);
+  told : (behind : List Request) (limit : Option ℕ) (r0 r : Option (List ℕ)) (e0 : Seen) (old : List Item) (unread : Unread)
+      → (t : Telling limit r0 r e0 (g.D.Devices.seen l.initial.devices) old l.served unread l.initial.outbox (requests_of l.asked ++ behind) l.initial.offered.items l.initial.held.items l.initial.at)
+      → (after : Telling limit r0 r e0 (g.D.Devices.seen l.devices) old l.served unread l.outbox (drop l.place (requests_of l.asked) ++ behind) l.offered.items l.held.items l.at) × (after.waits.rest ≡ t.waits.rest);
 }
