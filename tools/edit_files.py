@@ -83,7 +83,7 @@ def functions(path, text, homes):
     module, owner, begun, marked = module_of(path), None, None, None
     for number, line in enumerate(text.split("\n"), 1):
         owner = owner_of(line, module, homes) or owner
-        head = re.match(r"( {4}|)(?:pub(?:\(\w+\))? )?(?:const )?(?:unsafe )?fn (\w+)", line)
+        head = re.match(r'( {4}|)(?:pub(?:\(\w+\))? )?(?:const )?(?:unsafe )?(?:extern "C" )?fn (\w+)', line)
         if head:
             above = owner if head[1] and owner else module
             begun = "::".join([*above, head[2]]), marked or number, (head[1] + "}", head[1] + "{}")

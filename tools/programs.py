@@ -3,13 +3,14 @@
 
 `out/proved/NAME` was built from proofs, by `./test` or `tools/build --proved`; `out/compiled/NAME` was compiled, and nothing was
 proved of it. Beside each stands `NAME.json` with what it was made from, as sums: one whose sources, kit or own bytes are others
-now is not taken. Run by itself, this prints what `./registryd --version` tells."""
+now is not taken. A static library, `libNAME.a`, stands in the same way. Run by itself, this prints what `./registryd --version` tells."""
 import contextlib
 import dataclasses
 import functools
 import hashlib
 import json
 import os
+import re
 import shutil
 import subprocess
 from pathlib import Path
@@ -44,6 +45,16 @@ class Program:
 def names():
     """The programs of the repository."""
     return sorted(crate for crate in crates_below() if (TOP / "crates" / crate / "src" / "main.rt").is_file())
+
+
+def libraries():
+    """The static libraries of the repository."""
+    return re.findall(r"^(\w+) staticlib\b", (TOP / "crates.txt").read_text(encoding="utf-8"), re.M)
+
+
+def file_name(name):
+    """The name of what is built of a program's crate or of a library's."""
+    return f"lib{name}.a" if name in libraries() else name
 
 
 def version():
@@ -104,7 +115,7 @@ def sum_of(file):
 
 def place(name, kind):
     """Where a program of this kind stands, and what tells of it."""
-    path = TOP / "out" / (PROVED if kind == PROVED else COMPILED) / name
+    path = TOP / "out" / (PROVED if kind == PROVED else COMPILED) / file_name(name)
     return path, path.with_name(f"{name}.json")
 
 
@@ -160,7 +171,7 @@ def is_older(name):
 
 def gate_built(name):
     """Where the gate builds a program, and the proof of one program too; the next gate takes it away."""
-    return TOP / "crates" / name / "out" / name
+    return TOP / "crates" / name / "out" / file_name(name)
 
 
 def path_for_tests(name):

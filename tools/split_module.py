@@ -1,8 +1,8 @@
 """Splits a module of LLVM, as text, into some of about equal size that are compiled side by side and linked.
 
-All functions of a module are its own but `main`. Those that are long stand in one part each, by the order in which they are reached
-from `main`, so that most calls stay in their part. Short ones stand in each part that calls them, so that they can be inlined there as
-in the whole. What nothing reaches is left out."""
+All functions of a module are its own but `main`, or what a library exports. Those that are long stand in one part each, by the order in
+which they are reached from there, so that most calls stay in their part. Short ones stand in each part that calls them, so that they can
+be inlined there as in the whole. What nothing reaches is left out."""
 import dataclasses
 import re
 
@@ -14,6 +14,8 @@ PIECE = re.compile(r"define .*\n(?:.*\n)*?\}\n|.*\n")
 # A constant that may be a copy in each part: nothing asks for its address.
 IS_COPIED = re.compile(r"@\S+ = private unnamed_addr constant ")
 IS_SHARED = re.compile(r"(@\S+ = )private ((?:constant|global) )")
+# The function of a program that a linker finds.
+MAIN = ("main",)
 # The type of what another part has.
 ELSEWHERE = "%elsewhere = type opaque\n"
 
@@ -24,7 +26,8 @@ class Unknown(Exception):
 
 @dataclasses.dataclass
 class Module:
-    """The pieces of a module by their names, and those that each part has as they are."""
+    """The pieces of a module by their names, and those that each part has as they are; `exported` are the functions that a linker finds."""
+    exported: tuple = MAIN
     functions: dict = dataclasses.field(default_factory=dict)
     globals: dict = dataclasses.field(default_factory=dict)
     declared: dict = dataclasses.field(default_factory=dict)
@@ -35,8 +38,8 @@ class Module:
         self.uses, self.lines = {}, {}
 
     @classmethod
-    def of(cls, text):
-        module = cls()
+    def of(cls, text, exported):
+        module = cls(exported)
         for found in PIECE.finditer(text):
             module.add(found[0])
         defined = {**module.functions, **module.globals}
@@ -45,13 +48,14 @@ class Module:
         module.uses = {name: {*NAME.findall(piece)} - {name} for name, piece in bare.items()}
         module.lines = {name: piece.count("\n") for name, piece in module.functions.items()}
         known = {*defined, *module.declared}
-        if "main" not in module.functions or not all(used <= known for used in module.uses.values()):
-            raise Unknown("it has no main, or names what it does not have")
+        if not {*exported} <= module.functions.keys() or not all(used <= known for used in module.uses.values()):
+            raise Unknown(f"it lacks one of {' '.join(exported)}, or names what it does not have")
         return module
 
     def add(self, piece):
-        if piece.startswith(("define internal ", "define i32 @main(")):
-            self.functions[NAME.search(piece)[1]] = piece
+        name = NAME.search(piece)[1] if piece.startswith("define ") else ""
+        if piece.startswith("define internal ") or name in self.exported:
+            self.functions[name] = piece
         elif IS_COPIED.match(piece) or IS_SHARED.match(piece):
             self.globals[NAME.match(piece)[1]] = piece
         elif piece.startswith("declare "):
@@ -64,8 +68,8 @@ class Module:
             raise Unknown(f"a line of another kind: {piece[:80]}")
 
     def reached(self):
-        """The functions that `main` reaches, each before those that it is the first to call."""
-        found, waiting = {}, ["main"]
+        """The functions that the exported ones reach, each before those that it is the first to call."""
+        found, waiting = {}, [*reversed(self.exported)]
         while waiting:
             name = waiting.pop()
             if name in self.uses and name not in found:
@@ -78,7 +82,7 @@ def owners(module, order, count):
     """The part in which each long function stands."""
     whole, before, found = sum(module.lines[name] for name in order), 0, {}
     for name in order:
-        if module.lines[name] > SHORT or name == "main":
+        if module.lines[name] > SHORT or name in module.exported:
             found[name] = before * count // whole
         before += module.lines[name]
     return found
@@ -114,15 +118,20 @@ def written(module, order, parts, number):
             yield module.functions[name].replace("define internal ", "define hidden ", 1) if name in called else module.functions[name]
     for name in sorted(elsewhere):
         head = module.functions.get(name, "").partition("\n")[0]
-        yield module.declared.get(name) or head.replace("define internal ", "declare hidden ", 1).removesuffix(" {") + "\n"
+        yield module.declared.get(name) or declaration(head)
     yield from module.tail
 
 
-def split(text, count):
-    """The texts of so many parts."""
+def declaration(head):
+    """What stands in a part for a function of another one, by its first line."""
+    return head.replace("define internal ", "declare hidden ", 1).replace("define ", "declare ", 1).removesuffix(" {") + "\n"
+
+
+def split(text, count, exported=MAIN):
+    """The texts of so many parts, where these functions are to be found by a linker."""
     if count == 1:
         return [text]
-    module = Module.of(text)
+    module = Module.of(text, exported)
     order = module.reached()
     owner = owners(module, order, count)
     parts = [stands_in(module, owner, part) for part in range(count)]
