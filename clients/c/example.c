@@ -1,6 +1,5 @@
-/* Publishes two packages and resolves. Words: the program, and the journal's file, which has what was accepted before that is
- * printed. */
-#include "registryd.h"
+/* Publishes two packages and resolves, in process. The word is the journal's file, which has what was accepted before that is printed. */
+#include <registryd.h>
 
 #include <stdio.h>
 #include <string.h>
@@ -10,33 +9,23 @@ static const char lines[] =
     "{\"op\":\"publish\",\"name\":\"app\",\"version\":\"1.0.0\",\"needs\":[[\"log\",\"^1.2\"]]}\n"
     "{\"op\":\"resolve\",\"needs\":[[\"app\",\"^1\"]]}\n";
 
-/* Prints all replies to what was fed. */
-static int print_replies(registryd_session session)
-{
-    char piece[4096];
-    size_t length, left;
-    do {
-        int answer = registryd_take(session, piece, sizeof piece, &length, &left);
-        if (answer)
-            return answer;
-        fwrite(piece, 1, length, stdout);
-    } while (left);
-    return REGISTRYD_OK;
-}
-
 int main(int count, char **words)
 {
     registryd_session session;
-    if (count != 3)
+    char why[REGISTRYD_WORDS], replies[4096];
+    size_t length, left;
+    if (count != 2)
         return 2;
-    int answer = registryd_open_journal(words[1], 1, words[2], &session);
-    if (answer)
-        return answer;
-    answer = registryd_feed(session, lines, strlen(lines));
-    if (!answer)
-        answer = print_replies(session);
+    if (registryd_open_embedded_journal(words[1], &session, why, sizeof why)) {
+        fprintf(stderr, "%s\n", why);
+        return 1;
+    }
+    int answer = registryd_ask(session, lines, strlen(lines), replies, sizeof replies, &length, &left);
+    fwrite(replies, 1, length, stdout);
     if (!answer)
         answer = registryd_save(session);
+    if (answer && !registryd_error(session, why, sizeof why))
+        fprintf(stderr, "%s\n", why);
     registryd_close(session);
-    return answer;
+    return answer != 0;
 }

@@ -1,4 +1,4 @@
-//! As example.c, in Rust, through a safe wrapper. Words: the program, and the journal's file.
+//! As example_child.c, in Rust, through a safe wrapper. Words: the program, and the journal's file.
 use std::env;
 use std::ffi::{CString, c_char, c_int, c_uint, c_void};
 use std::process::ExitCode;

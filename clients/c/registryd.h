@@ -1,13 +1,26 @@
 /* A session of registryd for programs in C, and in what calls C.
  *
- * Request lines go in, reply lines come out, as docs/FORMATS.md has them: each session is a
- * `registryd serve` of its own, which this library starts as a child process and talks to. What is
- * proved of that program holds of what it reads and writes; this library is C, and is only tested.
+ * Request lines go in, reply lines come out, as docs/FORMATS.md has them. A session is answered in one of three ways, which is
+ * chosen when it is opened; all other calls are the same for each:
+ *
+ *   by a child process   registryd_open, registryd_open_journal: a `registryd serve` of its own, with threads that share requests
+ *   in process           registryd_open_embedded, registryd_open_embedded_journal: the session is a part of the caller's process,
+ *                        which starts nothing and waits for nothing but its journal's file
+ *   by a service         registryd_connect: a `registry serve` that keeps one journal for many clients
+ *
+ * What is proved: of the program, which replies it gives to the lines that it reads; of the archive `embedded`, which is linked
+ * in for sessions in process, the same of the bytes that each call is given, what a journal's file is to get, and that no reply
+ * that rests on an accepted command may be taken before its caller says that the command is safe. What is not: this library,
+ * which is C and only tested, and the service. The library starts the child or connects to the service, numbers and locks
+ * sessions, keeps what the archive asks of its callers (no null, no two calls at once for a session), and opens, locks, writes and
+ * syncs files.
  *
  * A session is a number. No call hands out a pointer, and none keeps one that it was given: bytes are
  * copied. A number that is of no open session, a null and a length that nothing can have are
  * answered REGISTRYD_MISUSE, and nothing is done. Threads may call at once; calls for one session
- * wait for each other.
+ * wait for each other. A process that was forked has none of the sessions that were open: their numbers are answered
+ * REGISTRYD_MISUSE there, and their files and locks stay those of the first process alone. No call may come from a signal's handler,
+ * nor may a thread be cancelled within one.
  */
 #ifndef REGISTRYD_H
 #define REGISTRYD_H
@@ -28,14 +41,21 @@ enum registryd_answer {
     REGISTRYD_MISUSE = 1,
     /* There is no memory, or too many sessions are open. The session is as it was. */
     REGISTRYD_MEMORY = 2,
-    /* The program can't be started. */
+    /* The program can't be started, or the service can't be reached. */
     REGISTRYD_START = 3,
-    /* The program has ended, or the journal isn't whole. Why stands on standard error. */
-    REGISTRYD_ENDED = 4
+    /* The program has ended, or the journal isn't whole: why stands on standard error. In process: there was no memory to go on.
+     * By a service: the connection has ended. */
+    REGISTRYD_ENDED = 4,
+    /* In process: something is the matter with a journal's file. A session that was open takes no more, and what was told as
+     * accepted is in the file that it kept its journal in. */
+    REGISTRYD_JOURNAL = 5
 };
 
 /* How many sessions may be open at once. */
 #define REGISTRYD_SESSIONS 64
+
+/* Room for the words that tell what is the matter, unless a file's name is very long. */
+#define REGISTRYD_WORDS 1024
 
 /* Starts a session of the program at a path, with so many resolving threads, 1 to 64. It begins with the
  * journal of a file, or with none where `load` is null; registryd_save will write a journal to the
@@ -48,19 +68,55 @@ int registryd_open(const char *program, unsigned workers, const char *load, cons
  * has a file at a time. */
 int registryd_open_journal(const char *program, unsigned workers, const char *journal, registryd_session *session);
 
-/* Feeds bytes of request lines, which may begin and end anywhere. It waits while the program is slower. */
+/* Opens a session in process. It begins with the journal of a file, or with none where `load` is null; registryd_save will
+ * write a journal to the file `save`, which is null where none is wanted.
+ *
+ * Where it answers something else than REGISTRYD_OK no session stands, and one line that says why is copied to `words`, ended
+ * by a 0 and cut off where there is no room; `words` may be null where `room` is 0. */
+int registryd_open_embedded(const char *load, const char *save, registryd_session *session, char *words, size_t room);
+
+/* As registryd_open_embedded, with a journal that the session goes on with, as registryd_open_journal has it: what a call of
+ * registryd_feed accepts stands in the file, and is synced once for all of its lines, before the replies can be taken. What a
+ * search taught is written before the reply to a later line can be taken, or at the end. A session of the program and one in process
+ * exclude each other from a file, as two of either do. */
+int registryd_open_embedded_journal(const char *journal, registryd_session *session, char *words, size_t room);
+
+/* Connects to a service, `registry serve`. The address is the path of its socket, or HOST:PORT: a text without a slash that ends in
+ * a colon and digits. The service has a journal of its own, which it keeps beyond the session. REGISTRYD_START says that it can't
+ * be reached, and errno why.
+ *
+ * Where the connection ends, as it does when the service is begun again, the session answers REGISTRYD_ENDED until it is closed, once
+ * the replies that came before are taken. Connecting again is the caller's. Of a command that has no reply, or the reply of the
+ * service that has the number 503 and the name Unavailable, it is not known whether it was accepted: a list line tells. Other lines
+ * change nothing, and can be fed again. */
+int registryd_connect(const char *where, registryd_session *session);
+
+/* Feeds bytes of request lines, which may begin and end anywhere. It waits while the program is slower; in process, until each
+ * line that ends has its reply. */
 int registryd_feed(registryd_session session, const void *bytes, size_t length);
 
 /* Waits for the reply to each whole line that was fed, copies reply bytes to `bytes`, at most `room`,
  * and tells how many were copied and how many are left to take. */
 int registryd_take(registryd_session session, void *bytes, size_t room, size_t *length, size_t *left);
 
+/* registryd_feed and then registryd_take, with no call of another thread for the session between them. Where the first does not
+ * answer REGISTRYD_OK, that is the answer, and nothing is taken. */
+int registryd_ask(registryd_session session, const void *bytes, size_t length, void *room, size_t size, size_t *taken, size_t *left);
+
 /* Ends the input, waits for the last replies, which can then be taken, and for the journal to be whole.
- * REGISTRYD_OK says that all was written. The session takes no further lines. */
+ * REGISTRYD_OK says that all was written; of a service, that each line has its reply. The session takes no further lines. */
 int registryd_save(registryd_session session);
 
+/* Tells what is the matter with a session to which a call answered REGISTRYD_ENDED or REGISTRYD_JOURNAL, as
+ * registryd_open_embedded does: nothing where nothing is. Of a program's session it says no more than that it ended. */
+int registryd_error(registryd_session session, char *words, size_t room);
+
 /* Ends a session. One that was not saved leaves the file to be saved as it was; a journal that it went on with has all that
- * was told as accepted. Its replies are dropped. */
+ * was told as accepted, and, of a session in process, its last line where that can be written. Its replies are dropped.
+ *
+ * Where another thread waits in a call for the session, of a child or a service that call answers REGISTRYD_ENDED at once, also amid
+ * a long search; a search in process has to end by itself first. A service goes on, and may still carry out lines that it was
+ * sent. */
 int registryd_close(registryd_session session);
 
 #ifdef __cplusplus

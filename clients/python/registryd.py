@@ -1,15 +1,20 @@
-"""A client of registryd in one file: it starts the program, asks it by lines, and answers with values.
+"""A client of registryd in one file: it asks a registry by lines, and answers with values.
 
     with Registry("./registryd", journal="python.journal") as registry:
         registry.publish("log", "1.3.0")
         registry.publish("app", "1.0.0", {"log": "^1.2"})
         print(registry.resolve({"app": "^1"}).selected)
 
-A call waits for its reply. `ask` and `many` don't: they answer futures, so any number of lines can be on their way, and
-resolve lines that come to the program together are shared out among its workers. Replies come in the order of the lines.
+`Registry("./registryd")` starts the program as a child. `Registry(embedded=True)` has the same calls over the library
+`libregistryd.so` in this process: no process is started, and a small request takes half the time. `Registry(connect=..)`
+has them over the socket of a service, which `registry serve` is.
+
+A call waits for its reply. `ask` and `many` answer futures. To a child they send lines without waiting, so any number of lines can
+be on their way, and resolve lines that come to the program together are shared out among its workers. In this process the lines
+are answered one after another before the futures are returned. Replies come in the order of the lines.
 
 A line that is refused by number raises the exception of its name, which is a `Refusal`. That no selection meets a request is no
-exception: `resolve` answers `NoSelection`. Names, versions and requirements are judged by the program alone. Where the program
+exception: `resolve` answers `NoSelection`. Names, versions and requirements are judged by the registry alone. Where the session
 has ended, every call that waits and every later one raises `Ended`, which says how it ended; none waits for ever.
 
 Any thread may call. It takes Python 3.10 and the standard library.
@@ -17,26 +22,38 @@ Any thread may call. It takes Python 3.10 and the standard library.
 from __future__ import annotations
 
 import contextlib
+import ctypes
+import fcntl
+import functools
 import json
 import os
 import queue
+import select
 import signal
 import subprocess
 import threading
+import time
+import weakref
 from collections import deque
 from collections.abc import Iterable, Mapping, Sequence
 from concurrent.futures import Future
 from dataclasses import dataclass
+from pathlib import Path
 from typing import Any, Union
 
 # Names with requirements, or with versions: a mapping, or pairs, which may repeat a name.
 Pairs = Union[Mapping[str, str], Iterable[tuple[str, str]]]
 # The lines of a derivation as docs/FORMATS.md has them.
 Derivation = Sequence[Mapping[str, Any]]
-Path = Union[str, "os.PathLike[str]"]
+FilePath = Union[str, "os.PathLike[str]"]
 
 MOST_TOLD = 4096  # bytes of standard error that are kept, the last ones
 WAITED = 0.5  # seconds that a program which answers no more has to end by itself
+INTERRUPTED = 2.0  # seconds that it has where a `with` is left by an interrupt from the keyboard
+
+# JSON of a value without white space, and the value of a text. Made once: `json.dumps` and `json.loads` cost three times as much.
+encoded = json.JSONEncoder(separators=(",", ":")).encode
+decoded = json.JSONDecoder().decode
 
 
 # ---- What is asked
@@ -47,8 +64,8 @@ class Publish:
     version: str
     needs: Pairs = ()
 
-    def line(self) -> dict[str, Any]:
-        return {"op": "publish", "name": self.name, "version": self.version, "needs": pairs(self.needs)}
+    def line(self) -> str:
+        return f'{{"op":"publish","name":{encoded(self.name)},"version":{encoded(self.version)},"needs":{rows(self.needs)}}}'
 
 
 @dataclass(frozen=True)
@@ -56,8 +73,8 @@ class Yank:
     name: str
     version: str
 
-    def line(self) -> dict[str, Any]:
-        return {"op": "yank", "name": self.name, "version": self.version}
+    def line(self) -> str:
+        return f'{{"op":"yank","name":{encoded(self.name)},"version":{encoded(self.version)}}}'
 
 
 @dataclass(frozen=True)
@@ -65,8 +82,8 @@ class Unyank:
     name: str
     version: str
 
-    def line(self) -> dict[str, Any]:
-        return {"op": "unyank", "name": self.name, "version": self.version}
+    def line(self) -> str:
+        return f'{{"op":"unyank","name":{encoded(self.name)},"version":{encoded(self.version)}}}'
 
 
 @dataclass(frozen=True)
@@ -76,9 +93,11 @@ class Resolve:
     budget: int | None = None
     explain: bool = False
 
-    def line(self) -> dict[str, Any]:
-        said = {"op": "resolve", "needs": pairs(self.needs), "lock": pairs(self.lock), "explain": self.explain}
-        return said if self.budget is None else {**said, "budget": self.budget}
+    def line(self) -> str:
+        lock = f',"lock":{rows(self.lock)}' if self.lock else ""
+        budget = "" if self.budget is None else f',"budget":{encoded(self.budget)}'
+        explain = f',"explain":{encoded(self.explain)}' if self.explain else ""
+        return f'{{"op":"resolve","needs":{rows(self.needs)}{lock}{budget}{explain}}}'
 
 
 @dataclass(frozen=True)
@@ -87,14 +106,14 @@ class Check:
     derivation: Derivation
     lock: Pairs = ()
 
-    def line(self) -> dict[str, Any]:
-        return {"op": "check", "needs": pairs(self.needs), "lock": pairs(self.lock), "derivation": self.derivation}
+    def line(self) -> str:
+        return f'{{"op":"check","needs":{rows(self.needs)},"lock":{rows(self.lock)},"derivation":{encoded(self.derivation)}}}'
 
 
 @dataclass(frozen=True)
 class List:
-    def line(self) -> dict[str, Any]:
-        return {"op": "list"}
+    def line(self) -> str:
+        return '{"op":"list"}'
 
 
 @dataclass(frozen=True)
@@ -106,14 +125,16 @@ class Line:
 Request = Union[Publish, Yank, Unyank, Resolve, Check, List, Line]
 
 
-def pairs(given: Pairs) -> list[tuple[str, str]]:
-    return list(given.items() if isinstance(given, Mapping) else given)
+def rows(pairs: Pairs) -> str:
+    """The JSON of pairs."""
+    given = pairs.items() if isinstance(pairs, Mapping) else pairs
+    return f"[{','.join([f'[{encoded(name)},{encoded(text)}]' for name, text in given])}]"
 
 
 def written(request: Request) -> bytes:
     """A request's line with its line feed."""
     if not isinstance(request, Line):
-        return json.dumps(request.line(), separators=(",", ":")).encode() + b"\n"
+        return request.line().encode() + b"\n"
     if b"\n" in request.text:
         raise ValueError("a line has no line feed in it")
     return request.text + b"\n"
@@ -164,7 +185,8 @@ class RegistryError(Exception):
 
 
 class Ended(RegistryError):
-    """The program has ended, or was closed, and answers no more. The status is none where it still ran."""
+    """The session has ended, or was closed, and answers no more. The status is the program's, and none where it still ran or where
+    there is no program."""
 
     def __init__(self, told: str, status: int | None = None) -> None:
         super().__init__(told)
@@ -295,7 +317,7 @@ REFUSALS: dict[int, type[Refusal]] = {it.number: it for it in Refusal.__subclass
 
 def answer(line: bytes) -> Reply | Refusal:
     """What a reply line says."""
-    said = json.loads(line)
+    said = decoded(str(line, "utf-8"))
     revision = said["revision"]
     if "ok" in said:
         return Accepted(revision)
@@ -308,59 +330,72 @@ def answer(line: bytes) -> Reply | Refusal:
         return NoSelection(revision, said.get("derivation"), tuple(said.get("explanation", ())))
     if "follows" in said:
         return Verdict(revision, said["follows"])
-    return Listing(revision, {name: tuple((text, is_yanked) for text, is_yanked in rows) for name, rows in said["packages"]})
+    return Listing(revision, {name: tuple((text, is_yanked) for text, is_yanked in versions) for name, versions in said["packages"]})
 
 
-# ---- The program
+# ---- A session
 
 class Registry:
-    """A session with a program of its own. `program` is its path, or the words that start it; one that can't be started is an
-    OSError. `journal` is the file that the session goes on with, made where it is not there: it has each accepted command before
+    """A session, with a program of its own or, where it is `embedded`, in this process.
+
+    `program` is the program's path, or the words that start it; `workers` is how many threads resolve requests there. `library`
+    is the path of libregistryd.so for a session in this process, which else is the one that the variable REGISTRYD_LIBRARY
+    names, the one that is installed with this file, or the one that the system finds. What can't be started or loaded is an
+    OSError. A session in this process has no workers, and no signal breaks off a search there: give a `budget`.
+
+    `connect` is the address of a service, the path of its socket or HOST:PORT; the file registryd_service.py has to stand beside
+    this one. Where the connection breaks off, it is made again, and what has no reply is asked again, a command unless it
+    was carried out. The `close` of such a session ends it alone.
+
+    `journal` is the file that the session goes on with, made where it is not there: it has each accepted command before
     the call that made it returns, whatever becomes of this process or the program. Else the session begins with the journal that
     is loaded, if one is, and where one is to be saved writes it as it is closed."""
 
-    def __init__(self, program: Path | Sequence[str] = "registryd", *, workers: int = 1, journal: Path | None = None,
-                 load: Path | None = None, save: Path | None = None) -> None:
+    def __init__(self, program: FilePath | Sequence[str] = "registryd", *, workers: int = 1, journal: FilePath | None = None,
+                 load: FilePath | None = None, save: FilePath | None = None, embedded: bool = False, library: FilePath | None = None,
+                 connect: FilePath | None = None) -> None:
+        if connect is not None:
+            from registryd_service import Connection
+            if journal or load or save or embedded:
+                raise ValueError("a service has a journal of its own")
+            self._session: _Child | _Embedded | Connection = Connection(os.fspath(connect))
+            return
+        if embedded:
+            if workers != 1:
+                raise ValueError("a session in this process has no workers")
+            self._session = _Embedded(library, journal, load, save)
+            return
         words = [os.fspath(program)] if isinstance(program, (str, os.PathLike)) else list(program)
         words += ["serve", "--workers", str(workers)]
         for option, path in (("--journal", journal), ("--load", load), ("--save", save)):
             words += [] if path is None else [option, os.fspath(path)]
-        # in a session of its own: a key that interrupts this program leaves it to end with its input, and to save
-        self._process = subprocess.Popen(words, stdin=subprocess.PIPE, stdout=subprocess.PIPE, stderr=subprocess.PIPE, start_new_session=True)
-        self._waiting: deque[Future[Any]] = deque()  # of the lines that have no reply so far, in order
-        self._lines: queue.SimpleQueue[bytes | None] = queue.SimpleQueue()  # to be written; none is the last
-        self._lock = threading.Lock()  # a line is queued with its future, or neither is
-        self._fault = ""  # why no more lines are taken
-        self._told = b""  # the end of standard error
-        self._threads = [threading.Thread(target=run, daemon=True) for run in (self._write, self._hear, self._read)]
-        for thread in self._threads:
-            thread.start()
+        self._session = _Child(words)
         try:
-            self._call(Resolve(()))  # so a journal that can't be gone on with is told here
+            self._session.call(Resolve(()))  # so a journal that can't be gone on with is told here
         except BaseException:
-            self.kill()
+            self._session.kill()
             raise
 
     def publish(self, name: str, version: str, needs: Pairs = ()) -> int:
         """Publishes a version; answers the revision."""
-        return self._call(Publish(name, version, needs)).revision
+        return self._session.call(Publish(name, version, needs)).revision
 
     def yank(self, name: str, version: str) -> int:
-        return self._call(Yank(name, version)).revision
+        return self._session.call(Yank(name, version)).revision
 
     def unyank(self, name: str, version: str) -> int:
-        return self._call(Unyank(name, version)).revision
+        return self._session.call(Unyank(name, version)).revision
 
     def resolve(self, needs: Pairs, lock: Pairs = (), *, budget: int | None = None, explain: bool = False) -> Selection | NoSelection:
         """Versions that fit together. The budget is how many conflicts the search may meet: beyond it `BudgetSpent` is raised."""
-        return self._call(Resolve(needs, lock, budget, explain))
+        return self._session.call(Resolve(needs, lock, budget, explain))
 
     def check(self, needs: Pairs, derivation: Derivation, lock: Pairs = ()) -> bool:
         """Whether the derivation of a refusal follows."""
-        return self._call(Check(needs, derivation, lock)).follows
+        return self._session.call(Check(needs, derivation, lock)).follows
 
     def list(self) -> Listing:
-        return self._call(List())
+        return self._session.call(List())
 
     def ask(self, request: Request) -> Future[Reply]:
         """Sends a line. Its future has the reply, or raises what the call would."""
@@ -372,45 +407,136 @@ class Registry:
         futures: list[Future[Reply]] = [Future() for _ in lines]
         for future in futures:
             future.set_running_or_notify_cancel()  # a line that was sent can't be taken back
-        with self._lock:
-            if self._fault:
-                raise self._ended()
-            self._waiting.extend(futures)
-            self._lines.put(b"".join(lines))
+        self._session.send(lines, futures)
         return futures
 
-    def close(self) -> None:
-        """Ends the input, waits for all replies, and then for the journal to be whole. Raises `Ended` where the program
-        failed. Once is enough."""
-        with self._lock:
-            if self._fault == CLOSED:
-                return
-            self._fault, failed = CLOSED, self._fault
-            self._lines.put(None)
-        self._join()
-        if failed or self._process.returncode:
-            raise self._ended(failed or DIED)
+    def close(self, seconds: float | None = None) -> None:
+        """Waits for all replies, and then for the journal to be whole. Raises `Ended` where the session failed. Once is enough.
+
+        It takes no more than so many seconds, where they are given. A program that has not ended by then is killed, and `Ended`
+        is raised. A search in this process can't be ended: where one still runs in another thread, TimeoutError is raised, and
+        `close` may be called again."""
+        self._session.close(seconds)
 
     def kill(self) -> None:
-        """Ends the program at once: what waits is told, and nothing is saved. A journal has all that was told as accepted."""
-        self._stop(0)
-        with self._lock:
-            self._fault = CLOSED
-            self._lines.put(None)
-        self._join()
+        """Ends the session at once, a search in this process aside: what waits is told, and nothing is saved. A journal has all
+        that was told as accepted."""
+        self._session.kill()
 
     def __enter__(self) -> Registry:
         return self
 
-    def __exit__(self, *_: object) -> None:
-        self.close()
+    def __exit__(self, kind: type[BaseException] | None, *_: object) -> None:
+        if kind is not KeyboardInterrupt:
+            self.close()
+            return
+        with contextlib.suppress(Ended, TimeoutError):  # who interrupts doesn't wait for a long search, and is not told otherwise
+            self.close(INTERRUPTED)
 
-    # The threads
 
-    def _call(self, request: Request) -> Any:
+CLOSED, DIED = "the session was closed", "the program ended"
+
+
+def settle(future: Future[Reply] | _Answered, reply: Reply | Refusal) -> None:
+    if isinstance(reply, Refusal):
+        future.set_exception(reply)
+    else:
+        future.set_result(reply)
+
+
+# ---- A program of its own
+
+class _Answered(queue.SimpleQueue):
+    """What becomes of one line, for a single thread that waits: as much of a future as that takes, for a fifth of its time."""
+
+    set_result = set_exception = queue.SimpleQueue.put
+
+    def result(self) -> Any:
+        reply = self.get()
+        if isinstance(reply, Exception):
+            raise reply
+        return reply
+
+
+class _Child:
+    """A session with a program that is started for it, and asked over pipes by three threads."""
+
+    def __init__(self, words: Sequence[str]) -> None:
+        lifeline, self._lifeline = map(beside_streams, os.pipe())
+        try:
+            # in a session of its own: a key that interrupts this program leaves it to end with its input, and to save
+            self._process = subprocess.Popen(words, stdin=subprocess.PIPE, stdout=subprocess.PIPE, stderr=subprocess.PIPE,
+                                             start_new_session=True, pass_fds=[lifeline])
+            end_with_writers(lifeline, self._process.pid)
+        except BaseException:
+            os.close(self._lifeline)
+            raise
+        finally:
+            os.close(lifeline)
+        self._waiting: deque[Future[Any] | _Answered] = deque()  # of the lines that have no reply so far, in order
+        self._lines: queue.SimpleQueue[bytes | None] = queue.SimpleQueue()  # to be written; none is the last
+        self._unwritten = 0  # how many texts are queued, or being written
+        self._lock = threading.Lock()  # a line is queued with its future, or neither is
+        self._input = self._process.stdin.fileno()
+        self._writable = select.poll()
+        self._writable.register(self._input, select.POLLOUT)
+        self._fault = ""  # why no more lines are taken
+        self._failed = ""  # what it was before the session was closed
+        self._is_told = False  # whether a call to close or kill has come to its end
+        self._told = b""  # the end of standard error
+        self._threads = [threading.Thread(target=run, daemon=True) for run in (self._write, self._hear, self._read)]
+        for thread in self._threads:
+            thread.start()
+
+    def call(self, request: Request) -> Any:
         if threading.current_thread() in self._threads:
             raise RuntimeError("what a future calls back can't wait for a reply: it may ask")
-        return self.ask(request).result()
+        answered = _Answered()
+        self.send([written(request)], [answered])
+        return answered.result()
+
+    def send(self, lines: Sequence[bytes], futures: Sequence[Future[Reply] | _Answered]) -> None:
+        text = b"".join(lines)
+        with self._lock:
+            if self._fault:
+                raise self._ended()
+            self._waiting.extend(futures)
+            if self._unwritten or not self._write_now(text):
+                self._unwritten += 1
+                self._lines.put(text)
+
+    def _write_now(self, text: bytes) -> bool:
+        """Writes a short text where that can't wait, which spares a change of threads; answers whether it has. Where the program reads
+        no more, the thread that writes finds that."""
+        if len(text) > select.PIPE_BUF or not self._writable.poll(0):
+            return False
+        with contextlib.suppress(OSError):
+            return os.write(self._input, text) == len(text)
+        return False
+
+    def close(self, seconds: float | None) -> None:
+        with self._lock:
+            if self._fault != CLOSED:
+                self._failed, self._fault = self._fault, CLOSED
+                self._lines.put(None)
+        is_killed = not self._join(seconds)
+        if is_killed:
+            self._stop(0)
+            self._join(WAITED)
+        was_told, self._is_told = self._is_told, True
+        if is_killed:
+            raise Ended(f"the program was killed, since it had not ended {seconds:g} seconds after the session was closed", self._process.poll())
+        if not was_told and (self._failed or self._process.returncode):
+            raise self._ended(self._failed or DIED)
+
+    def kill(self) -> None:
+        self._stop(0)
+        with self._lock:
+            self._fault, self._is_told = CLOSED, True
+            self._lines.put(None)
+        self._join(None)
+
+    # The threads
 
     def _write(self) -> None:
         """Writes what is queued, and closes the pipe. A program that reads no more is ended, and the thread that reads tells."""
@@ -425,11 +551,14 @@ class Registry:
             self._process.stdin.write(text)
             if self._lines.empty():
                 self._process.stdin.flush()
+            with self._lock:
+                self._unwritten -= 1
 
     def _hear(self) -> None:
         """Keeps the end of what the program says on standard error."""
-        while told := self._process.stderr.read1(MOST_TOLD):
-            self._told = (self._told + told)[-MOST_TOLD:]
+        with self._process.stderr as said:
+            while told := said.read1(MOST_TOLD):
+                self._told = (self._told + told)[-MOST_TOLD:]
 
     def _read(self) -> None:
         """Gives each reply to the line that waits longest, and tells those that get none."""
@@ -442,18 +571,17 @@ class Registry:
             except (ValueError, KeyError, TypeError, IndexError):
                 fault = f"the program wrote no reply: {line[:200]!r}"
                 break
-            if isinstance(reply, Refusal):
-                future.set_exception(reply)
-            else:
-                future.set_result(reply)
+            settle(future, reply)
         if self._waiting or self._fault != CLOSED:
             self._stop(WAITED)
         self._process.wait()
-        self._threads[1].join()
+        self._process.stdout.close()
+        self._threads[1].join(WAITED)  # a program that this one has started may keep standard error open
         with self._lock:
             left, self._waiting = list(self._waiting), deque()
             self._fault = self._fault or fault
             self._lines.put(None)
+        os.close(self._lifeline)
         for future in left:
             future.set_exception(self._ended(fault))
 
@@ -465,12 +593,12 @@ class Registry:
             except subprocess.TimeoutExpired:
                 os.killpg(self._process.pid, signal.SIGKILL)
 
-    def _join(self) -> None:
-        for thread in self._threads:
-            thread.join()
-        self._process.wait()
-        self._process.stdout.close()
-        self._process.stderr.close()
+    def _join(self, seconds: float | None) -> bool:
+        """Waits at most so long until all is written and read, and the program has ended; answers whether that is so."""
+        limit = None if seconds is None else time.monotonic() + seconds
+        for thread in self._threads[::2]:
+            thread.join(None if limit is None else max(0, limit - time.monotonic()))
+        return not any(thread.is_alive() for thread in self._threads[::2])
 
     def _ended(self, fault: str = "") -> Ended:
         told, status = self._told.decode(errors="replace").strip(), self._process.poll()
@@ -478,4 +606,153 @@ class Registry:
         return Ended(f"{fault or self._fault}{how}{': ' if told else ''}{told}", status)
 
 
-CLOSED, DIED = "the session was closed", "the program ended"
+def beside_streams(file: int) -> int:
+    """The same file by a number above those of the standard streams, which a program gets others at."""
+    beside = fcntl.fcntl(file, fcntl.F_DUPFD_CLOEXEC, 3)
+    os.close(file)
+    return beside
+
+
+def end_with_writers(pipe: int, process: int) -> None:
+    """Has the system kill a process, with its group, that has this end of a pipe, once nobody has the other end any more: so it
+    doesn't outlive the one that started it, whichever way that ends, and in the midst of a search. (The signal that prctl offers comes as
+    soon as the thread has ended that started it, and would take code between fork and exec.)"""
+    if not hasattr(fcntl, "F_SETSIG"):  # it is Linux that has it
+        return
+    with contextlib.suppress(ProcessLookupError):
+        fcntl.fcntl(pipe, fcntl.F_SETOWN, -process)
+        fcntl.fcntl(pipe, fcntl.F_SETSIG, signal.SIGKILL)
+        fcntl.fcntl(pipe, fcntl.F_SETFL, fcntl.FASYNC)
+
+
+# ---- In this process
+
+ROOM = 65_536  # bytes of replies that are taken at once
+LIBRARY = "libregistryd.so"
+# The calls of registryd.h that are used here, with what they take; each answers a number, and 0 where all is well.
+NUMBER, SIZE, PLACE = ctypes.c_uint64, ctypes.c_size_t, ctypes.POINTER(ctypes.c_size_t)
+CALLS = {
+    "open_embedded": (ctypes.c_char_p, ctypes.c_char_p, ctypes.POINTER(NUMBER), ctypes.c_char_p, SIZE),
+    "open_embedded_journal": (ctypes.c_char_p, ctypes.POINTER(NUMBER), ctypes.c_char_p, SIZE),
+    "ask": (NUMBER, ctypes.c_char_p, SIZE, ctypes.c_char_p, SIZE, PLACE, PLACE),
+    "take": (NUMBER, ctypes.c_char_p, SIZE, PLACE, PLACE),
+    "error": (NUMBER, ctypes.c_char_p, SIZE),
+    "save": (NUMBER,),
+    "close": (NUMBER,),
+}
+ANSWERS = {1: "the library was misused, as by a process that was forked", 2: "there is no memory"}
+
+
+@functools.cache
+def loaded(path: str) -> Any:
+    """The library, with its calls."""
+    library = ctypes.CDLL(path)
+    for name, takes in CALLS.items():
+        call = getattr(library, f"registryd_{name}")
+        call.argtypes, call.restype = takes, ctypes.c_int
+    return library
+
+
+def library_path(given: FilePath | None) -> str:
+    """Where the library is."""
+    if named := given or os.environ.get("REGISTRYD_LIBRARY"):
+        return os.fspath(named)
+    installed = Path(__file__).resolve().parent / "../../../../lib" / LIBRARY  # from PREFIX/share/registryd/clients/python
+    return str(installed) if installed.is_file() else LIBRARY
+
+
+class _Embedded:
+    """A session in this process, by the calls of the library. One thread at a time is in it."""
+
+    def __init__(self, library: FilePath | None, journal: FilePath | None, load: FilePath | None, save: FilePath | None) -> None:
+        if journal is not None and (load is not None or save is not None):
+            raise ValueError("a session that goes on with a journal loads and saves none")
+        self._library = loaded(library_path(library))
+        self._room = ctypes.create_string_buffer(ROOM)
+        # how many bytes were taken, and how many are left to take
+        self._length, self._left = SIZE(), SIZE()
+        self._takes = (self._room, ROOM, ctypes.pointer(self._length), ctypes.pointer(self._left))
+        self._lock = threading.Lock()
+        self._fault = ""  # why no more lines are taken
+        number, words = NUMBER(), ctypes.create_string_buffer(MOST_TOLD)
+        if journal is not None:
+            answered = self._library.registryd_open_embedded_journal(os.fsencode(journal), number, words, MOST_TOLD)
+        else:
+            files = [None if path is None else os.fsencode(path) for path in (load, save)]
+            answered = self._library.registryd_open_embedded(*files, number, words, MOST_TOLD)
+        if answered:
+            raise Ended(told_by(answered, words))
+        self._number = number.value
+        # where nobody has the session any more it is closed; not at the end of Python, when a search may still run
+        self._forget = weakref.finalize(self, self._library.registryd_close, self._number)
+        self._forget.atexit = False
+
+    def call(self, request: Request) -> Any:
+        with self._lock:
+            text = self._asked(written(request))
+            if self._fault:
+                raise Ended(self._fault)
+        reply = answer(text)
+        if isinstance(reply, Refusal):
+            raise reply
+        return reply
+
+    def send(self, lines: Sequence[bytes], futures: Sequence[Future[Reply]]) -> None:
+        with self._lock:
+            text, fault = self._asked(b"".join(lines)), self._fault
+        replies = text.splitlines()
+        for reply, future in zip(replies, futures):
+            settle(future, answer(reply))
+        for future in futures[len(replies):]:
+            future.set_exception(Ended(fault))
+
+    def _asked(self, lines: bytes) -> bytes:
+        """The replies to lines; fewer where the session has ended on the way, and then the fault is noted."""
+        if self._fault:
+            raise Ended(self._fault)
+        self._take_left()  # of a call that was interrupted
+        answered = self._library.registryd_ask(self._number, lines, len(lines), *self._takes)
+        taken = self._room[:self._length.value]
+        if answered:
+            self._fault = told_by(answered, self._words())
+            self._left.value = 1  # what came before may be taken
+        return taken + self._take_left() if self._left.value else taken
+
+    def _take_left(self) -> bytes:
+        """What is left to take of the last replies."""
+        pieces = []
+        while self._left.value:
+            self._left.value = 0
+            self._library.registryd_take(self._number, *self._takes)
+            pieces.append(self._room[:self._length.value])
+        return b"".join(pieces)
+
+    def _words(self) -> ctypes.Array[ctypes.c_char]:
+        words = ctypes.create_string_buffer(MOST_TOLD)
+        self._library.registryd_error(self._number, words, MOST_TOLD)
+        return words
+
+    def close(self, seconds: float | None) -> None:
+        if not self._lock.acquire(timeout=-1 if seconds is None else seconds):
+            raise TimeoutError(f"a search of the session still runs after {seconds:g} seconds, and can't be ended in this process")
+        try:
+            failed, self._fault = self._fault, CLOSED
+            if failed == CLOSED:
+                return
+            if not failed and (answered := self._library.registryd_save(self._number)):
+                failed = told_by(answered, self._words())
+            self._forget()
+        finally:
+            self._lock.release()
+        if failed:
+            raise Ended(failed)
+
+    def kill(self) -> None:
+        with self._lock:
+            self._fault = CLOSED
+            self._forget()
+
+
+def told_by(answered: int, words: ctypes.Array[ctypes.c_char]) -> str:
+    """What the library has told of a call that didn't answer 0."""
+    return words.value.decode(errors="replace") or ANSWERS.get(answered, f"the library answered {answered}")

@@ -1,13 +1,19 @@
-//! A client of registryd: it starts the program, asks it by lines, and answers with values.
+//! A client of registryd: it asks a registry by lines, and answers with values. [`Registry::open`] starts the program as a
+//! child; with the feature `embedded`, `Registry::embedded` begins a session in this process, over the library libregistryd;
+//! [`Registry::connect`] begins one with a service, which many clients share.
 //!
 //! A call waits for its reply. [`Registry::many`] sends any number of lines without waiting between them, and resolve lines
-//! that come to the program together are shared out among its workers. Names, versions and requirements are judged by the
-//! program alone. Where the program has ended, each call answers [`Error::Ended`], which says how; none waits for ever.
+//! that come to a program together are shared out among its workers. Names, versions and requirements are judged by the
+//! registry alone. Where the session has ended, each call answers [`Error::Ended`], which says how; none waits for ever.
 
+mod child;
+#[cfg(feature = "embedded")]
+mod embedded;
 pub mod json;
 mod refusal;
 mod reply;
 mod request;
+mod service;
 mod session;
 
 pub use refusal::Refusal;

@@ -1,27 +1,23 @@
 use std::ffi::OsStr;
 use std::fmt;
-use std::io::{BufRead, BufReader, Read, Write};
-use std::os::unix::process::{CommandExt, ExitStatusExt};
+use std::io::BufRead;
+use std::os::unix::process::ExitStatusExt;
 use std::path::PathBuf;
-use std::process::{Child, ChildStderr, ChildStdin, ChildStdout, Command, ExitStatus, Stdio};
-use std::sync::mpsc::{channel, Receiver};
-use std::thread;
-use std::time::{Duration, Instant};
+use std::process::{Command, ExitStatus};
+use std::time::Duration;
 
+use crate::child::Program;
 use crate::json::Value;
 use crate::reply::{self, Packages};
+use crate::service::Service;
 use crate::{Pairs, Refusal, Reply, Request, Resolve, Selected};
 
-/// How many bytes of standard error are kept, the last ones.
-const MOST_TOLD: usize = 4096;
-/// How long a program that answers no more has to end by itself, and then the end of standard error to come.
-const WAITED: Duration = Duration::from_millis(500);
-const DIED: &str = "the program ended";
+pub(crate) const DIED: &str = "the program ended";
 
-/// How the program is started.
+/// How a session is begun.
 #[derive(Clone, Debug)]
 pub struct Options {
-    /// How many threads resolve requests, 1 to 64.
+    /// How many threads of the program resolve requests, 1 to 64. A session in this process takes no other number than 1.
     pub workers: u8,
     /// The journal that the session goes on with, made where it is not there: it has each accepted command before the call
     /// that made it returns. With it nothing is loaded or saved.
@@ -43,20 +39,32 @@ impl Default for Options {
 pub enum Error {
     /// The line was refused at this revision, and changed nothing.
     Refused { refusal: Refusal, revision: u64 },
-    /// The program has ended, or was never started, and answers no more.
+    /// The session has ended, or was never begun, and answers no more.
     Ended(Ended),
     /// A line with a line feed in it is not sent.
     LineFeed,
 }
 
-/// How the program ended.
+/// How a session ended.
 #[derive(Clone, Debug, PartialEq, Eq)]
 pub struct Ended {
     pub fault: String,
-    /// None where it was never started.
+    /// The program's, and none where it was never started, or where there is no program.
     pub status: Option<ExitStatus>,
-    /// The end of what it said on standard error.
+    /// The end of what the program said on standard error.
     pub told: String,
+}
+
+impl Ended {
+    pub(crate) fn of(fault: &str) -> Ended {
+        Ended { fault: fault.to_string(), status: None, told: String::new() }
+    }
+}
+
+impl From<Ended> for Error {
+    fn from(ended: Ended) -> Error {
+        Error::Ended(ended)
+    }
 }
 
 impl fmt::Display for Error {
@@ -79,15 +87,29 @@ impl fmt::Display for Error {
 
 impl std::error::Error for Error {}
 
-/// A session with a program of its own. One that is dropped is closed, and how that ended isn't told.
+/// The replies to lines, in order: fewer than there are lines where no more come, and then what is at fault.
+pub(crate) type Replies = (Vec<Result<Reply, Error>>, String);
+
+/// Who answers the lines of a session.
+pub(crate) trait Way {
+    /// Has this many lines answered.
+    fn exchange(&mut self, lines: &[u8], count: usize) -> Replies;
+    /// Ends what answers no more, and tells how.
+    fn fail(&mut self, fault: &str) -> Ended;
+    /// Ends, within so long, once the journal is whole.
+    fn close(&mut self, limit: Option<Duration>) -> Result<(), Ended>;
+    /// Ends at once.
+    fn kill(&mut self);
+    /// The number of the process that answers, or 0.
+    fn id(&self) -> u32;
+}
+
+/// A session, with a program of its own, in this process or with a service. One that is dropped is closed, and how that ended isn't told.
 pub struct Registry {
-    child: Child,
-    /// None once it is closed.
-    input: Option<ChildStdin>,
-    output: BufReader<ChildStdout>,
-    told: Receiver<Vec<u8>>,
-    /// How the program ended, where it has.
+    way: Box<dyn Way + Send>,
+    /// How it ended, where it has.
     ended: Option<Ended>,
+    is_closed: bool,
 }
 
 impl Registry {
@@ -104,17 +126,29 @@ impl Registry {
     }
 
     /// Starts a command that answers as the program does.
-    pub fn start(mut command: Command) -> Result<Registry, Error> {
-        // in a group of its own: a key that interrupts this program leaves it to end with its input, and to save
-        command.process_group(0).stdin(Stdio::piped()).stdout(Stdio::piped()).stderr(Stdio::piped());
-        let none =
-            |it: std::io::Error| Error::Ended(Ended { fault: format!("the program can't be started: {it}"), status: None, told: String::new() });
-        let mut child = command.spawn().map_err(none)?;
-        let (input, output) = (child.stdin.take(), child.stdout.take().expect("it is piped"));
-        let told = hear(child.stderr.take().expect("it is piped"));
-        let mut registry = Registry { child, input, output: BufReader::new(output), told, ended: None };
+    pub fn start(command: Command) -> Result<Registry, Error> {
+        let mut registry = Registry::of(Program::start(command)?);
         registry.ask(Request::Resolve(Resolve::default()))?; // so a journal that can't be gone on with is told here
         Ok(registry)
+    }
+
+    /// Begins a session in this process, which starts no other one. Lines are answered one after another, by the thread that asks.
+    #[cfg(feature = "embedded")]
+    pub fn embedded(options: &Options) -> Result<Registry, Error> {
+        Ok(Registry::of(crate::embedded::Embedded::open(options)?))
+    }
+
+    /// Begins a session with a service, `registry serve`, at the path of its socket or at HOST:PORT. The service has a journal of its
+    /// own, and goes on once the session is closed.
+    ///
+    /// Where the service is begun again, the session connects again, for ten seconds at most. Requests that have no reply are asked
+    /// again; where a command has none, the session ends, since it may have been accepted: `list` tells in another session.
+    pub fn connect(address: impl AsRef<OsStr>) -> Result<Registry, Error> {
+        Ok(Registry::of(Service::open(address.as_ref())?))
+    }
+
+    fn of(way: impl Way + Send + 'static) -> Registry {
+        Registry { way: Box::new(way), ended: None, is_closed: false }
     }
 
     /// Publishes a version; answers the revision.
@@ -165,20 +199,10 @@ impl Registry {
         for request in requests {
             request.write(&mut lines).ok_or(Error::LineFeed)?;
         }
-        let (Some(input), None) = (self.input.as_mut(), &self.ended) else {
-            let ended = self.fail(DIED);
-            return Ok(vec![Err(Error::Ended(ended)); requests.len()]);
-        };
-        let (child, output) = (&mut self.child, &mut self.output);
-        // a program that has ended is told by the replies that lack, so a write that fails tells nothing
-        let (mut replies, fault) = thread::scope(|scope| {
-            scope.spawn(move || input.write_all(&lines).and_then(|()| input.flush()));
-            let read = read_replies(output, requests.len());
-            if read.0.len() < requests.len() {
-                stop(child); // so what is still written to it ends
-            }
-            read
-        });
+        if let Some(ended) = &self.ended {
+            return Ok(vec![Err(Error::Ended(ended.clone())); requests.len()]);
+        }
+        let (mut replies, fault) = self.way.exchange(&lines, requests.len());
         if replies.len() < requests.len() {
             let ended = self.fail(&fault);
             replies.resize(requests.len(), Err(Error::Ended(ended)));
@@ -186,24 +210,35 @@ impl Registry {
         Ok(replies)
     }
 
-    /// Closes the input, and waits until the journal is whole.
-    pub fn close(mut self) -> Result<(), Error> {
-        let ended = self.finish();
-        match ended.status {
-            Some(status) if status.success() && ended.fault == DIED => Ok(()),
-            _ => Err(Error::Ended(ended)),
+    /// Ends the session, and waits until the journal is whole.
+    pub fn close(self) -> Result<(), Error> {
+        self.close_in(None)
+    }
+
+    /// The same within so long: a program that has not ended by then is killed, and that is told.
+    pub fn close_within(self, limit: Duration) -> Result<(), Error> {
+        self.close_in(Some(limit))
+    }
+
+    fn close_in(mut self, limit: Option<Duration>) -> Result<(), Error> {
+        self.is_closed = true;
+        match self.ended.take() {
+            Some(ended) => Err(Error::Ended(ended)),
+            None => Ok(self.way.close(limit)?),
         }
     }
 
-    /// Ends the program at once: nothing is saved. A journal has all that was told as accepted.
+    /// Ends the session at once: nothing is saved. A journal has all that was told as accepted.
     pub fn kill(mut self) {
-        self.child.kill().ok(); // where it fails the program has ended
-        self.end(DIED);
+        self.is_closed = true;
+        if self.ended.is_none() {
+            self.way.kill();
+        }
     }
 
-    /// The number of the program's process.
+    /// The number of the process that answers: the program's, or this one's; 0 where that is a service, which has several.
     pub fn id(&self) -> u32 {
-        self.child.id()
+        self.way.id()
     }
 
     fn command(&mut self, request: Request<'_>) -> Result<u64, Error> {
@@ -218,55 +253,26 @@ impl Registry {
         Error::Ended(self.fail(&format!("the program answered otherwise than it was asked: {reply:?}")))
     }
 
-    /// Ends a program that answers no more, where it has not ended.
+    /// Ends a session that answers no more. How it ended is told once, and kept.
     fn fail(&mut self, fault: &str) -> Ended {
-        if self.ended.is_none() {
-            stop(&mut self.child);
-        }
-        self.end(fault)
-    }
-
-    /// Closes the input, and lets the program end by itself.
-    fn finish(&mut self) -> Ended {
-        drop(self.input.take());
-        let mut more = Vec::new();
-        if self.ended.is_none() {
-            self.output.read_to_end(&mut more).ok(); // what can't be read is not there
-        }
-        self.end(if more.is_empty() { DIED } else { "the program wrote more replies than it was asked for" })
-    }
-
-    /// Waits for the end. How the program ended is told once, and kept.
-    fn end(&mut self, fault: &str) -> Ended {
-        if let Some(ended) = &self.ended {
-            return ended.clone();
-        }
-        drop(self.input.take());
-        let status = self.child.wait().ok();
-        let told = self.told.recv_timeout(WAITED).unwrap_or_default();
-        let ended = Ended { fault: fault.to_string(), status, told: String::from_utf8_lossy(&told).trim().to_string() };
-        self.ended = Some(ended.clone());
-        ended
+        let way = &mut self.way;
+        self.ended.get_or_insert_with(|| way.fail(fault)).clone()
     }
 }
 
 impl Drop for Registry {
     fn drop(&mut self) {
-        self.finish();
+        if !self.is_closed && self.ended.is_none() {
+            self.way.close(None).ok(); // who drops it isn't told
+        }
     }
 }
 
-/// Ends a program that answers no more. One that is about to end may do so, and is not told as killed.
-fn stop(child: &mut Child) {
-    let begun = Instant::now();
-    while begun.elapsed() < WAITED && matches!(child.try_wait(), Ok(None)) {
-        thread::sleep(Duration::from_millis(2));
-    }
-    child.kill().ok(); // where it fails the program has ended
-}
+/// Replies, and the line behind them that is none, without its end, where there is one.
+pub(crate) type Read = (Vec<Result<Reply, Error>>, Option<Vec<u8>>);
 
-/// The replies of so many lines; fewer where the program writes no more, or what is no reply, and then what is at fault.
-fn read_replies(output: &mut impl BufRead, count: usize) -> (Vec<Result<Reply, Error>>, String) {
+/// The replies of so many lines; fewer where no more come, or what is no reply.
+pub(crate) fn read_some(output: &mut impl BufRead, count: usize) -> Read {
     let mut replies = Vec::with_capacity(count);
     let mut line = Vec::new();
     while replies.len() < count {
@@ -275,24 +281,18 @@ fn read_replies(output: &mut impl BufRead, count: usize) -> (Vec<Result<Reply, E
         if line.pop() != Some(b'\n') {
             break;
         }
-        let Some(read) = reply::read(&line) else {
-            return (replies, format!("the program wrote no reply: {}", String::from_utf8_lossy(&line[..line.len().min(200)])));
-        };
+        let Some(read) = reply::read(&line) else { return (replies, Some(line)) };
         replies.push(read.map_err(|(refusal, revision)| Error::Refused { refusal, revision }));
     }
-    (replies, DIED.to_string())
+    (replies, None)
 }
 
-/// Reads standard error in a thread of its own, which sends its last bytes once it has ended.
-fn hear(mut from: ChildStderr) -> Receiver<Vec<u8>> {
-    let (sender, receiver) = channel();
-    thread::spawn(move || {
-        let (mut kept, mut piece) = (Vec::new(), [0; MOST_TOLD]);
-        while let Ok(count @ 1..) = from.read(&mut piece) {
-            kept.extend_from_slice(&piece[..count]);
-            kept.drain(..kept.len().saturating_sub(MOST_TOLD));
-        }
-        sender.send(kept).ok(); // the session may be gone
-    });
-    receiver
+/// The same, and what is at fault where they are fewer.
+pub(crate) fn read_replies(output: &mut impl BufRead, count: usize) -> Replies {
+    let (replies, other) = read_some(output, count);
+    (replies, other.map_or(DIED.to_string(), |line| no_reply(&line)))
+}
+
+pub(crate) fn no_reply(line: &[u8]) -> String {
+    format!("the program wrote no reply: {}", String::from_utf8_lossy(&line[..line.len().min(200)]))
 }

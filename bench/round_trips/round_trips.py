@@ -1,0 +1,55 @@
+"""As round_trips.c, from Python: by the client with its values, or by a bare socket."""
+import json
+import socket
+import sys
+import time
+from pathlib import Path
+
+sys.path.insert(0, str(Path(__file__).resolve().parents[2] / "clients" / "python"))
+from registryd import Line, Registry
+
+
+def by_client(registry, file, trips, lines):
+    for future in registry.many(map(Line, Path(file).read_bytes().splitlines())):
+        future.result()
+    for line in lines:
+        needs = json.loads(line)["needs"]
+        yield registry.resolve(needs).selected
+        for _ in range(trips):
+            begun = time.perf_counter_ns()
+            registry.resolve(needs)
+            yield time.perf_counter_ns() - begun
+    registry.close()
+
+
+def by_socket(path, file, trips, lines):
+    with socket.socket(socket.AF_UNIX) as channel:
+        channel.connect(path)
+        replies = channel.makefile("rb")
+        text = Path(file).read_bytes()
+        channel.sendall(text)
+        for _ in range(text.count(b"\n")):
+            replies.readline()
+        for line in lines:
+            sent = line.encode() + b"\n"
+            channel.sendall(sent)
+            yield replies.readline().decode().strip()
+            for _ in range(trips):
+                begun = time.perf_counter_ns()
+                channel.sendall(sent)
+                replies.readline()
+                yield time.perf_counter_ns() - begun
+
+
+def main(words):
+    way, target, file, trips, *lines = words
+    if way == "socket":
+        told = by_socket(target, file, int(trips), lines)
+    else:
+        registry = Registry(embedded=True) if way == "embedded" else Registry(target)
+        told = by_client(registry, file, int(trips), lines)
+    print(*list(told), sep="\n")
+
+
+if __name__ == "__main__":
+    main(sys.argv[1:])

@@ -1,0 +1,53 @@
+"""That round trips are measured of what is said: each language and way gives the same replies, as many times as trips are asked for,
+and the table has a row for each."""
+import json
+import os
+import re
+import shutil
+import sys
+import unittest
+
+BENCH = os.path.dirname(os.path.dirname(os.path.abspath(__file__)))
+sys.path.insert(0, BENCH)
+sys.path.insert(0, os.path.join(os.path.dirname(BENCH), "tools", "tests"))
+
+from embedded import PACKAGES, REQUESTS, Row, measured, publications, table  # noqa: E402
+from library import FOLDER, needs_library  # noqa: E402
+from program import PROGRAM, skip_without  # noqa: E402
+
+TRIPS, ROUNDS = 6, 2
+NUMBER = r"\d+\.\d"
+
+
+class Embedded(unittest.TestCase):
+    def test_what_is_published(self):
+        lines = [json.loads(line) for line in publications()]
+        self.assertEqual(len(lines), 160)
+        self.assertEqual({line["name"] for line in lines}, set(PACKAGES))
+
+    def test_the_middle_and_the_slowest(self):
+        row = Row("C", "embedded", [])
+        for first in (1, 51):
+            row.take("\n".join(f"reply\n{chr(10).join(str(1000 * it) for it in range(first, first + 50))}" for _ in REQUESTS))
+        self.assertEqual([(row.replies[name], row.at(name, 0.5), row.at(name, 0.99)) for name in REQUESTS], [("reply", 51, 100)] * 2)
+
+    @needs_library
+    @skip_without("cc", "gcc")
+    def test_each_language_by_each_way(self):
+        rows = measured(PROGRAM, FOLDER, TRIPS, ROUNDS)
+        languages = ["C", "Python", *(["Rust"] if shutil.which("rustc") else [])]
+        self.assertEqual([(row.language, row.way) for row in rows], [(it, way) for it in languages for way in ("embedded", "child", "socket")])
+        for row in rows:
+            for name, count in zip(REQUESTS, (8, 1)):
+                self.assertEqual(len(row.trips[name]), TRIPS)
+                self.assertGreater(row.at(name, 0.5), 0)
+                # each selected package once, in its newest version
+                self.assertEqual(re.findall(r"1\.\d+\.0", row.replies[name]), ["1.19.0"] * count, row)
+        head, _, *lines = table(rows)
+        self.assertEqual(len(lines), len(rows))
+        self.assertTrue(all(re.fullmatch(rf"\| \w+, [a-z ]+( \| {NUMBER}){{6}} \|", line) for line in lines), lines)
+        self.assertRegex(lines[0], r"\| 1\.0 \| .* \| 1\.0 \|$")
+
+
+if __name__ == "__main__":
+    unittest.main()

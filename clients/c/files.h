@@ -1,0 +1,48 @@
+/* What the files of a session ask of the system. Each call is begun again where a signal's handler breaks it off. */
+#ifndef REGISTRYD_FILES_H
+#define REGISTRYD_FILES_H
+
+#include <stdbool.h>
+#include <stddef.h>
+#include <sys/stat.h>
+
+/* Bytes in memory of their own; zero at first. */
+struct bytes {
+    char *at;
+    size_t length, room;
+};
+
+/* Makes room for so many bytes in all; false where there is no memory, and then nothing has changed. */
+bool make_room(struct bytes *bytes, size_t room);
+void free_bytes(struct bytes *bytes);
+
+/* A copy of a text, or of so many bytes of it, or null. */
+char *copy_of(const char *text, size_t length);
+
+/* The same open file beside the standard streams, or -1: where one of these is closed, the system gives its number to a file, and what
+ * is meant for the stream would go there. */
+int beside_streams(int file);
+
+/* Opens a file under a number that is none of the three of the standard streams, and that no other program inherits; -1 where that
+ * can't be done. What is made gets the mode that the system gives to a new file. */
+int open_file(const char *name, int how);
+
+/* Takes an open file, where no other session has it: 1. Otherwise 0, or -1 where the system refuses. The lock is the program's. */
+int lock_file(int file);
+
+/* Whether a name stands for this open file: 1, 0, or -1 where the system can't tell. */
+int is_named(const char *name, int file);
+
+/* Reads what is left of a file to the end of `bytes`: 1, or 0 where there is no memory, or -1. */
+int read_whole(int file, struct bytes *bytes);
+
+/* Each of these answers whether it was done. */
+bool write_all(int file, const char *bytes, size_t length);
+bool cut_file(int file, off_t length);
+bool sync_file(int file);
+bool sync_data(int file);
+
+/* Has the name of a file outlast a crash, on a system that can do that for a folder. */
+bool sync_folder(const char *name);
+
+#endif

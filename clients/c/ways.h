@@ -1,0 +1,90 @@
+/* The ways in which a session is answered. What each does stands in child.c, in embedded.c and in service.c; registryd.c calls them,
+ * one call at a time for a session, with arguments that are none of a careless caller. */
+#ifndef REGISTRYD_WAYS_H
+#define REGISTRYD_WAYS_H
+
+#include "channel.h"
+#include "files.h"
+#include "journal_file.h"
+#include "registryd.h"
+#include "saved_file.h"
+
+#include <stdbool.h>
+#include <sys/types.h>
+
+/* A program that this process has started. */
+struct child {
+    pid_t process;
+    /* its standard input and output */
+    struct channel channel;
+    /* while this is open the program may live */
+    int lifeline;
+    bool was_reaped, was_saved;
+};
+
+/* A service that this process is connected to. */
+struct service {
+    struct channel channel;
+    /* its address, as it was given */
+    char *where;
+};
+
+/* What the archive `embedded` keeps of a session in its caller's memory: zero at first, never copied or touched. */
+struct slot {
+    struct { void *at; } held;
+    bool is_open;
+};
+
+/* A session in this process. */
+struct embedded {
+    struct slot slot;
+    bool is_ended;
+    /* whether a line is begun that has not ended */
+    bool is_begun;
+    /* where the journal goes: to a file as the session goes, or at its end, or nowhere */
+    bool is_kept, is_saved;
+    struct journal_file kept;
+    struct saved_file saved;
+    /* what ended the session before its time, if something did */
+    struct fault fault;
+    /* room for lines on their way to a file */
+    struct bytes bytes;
+};
+
+struct session {
+    const struct way *way;
+    union {
+        struct child child;
+        struct embedded embedded;
+        struct service service;
+    };
+};
+
+/* What the calls do in one way. */
+struct way {
+    int (*feed)(struct session *it, const char *bytes, size_t length);
+    int (*take)(struct session *it, char *bytes, size_t room, size_t *length, size_t *left);
+    int (*save)(struct session *it);
+    void (*tell)(const struct session *it, struct telling telling);
+    void (*close)(struct session *it);
+    /* Breaks off what another call for the session may be waiting for meanwhile, where that can be done. */
+    void (*cut)(struct session *it);
+    /* In a process that was forked: closes its copies of what is open, and leaves all else as it is. */
+    void (*forsake)(struct session *it);
+};
+
+/* Which files a session begins with and leaves; each may be null. A child process and its threads, or a session in process. Of a
+ * service its address alone. */
+struct wanted {
+    const char *program;
+    unsigned workers;
+    const char *journal, *load, *save;
+    const char *where;
+};
+
+/* Each opens a session in a place that is all zero. Where it answers something else than REGISTRYD_OK it leaves nothing open. */
+int open_child(struct session *it, const struct wanted *wanted, struct telling telling);
+int open_embedded(struct session *it, const struct wanted *wanted, struct telling telling);
+int open_service(struct session *it, const struct wanted *wanted, struct telling telling);
+
+#endif

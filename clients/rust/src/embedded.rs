@@ -1,0 +1,133 @@
+use std::ffi::CString;
+use std::os::raw::{c_char, c_int, c_void};
+use std::os::unix::ffi::OsStrExt;
+use std::path::Path;
+use std::process;
+use std::ptr::null;
+use std::time::Duration;
+
+use crate::session::{read_replies, Ended, Options, Replies, Way};
+
+/// How many bytes of replies are taken at once.
+const ROOM: usize = 65_536;
+/// How many bytes of what is the matter are told, with the 0 behind them.
+const WORDS: usize = 4096;
+const OK: c_int = 0;
+
+// The calls of registryd.h that are used here. Each answers `OK` where all is well.
+extern "C" {
+    fn registryd_open_embedded(load: *const c_char, save: *const c_char, session: *mut u64, words: *mut c_char, room: usize) -> c_int;
+    fn registryd_open_embedded_journal(journal: *const c_char, session: *mut u64, words: *mut c_char, room: usize) -> c_int;
+    fn registryd_ask(
+        session: u64,
+        lines: *const c_void,
+        length: usize,
+        bytes: *mut c_void,
+        room: usize,
+        taken: *mut usize,
+        left: *mut usize,
+    ) -> c_int;
+    fn registryd_take(session: u64, bytes: *mut c_void, room: usize, taken: *mut usize, left: *mut usize) -> c_int;
+    fn registryd_error(session: u64, words: *mut c_char, room: usize) -> c_int;
+    fn registryd_save(session: u64) -> c_int;
+    fn registryd_close(session: u64) -> c_int;
+}
+
+/// A session in this process, by its number.
+pub(crate) struct Embedded {
+    session: u64,
+    /// Where replies are taken to.
+    bytes: Vec<u8>,
+}
+
+impl Embedded {
+    pub(crate) fn open(options: &Options) -> Result<Embedded, Ended> {
+        let (journal, load, save) = (text(&options.journal)?, text(&options.load)?, text(&options.save)?);
+        if options.workers != 1 {
+            return Err(Ended::of("a session in this process has no workers"));
+        }
+        if journal.is_some() && (load.is_some() || save.is_some()) {
+            return Err(Ended::of("a session that goes on with a journal loads and saves none"));
+        }
+        let mut session = 0;
+        let at = |text: &Option<CString>| text.as_ref().map_or(null(), |it| it.as_ptr());
+        // each text ends with a 0 and outlives the call, which keeps none
+        told(|words, room| unsafe {
+            match journal {
+                Some(_) => registryd_open_embedded_journal(at(&journal), &mut session, words, room),
+                None => registryd_open_embedded(at(&load), at(&save), &mut session, words, room),
+            }
+        })?;
+        Ok(Embedded { session, bytes: vec![0; ROOM] })
+    }
+
+    /// Tells of a call that didn't answer `OK`.
+    fn check(&self, answer: c_int) -> Result<(), Ended> {
+        told(|words, room| {
+            if answer != OK {
+                unsafe { registryd_error(self.session, words, room) };
+            }
+            answer
+        })
+    }
+}
+
+impl Way for Embedded {
+    fn exchange(&mut self, lines: &[u8], count: usize) -> Replies {
+        let (mut taken, mut left) = (0, 0);
+        let bytes = self.bytes.as_mut_ptr().cast();
+        // the lengths are those of the slices
+        let answer = unsafe { registryd_ask(self.session, lines.as_ptr().cast(), lines.len(), bytes, ROOM, &mut taken, &mut left) };
+        let is_done = self.check(answer);
+        let mut text = self.bytes[..taken].to_vec();
+        // of lines that failed, those before may have their replies
+        let mut is_more = left > 0 || is_done.is_err();
+        while is_more {
+            (taken, left) = (0, 0);
+            unsafe { registryd_take(self.session, self.bytes.as_mut_ptr().cast(), ROOM, &mut taken, &mut left) };
+            text.extend_from_slice(&self.bytes[..taken]);
+            is_more = left > 0;
+        }
+        let (replies, fault) = read_replies(&mut &text[..], count);
+        (replies, is_done.map_or_else(|it| it.fault, |()| fault))
+    }
+
+    fn fail(&mut self, fault: &str) -> Ended {
+        self.kill();
+        Ended::of(fault)
+    }
+
+    /// Between two calls nothing runs that would have to be waited for.
+    fn close(&mut self, _: Option<Duration>) -> Result<(), Ended> {
+        let answer = unsafe { registryd_save(self.session) };
+        let saved = self.check(answer);
+        self.kill();
+        saved
+    }
+
+    fn kill(&mut self) {
+        unsafe { registryd_close(self.session) };
+    }
+
+    fn id(&self) -> u32 {
+        process::id()
+    }
+}
+
+/// A path as the library takes it.
+fn text(path: &Option<impl AsRef<Path>>) -> Result<Option<CString>, Ended> {
+    let text = path.as_ref().map(|it| CString::new(it.as_ref().as_os_str().as_bytes()));
+    text.transpose().map_err(|_| Ended::of("a path has a 0 in it"))
+}
+
+/// Makes a call that tells in words, in so much room, what is the matter where it doesn't answer `OK`.
+fn told(call: impl FnOnce(*mut c_char, usize) -> c_int) -> Result<(), Ended> {
+    let mut words = [0u8; WORDS];
+    let answer = call(words.as_mut_ptr().cast(), WORDS);
+    if answer == OK {
+        return Ok(());
+    }
+    let length = words.iter().position(|it| *it == 0).unwrap_or(0);
+    let told = String::from_utf8_lossy(&words[..length]);
+    Err(if told.is_empty() { Ended::of(&format!("the library answered {answer}")) } else { Ended::of(&told) })
+}

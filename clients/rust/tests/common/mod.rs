@@ -1,0 +1,119 @@
+//! What the files of tests share; none of them takes all of it.
+#![allow(dead_code)]
+
+use std::fs;
+use std::io::{BufRead, BufReader};
+use std::path::{Path, PathBuf};
+use std::process::{self, Child, Command, Stdio};
+use std::sync::atomic::{AtomicUsize, Ordering};
+
+use registryd::{Error, Registry, Request, Resolve};
+
+/// The program, which `REGISTRYD` names.
+pub fn program() -> PathBuf {
+    let built = concat!(env!("CARGO_MANIFEST_DIR"), "/../../registryd");
+    std::env::var_os("REGISTRYD").map_or(built.into(), PathBuf::from)
+}
+
+/// A file in a folder of these tests; none is there of an earlier run.
+pub fn file(name: &str) -> PathBuf {
+    let folder = PathBuf::from(env!("CARGO_TARGET_TMPDIR"));
+    fs::create_dir_all(&folder).unwrap();
+    let path = folder.join(name);
+    fs::remove_file(&path).ok();
+    path
+}
+
+pub fn needs<'a>(needs: &'a [(&'a str, &'a str)]) -> Resolve<'a> {
+    Resolve { needs, ..Resolve::default() }
+}
+
+/// How a call tells that the session has ended.
+pub fn told<T: std::fmt::Debug>(answer: Result<T, Error>) -> String {
+    match answer {
+        Err(error @ Error::Ended(_)) => error.to_string(),
+        other => panic!("it has not ended: {other:?}"),
+    }
+}
+
+pub const PIGEONS: usize = 15;
+
+/// Publishes pigeons with one hole too few, and answers the names of all, which no search finds places for in the time of a test.
+pub fn pigeons(registry: &mut Registry) -> Vec<String> {
+    let publish = |name: String, version: usize, needs: String| {
+        format!("{{\"op\":\"publish\",\"name\":\"{name}\",\"version\":\"{version}.0.0\",\"needs\":[{needs}]}}")
+    };
+    let pairs = (0..PIGEONS - 1).flat_map(|hole| (0..PIGEONS).map(move |pigeon| (hole, pigeon)));
+    let lines = pairs.flat_map(|(hole, pigeon)| {
+        let in_it = format!("[\"hole-{hole}\",\"={pigeon}.0.0\"]");
+        [publish(format!("hole-{hole}"), pigeon, String::new()), publish(format!("pigeon-{pigeon}"), hole, in_it)]
+    });
+    let lines: Vec<String> = lines.collect();
+    let requests: Vec<Request> = lines.iter().map(|line| Request::Line(line.as_bytes())).collect();
+    assert!(registry.many(&requests).unwrap().iter().all(|answer| answer.is_ok()));
+    (0..PIGEONS).map(|pigeon| format!("pigeon-{pigeon}")).collect()
+}
+
+/// A folder that is new, with a short name: so a socket can stand there.
+pub fn folder() -> PathBuf {
+    static COUNT: AtomicUsize = AtomicUsize::new(0);
+    let path = std::env::temp_dir().join(format!("registryd-{}-{}", process::id(), COUNT.fetch_add(1, Ordering::Relaxed)));
+    fs::create_dir(&path).unwrap();
+    path
+}
+
+/// A service over a journal of its own in a folder, which goes with it.
+pub struct Service {
+    pub socket: PathBuf,
+    /// What it has said as it began.
+    pub told: String,
+    pub words: Vec<String>,
+    folder: PathBuf,
+    running: Child,
+}
+
+impl Service {
+    pub fn begin(words: &[&str]) -> Service {
+        let folder = folder();
+        let words = words.iter().map(|it| it.to_string()).collect::<Vec<_>>();
+        let (running, told) = begun(&folder, &words);
+        Service { socket: folder.join("socket"), told, words, folder, running }
+    }
+
+    /// Ends it as a kill does.
+    pub fn end(&mut self) {
+        self.running.kill().unwrap();
+        self.running.wait().unwrap();
+    }
+
+    pub fn begin_again(&mut self) {
+        (self.running, self.told) = begun(&self.folder, &self.words);
+    }
+
+    pub fn journal(&self) -> String {
+        fs::read_to_string(self.folder.join("journal")).unwrap()
+    }
+}
+
+impl Drop for Service {
+    fn drop(&mut self) {
+        self.running.kill().ok();
+        self.running.wait().ok();
+        fs::remove_dir_all(&self.folder).ok();
+    }
+}
+
+/// Starts a service by the command that `REGISTRY` names, and waits until it listens.
+fn begun(folder: &Path, words: &[String]) -> (Child, String) {
+    let built = concat!(env!("CARGO_MANIFEST_DIR"), "/../../registry");
+    let mut command = Command::new(std::env::var_os("REGISTRY").unwrap_or(built.into()));
+    command.env("REGISTRY_PROGRAM", program()).arg("serve").arg("--journal").arg(folder.join("journal")).args(words);
+    if !words.iter().any(|it| it == "--port") {
+        command.arg("--socket").arg(folder.join("socket"));
+    }
+    let mut running = command.stdin(Stdio::null()).stdout(Stdio::piped()).spawn().unwrap();
+    let mut told = String::new();
+    BufReader::new(running.stdout.as_mut().unwrap()).read_line(&mut told).unwrap();
+    assert!(told.contains(" is served at "), "{told}");
+    (running, told)
+}
