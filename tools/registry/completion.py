@@ -109,13 +109,13 @@ def of_kind(takes, before, given):
 
 
 def published(before, name):
-    """The names of the packages, or the versions of one; nothing where no journal can be read."""
+    """The names of the packages, or the versions of one; nothing where no journal can be read and no service answers."""
     from .refusals import listed
     from .session import reading
     from types import SimpleNamespace
-    named = [value for flag, value in zip(before, before[1:]) if flag == "--journal"]
+    named = {flag: value for flag, value in zip(before, before[1:])}
     try:
-        with reading(SimpleNamespace(journal=named[-1] if named else None)) as session:
+        with reading(SimpleNamespace(journal=named.get("--journal"), connect=named.get("--connect"))) as session:
             packages = listed(session)
     except Failure:
         return []

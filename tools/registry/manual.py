@@ -9,6 +9,7 @@ STATUSES = ((0, "What was asked for is done."),
             (2, "The words are wrong."), (3, "A file can't be read or written, a journal is in use or damaged, or the program failed."),
             (130, "A key interrupted it."), (143, "A signal ended it."), (141, "Its reader ended before all was written."))
 VARIABLES = (("REGISTRY_JOURNAL", "The journal, where --journal does not name one."),
+             ("REGISTRY_CONNECT", "The service to ask, where neither --connect nor --journal is given."),
              ("REGISTRY_PROGRAM", "The program that is asked, in place of registryd."),
              ("NO_COLOR", "No colour, also on a terminal, where it is set and not empty."))
 FILES = (("registry.journal", "The journal, in the folder where the command is given, where nothing names another."),
@@ -51,7 +52,7 @@ def page(version=""):
     lines = [f'.TH REGISTRY 1 "" "{version or "registryd"}"',
              ".SH NAME", "registry \\- a package registry with a version solver",
              ".SH SYNOPSIS",
-             "\\fBregistry\\fR [\\fB\\-\\-journal\\fR \\fIFILE\\fR] [\\fB\\-\\-json\\fR] \\fISUBCOMMAND\\fR ..", ".SH DESCRIPTION", escaped(ABOUT), ".SH OPTIONS"]
+             "\\fBregistry\\fR [\\fB\\-\\-journal\\fR \\fIFILE\\fR | \\fB\\-\\-connect\\fR \\fIADDRESS\\fR] [\\fB\\-\\-json\\fR] \\fISUBCOMMAND\\fR ..", ".SH DESCRIPTION", escaped(ABOUT), ".SH OPTIONS"]
     for it in COMMON:
         lines += item(flagged(it), sentence(it.about))
     lines += [*item("\\fB\\-\\-help\\fR", "The words and examples of a subcommand."), ".SH SUBCOMMANDS"]

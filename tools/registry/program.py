@@ -3,6 +3,8 @@ import os
 import shutil
 import subprocess
 
+import tied
+
 from .failures import Failed
 
 VARIABLE = "REGISTRY_PROGRAM"
@@ -21,7 +23,7 @@ def program():
 
 def version():
     """What the program says of its version."""
-    done = subprocess.run([*program(), "--version"], stdin=subprocess.DEVNULL, stdout=subprocess.PIPE, stderr=subprocess.PIPE)
+    done = tied.run([*program(), "--version"], stdout=subprocess.PIPE, stderr=subprocess.PIPE)
     if done.returncode:
         raise Failed("the program tells no version")
     return done.stdout.decode(errors="replace").strip()

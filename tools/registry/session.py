@@ -1,7 +1,6 @@
 """Asks the program. A session that reads takes a journal as it stands at one moment, also while another one writes it, and needs
 neither its lock nor the right to write; one that writes holds the lock, and what it is told as accepted stands in the file."""
 import contextlib
-import fcntl
 import json
 import os
 import re
@@ -11,11 +10,13 @@ import tempfile
 import threading
 import time
 
+import tied
+
 from . import near_limits
-from .failures import Failed, Refused, told
+from .failures import Failed, Refused, Usage, told
 from .program import program
 
-DEFAULT, VARIABLE = "registry.journal", "REGISTRY_JOURNAL"
+DEFAULT, VARIABLE, SERVICE = "registry.journal", "REGISTRY_JOURNAL", "REGISTRY_CONNECT"
 HEAD, END = b"registry-journal 2\n", re.compile(rb"^end [0-9]+\n", re.M)
 TRIES, PAUSE = 20, 0.01  # of a file that changes while it is read
 # what the program says as it ends, and what is told of that
@@ -38,16 +39,31 @@ def journal_of(given):
     return given.journal or (standing and standing.path) or os.environ.get(VARIABLE) or DEFAULT
 
 
+def service_of(given):
+    """The address of the service that the words name, else, where they name no journal, that of the shell or the environment."""
+    if given.connect and given.journal:
+        raise Usage("--connect goes without --journal: a service has one of its own")
+    if given.connect or given.journal:
+        return given.connect
+    return standing.service if standing else os.environ.get(SERVICE)
+
+
 def reading(given):
-    """A session that reads. It answers `ask`, `each`, `commands` and `close`; one over a service would answer the same."""
-    path = journal_of(given)
-    return (standing and standing.lent(path)) or Reading(path)
+    """A session that reads. It answers `ask`, `each`, `commands` and `close`, and one over a service answers the same."""
+    service, path = service_of(given), journal_of(given)
+    return connected(service) if service else (standing and standing.lent(path)) or Reading(path)
 
 
 def writing(given):
     """A session whose commands are kept."""
-    path = journal_of(given)
-    return (standing and standing.lent(path, is_writing=True)) or Writing(path)
+    service, path = service_of(given), journal_of(given)
+    return connected(service) if service else (standing and standing.lent(path, is_writing=True)) or Writing(path)
+
+
+def connected(service):
+    """A session with a service. What it takes is loaded only here."""
+    from .connected import Connected
+    return Connected(service)
 
 
 def snapshot(path):
@@ -82,30 +98,17 @@ def shared(text):
     return file
 
 
-def tie(process, watched):
-    """Ends a process once nobody holds the other end of this pipe, which the system closes however this one ends: a signal tells it
-    then, which ends who does not expect it. So no search goes on for nobody."""
-    with contextlib.suppress(OSError):
-        fcntl.fcntl(watched, fcntl.F_SETOWN, process)
-        fcntl.fcntl(watched, fcntl.F_SETFL, os.O_ASYNC)
-
-
 class Session:
     """A program that answers request lines, begun with these words."""
     group = None  # of processes: that of this command, so that a key that ends it ends the program too
 
     def __init__(self, path, words, handed=()):
         self.path = path
-        command, (watched, self.held) = [*program(), "serve", "--workers", "1", *words], os.pipe()
         try:
-            self.process = subprocess.Popen(command, stdin=subprocess.PIPE, stdout=subprocess.PIPE, stderr=subprocess.PIPE,
-                                            pass_fds=[watched, *handed], process_group=self.group)
-            tie(self.process.pid, watched)
+            self.process = tied.Tied([*program(), "serve", "--workers", "1", *words], stdin=subprocess.PIPE, stdout=subprocess.PIPE,
+                                     stderr=subprocess.PIPE, pass_fds=handed, process_group=self.group)
         except OSError as fault:
-            os.close(self.held)
             raise Failed(f"the program can't be started: {told(fault)}") from None
-        finally:
-            os.close(watched)
         self.said = ""
         self.hearing = threading.Thread(target=self.hear, daemon=True)
         self.hearing.start()
@@ -168,7 +171,7 @@ class Session:
             self.process.kill()
             self.process.wait()
         self.hearing.join(timeout=1)  # what it has begun may hold the pipe a little longer
-        os.close(self.held)
+        self.process.let_go()
         for pipe in (self.process.stdin, self.process.stdout, self.process.stderr):
             with contextlib.suppress(OSError):
                 pipe.close()

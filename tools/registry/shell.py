@@ -47,10 +47,10 @@ class Kept(session.Writing):
 
 class Standing:
     """Lends the session to each command that asks the shell's journal. It is begun when it is first asked for, and anew where a
-    command broke it off."""
+    command broke it off. Where the shell asks a service, each command has a connection of its own."""
 
-    def __init__(self, path):
-        self.path, self.session = path, None
+    def __init__(self, path, service=None):
+        self.path, self.service, self.session = path, service, None
 
     def lent(self, path, is_writing=False):
         """The session; none on another journal, and none for what only reads where there is no journal yet."""
@@ -68,11 +68,12 @@ class Standing:
                 self.session.leave()
 
 
-def run(path):
+def run(path, service=None):
     """Obeys lines until they end; answers the status of the last one, 0 at a terminal."""
-    session.standing = Standing(path)
+    session.standing = Standing(path, service)
     try:
-        near_limits.warn(path)
+        if not service:
+            near_limits.warn(path)
         is_typed = sys.stdin.isatty() and sys.stdout.isatty()
         return typed() if is_typed else read(sys.stdin)
     finally:

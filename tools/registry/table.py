@@ -6,6 +6,7 @@ from limits import MOST_VERSIONS
 # what a word or an option takes: for completion, and, where it is a range of numbers or a tuple of words, for what is read
 FILE, FOLDER, PACKAGE, NEED, VERSION, TEXT = "file", "folder", "package", "need", "version", "text"
 BUDGETS, COUNTS, VERSIONS = range(2 ** 32), range(1, 2 ** 32), range(4097)
+MODES = ("600", "660", "666")
 
 
 class Word(NamedTuple):
@@ -46,6 +47,7 @@ def flag(name, about):
 
 COMMON = (
     option("--journal", "FILE", "the journal (else: REGISTRY_JOURNAL, else registry.journal in this folder)", FILE),
+    option("--connect", "ADDRESS", "a service in place of a journal: its socket's path, or HOST:PORT (else: REGISTRY_CONNECT)", FILE),
     flag("--json", "the answer as JSON, one line"),
 )
 NEEDS = word("NEED", "a package and a requirement, as app@^1; app alone is app@*", NEED, "*")
@@ -150,6 +152,21 @@ SUBCOMMANDS = (
                ("registry shell", "registry shell --journal team.journal", "registry shell < some.commands"),
                "Words are quoted as a shell of the system quotes them. Ctrl-C ends a line or a search, Ctrl-D the shell. Where its input is no "
                "terminal it obeys each line, and its exit status is the last one's."),
+    Subcommand("serve", "serve", "Serve the journal to many clients at once, over a socket, until a signal ends it",
+               (option("--socket", "PATH", "listen on a socket of the file system", FILE),
+                option("--port", "N", "listen on a port of this machine alone; 0 is one that is free", range(65_536)),
+                option("--mode", "MODE", "who may use the socket, as 660 (else: 600)", MODES),
+                option("--group", "NAME", "the group of the socket"),
+                option("--readers", "N", "how many programs answer requests (else: 2)", range(1, 65)),
+                option("--seconds", "N", "end a search after N seconds (else: 10)", range(1, 3_601)),
+                option("--budget", "N", "the budget of conflicts of requests that name none", BUDGETS),
+                option("--workers", "N", "how many threads of each program resolve (else: 1)", range(1, 65)),
+                option("--clients", "N", "no more than N clients at a time (else: 1000)", range(1, 100_001)),
+                option("--log", "FILE", "log each line that is answered; - is standard output", FILE),
+                option("--metrics-port", "N", "answer /metrics, /health and /journal over HTTP on this port, too", range(65_536))),
+               ("registry serve --socket registry.socket", "registry serve --journal team.journal --port 7000 --seconds 5 --log service.log"),
+               "Clients speak the lines of registryd(1), and each has its replies in order. A search that takes too long is answered BudgetSpent. "
+               "SIGTERM and Ctrl-C end it within 5 seconds, with all answered that came. A first line in HTTP asks for /metrics, /health or /journal."),
     Subcommand("page", "page", "Show the journal on a page in a browser of this machine",
                (option("--port", "N", "the port (else: one that is free)", range(65_536)),
                 option("--seconds", "N", "end a search after N seconds (else: 10)", range(1, 3_601))),

@@ -2,15 +2,16 @@
 import sys
 
 from .. import near_limits
-from ..page.journal import Journal
+from ..page.journal import File, Journal, Service
 from ..page.server import Server
-from ..session import journal_of
+from ..session import journal_of, service_of
 
 SECONDS = 10  # that a search may take
 
 
 def run(given, out):
-    journal = Journal(journal_of(given), given.seconds or SECONDS)
+    service = service_of(given)
+    journal = Journal(Service(service) if service else File(journal_of(given)), given.seconds or SECONDS)
     try:
         near_limits.warn(journal.path, journal.view.text)
         with Server(journal, given.port or 0) as server:

@@ -36,6 +36,8 @@ def check(given):
     """Words that don't go together."""
     if given.asked and (given.need or given.lock or given.budget is not None):
         raise Usage("--asked reads requests from a file: it goes with no needs, no --lock and no --budget")
+    if given.asked and given.connect:
+        raise Usage("--asked goes without --connect: it reads a session from files")
     if given.unfolded and not given.picture:
         raise Usage("--unfolded goes with --picture FILE")
     if not given.asked and (given.told or given.request):
@@ -48,10 +50,10 @@ def of_journal(given):
     """The one case of needs that are asked for now."""
     request = request_of(given)
     with reading(given) as session:
-        commands = session.commands()
-        names = {it["name"] for it in commands if it["op"] == "publish"}
+        names = {it["name"] for it in session.commands() if it["op"] == "publish"}
         budget = {name: value for name, value in request.items() if name == "budget"}
-        yield Case(request, None, lambda named: registry_of(commands, named), lambda it: session.ask({**it, **budget})[0], names)
+        # a service may have more commands once it has replied
+        yield Case(request, None, lambda named: registry_of(session.commands(), named), lambda it: session.ask({**it, **budget})[0], names)
 
 
 def of_files(given):

@@ -15,19 +15,56 @@ class Unanswered(Failure):
     """A search that was ended before it had an answer."""
 
 
+class File:
+    """A journal's file that is shown."""
+
+    def __init__(self, path):
+        self.path = path
+
+    def text(self):
+        return snapshot(self.path)
+
+    def mark(self):
+        """What changes when the journal does."""
+        try:
+            found = os.stat(self.path)
+        except OSError:
+            return None
+        return found.st_ino, found.st_size, found.st_mtime_ns
+
+
+class Service:
+    """The journal of a service that is shown. A search in it is none of the service's."""
+
+    def __init__(self, address):
+        self.path = address
+
+    def text(self):
+        from ..connected import journal_of_service
+        return journal_of_service(self.path)
+
+    def mark(self):
+        from ..connected import Connected
+        try:
+            with Connected(self.path) as session:
+                return session.revision
+        except Failed:
+            return None
+
+
 class View(Catalog):
     """A journal as it stood at one moment."""
 
-    def __init__(self, path):
-        self.path, self.text, self.searches, self.ranks = path, snapshot(path), 0, {}
-        self.session = Reading(path, self.text)
+    def __init__(self, source):
+        self.path, self.text, self.searches, self.ranks = source.path, source.text(), 0, {}
+        self.session = Reading(self.path, self.text)
         try:
             super().__init__(self.session)
         except BaseException:
             self.session.leave()
             raise
         self.names = sorted({*self.listed, *self.above})
-        self.warnings = list(near_limits.warnings(path, self.text))
+        self.warnings = list(near_limits.warnings(self.path, self.text))
         self.counts = {"packages": len(self.listed), "versions": sum(map(len, self.listed.values())),
                        "yanked": sum(is_yanked for held in self.listed.values() for _, is_yanked in held)}
 
@@ -79,28 +116,20 @@ class Search:
 class Journal:
     """What stands in a journal's file, for a server whose threads ask at once."""
 
-    def __init__(self, path, seconds):
-        self.path, self.seconds = path, seconds
+    def __init__(self, source, seconds):
+        self.source, self.path, self.seconds = source, source.path, seconds
         # of what is held; of loading; of searching, one at a time
         self.lock, self.loading, self.turn = threading.Lock(), threading.Lock(), threading.Lock()
         self.fault, self.running, self.last, self.count = "", None, {}, 0
-        self.mark = self.mark_of_file()
-        self.view = View(path)
-
-    def mark_of_file(self):
-        """What changes when the file does."""
-        try:
-            found = os.stat(self.path)
-        except OSError:
-            return None
-        return found.st_ino, found.st_size, found.st_mtime_ns
+        self.mark = source.mark()
+        self.view = View(source)
 
     def refresh(self):
-        """Reads the file again where it has changed; answers what is shown then. What can't be read leaves that as it was."""
-        mark = self.mark_of_file()
+        """Reads the journal again where it has changed; answers what is shown then. What can't be read leaves that as it was."""
+        mark = self.source.mark()
         if mark != self.mark and self.loading.acquire(blocking=False):
             try:
-                view = View(self.path)
+                view = View(self.source)
                 self.mark, self.fault = mark, ""
                 self.show(view)
             except Failed as fault:

@@ -1,0 +1,239 @@
+#!/usr/bin/env python3
+"""How much a service takes in and answers, beside one session over a pipe.
+
+    bench/service.py [--clients 1 10 100 1000] [--seconds 5] [--folder DIR]
+    bench/service.py --kills 1000 [--seed 1]
+    bench/service.py --memory 1000000
+
+The first prints for a session over a pipe, and for each number of clients of a service, how many requests and publications are
+answered a second and how long one takes, where each client sends one line and waits for its reply; then the same while another client
+asks for 15 pigeons in 14 holes all the time, which nothing answers in time. The second kills the service or one of its programs
+so many times at random moments under load, and demands that all that was told as accepted stands in the journal; it goes on with
+the same file. The third tells the memory of a service and its programs before and after so many requests. The clients are one process
+on the same machine.
+"""
+import argparse
+import contextlib
+import os
+import random
+import select
+import selectors
+import signal
+import subprocess
+import sys
+import tempfile
+import time
+from dataclasses import dataclass
+
+TOP = os.path.dirname(os.path.dirname(os.path.abspath(__file__)))
+sys.path.insert(0, os.path.join(TOP, "tools", "tests"))
+import program
+from program import journal_line
+from registry_folder import pigeons
+from services import Service
+from test_service_stops import Load
+
+PACKAGES, VERSIONS, COMMANDS = 8, 20, 40_000  # of the registry that is asked, and how many more fit into a journal
+REQUEST = program.resolve("app ^1").encode() + b"\n"
+HOLES, BIRDS = pigeons(15)
+HARD = program.resolve(*(f"{it} *" for it in BIRDS)).encode() + b"\n"
+
+
+def registry():
+    """The publications of eight packages, each of which needs the next one."""
+    names = ["app", *(f"below-{number}" for number in range(1, PACKAGES))]
+    for name, needed in zip(names, [*names[1:], None]):
+        for minor in range(VERSIONS):
+            yield program.publish(name, f"1.{minor}.0", [f"{needed} ^1"] if needed else [])
+
+
+class Publications:
+    """Lines that publish, each of them another."""
+
+    def __init__(self):
+        self.count = 0
+
+    def line(self):
+        self.count += 1
+        return program.publish(f"new-{self.count // 4_000}", f"1.{self.count}.0", ["app ^1"]).encode() + b"\n"
+
+
+@dataclass
+class Figure:
+    """What was measured: how many were answered a second, and milliseconds of one."""
+    rate: float
+    spent: list
+
+    def told(self):
+        self.spent.sort()
+        return f"{self.rate:>8,.0f} a second" + "".join(f"{1000 * self.spent[int(len(self.spent) * part)]:>9.2f}" for part in (0.5, 0.99, 0.999))
+
+
+def ask(connections, line, seconds, count=None):
+    """Has each connection, a file to read from and one to write to, ask one line after the other; until so many were answered, or so long."""
+    selector, begun, spent, waiting = selectors.DefaultSelector(), {}, [], {}
+    now = time.perf_counter
+    for read, write in connections:
+        selector.register(read, selectors.EVENT_READ, write)
+        begun[read], waiting[read] = now(), b""
+        os.write(write, line())
+    start = now()
+    while now() < start + seconds and (count is None or len(spent) < count):
+        for key, _ in selector.select(1):
+            read = key.fd
+            waiting[read] += os.read(read, 65_536)
+            if waiting[read].endswith(b"\n"):
+                assert not waiting[read].startswith(b'{"error"'), waiting[read]
+                waiting[read] = b""
+                spent.append(now() - begun[read])
+                begun[read] = now()
+                os.write(key.data, line())
+    whole = now() - start
+    for read in [it for it, _ in connections]:  # what is under way
+        while not waiting[read].endswith(b"\n") and select.select([read], [], [], 30)[0]:
+            waiting[read] += os.read(read, 65_536)
+    return Figure(len(spent) / whole, spent)
+
+
+class Bench:
+    def __init__(self, folder, seconds, words=()):
+        self.folder, self.seconds, self.words = folder, seconds, words
+
+    @contextlib.contextmanager
+    def service(self):
+        """A service over the registry, in a folder of its own."""
+        with tempfile.TemporaryDirectory(dir=self.folder) as folder:
+            service = Service(folder, *self.words)
+            try:
+                with service.client() as client:
+                    client.ask(*registry())
+                yield service
+            finally:
+                service.end()
+
+    def both(self, connections):
+        """Requests, and then publications."""
+        publications = Publications()
+        return [ask(connections, it, self.seconds, COMMANDS if it == publications.line else None) for it in (lambda: REQUEST, publications.line)]
+
+    def pipe(self):
+        """One session of the program over a pipe, with a journal of its own."""
+        with tempfile.TemporaryDirectory(dir=self.folder) as folder:
+            words = [program.PROGRAM, "serve", "--workers", "1", "--journal", os.path.join(folder, "journal")]
+            with subprocess.Popen(words, stdin=subprocess.PIPE, stdout=subprocess.PIPE, bufsize=0) as running:
+                running.stdin.write("".join(it + "\n" for it in registry()).encode())
+                program.read_lines(running, PACKAGES * VERSIONS)
+                figures = self.both([(running.stdout.fileno(), running.stdin.fileno())])
+                running.stdin.close()
+        return figures
+
+    def clients(self, count, is_hard=False):
+        """So many clients of a service, and one more that asks what nothing answers."""
+        with self.service() as service, contextlib.ExitStack() as stack:
+            if is_hard:
+                hard = stack.enter_context(service.client())
+                hard.ask(*HOLES)
+                hard.socket.sendall(HARD * 40)
+            sockets = [stack.enter_context(service.client()).socket for _ in range(count)]
+            return self.both([(it.fileno(), it.fileno()) for it in sockets])
+
+
+def compare(bench, counts):
+    print("                                       answered   milliseconds: half of them, 99 and 99.9 of 100 within")
+    rows = [("a pipe", bench.pipe), *((f"{it:,} client{'s' * (it > 1)}", lambda it=it: bench.clients(it)) for it in counts),
+            *((f"{it:,} client{'s' * (it > 1)}, one hard", lambda it=it: bench.clients(it, is_hard=True)) for it in counts)]
+    for name, measured in rows:
+        for what, figure in zip(("requests", "publications"), measured()):
+            print(f"{name:<24}{what:<14}{figure.told()}", flush=True)
+
+
+# ---- Kills
+
+def kill(service, rng):
+    """Kills the service, the keeper, a reader, or all programs; answers which."""
+    keepers, readers = service.programs()
+    which, processes = rng.choice([("service", [service.running.pid])] * 2 + [("keeper", keepers)] * 2 + [("reader", readers[:1]), ("programs", keepers + readers)])
+    for process in processes:
+        with contextlib.suppress(ProcessLookupError):
+            os.kill(process, signal.SIGKILL)
+    return which
+
+
+def kills(folder, count, seed):
+    """Kills at random moments under load. A journal is followed for a hundred kills."""
+    rng, told, counts = random.Random(seed), 0, {}
+    for first in range(0, count, 100):
+        with tempfile.TemporaryDirectory(dir=folder) as own:
+            accepted, service, load = {}, None, None
+            for number in range(first, min(first + 100, count)):
+                if service is None:
+                    service = Service(own)
+                    load = Load(service, 4, seed=number)
+                time.sleep(rng.uniform(0.02, 0.3))
+                which = kill(service, rng)
+                counts[which] = counts.get(which, 0) + 1
+                if which == "service":
+                    service.wait()
+                    service = None
+                    told += follow(load, accepted, own)
+            if service:
+                load.end()
+                status, said = service.end()
+                assert status == 0, said
+                told += follow(load, accepted, own)
+        print(f"{min(first + 100, count):,} kills, {told:,} accepted publications, all there: {counts}", flush=True)
+    return told
+
+
+def follow(load, accepted, folder):
+    """Whether all that was accepted stands in the journal's file; answers how many publications came."""
+    load.end()
+    before = len(accepted)
+    accepted.update(load.accepted)
+    with open(os.path.join(folder, "team.journal"), "rb") as file:
+        commands = [it for it in file.read().split(b"\n")[1:] if it.startswith(b'{"name"')]
+    for revision, line in accepted.items():
+        assert commands[revision - 1:revision] == [journal_line(line).encode()], f"revision {revision} is lost: {line}"
+    return len(accepted) - before
+
+
+# ---- Memory
+
+def resident(process):
+    """Kilobytes that a process has in memory."""
+    with open(f"/proc/{process}/status", encoding="ascii") as file:
+        return next(int(line.split()[1]) for line in file if line.startswith("VmRSS:"))
+
+
+def memory(bench, count):
+    with bench.service() as service, contextlib.ExitStack() as stack:
+        sockets = [stack.enter_context(service.client()).socket for _ in range(50)]
+        connections = [(it.fileno(), it.fileno()) for it in sockets]
+        for done in (1_000, count // 2, count - count // 2):
+            ask(connections, lambda: REQUEST, 86_400, done)
+            keepers, readers = service.programs()
+            print(f"{done:>9,} more requests: service {resident(service.running.pid):,} kB, keeper {resident(keepers[0]):,} kB, "
+                  f"readers {', '.join(f'{resident(it):,}' for it in readers)} kB", flush=True)
+
+
+def main(words):
+    parser = argparse.ArgumentParser(prog="bench/service.py", description=__doc__, formatter_class=argparse.RawDescriptionHelpFormatter)
+    parser.add_argument("--clients", nargs="+", type=int, default=[1, 10, 100, 1000], metavar="N")
+    parser.add_argument("--seconds", type=float, default=5, metavar="S", help="how long each figure is measured (else: 5)")
+    parser.add_argument("--folder", metavar="DIR", help="where journals lie (else: where the system has temporary files)")
+    parser.add_argument("--kills", type=int, metavar="N", help="kill so many times, and measure nothing")
+    parser.add_argument("--seed", type=int, default=1, metavar="N", help="of the moments of kills (else: 1)")
+    parser.add_argument("--memory", type=int, metavar="N", help="tell the memory before and after so many requests")
+    given = parser.parse_args(words)
+    bench = Bench(given.folder, given.seconds, ["--clients", max(1_000, *given.clients) + 10])
+    if given.kills:
+        kills(given.folder, given.kills, given.seed)
+    elif given.memory:
+        memory(bench, given.memory)
+    else:
+        compare(bench, given.clients)
+    return 0
+
+
+if __name__ == "__main__":
+    sys.exit(main(sys.argv[1:]))

@@ -1,0 +1,147 @@
+"""A session with a service, over its socket. Where the connection breaks off it is made again, and what has no reply is asked again;
+of a command it is looked up first whether it was carried out."""
+import contextlib
+import itertools
+import json
+import re
+import socket
+import threading
+import time
+from collections import deque
+
+from . import near_limits
+from .failures import Failed, Refused
+from .journal_file import LEARN
+
+PATIENCE, PAUSE = 10, 0.2  # seconds in which a service that is begun again is waited for
+SMALL = 32_768  # bytes that a socket takes at once
+EMPTY = {"op": "resolve", "needs": []}
+UNAVAILABLE = 503
+
+
+class Lost(Exception):
+    """The connection has ended, or a program of the service: what was asked may have been carried out or not."""
+
+
+def connect(address):
+    """A connection to a service, whose address is the path of its socket, or HOST:PORT."""
+    host, colon, port = address.rpartition(":")
+    connection = None
+    try:
+        if colon and "/" not in address and port.isdigit():
+            return socket.create_connection((host.strip("[]"), int(port)))
+        connection = socket.socket(socket.AF_UNIX)
+        connection.connect(address)
+        return connection
+    except (OSError, OverflowError) as fault:
+        if connection:
+            connection.close()
+        raise Failed(f"no service answers at {address}: {getattr(fault, 'strerror', None) or fault}") from None
+
+
+def journal_of_service(address, revision=""):
+    """The journal of a service as a file has it: as it stands, or as it stood at a revision."""
+    with connect(address) as connection:
+        connection.sendall(f"GET /journal{revision and f'?revision={revision}'} HTTP/1.0\r\n\r\n".encode())
+        with connection.makefile("rb") as answer:
+            head, _, text = answer.read().partition(b"\r\n\r\n")
+    if not re.match(rb"HTTP/1\.[01] 200 ", head):
+        raise Failed(f"the service at {address} does not tell its journal now: {text.decode(errors='replace').strip()}")
+    return text
+
+
+def commands_in(text):
+    return [line for line in text.split(b"\n")[1:-2] if not line.endswith(LEARN)]
+
+
+def line_of(request):
+    """A request as a journal has it, where it is a command."""
+    return json.dumps(request, sort_keys=True, separators=(",", ":"), ensure_ascii=False).encode()
+
+
+class Connected:
+    """It answers what a session over a journal's file does, as the registry stands when it is asked."""
+
+    def __init__(self, address):
+        self.path, self.revision, self.text = address, 0, b""
+        self.open()
+        self.ask(EMPTY)  # so the revision is known at which commands begin
+
+    def open(self):
+        self.connection = connect(self.path)
+        self.replies = self.connection.makefile("rb")
+
+    def ask(self, *requests):
+        """The replies to requests, together."""
+        return list(self.each(requests))
+
+    def each(self, requests):
+        """The replies to requests, each as it comes."""
+        waiting, done, limit = deque(requests), {}, time.monotonic() + PATIENCE
+        while waiting:
+            if done and line_of(waiting[0]) in done:
+                self.revision = done[line_of(waiting.popleft())]
+                yield {"ok": True, "revision": self.revision}
+                continue
+            try:
+                for reply in self.exchange(list(itertools.takewhile(lambda it: not done or line_of(it) not in done, waiting))):
+                    waiting.popleft()
+                    self.revision, limit = reply["revision"], time.monotonic() + PATIENCE
+                    yield reply
+            except (Lost, OSError):
+                done = self.again(limit)
+
+    def exchange(self, requests):
+        text = b"".join(json.dumps(it, separators=(",", ":")).encode() + b"\n" for it in requests)
+        if len(text) < SMALL:
+            self.connection.sendall(text)
+        else:
+            threading.Thread(target=self.send, args=(self.connection, text), daemon=True).start()
+        for _ in requests:
+            line = self.replies.readline()
+            if not line.endswith(b"\n"):
+                raise Lost
+            reply = json.loads(line)
+            if reply.get("error") == UNAVAILABLE:
+                raise Lost
+            yield reply
+
+    @staticmethod
+    def send(connection, text):
+        with contextlib.suppress(OSError):  # who reads the replies is told
+            connection.sendall(text)
+
+    def again(self, limit):
+        """Connects again. Answers the commands that were accepted since the last reply, each with its revision: one that waits for its
+        reply and is among them was carried out."""
+        while True:
+            self.leave()
+            time.sleep(PAUSE)
+            try:
+                self.open()
+                lines = commands_in(journal_of_service(self.path))[self.revision:]
+                return {line: self.revision + number for number, line in enumerate(lines, 1)}
+            except (Failed, OSError) as fault:
+                if time.monotonic() > limit:
+                    raise Failed(f"the service at {self.path} broke off before it had answered, and does not come back: a command that was "
+                                 f"under way may have been accepted") from fault
+
+    def commands(self):
+        """The accepted commands, in order, at the revision of the last reply."""
+        self.text = journal_of_service(self.path, self.revision)
+        return [json.loads(it) for it in commands_in(self.text)]
+
+    def close(self):
+        """Nothing is to be waited for: what was told as accepted is kept."""
+
+    def leave(self):
+        self.replies.close()
+        self.connection.close()
+
+    def __enter__(self):
+        return self
+
+    def __exit__(self, kind, *_):
+        self.leave()
+        if (kind is None or issubclass(kind, Refused)) and self.text:
+            near_limits.warn(self.path, self.text)
