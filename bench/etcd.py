@@ -5,11 +5,14 @@
 
 Starts three members of etcd on loopback, whose data lies in a folder (by itself the system's for temporary files, on a
 disk). Prints for each number of fronts how many publications are accepted a second and how long one takes, when each client
-sends one line and waits, and when it sends 64 at once; the same of resolve lines, of `--stale` fronts too; then what a race
-of as many files accepts a second, and how long a new front needs for all entries: from the cells, from a snapshot, from a
-file. Each figure is of this machine, with members, fronts and clients on it.
+sends one line and waits, and when it sends 64 at once; the same of resolve lines, of `--stale` fronts too, and of the program without
+a front that is asked the same in turn; then what a race of as many files accepts a second, and how long a new front needs for all entries: from
+the cells, from a snapshot, from a file. Each figure is of this machine, with members, fronts and clients on it.
+
+    bench/etcd.py --only resolves --fronts 1       prints no more than what one front answers, beside the program
 """
 import argparse
+import itertools
 import os
 import statistics
 import subprocess
@@ -27,6 +30,16 @@ from members import Members, is_installed
 from race import race, write
 
 TOGETHER = 64
+
+
+class Alone(fronts.Front):
+    """The program, asked as a front is."""
+
+    def __init__(self, path):
+        super().__init__([], 1)
+        self.words = [program.PROGRAM, *program.SERVE, "--load", path]
+        self.begin()
+        self.send([program.LIST])
 
 
 class Bench:
@@ -79,22 +92,50 @@ class Bench:
             for front in made:
                 front.end()
 
-    def resolves(self, count, *more):
-        """Resolve lines by so many fronts, of some 90 packages."""
-        prefix = self.founded()
-        filled = self.opened(1, prefix)[0]
-        lines = publish_lines(3000)
+    def filled(self):
+        """A journal of 3,000 publications of some 90 packages; answers its prefix and the packages' names."""
+        prefix, lines = self.founded(), publish_lines(3000)
+        front = self.opened(1, prefix)[0]
         for at in range(0, len(lines), TOGETHER):
-            filled.send(lines[at:at + TOGETHER])
-        filled.end()
-        names = sorted({line.split('"name":"')[1].split('"')[0] for line in lines})
-        for together in (1, TOGETHER):
-            made = self.opened(count, prefix, *more)
-            told = self.measure(made, lambda number, at, many: [program.resolve(f"{names[(it * 7 + number) % len(names)]} *")
-                                                               for it in range(at, at + many)], together)
-            tell(f"{count} fronts{' --stale' if more else ''}, {together} at once: resolved", told)
-            for front in made:
-                front.end()
+            front.send(lines[at:at + TOGETHER])
+        front.end()
+        return prefix, sorted({line.split('"name":"')[1].split('"')[0] for line in lines})
+
+    def resolves(self, counts):
+        """Resolve lines by so many fronts, by `--stale` ones, and by one beside the program: of each package, and of a few that need
+        hardly any others."""
+        prefix, names = self.filled()
+        for what, some in ("each package", names), ("packages with few needs", names[:8]):
+            for together in (1, TOGETHER):
+                def lines_of(number, at, many):
+                    return [program.resolve(f"{some[(it * 7 + number) % len(some)]} *") for it in range(at, at + many)]
+                for count, words in itertools.product(counts, ([], ["--stale"])):
+                    made = self.opened(count, prefix, *words)
+                    said = f"{' '.join([f'{count} fronts', *words])}, {together} at once, {what}: "
+                    tell(said + "resolved", self.measure(made, lines_of, together))
+                    if count == 1:
+                        print(said + self.beside(made[0], prefix, lines_of, together), flush=True)
+                    for front in made:
+                        front.end()
+
+    def beside(self, front, prefix, lines_of, together):
+        """Asks a front and the program without one the same lines in turn, and tells how many times as long the front takes."""
+        with tempfile.NamedTemporaryFile() as file:
+            file.write(fronts.run("journal", self.members.clients, "--prefix", prefix).stdout)
+            file.flush()
+            alone = Alone(file.name)
+        spent, at, end = ([], []), 0, time.perf_counter() + self.seconds
+        while time.perf_counter() < end:
+            lines = lines_of(0, at, together)
+            for asked, times in zip((front, alone), spent):
+                start = time.perf_counter()
+                assert len(asked.replies(lines)) == together
+                times.append(time.perf_counter() - start)
+            at += together
+        alone.end()
+        of_front, of_program = (statistics.median(times) * 1000 for times in spent)
+        return (f"{of_front:.2f} ms a call, and {of_program:.2f} ms of the program without a front that is asked the same in turn: "
+                f"{of_front / of_program:.2f} times, and {sum(spent[0]) / sum(spent[1]):.2f} times over all")
 
     def catching_up(self, entries):
         """A new front, where so many entries stand."""
@@ -142,6 +183,7 @@ def main():
     asked.add_argument("--seconds", type=float, default=5.0)
     asked.add_argument("--folder", default=tempfile.gettempdir())
     asked.add_argument("--entries", type=int, default=49_152)
+    asked.add_argument("--only", choices=("commands", "resolves", "beginning"))
     asked = asked.parse_args()
     if not is_installed():
         sys.exit("etcd is not installed: apt-get install etcd-server")
@@ -149,13 +191,14 @@ def main():
     try:
         bench = Bench(members, asked.seconds)
         print(f"{os.cpu_count()} processors, data in {asked.folder}")
-        for count in asked.fronts:
-            bench.commands(count)
-            raced(count)
-        for count in asked.fronts:
-            bench.resolves(count)
-            bench.resolves(count, "--stale")
-        bench.catching_up(asked.entries)
+        if asked.only in (None, "commands"):
+            for count in asked.fronts:
+                bench.commands(count)
+                raced(count)
+        if asked.only in (None, "resolves"):
+            bench.resolves(asked.fronts)
+        if asked.only in (None, "beginning"):
+            bench.catching_up(asked.entries)
     finally:
         members.close()
     return 0

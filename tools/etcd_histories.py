@@ -5,15 +5,17 @@ judges what was answered by the journal that is printed in the end.
     tools/etcd_histories.py --histories 100      each history has a seed of its own, counted from --seed
     tools/etcd_histories.py --loopback           the members in the machine's own network, so that none is cut off
 
-By itself it puts the members into namespaces of the network where the machine lets it. Half of the histories keep snapshots
-and drop cells, and in the others fronts are killed too, and begun again with the same lines. Status 1 where a history shows
-what may not be; it is told with its seed, and what was answered is left in a file.
+By itself it puts the members into namespaces of the network where the machine lets it. Of three histories the first kills fronts
+too, and begins them again with the same lines; the second keeps snapshots and drops cells; the third does both, at random and so that
+no cell may stay, and there a front may say that it can't answer as before. Status 1 where a history shows what may not be; it is told
+with its seed, and what was answered is left in a file.
 """
 import argparse
 import collections
 import json
 import os
 import random
+import signal
 import sys
 import threading
 import time
@@ -21,10 +23,11 @@ import time
 sys.path.insert(0, os.path.join(os.path.dirname(os.path.abspath(__file__)), "tests"))
 import fronts
 from fake_etcd import Drop, Gate
-from members import Member, Members, is_installed, may_divide, pause
+from members import Members, is_installed, may_divide, pause
 from program import LIST, publish, resolve, unyank, yank
 
 NAMES = ["a", "b", "c", "d"]
+KEPT = (0, 0, 1, 3, 16, 64)  # how many cells stay behind a snapshot
 
 
 def made_lines(rng):
@@ -55,7 +58,7 @@ class History:
         self.members, self.seed, self.seconds, self.calls = members, seed, seconds, calls
         self.prefix = f"history-{seed}-{os.getpid()}"
         self.rng = random.Random(seed)
-        self.are_killed = seed % 2 == 0  # else snapshots are kept: a front that is begun again has to find all its replies
+        self.are_killed, self.are_dropped = seed % 3 != 1, seed % 3 != 0  # fronts, and cells
         self.gates, self.fronts, self.done = [], [], collections.Counter()
         self.is_over = threading.Event()
         for seat in range(1, count + 1):
@@ -64,7 +67,9 @@ class History:
     def front(self, seat):
         """A front that reaches each member by a gate of its own."""
         rng = random.Random(self.rng.random())
-        kept = ["--compact-every", "0"] if self.are_killed else ["--compact-every", "16", "--keep", "64"]
+        kept = ["--compact-every", "16", "--keep", "64"] if self.are_dropped else ["--compact-every", "0"]
+        if self.may_forget:
+            kept = ["--compact-every", str(rng.choice((0, 1, 5, 16))), "--keep", str(rng.choice(KEPT))]
 
         def hook(moment, path, asked):
             if path != "/v3/watch" and not self.is_over.is_set() and rng.random() < 0.03:
@@ -74,12 +79,17 @@ class History:
                 else:
                     self.done[f"lost {moment} a call"] += 1
                 raise Drop
-        gates = [Gate(Member(url), hook) for url in self.members.clients]
+        gates = [Gate(member, hook) for member in self.members.behind()]
         self.gates += gates
         urls = [gates[(seat + turn) % len(gates)].url for turn in range(len(gates))]
-        front = fronts.Front(urls, seat, "--prefix", self.prefix, "--writer", f"w{seat}", "--timeout", "1",
-                             "--patience", "600", *kept)
+        front = fronts.Front(urls, seat, "--prefix", self.prefix, "--timeout", "1", "--patience", "600", *kept,
+                             writer=f"w{seat}", may_forget=self.may_forget)
         return front
+
+    @property
+    def may_forget(self):
+        """Whether a front that is begun again may find that a reply is no longer kept."""
+        return self.are_killed and self.are_dropped
 
     def ask(self, front, rng):
         """A client, who asks so long, and so often at least."""
@@ -92,21 +102,27 @@ class History:
 
     def disturb(self, rng):
         """One thing after the other that goes wrong."""
-        kinds = [(self.members.kill, "member killed"), (self.members.pause, "member held up")]
-        if self.members.divided:
-            kinds += [(self.members.cut_off, "member cut off"), (self.members.part, "member parted from the others")]
+        troubles = self.members.troubles()
         while not self.is_over.wait(rng.random() * 0.5):
             front, kind = rng.choice(self.fronts), rng.random()
-            if kind < 0.2:
+            if self.may_forget and rng.random() < 0.5:
+                self.compact(rng.choice(KEPT))
+            elif kind < 0.2:
                 self.done["front held up"] += 1
                 pause(front.child, rng.random())
             elif kind < 0.3 and self.are_killed:
                 self.done["front killed"] += 1
                 front.child.kill()
-            else:
-                do, name = rng.choice(kinds)
+            elif troubles:
+                do, name = rng.choice(troubles)
                 self.done[name] += 1
                 do(rng.randrange(len(self.members.clients)), rng.random() * 1.5)
+
+    def compact(self, kept):
+        """Keeps a snapshot, and drops all cells before it but so many."""
+        ended = fronts.run("compact", self.members.clients, "--prefix", self.prefix, "--patience", "60", "--keep", str(kept))
+        assert ended.returncode == 0, ended.stderr
+        self.done["cells dropped by hand"] += 1
 
     def run(self):
         """Runs it, and answers what is wrong, or nothing."""
@@ -133,7 +149,8 @@ class History:
         told = [front.told for front in self.fronts]
         self.done["commands accepted"] = printed.count("\n") - 2
         self.done["lines answered"] = sum(map(len, told))
-        wrong = faults[0] if faults else fronts.fault(printed, told)
+        self.done["replies no longer kept"] = sum(front.names for front in self.fronts)
+        wrong = faults[0] if faults else fronts.fault(printed, told, [line for front in self.fronts for line in front.open])
         if wrong:
             with open(f"history-{self.seed}.json", "w", encoding="utf-8") as file:
                 json.dump({"printed": printed, "told": told, "wrong": wrong}, file)
@@ -164,6 +181,7 @@ def main():
     asked = asked.parse_args()
     if not is_installed():
         sys.exit("etcd is not installed: apt-get install etcd-server")
+    signal.signal(signal.SIGTERM, lambda *_: sys.exit(1))  # so that the members' namespaces go too
     divided = not asked.loopback and may_divide()
     members, total, found = Members(3, divided), collections.Counter(), 0
     print(f"three members, {'each in a namespace of the network' if divided else 'on loopback'}", flush=True)

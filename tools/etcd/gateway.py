@@ -1,11 +1,13 @@
 """etcd's JSON gateway: what is asked of one member of several, over HTTP."""
 import base64
+import contextlib
 import http.client
 import json
+import re
 import socket
 import ssl
 import time
-from urllib.parse import urlsplit
+from typing import NamedTuple
 
 FINAL = {3, 7, 9, 11, 12, 16}  # codes of gRPC that another try, or another member, would answer alike
 FULL = "database space exceeded"
@@ -19,36 +21,103 @@ class Fault(Exception):
     """Why a front can't go on."""
 
 
+class Endpoint(NamedTuple):
+    """Where a member is asked."""
+    is_secure: bool
+    host: str
+    port: int
+
+
+PORT = 2379
+ADDRESS = re.compile(r"(?:(https?)://)?(?:\[([0-9A-Fa-f:.%]+)\]|([\w.-]+))(?::([0-9]{1,5}))?/?")
+LEAST_WAIT = 0.001  # since 0 would mean not to wait at all
+
+
+def endpoints(text, is_secure=False):
+    """The endpoints that a word names, with commas between them: addresses of http or https, or as etcdctl takes them `HOST:PORT`, which
+    are asked over TLS where that is said. Raises `ValueError` where one can't be an address."""
+    return [endpoint(word.strip(), is_secure) for word in text.split(",")]
+
+
+def endpoint(word, is_secure):
+    found = ADDRESS.fullmatch(word)
+    scheme, in_brackets, name, port = found.groups(default="") if found else [""] * 4
+    host, port = in_brackets or name, int(port or PORT)
+    try:
+        is_address = host.encode("idna") and 0 < port < 65_536
+    except UnicodeError:
+        is_address = False
+    if not is_address:
+        raise ValueError(f"{word!r} is no address: HOST:PORT, http://HOST:PORT or https://HOST:PORT")
+    return Endpoint(scheme == "https" if scheme else is_secure, host, port)
+
+
 def encoded(data):
     return base64.b64encode(data).decode()
 
 
 def tls_context(cacert, cert, key):
     """What a connection of https trusts and shows; the arguments are names of files."""
-    context = ssl.create_default_context(cafile=cacert)
+    with told_of(cacert):
+        context = ssl.create_default_context(cafile=cacert)
     if cert:
-        context.load_cert_chain(cert, key)
+        with told_of(f"{cert} with {key}" if key else cert):
+            context.load_cert_chain(cert, key, password=no_password)
     return context
+
+
+@contextlib.contextmanager
+def told_of(files):
+    """Tells of which files a fault is: ssl doesn't."""
+    try:
+        yield
+    except (OSError, ValueError) as fault:
+        raise Fault(f"{files}: {fault.strerror or fault if isinstance(fault, OSError) else fault}") from fault
+
+
+def no_password():
+    raise ValueError("the key has a password, and a front asks for none")
+
+
+class InOnePiece:
+    """A connection that sends a request's head and its body together."""
+    unsent = b""
+
+    def send(self, data):
+        self.unsent += data
+
+    def getresponse(self):
+        data, self.unsent = self.unsent, b""
+        super().send(data)
+        return super().getresponse()
+
+
+class Plain(InOnePiece, http.client.HTTPConnection):
+    """A connection of http."""
+
+
+class Secure(InOnePiece, http.client.HTTPSConnection):
+    """A connection of https."""
 
 
 class Gateway:
     """One connection, to the member that answered last."""
 
-    def __init__(self, endpoints, context=None, timeout=3.0, patience=60.0):
-        self.endpoints, self.context, self.timeout, self.patience = endpoints, context, timeout, patience
+    def __init__(self, members, context=None, timeout=3.0, patience=60.0):
+        self.members, self.context, self.timeout, self.patience = members, context, timeout, patience
         self.turn = 0  # which member is asked
         self.connection = None
+        self.silent_since = None  # when the first was asked of the requests since the last answer
 
     def another(self):
         """The same members, asked over a connection of its own."""
-        return Gateway(self.endpoints, self.context, self.timeout, self.patience)
+        return Gateway(self.members, self.context, self.timeout, self.patience)
 
     def connect(self):
-        asked = urlsplit(self.endpoints[self.turn % len(self.endpoints)])
-        if asked.scheme == "https":
-            context = self.context or ssl.create_default_context()
-            return http.client.HTTPSConnection(asked.hostname, asked.port or 2379, timeout=self.timeout, context=context)
-        return http.client.HTTPConnection(asked.hostname, asked.port or 2379, timeout=self.timeout)
+        member = self.members[self.turn % len(self.members)]
+        if member.is_secure:
+            return Secure(member.host, member.port, context=self.context or ssl.create_default_context())
+        return Plain(member.host, member.port)
 
     def leave(self):
         """Lets the connection go; the next member is asked from now on."""
@@ -56,11 +125,22 @@ class Gateway:
             self.connection.close()
         self.connection, self.turn = None, self.turn + 1
 
-    def post(self, path, asked):
+    def wait_until(self, end):
+        """Has the connection wait no longer than until then for what comes next."""
+        self.connection.timeout = max(end - time.monotonic(), LEAST_WAIT)
+        if self.connection.sock:
+            self.connection.sock.settimeout(self.connection.timeout)
+
+    def count_anew(self):
+        """Has the patience begin with what is asked next, whatever was asked in vain before."""
+        self.silent_since = None
+
+    def post(self, path, asked, end):
         """Sends one request, and answers the response, whose status is 200."""
         try:
             self.connection = self.connection or self.connect()
             self.connection.request("POST", path, json.dumps(asked).encode(), {"Content-Type": "application/json"})
+            self.wait_until(end)
             response = self.connection.getresponse()
             if response.status == 200:
                 return response
@@ -73,28 +153,37 @@ class Gateway:
 
     def once(self, path, asked):
         """Asks one member, once."""
-        response = self.post(path, asked)
+        begun = time.monotonic()
+        if self.silent_since is None:
+            self.silent_since = begun
         try:
-            return json.loads(response.read())
+            response = self.post(path, asked, min(begun + self.timeout, self.silent_since + self.patience))
+            said = json.loads(response.read())
+        except Fault:
+            self.silent_since = None
+            raise
         except (OSError, http.client.HTTPException, ValueError) as lost:
             self.leave()
             raise Unanswered(str(lost)) from lost
+        self.silent_since = None
+        return said
 
     def insist(self, path, asked):
-        """Asks until a member answers: for what may be done twice."""
-        end, pause = time.monotonic() + self.patience, 0.01
+        """Asks until a member answers: for what may be done twice. What was asked before in vain counts as waiting too."""
+        pause = 0.01
         while True:
             try:
                 return self.once(path, asked)
             except Unanswered as lost:
-                if time.monotonic() > end:
-                    raise Fault(f"no member of etcd answers: {lost}") from lost
-                time.sleep(pause)
+                left = self.silent_since + self.patience - time.monotonic()
+                if left <= 0:
+                    raise Fault(f"no member of etcd answers, for {self.patience:g} seconds now: {lost}") from lost
+                time.sleep(min(pause, left))
                 pause = min(pause * 2, 0.5)
 
     def stream(self, path, asked):
         """The results that one member sends, as they come; ends by `Unanswered`."""
-        response = self.post(path, asked)
+        response = self.post(path, asked, time.monotonic() + self.timeout)
         try:
             # a silent stream is no lost one, so the system asks whether the other side is there
             self.connection.sock.settimeout(None)

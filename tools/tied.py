@@ -1,0 +1,72 @@
+"""Programs that end with the one that began them, however that one ends.
+
+The system sends a signal to whoever owns a pipe's end once nobody holds the other end any more. So a program inherits the one end and is
+made its owner, and whoever began it holds the other and closes it by ending, also by SIGKILL in the middle of a search. A process's
+death signal (`PR_SET_PDEATHSIG`) would come when the thread ends that began it, and would need code between fork and exec.
+
+A program that is begun and not yet tied has been asked nothing: it ends with its closed input."""
+import contextlib
+import fcntl
+import os
+import select
+import signal
+import subprocess
+import threading
+
+
+class Tied(subprocess.Popen):
+    """A program that is killed when this process ends, with all of its group where it has a group of its own."""
+    held = None  # the other end of the pipe that it owns
+
+    def __init__(self, words, *, pass_fds=(), process_group=None, **how):
+        watched, self.held = os.pipe()
+        try:
+            super().__init__(words, pass_fds=[watched, *pass_fds], process_group=process_group, **how)
+            fcntl.fcntl(watched, fcntl.F_SETOWN, self.pid if process_group is None else -self.pid)
+            fcntl.fcntl(watched, fcntl.F_SETSIG, signal.SIGKILL)
+            fcntl.fcntl(watched, fcntl.F_SETFL, os.O_ASYNC)
+        except BaseException:
+            self.let_go()
+            raise
+        finally:
+            os.close(watched)
+
+    def let_go(self):
+        """Closes what ties it: whatever then still runs of it is killed."""
+        held, self.held = self.held, None
+        if held is not None:
+            os.close(held)
+
+    def __exit__(self, *how):
+        try:
+            super().__exit__(*how)
+        finally:
+            self.let_go()
+
+    def __del__(self, *more):
+        self.let_go()
+        super().__del__(*more)
+
+
+def run(words, *, input=None, timeout=None, **how):
+    """`subprocess.run` of a program that ends with this process. Without an input it reads nothing."""
+    with Tied(words, **{"stdin": subprocess.DEVNULL if input is None else subprocess.PIPE, **how}) as running:
+        try:
+            said = running.communicate(input, timeout)
+        except BaseException:
+            running.kill()
+            raise
+    return subprocess.CompletedProcess(words, running.returncode, *said)
+
+
+def when_unread(file, do):
+    """Does this as soon as nobody can read any more what is written to a pipe or a socket. Where the file is something else it is
+    never done."""
+    with contextlib.suppress(OSError, ValueError):
+        watched = select.poll()
+        watched.register(file.fileno(), 0)
+
+        def wait():
+            watched.poll()
+            do()
+        threading.Thread(target=wait, daemon=True).start()
