@@ -35,6 +35,7 @@ COMMANDS = (
         Option("journal", FILE, "The journal to go on with; it has each accepted line before its reply is written"),
         Option("load", FILE, "A journal to begin from"),
         Option("save", FILE, "Where to write the journal at the end"),
+        Option("budget", "N", "The budget of conflicts of each request that names none", "100 1000 10000 100000"),
     )),
     Command("race", "Answers the request lines of files, a thread to each", takes_files=True),
 )

@@ -9,6 +9,7 @@ import posixpath
 import re
 from dataclasses import dataclass
 
+import c_library
 import completions
 import programs
 from prefix import Refused
@@ -16,6 +17,7 @@ from programs import NAME, TOP
 from registry import completion, manual
 
 LIB, SHARE, DOC, MAN = f"lib/{NAME}", f"share/{NAME}", f"share/doc/{NAME}", "share/man/man1"
+HEADER = "clients/c/registryd.h"
 # The tools in Python, by the names that they have in bin.
 TOOLS = {
     "registry-check-derivation": "check_derivation.py",
@@ -26,17 +28,19 @@ COMMAND = "registry"
 # Files that are copied as they stand, by the folder that they go to; what stands in a folder of the sources keeps its place in it.
 COPIES = {
     LIB: ["tools/registry/page/files/*"],
-    SHARE: ["docs/lines.schema.json", "clients/python/*.py", "clients/c/*.[ch]", "clients/c/*.rs", "clients/rust/*.toml",
-            "clients/rust/Cargo.lock",
-            "clients/rust/src/*.rs", "clients/rust/examples/*.rs", "clients/rust/tests/*.rs"],
+    SHARE: ["docs/lines.schema.json", "clients/python/*.py", "clients/c/*.[ch]", "clients/c/*.rs", "clients/c/*.txt", "clients/c/*.in",
+            "clients/c/Makefile", "clients/rust/*.toml", "clients/rust/Cargo.lock", "clients/rust/*.rs",
+            "clients/rust/src/*.rs", "clients/rust/examples/*.rs", "clients/rust/tests/*.rs", "clients/rust/tests/common/*.rs"],
     DOC: ["docs/why.svg", "docs/selection.svg", "LICENSE*"],
 }
 # Pages: the links in them lead to where the other files are installed.
 PAGES = {
     SHARE: ["clients/README.md", "clients/c/README.md", "clients/rust/README.md"],
     DOC: ["CHANGELOG.md", "docs/USING.md", "docs/FORMATS.md", "docs/REGISTRY.md", "docs/WHY.md", "docs/IMPORTING.md", "docs/SCALE.md",
-          "docs/REGISTRY_COMMAND.md"],
+          "docs/REGISTRY_COMMAND.md", "docs/SERVICE.md"],
 }
+# What systemd reads: the service, with the prefix in its words, and the user that it runs as.
+SYSTEMD = {"lib/systemd/system/registryd.service": "tools/systemd/registryd.service", "lib/sysusers.d/registryd.conf": "tools/systemd/registryd.sysusers"}
 # Manual pages, each with the other names that it is found by.
 MANUALS = {"docs/registryd.1": [], "docs/registry-tools.1": list(TOOLS)}
 # Where each shell looks for completions of a command, below a prefix and where a distribution's package has them.
@@ -76,6 +80,13 @@ def chosen(may_be_unproved):
         raise Refused("no program of these sources stands that checks as it runs: run tools/build --compiled first")
     also = ", or take the compiled one with --unproved" if kind == programs.COMPILED else ""
     raise Refused(f"no program stands that was proved from these sources: run ./test or tools/build --proved first{also}")
+
+
+def library(program):
+    """The library for C that is installed with a program: the one that stands, if what it has within is proved, or the program is not
+    proved either; else none."""
+    found = c_library.standing()
+    return found if found and (found.kind == programs.PROVED or program.kind != programs.PROVED) else None
 
 
 def told(kind):
@@ -173,8 +184,27 @@ def page_pieces():
         yield from (Piece(f"{MAN}/{name}.1", link=page) for name in names)
 
 
-def pieces(program, is_packaged=False):
-    """All that is installed, for one program; a distribution's package has it in its own places."""
+def library_pieces(of):
+    """The library for C with its header, found by `pkg-config` too; nothing where there is none."""
+    if not of:
+        return []
+    shared = c_library.SHARED
+    return [*(Piece(f"lib/{file}", (of.folder / file).read_bytes()) for file in c_library.FILES), Piece("lib/libregistryd.so", link=shared),
+            Piece("include/registryd.h", (TOP / HEADER).read_bytes()),
+            Piece("lib/pkgconfig/registryd.pc", c_library.pkg_config(programs.version(), of.kind).encode())]
+
+
+def systemd_pieces(prefix):
+    """What systemd reads. A percent sign is one of its own marks, a backslash and a quote are those of its words."""
+    where = prefix.rstrip("/").replace("\\", "\\\\").replace('"', '\\"').replace("%", "%%")
+    for path, source in SYSTEMD.items():
+        yield Piece(path, (TOP / source).read_text(encoding="utf-8").replace("@PREFIX@", where).encode())
+
+
+def pieces(program, prefix="/usr", is_packaged=False, library=None):
+    """All that is installed, for one program below a prefix, and with a library for C, if there is one; a distribution's package has
+    it in its own places."""
     scripts = {NAME: {shell: text() for shell, text in completions.SHELLS.items()}, COMMAND: completion.SCRIPTS}
     shells = [Piece(COMPLETIONS[shell][is_packaged].format(name), text.encode()) for name, of in scripts.items() for shell, text in of.items()]
-    return sorted([*program_pieces(program), *command_pieces(), *tool_pieces(), *page_pieces(), *shells], key=lambda it: it.path)
+    return sorted([*program_pieces(program), *library_pieces(library), *command_pieces(), *tool_pieces(), *page_pieces(),
+                   *systemd_pieces(prefix), *shells], key=lambda it: it.path)
