@@ -1,17 +1,9 @@
 /* Calls of clients/c that a careless caller makes. The word is the program. It prints the first line that failed. */
-#include "registryd.h"
+#include "c_calls.h"
 
-#include <pthread.h>
-#include <stdio.h>
-#include <stdlib.h>
-#include <string.h>
 #include <unistd.h>
 
-#define WANT(that) do { if (!(that)) { printf("line %d: %s\n", __LINE__, #that); exit(1); } } while (0)
-
 static const char *program;
-static const char list[] = "{\"op\":\"list\"}\n";
-static const char listed[] = "{\"packages\":[],\"revision\":0}\n";
 
 static registryd_session opened(const char *load, const char *save)
 {
@@ -19,19 +11,6 @@ static registryd_session opened(const char *load, const char *save)
     WANT(registryd_open(program, 1, load, save, &session) == REGISTRYD_OK);
     WANT(session != 0);
     return session;
-}
-
-static void fed(registryd_session session, const char *text)
-{
-    WANT(registryd_feed(session, text, strlen(text)) == REGISTRYD_OK);
-}
-
-static void told(registryd_session session, const char *wanted)
-{
-    char text[512];
-    size_t length = 7, left = 7;
-    WANT(registryd_take(session, text, sizeof text, &length, &left) == REGISTRYD_OK);
-    WANT(left == 0 && length == strlen(wanted) && !memcmp(text, wanted, length));
 }
 
 static void wrong_arguments(void)
@@ -125,9 +104,6 @@ static void much(void)
     WANT(registryd_close(session) == REGISTRYD_OK);
 }
 
-static const char publish[] = "{\"op\":\"publish\",\"name\":\"a\",\"version\":\"1.0.0\",\"needs\":[]}\n";
-static const char published[] = "{\"ok\":true,\"revision\":1}\n";
-
 static void journals(void)
 {
     size_t length, left;
@@ -145,7 +121,7 @@ static void journals(void)
     WANT(registryd_close(session) == REGISTRYD_OK);
     session = opened("a.journal", NULL);
     fed(session, list);
-    told(session, "{\"packages\":[[\"a\",[[\"1.0.0\",false]]]],\"revision\":1}\n");
+    told(session, listed_a);
     WANT(registryd_save(session) == REGISTRYD_OK);
     WANT(registryd_close(session) == REGISTRYD_OK);
     /* A journal that can't be had: the session ends at once, and is not saved. */
@@ -181,7 +157,7 @@ static void kept_journals(void)
     WANT(registryd_close(session) == REGISTRYD_OK);
     WANT(registryd_open_journal(program, 4, "k.journal", &session) == REGISTRYD_OK);
     fed(session, list);
-    told(session, "{\"packages\":[[\"a\",[[\"1.0.0\",false]]]],\"revision\":1}\n");
+    told(session, listed_a);
     WANT(registryd_save(session) == REGISTRYD_OK);
     WANT(registryd_close(session) == REGISTRYD_OK);
     session = opened("k.journal", NULL);

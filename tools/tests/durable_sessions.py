@@ -13,6 +13,8 @@ from plain_session import Requirements, read_request
 from program import PATIENCE, PROGRAM, journal_line
 from reference import Registry
 
+import tied
+
 COMMANDS = ("publish", "yank", "unyank")
 
 
@@ -21,8 +23,8 @@ class Client:
 
     def __init__(self, words, **more):
         # the little that it says on standard error waits in the pipe
-        self.running = subprocess.Popen([PROGRAM, *map(str, words)], stdin=subprocess.PIPE, stdout=subprocess.PIPE, stderr=subprocess.PIPE,
-                                        bufsize=0, **more)
+        self.running = tied.Tied([PROGRAM, *map(str, words)], stdin=subprocess.PIPE, stdout=subprocess.PIPE, stderr=subprocess.PIPE, bufsize=0,
+                                 **more)
         self.read = b""
 
     def send(self, lines):

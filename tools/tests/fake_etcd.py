@@ -66,6 +66,24 @@ class Handler(BaseHTTPRequestHandler):
         """Nothing is logged."""
 
 
+class SmallMember:
+    """A small etcd in place of members that may be killed and cut off: nothing goes wrong with it."""
+
+    def __init__(self):
+        self.etcd = SmallEtcd()
+        self.gate = Gate(self.etcd)
+        self.clients = [self.gate.url]
+
+    def behind(self):
+        return [self.etcd]
+
+    def troubles(self):
+        return []
+
+    def close(self):
+        self.gate.close()
+
+
 class SmallEtcd:
     """Keys with their revisions, in memory."""
 

@@ -1,6 +1,7 @@
 """Fronts over etcd as a client sees them, and a judge of what several of them answered by the journal that is printed in
 the end. The judge shares nothing with the fronts and the program."""
 import bisect
+import itertools
 import json
 import os
 import re
@@ -13,7 +14,10 @@ from typing import NamedTuple
 from plain_session import PlainSession, read_request
 from program import PROGRAM, TOP, journal_line
 
+import tied
+
 ETCD = os.path.join(TOP, "tools", "registryd-etcd")
+NOT_KEPT = "was answered before, and its reply is no longer kept"
 STAMP = re.compile(r'"place":(\d+),(.*)"revision":(\d+),"seat":(\d+)')
 
 
@@ -45,29 +49,46 @@ def run(what, endpoints, *more, given=b""):
 
 
 class Front:
-    """A front that is asked, line by line or several at once; it may be killed and begun again by the same name."""
+    """A front that is asked, line by line or several at once. It may be killed, and is begun again by the same name with the same lines.
+    Where cells may be dropped it may say that a reply is no longer kept: then it goes on by another name, and of the lines that had no
+    reply it is open whether they stand."""
 
-    def __init__(self, endpoints, seat, *more):
+    def __init__(self, endpoints, seat, *more, writer=None, may_forget=False):
         self.words = words("serve", endpoints, "--seat", str(seat), *more)
         self.seat, self.told, self.child = seat, [], None
+        self.writer, self.may_forget, self.names = writer, may_forget, 0
+        self.first = 0  # of what was told: where this name begins
+        self.open = []  # lines that may stand
 
     def begin(self):
         """Begins, or begins again, and then asks once more what was answered: what stands in a cell is answered as before."""
-        self.child = subprocess.Popen(self.words, stdin=subprocess.PIPE, stdout=subprocess.PIPE, stderr=subprocess.PIPE, text=True)
-        for old, reply in zip(self.told, self.send([old.line for old in self.told]) or []):
-            stood = is_entered(old.line) and "AlreadyPublished" not in old.reply
-            assert not stood or reply == old.reply, f"{old.line} was answered {old.reply} and then {reply}"
+        named = ["--writer", f"{self.writer}-{self.names}" if self.names else self.writer] if self.writer else []
+        self.child = tied.Tied(self.words + named, stdin=subprocess.PIPE, stdout=subprocess.PIPE, stderr=subprocess.PIPE, text=True)
+        told = self.told[self.first:]
+        for old, reply in zip(told, self.replies([old.line for old in told])):
+            # one that was published before may have been answered without a cell, and is answered anew then
+            again = "AlreadyPublished" in reply if "AlreadyPublished" in old.reply else reply == old.reply
+            assert again or not is_entered(old.line), f"{old.line} was answered {old.reply} and then {reply}"
+
+    def replies(self, lines):
+        """The replies to lines that are sent together, as many as come before the front ends."""
+        told = []
+        try:
+            for at in range(0, len(lines), 100):
+                some = lines[at:at + 100]
+                self.child.stdin.write("".join(line + "\n" for line in some))
+                self.child.stdin.flush()
+                told += itertools.takewhile(lambda reply: reply.endswith("\n"), (self.child.stdout.readline() for _ in some))
+                if len(told) < at + len(some):
+                    break
+        except OSError:
+            pass
+        return [reply[:-1] for reply in told]
 
     def send(self, lines):
         """The replies to lines that are sent together; none where the front ended before."""
-        try:
-            for at in range(0, len(lines), 100):
-                self.child.stdin.write("".join(line + "\n" for line in lines[at:at + 100]))
-                self.child.stdin.flush()
-            replies = [self.child.stdout.readline() for _ in lines]
-        except OSError:
-            return None
-        return None if any(not reply.endswith("\n") for reply in replies) else [reply[:-1] for reply in replies]
+        told = self.replies(lines)
+        return told if len(told) == len(lines) else None
 
     def ask(self, *lines):
         """Asks until these lines are answered, and begins the front again where it ended."""
@@ -78,7 +99,11 @@ class Front:
                 self.told += [Told(line, reply, asked, time.monotonic(), is_again) for line, reply in zip(lines, replies)]
                 return replies
             status, said = self.end()
-            assert status == -signal.SIGKILL, f"the front ended by itself: {status} {said}"
+            if status == 1 and self.may_forget and NOT_KEPT in said:
+                self.names, self.first = self.names + 1, len(self.told)
+                self.open += lines
+            else:
+                assert status == -signal.SIGKILL, f"the front ended by itself: {status} {said}"
             self.begin()
             is_again = True
 
@@ -96,13 +121,14 @@ class Front:
         return self.child.wait(timeout=100), said
 
 
-def fault(printed, fronts):
-    """What is wrong with what these lists of `Told` say, if the printed file is the journal; nothing where all is right."""
+def fault(printed, fronts, opened=()):
+    """What is wrong with what these lists of `Told` say, if the printed file is the journal; nothing where all is right. Of opened lines
+    nobody was told whether they stand."""
     lines = printed.split("\n")
     if lines[0] != "registry-journal 1" or lines[-2:] != [f"end {len(lines) - 3}", ""]:
         return f"no journal: {lines[:1]} .. {lines[-2:]}"
     journal, told = lines[1:-2], [it for front in fronts for it in front]
-    return (next(filter(None, map(order_fault, fronts)), None) or accepted_fault(journal, told) or place_fault(told)
+    return (next(filter(None, map(order_fault, fronts)), None) or accepted_fault(journal, told, opened) or place_fault(told)
             or time_fault(told) or lawful_fault(journal, told))
 
 
@@ -125,15 +151,26 @@ def is_entered(line):
     return json.loads(line)["op"] in ("publish", "yank", "unyank")
 
 
-def accepted_fault(journal, told):
-    """The journal has each accepted command where its reply says, and no other."""
+def accepted_fault(journal, told, opened):
+    """The journal has each accepted command where its reply says, and no other, but for some of those that are open."""
     accepted = [it for it in told if "ok" in it.found]
     stands = {it.found["revision"]: it for it in accepted}
     if len(stands) < len(accepted):
         return "two commands have one revision"
-    if sorted(stands) != list(range(1, len(journal) + 1)):
-        return f"{len(journal)} entries, and commands were accepted at {sorted(set(stands) ^ set(range(1, len(journal) + 1)))[:5]} .."
+    may_stand = [journal_line(line) for line in opened]
+    untold = [number for number, line in enumerate(journal, 1) if number not in stands and not taken(may_stand, line)]
+    missing = [number for number in stands if number > len(journal)]
+    if untold or missing:
+        return f"{len(journal)} entries, and commands were accepted at {sorted(untold + missing)[:5]} .."
     return next((f"{it.line} does not stand at {number}" for number, it in stands.items() if journal[number - 1] != journal_line(it.line)), None)
+
+
+def taken(lines, line):
+    """Takes a line out of a list, and answers whether it was there."""
+    if line not in lines:
+        return False
+    lines.remove(line)
+    return True
 
 
 def place_fault(told):

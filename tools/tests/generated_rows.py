@@ -86,10 +86,10 @@ def versions_in_rising_falling_and_mixed_precedence():
         yield f"{MOST_VERSIONS} versions, each {step} patches from the one before", [
             *published_in_steps(step),
             row("releases", "len", MOST_VERSIONS),
-            row("releases", "rising", rising),
             row("releases", "is_kept", True, need=UPPER),
             row("releases", "matching_has", upper, need=UPPER, below=MOST_VERSIONS),
             row("releases", "matching", upper, need=UPPER),
+            *(row("releases", "highest", rising[k], set=sorted(rising[:k + 1])) for k in (0, 1, MOST_VERSIONS // 2, MOST_VERSIONS - 1)),
             row("releases", "highest", rising[-1], set=upper)]
 
 

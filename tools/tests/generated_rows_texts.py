@@ -82,6 +82,17 @@ def last_lines_round_the_limit():
 
 
 @rows_of("texts")
+def request_lines_round_the_limit():
+    """This project's limit, of a line as a whole: spaces may stand behind a value in JSON (RFC 8259, section 2), and count."""
+    publish = '{"op":"publish","name":"a","version":"1.0.0","needs":[]}'
+    rows = []
+    for length in (MOST_LINE_BYTES, MOST_LINE_BYTES + 1, MOST_LINE_BYTES + 37):
+        for line, asked in (('{"op":"list"}', "list"), (publish, ["publish", "a", "1.0.0", []])):
+            rows.append(_row("wire", "read_request", asked if length == MOST_LINE_BYTES else {"refused": 19}, line=line.ljust(length)))
+    yield "a request line over the limit is at fault, whatever it says", rows
+
+
+@rows_of("texts")
 def texts_round_the_room_of_an_outbox():
     """This project's limit: 65,536 bytes wait, and a longer text is written in its place."""
     yield "an outbox writes when its room is full", [

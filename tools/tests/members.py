@@ -12,6 +12,8 @@ import urllib.request
 
 from fake_etcd import Drop
 
+import tied
+
 BRIDGE, NET = "reg-etcd", "10.77.0"
 MEMORY = "/dev/shm"
 
@@ -73,7 +75,7 @@ class Members:
                  "--initial-cluster", ",".join(f"m{n}={url}" for n, url in enumerate(self.peers)),
                  "--log-level", "error"]
         within = ["ip", "netns", "exec", f"{BRIDGE}{number}"] if self.divided else []
-        self.children[number] = subprocess.Popen([*within, *words], stdout=subprocess.DEVNULL, stderr=subprocess.DEVNULL)
+        self.children[number] = tied.Tied([*within, *words], stdout=subprocess.DEVNULL, stderr=subprocess.DEVNULL)
 
     def wait(self):
         """Returns when each member answers."""
@@ -91,6 +93,15 @@ class Members:
                 pass
             time.sleep(0.05)
         raise AssertionError(f"no member at {url}")
+
+    def behind(self):
+        """What gates pass calls on to."""
+        return [Member(url) for url in self.clients]
+
+    def troubles(self):
+        """What can be done to a member, and how it is called."""
+        dividing = [(self.cut_off, "member cut off"), (self.part, "member parted from the others")] if self.divided else []
+        return [(self.kill, "member killed"), (self.pause, "member held up"), *dividing]
 
     def kill(self, number, seconds):
         """Kills a member, and begins it again after a while."""

@@ -9,7 +9,7 @@ from urllib.parse import urlencode
 
 import called  # it finds the package
 from program import PROGRAM, publish, yank
-from registry.page.journal import Journal
+from registry.page.journal import File, Journal
 from registry.page.server import Server
 from registry_folder import Folder
 
@@ -26,7 +26,7 @@ class Served(Folder):
         self.enterContext(mock.patch.dict(os.environ, {"REGISTRY_PROGRAM": PROGRAM}))
         if lines:
             self.hold(*lines)
-        self.shown = Journal(self.journal, seconds)
+        self.shown = Journal(File(self.journal), seconds)
         self.addCleanup(self.shown.leave)
         self.server = Server(self.shown, 0)
         self.addCleanup(self.server.server_close)

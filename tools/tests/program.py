@@ -15,6 +15,7 @@ import said
 
 TOP = os.path.dirname(os.path.dirname(os.path.dirname(os.path.abspath(__file__))))
 sys.path.insert(0, os.path.join(TOP, "tools"))
+import tied
 from programs import path_for_tests
 
 PROGRAM, PROBE = path_for_tests("registryd"), path_for_tests("probe")
@@ -81,7 +82,7 @@ def run(words, given=b"", most=None, **more):
             more["stdin"] = file
         with files_of_at_most(most):
             # a signal that this process passes over is passed over by what it starts, where nothing is restored
-            done = subprocess.run([PROGRAM, *words], stderr=subprocess.PIPE, timeout=100, restore_signals=most is None, **more)
+            done = tied.run([PROGRAM, *words], stderr=subprocess.PIPE, timeout=100, restore_signals=most is None, **more)
     if done.returncode == 0 and done.stdout is not None:
         said.note_run(words, given, done.stdout, more.get("cwd", ""))
     return done
@@ -128,7 +129,7 @@ def in_time(seconds=None):
 @contextlib.contextmanager
 def talking(words=tuple(SERVE)):
     """Starts the program for a test that writes to it and waits for what it answers."""
-    with in_time(), subprocess.Popen([PROGRAM, *words], stdin=subprocess.PIPE, stdout=subprocess.PIPE, bufsize=0) as client:
+    with in_time(), tied.Tied([PROGRAM, *words], stdin=subprocess.PIPE, stdout=subprocess.PIPE, bufsize=0) as client:
         yield client
 
 

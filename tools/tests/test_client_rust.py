@@ -1,5 +1,6 @@
-"""The client in Rust: its own tests, against the program, and its example. Where `cargo` is not there, or is too old, what needs it
-is skipped. What cargo builds goes to a temporary folder, so that nothing is left in the tree."""
+"""The client in Rust: its own tests, against the program, with a service and over the library in this process, and its examples. Where
+`cargo` is not there, or is too old, what needs it is skipped. What cargo builds goes to a temporary folder, so that nothing is left in the
+tree."""
 import os
 import re
 import shutil
@@ -7,6 +8,7 @@ import subprocess
 import tempfile
 import unittest
 
+from library import LIBRARY, needs_library
 from program import PROGRAM, TOP
 
 HERE = os.path.join(TOP, "clients", "rust")
@@ -14,6 +16,7 @@ HERE = os.path.join(TOP, "clients", "rust")
 ONCE = {"CARGO_INCREMENTAL": "0", "CARGO_PROFILE_DEV_DEBUG": "0", "CARGO_PROFILE_TEST_DEBUG": "0"}
 # Debian 12 has a cargo whose rustc is 1.63: too old for let-else, and for a child in a group of its own.
 WHERE = "(Debian 12: cargo-web; Debian 13: cargo)"
+IN_PROCESS = ("--features", "embedded")
 
 
 def read(*name):
@@ -24,6 +27,9 @@ def read(*name):
 def blocks(text):
     """A page's indented blocks, without their indent."""
     return [re.sub("^    ", "", block, flags=re.M).strip("\n") for block in re.findall("(?:^(?:    .*)?\n)+", text, re.M) if block.strip()]
+
+
+PAGE = blocks(read("clients", "rust", "README.md"))
 
 
 def numbers(text):
@@ -46,30 +52,49 @@ def why_not_built():
 class Client(unittest.TestCase):
     def cargo(self, folder, *words, **more):
         """What cargo prints; without the network, and with what it builds in a folder."""
-        given = {**os.environ, "CARGO_TARGET_DIR": os.path.join(folder, "target"), "REGISTRYD": PROGRAM, **ONCE}
+        given = {**os.environ, "CARGO_TARGET_DIR": os.path.join(folder, "target"), "REGISTRYD": PROGRAM,
+                 "REGISTRYD_LIBRARY_FOLDER": os.path.dirname(LIBRARY or ""), **ONCE}
         words = ["cargo", *words, "--offline", "--locked", "--manifest-path", os.path.join(HERE, "Cargo.toml")]
         done = subprocess.run(words, env=given, stdin=subprocess.DEVNULL, stdout=subprocess.PIPE, stderr=subprocess.PIPE, text=True, timeout=300, **more)
         self.assertEqual(done.returncode, 0, done.stdout + done.stderr)
         return done.stdout
 
+    def passed(self, folder, *words):
+        """How many tests have passed, for each file of tests."""
+        return list(map(int, re.findall(r"^test result: ok\. (\d+) passed; 0 failed; 0 ignored", self.cargo(folder, "test", *words), re.M)))
+
+    def check_example(self, folder, name, journal, printed, *words):
+        # the second time it goes on with its journal
+        for _ in range(2):
+            self.assertEqual(self.cargo(folder, "run", "--quiet", "--example", name, *words, cwd=folder).strip(), printed)
+            self.assertEqual(read(folder, journal).splitlines()[-1], "end 2")
+
     def test_its_tests_and_its_example(self):
         if without := why_not_built():
             self.skipTest(without)
         with tempfile.TemporaryDirectory() as folder:
-            passed = re.findall(r"^test result: ok\. (\d+) passed; 0 failed; 0 ignored", self.cargo(folder, "test"), re.M)
-            # those beside the sources, and those against the program
-            self.assertEqual(len(passed), 2)
-            self.assertGreater(min(map(int, passed)), 5)
+            beside, calls, embedded, program, service = self.passed(folder)
+            self.assertGreater(min(beside, calls, program, service), 5)
+            self.assertEqual(embedded, 0)
             os.symlink(PROGRAM, os.path.join(folder, "registryd"))
-            # the second time it goes on with its journal
-            for _ in range(2):
-                printed = self.cargo(folder, "run", "--quiet", "--example", "first", cwd=folder)
-                self.assertEqual(printed.strip(), blocks(read("clients", "rust", "README.md"))[1])
-                self.assertEqual(read(folder, "rust.journal").splitlines()[-1], "end 2")
-        print(f"({sum(map(int, passed))} tests) ", end="")
+            self.check_example(folder, "first", "rust.journal", PAGE[1])
+        print(f"({beside + calls + program + service} tests) ", end="")
 
-    def test_the_example_is_the_one_that_is_shown(self):
-        self.assertEqual(blocks(read("clients", "rust", "README.md"))[0], read("clients", "rust", "examples", "first.rs").strip())
+    @needs_library
+    def test_its_tests_and_its_example_in_process(self):
+        if without := why_not_built():
+            self.skipTest(without)
+        with tempfile.TemporaryDirectory() as folder:
+            beside, calls, embedded, program, service = self.passed(folder, *IN_PROCESS)
+            # each call twice, and with a service those that take no files
+            self.assertEqual((calls, embedded), (10 + 10 + 6, 3))
+            self.check_example(folder, "embedded", "rust-embedded.journal", PAGE[3], *IN_PROCESS)
+        print(f"({beside + calls + program + embedded + service} tests) ", end="")
+
+    def test_the_examples_are_those_that_are_shown(self):
+        for block, name in ((PAGE[0], "first"), (PAGE[2], "embedded")):
+            self.assertEqual(block, read("clients", "rust", "examples", f"{name}.rs").strip())
+            self.assertLessEqual(len(block.splitlines()), 30)
 
     def test_each_refusal_is_there(self):
         told = re.findall(r"^\| (\d+) \| ([A-Z]\w+) \|", read("docs", "REGISTRY.md"), re.M)

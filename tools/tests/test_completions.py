@@ -52,7 +52,8 @@ class Table(unittest.TestCase):
         for command in COMMANDS:
             for option in command.options:
                 for value in option.offered.split():
-                    done = run([command.name, f"--{option.name}", value])
+                    needed = [] if option.name == "workers" else ["--workers", "1"]
+                    done = run([command.name, *needed, f"--{option.name}", value])
                     self.assertEqual((done.returncode, done.stderr), (0, b""), f"{option.name} {value}")
 
 
@@ -97,7 +98,9 @@ class Shells(unittest.TestCase):
         self.assertEqual(self.offered("registryd serve --workers |="), COMMANDS[0].options[0].offered.split())
 
     def test_bash_offers_files(self):
-        for option in COMMANDS[0].options[1:]:
+        options = [option for option in COMMANDS[0].options if option.value == "FILE"]
+        self.assertEqual([option.name for option in options], ["journal", "load", "save"])
+        for option in options:
             self.assertEqual(self.offered(f"registryd serve --{option.name} |"), FILES)
             self.assertEqual(self.offered(f"registryd serve --{option.name} = |a"), FILES)
         self.assertEqual(self.offered("registryd race first.lines |s"), FILES)
@@ -109,13 +112,13 @@ class Shells(unittest.TestCase):
     @skip_without("fish", "fish")
     def test_an_option_more_is_one_line_of_the_table(self):
         serve, *others = COMMANDS
-        more = replace(serve, options=(*serve.options, Option("budget", "N", "How many"), Option("other", "FILE", "A file")))
+        more = replace(serve, options=(*serve.options, Option("patience", "N", "How long"), Option("other", "FILE", "A file")))
         with mock.patch.object(completions, "COMMANDS", (more, *others)):
             self.write()
         for shell in SHELLS:
             self.assertEqual(self.said(shell, "-n", f"./{shell}"), [])
-        self.assertEqual(self.offered("registryd serve |--bu"), ["--budget"])
-        self.assertEqual(self.offered("registryd serve --budget |"), [])
+        self.assertEqual(self.offered("registryd serve |--pa"), ["--patience"])
+        self.assertEqual(self.offered("registryd serve --patience |"), [])
         self.assertEqual(self.offered("registryd serve --other |"), FILES)
 
     @skip_without("zsh", "zsh")

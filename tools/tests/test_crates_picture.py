@@ -22,7 +22,7 @@ class Picture(unittest.TestCase):
 
     def test_a_crate_is_below_those_that_stand_on_it(self):
         edges = draw_crates.edges_of(draw_crates.stands_on())
-        depths = draw_crates.depths_of(edges, draw_crates.PROGRAM)
+        depths = draw_crates.depths_of(edges, draw_crates.TOPS)
         for name in depths:
             self.assertTrue(all(depths[below] > depths[name] for below in edges[name]), name)
 
@@ -33,8 +33,8 @@ class Picture(unittest.TestCase):
             self.assertEqual(draw_crates.reached(edges, name), draw_crates.reached(crates, name))
 
     def test_few_lines_cross(self):
-        """Eighteen pairs do: `journals` and `answers` stand on crates of three rows, and `session` and `race` on both of them, beside
-        what `commits` adds."""
+        """Nineteen pairs do: `journals` and `answers` stand on crates of three rows, and `session` and `race` on both of them, beside
+        what `commits` adds, and `lines`, on which `wire` stands."""
         edges = draw_crates.edges_of(draw_crates.stands_on())
-        rows, short = draw_crates.rows_of(edges, draw_crates.depths_of(edges, draw_crates.PROGRAM))
-        self.assertEqual(draw_crates.crossings(draw_crates.ordered(rows, short), short), 18)
+        rows, short = draw_crates.rows_of(edges, draw_crates.depths_of(edges, draw_crates.TOPS))
+        self.assertEqual(draw_crates.crossings(draw_crates.ordered(rows, short), short), 19)

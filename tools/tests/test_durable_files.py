@@ -16,6 +16,7 @@ from test_journals import CHAIN, Sessions, damaged, journal, learn, random_journ
 ACCEPTED = '{"ok":true,"revision":%d}\n'
 LEARNT = journal([*CHAIN, learn(0), yank("c", "1.0.0"), unyank("c", "1.0.0")])
 PLAIN = journal([*CHAIN, yank("c", "1.0.0"), unyank("c", "1.0.0")], 1)
+UNSAVED = b"registryd: output failed\n"
 NOBODY = 65_534
 
 
@@ -136,7 +137,7 @@ class Others(Keeping):
         for _ in range(2):
             self.refused("in use by another session", text=text)
         done = run(["serve", "--workers", "1", "--save", self.kept], LIST.encode())
-        self.assertEqual((done.returncode, done.stdout, done.stderr), (1, b"", b"registryd: output failed\n"))
+        self.assertEqual((done.returncode, done.stdout, done.stderr), (1, b"", UNSAVED))
         self.assertEqual(self.read(self.kept), text)
         client.send([publish("b", "1.0.0")])
         self.assertTrue(client.read_until(2))

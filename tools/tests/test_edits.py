@@ -14,8 +14,10 @@ import try_rounds  # noqa: E402
 from edit_files import CRATES, EDITS, Edit, Function, changes, edits_of, functions, functions_of, put_in_place  # noqa: E402
 from try_rounds import BAD, BY_CLAUSE, BY_NAME, NOT_REFUSED, judged, judged_alone, listed, make_holes, try_in_rounds  # noqa: E402
 
+# An edit of a limit's number, which is refused by the law that says what it is.
+OF_A_LIMIT = "limits_in_numbers-"
 # How many each run of the tests tries.
-LISTED = 40
+LISTED = 55
 SOURCE = """\
 pub struct Room<'a> {
     door: &'a u32,
@@ -57,6 +59,11 @@ impl Way {
 pub(crate) fn rooms_have_doors()
     ensures { ⊤ }
 {}
+
+#[unsafe(no_mangle)]
+pub extern "C" fn doors() -> u32 {
+    1
+}
 """
 LATER = "./proofs/a/late/Answers.antt:3:7: error: `returns`: as printed, the two types differ"
 GONE = "./proofs/a/late/Answers.antt:3:7: error: `returns`: record `G` has no field `in-Some`"
@@ -76,12 +83,12 @@ class Edits(unittest.TestCase):
                 with self.subTest(f"{crate}/{file}"):
                     self.assertRegex(file, r"^[a-z0-9_]+-[a-z0-9_]+\.edit$")
                     with open(os.path.join(EDITS, crate, file), encoding="utf-8") as text:
-                        self.apply(os.path.join(CRATES, crate), text.read())
+                        self.apply(os.path.join(CRATES, crate), text.read(), may_change_constants=file.startswith(OF_A_LIMIT))
                     count += 1
         self.assertGreater(count, 100)
         print(f"({count} edits) ", end="")
 
-    def apply(self, crate, text):
+    def apply(self, crate, text, may_change_constants):
         texts = {}
         for path, old, new in changes(text):
             if path not in texts:
@@ -90,7 +97,8 @@ class Edits(unittest.TestCase):
             self.assertEqual(texts[path].count(old), 1, f"{path}: {old}")
             self.assertNotEqual(old, new)
             self.assertTrue(path.startswith("src/"), "an edit of a contract or a proof shows nothing")
-            self.assertNotRegex(old, r"\bconst [A-Z]", "a definition may cite the constant, and then changes with it")
+            if not may_change_constants:
+                self.assertNotRegex(old, r"\bconst [A-Z]", "a definition may cite the constant, and then changes with it")
             texts[path] = texts[path].replace(old, new)
         self.assertTrue(texts, "an edit has a file, what stands there, and what is to stand there")
 
@@ -101,7 +109,8 @@ class Edits(unittest.TestCase):
             self.assertEqual([function.path for _, function in functions_of(edit)], [edit.only], edit.file)
 
     def test_all_but_a_few_change_one_function(self):
-        others = [edit.file for name in os.listdir(EDITS) for edit in edits_of(name) if len(functions_of(edit)) != 1]
+        others = [edit.file for name in os.listdir(EDITS) for edit in edits_of(name)
+                  if len(functions_of(edit)) != 1 and not edit.file.startswith(OF_A_LIMIT)]
         self.assertEqual(others, ["number-of_a_full_journal.edit"])
 
     def test_the_gate_of_the_kit_tries_none(self):
@@ -137,10 +146,10 @@ class Functions(unittest.TestCase):
     def test_each_with_a_body_is_found(self):
         wanted = [Function("near::rooms::OptionShows::show", 6, 11), Function("near::rooms::Room::door", 17, 17),
                   Function("near::rooms::WayFromFailed::from", 21, 23), Function("ways::Way::new", 30, 34),
-                  Function("near::rooms::rooms_have_doors", 38, 40)]
+                  Function("near::rooms::rooms_have_doors", 38, 40), Function("near::rooms::doors", 42, 45)]
         self.assertEqual(list(functions("src/near/rooms.rt", SOURCE, {"Room": ["near", "rooms"], "Way": ["ways"]})), wanted)
         names = [it.path for it in functions("src/lib.rt", SOURCE, {})]
-        self.assertEqual(names, ["OptionShows::show", "Room::door", "WayFromFailed::from", "Way::new", "rooms_have_doors"])
+        self.assertEqual(names, ["OptionShows::show", "Room::door", "WayFromFailed::from", "Way::new", "rooms_have_doors", "doors"])
 
 
 class Verdicts(unittest.TestCase):
@@ -267,12 +276,13 @@ class Holes(unittest.TestCase):
             found = sorted(os.path.relpath(os.path.join(at, file), folder) for at, _, files in os.walk(folder) for file in files)
             self.assertEqual(found, ["proofs/rooms/OptionShows/show/Proof.antt", "proofs/rooms/Room/door/Proof.antt",
                                      "proofs/rooms/Way/new/Proof.antt", "proofs/rooms/WayFromFailed/from/Proof.antt",
-                                     "src/rooms.rt"])
+                                     "proofs/rooms/doors/Proof.antt", "src/rooms.rt"])
             with open(os.path.join(folder, "src", "rooms.rt"), encoding="utf-8") as source:
                 lines = source.read().split("\n")
             self.assertEqual(lines[8:11], ["    {", "unreachable!()", "    }"])
             self.assertEqual(lines[31:34], ["    pub const fn new() -> Way {", "unreachable!()", "    }"])
-            self.assertEqual(lines[37:49], [*SOURCE.split("\n")[37:40], "", "pub fn again() {", "    again()", "}", "",
+            self.assertEqual(lines[40:45], ["", "#[unsafe(no_mangle)]", 'pub extern "C" fn doors() -> u32 {', "unreachable!()", "}"])
+            self.assertEqual([*lines[37:40], *lines[45:54]], [*SOURCE.split("\n")[37:40], "", "pub fn again() {", "    again()", "}", "",
                                             "#[cycle(rounds)]", "pub fn round() {", "    round()", "}"])
             self.assertEqual(len(lines), SOURCE.count("\n") + 10)
             with open(os.path.join(folder, "proofs/rooms/Room/door/Proof.antt"), encoding="utf-8") as proof:

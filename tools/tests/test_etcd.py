@@ -18,6 +18,7 @@ import program
 from durable_sessions import Client
 from fake_etcd import Drop, Gate, SmallEtcd
 from members import Members
+from over_small_etcd import A1, A2, B1, Case, accepted, deaf, refused
 from program import LIST, TOP, publish, resolve, skip_without, unyank, yank
 from test_readme import blocks
 
@@ -25,88 +26,8 @@ sys.path.insert(0, os.path.join(TOP, "tools"))
 import etcd_histories
 from limits import MOST_COMMANDS, MOST_LINE_BYTES
 
-A1, A2, B1 = publish("a", "1.0.0"), publish("a", "2.0.0", ["b ^1"]), publish("b", "1.0.0")
 
-
-def accepted(place, revision=None, seat=1):
-    return f'{{"ok":true,"place":{place},"revision":{revision or place},"seat":{seat}}}'
-
-
-def refused(number, name, place, revision, seat=1):
-    return f'{{"error":{number},"name":"{name}","place":{place},"revision":{revision},"seat":{seat}}}'
-
-
-def deaf(moment, path, asked):
-    """A hook by which a front hears no news."""
-    if path == "/v3/watch":
-        raise Drop
-
-
-class OverSmallEtcd(unittest.TestCase):
-    @classmethod
-    def setUpClass(cls):
-        # a journal is founded once, and each test goes on from there
-        cls.founded = SmallEtcd()
-        gate = Gate(cls.founded)
-        ended = fronts.run("found", [gate.url])
-        gate.close()
-        assert (ended.returncode, ended.stdout, ended.stderr) == (0, b"", b""), ended
-
-    def setUp(self):
-        self.enterContext(program.in_time())
-        self.etcd = self.founded.copy()
-        self.gate = self.opened()
-        folder = tempfile.TemporaryDirectory()
-        self.addCleanup(folder.cleanup)
-        self.folder = folder.name
-
-    def opened(self, hook=lambda moment, path, asked: None):
-        gate = Gate(self.etcd, hook)
-        self.addCleanup(gate.close)
-        return gate
-
-    def done(self, what, *more, given=b"", gate=None):
-        """What a run prints that ends as it should."""
-        ended = fronts.run(what, [(gate or self.gate).url], *more, given=given)
-        self.assertEqual((ended.returncode, ended.stderr), (0, b""))
-        return ended.stdout.decode()
-
-    def fails(self, what, *more):
-        """What a run says that ends with status 1."""
-        ended = fronts.run(what, [self.gate.url], *more)
-        self.assertEqual(ended.returncode, 1)
-        return ended.stderr.decode()
-
-    def front(self, seat=1, *more, hook=None, gate=None):
-        gate = gate or (self.opened(hook) if hook else self.gate)
-        front = fronts.Front([gate.url], seat, "--timeout", "60", *more)  # nothing is lost but what a test loses
-        front.begin()
-        self.addCleanup(self.ended, front)
-        return front
-
-    def ended(self, front):
-        if front.child.poll() is None:
-            self.assertEqual(front.end(), (0, ""))
-
-    def journal(self):
-        return self.done("journal")
-
-    def cells(self):
-        """The entries that stand, by their keys."""
-        return {key.decode(): json.loads(value) for key, (_, _, _, value) in sorted(self.etcd.kept.items()) if b"/cells/" in key}
-
-    def once(self, moment, do):
-        """A hook that does this to the first transaction of a front that puts into cells, at this moment."""
-        left = [do]
-
-        def hook(at, path, asked):
-            if at == moment and path == "/v3/kv/txn" and left:
-                left.pop()(asked)
-        return hook
-
-    def drop(self, asked):
-        raise Drop
-
+class OverSmallEtcd(Case):
     # ---- what is answered
 
     def test_every_kind_of_line(self):
@@ -152,6 +73,32 @@ class OverSmallEtcd(unittest.TestCase):
         self.assertEqual(front.ask(*lines), [accepted(n + 1) for n in range(50)])
         self.assertLess(sum(path == "/v3/kv/txn" for path in calls[before:]), 50)
 
+    def test_requests_that_come_together_share_a_look(self):
+        calls = []
+        front = self.front(hook=lambda moment, path, asked: calls.append((moment, path)))
+        front.ask(A1)
+        front.ask(LIST)
+        before = len(calls)
+        front.ask(*[resolve("a *")] * 100)  # as many as one write of a client has
+        self.assertLess(calls[before:].count(("before", "/v3/kv/range")), 10)
+
+    def test_what_a_look_finds_counts_though_the_replica_was_asked_before(self):
+        # an entry comes between the line and the read: the front had no reason to expect one
+        entering = []
+
+        def hook(moment, path, asked):
+            deaf(moment, path, asked)
+            if moment == "before" and path == "/v3/kv/range" and entering:
+                self.done("serve", "--seat", "2", given=entering.pop().encode())
+        front = self.front(hook=hook)
+        self.assertEqual(front.ask(LIST), ['{"packages":[],"place":0,"revision":0,"seat":1}'])
+        entering.append(A1)
+        selected = '{"place":1,"revision":1,"seat":1,"selected":[["a","1.0.0"]]}'
+        none = '{"place":1,"refused":true,"revision":1,"seat":1}'
+        self.assertEqual(front.ask(resolve("a *"), resolve("a ^2"), resolve("a *")), [selected, none, selected])
+        # what was accepted is known as accepted, and takes no cell once more
+        self.assertEqual(front.ask(resolve("a *"), A1), [selected, refused(7, "AlreadyPublished", 1, 1)])
+
     # ---- what is lost
 
     def test_a_lost_reply(self):
@@ -166,7 +113,7 @@ class OverSmallEtcd(unittest.TestCase):
             def kill(asked):
                 front.child.kill()
                 raise Drop
-            front = self.front(1, "--writer", moment, hook=self.once(moment, kill))
+            front = self.front(1, writer=moment, hook=self.once(moment, kill))
             lines = [publish(moment, "1.0.0"), yank(moment, "1.0.0")]
             # it is begun again with the same lines, and the first stands where its first life had put it
             self.assertEqual([front.ask(line)[0] for line in lines], [accepted(place), accepted(place + 1)])
@@ -273,7 +220,7 @@ class OverSmallEtcd(unittest.TestCase):
             self.done("serve", "--seat", "2", given=B1.encode())
             self.done("compact", "--keep", "0")
             raise Drop
-        front = self.front(1, "--writer", "w", hook=self.once("after", overtake))
+        front = self.front(1, writer="w", hook=self.once("after", overtake))
         front.child.stdin.write(A1 + "\n")
         front.child.stdin.flush()
         self.assertEqual(front.end(), (1, "registryd-etcd: line 1 of w was answered before, and its reply is no longer kept\n"))
@@ -424,15 +371,23 @@ class Judge(unittest.TestCase):
         self.second = [fronts.Told(A1, refused(7, "AlreadyPublished", 2, 1, 2), 2, 3), fronts.Told(self.journal[1], accepted(3, 2, 2), 3, 5),
                        fronts.Told(LIST, listing(3, 2, 2, "true"), 5, 6)]
 
-    def fault(self):
+    def fault(self, opened=()):
         lines = [program.journal_line(line) for line in self.journal]
-        return fronts.fault("\n".join(["registry-journal 1", *lines, f"end {len(lines)}", ""]), [self.first, self.second])
+        return fronts.fault("\n".join(["registry-journal 1", *lines, f"end {len(lines)}", ""]), [self.first, self.second], opened)
 
     def change(self, front, place, **how):
         front[place] = front[place]._replace(**how)
 
     def test_nothing_is_wrong(self):
         self.assertIsNone(self.fault())
+
+    def test_lines_of_which_nobody_was_told(self):
+        # each may stand once, and no other
+        self.journal.append(A2)
+        for opened, is_right in (([], False), ([B1], False), ([A2, B1], True)):
+            self.assertEqual(self.fault(opened) is None, is_right)
+        self.journal.append(A2)
+        self.assertIn("5 entries, and commands were accepted at [5]", self.fault([A2, B1]))
 
     def test_an_entry_is_lost(self):
         del self.journal[2]
@@ -533,7 +488,7 @@ class OverEtcd(unittest.TestCase):
     def test_a_history_of_three_fronts_over_three_members(self):
         members = Members(3)
         self.addCleanup(members.close)
-        for seed in (1, 2):
+        for seed in (1, 2, 3):
             history = etcd_histories.History(members, seed, 3, 4.0, 10)
             self.assertIsNone(history.run())
             self.assertGreaterEqual(history.done["commands accepted"], 3)

@@ -8,6 +8,7 @@ import unittest
 from pathlib import Path
 from unittest import mock
 
+import client_python
 import program
 import test_batches
 import test_broken_streams
@@ -22,7 +23,7 @@ LATE = {"waits for all lines": READS, "reads nothing": "exec sleep 1000", "write
 # A program that ends in place of its first reply.
 ENDS = "read line; exit 0"
 WAITING = [test_program.Program("test_a_client_that_waits_gets_each_reply"), test_batches.Batches("test_who_asks_and_waits_is_answered"),
-           test_batches.Batches("test_a_client_has_its_answer_before_that_is_learnt"), test_client_python.Client("test_each_call")]
+           test_batches.Batches("test_a_client_has_its_answer_before_that_is_learnt"), test_client_python.WithProgram("test_each_call")]
 
 
 class Waiting(unittest.TestCase):
@@ -34,7 +35,7 @@ class Waiting(unittest.TestCase):
             os.chmod(stub, 0o755)
             before, result, begun = set(children()), unittest.TestResult(), time.monotonic()
             with mock.patch.object(program, "PROGRAM", stub), mock.patch.object(program, "PATIENCE", SECONDS), \
-                    mock.patch.object(test_client_python, "PROGRAM", stub), mock.patch.object(test_client_python, "SECONDS", SECONDS), \
+                    mock.patch.object(test_client_python.WithProgram, "program", stub), mock.patch.object(client_python, "SECONDS", SECONDS), \
                     in_time(10):
                 test(result)
             self.assertEqual((result.testsRun, result.wasSuccessful(), result.skipped), (1, False, []))

@@ -10,12 +10,14 @@ from pathlib import Path
 from unittest import mock
 
 from called import called
+from library import FOLDER, LACKING
 from program import PROGRAM, TOP
 from test_readme import blocks
 
 sys.path.insert(0, os.path.join(TOP, "tools"))
 import installed
 import prefix
+from c_library import Library
 from installed import Piece, pieces
 from prefix import Refused, install, remove
 from programs import COMPILED, PROVED, UNCHECKED, Program
@@ -62,7 +64,7 @@ class Whole(unittest.TestCase):
         # others may read it, whatever the mask of who installs it
         mask = os.umask(0o077)
         try:
-            install(cls.prefix, pieces(Program(Path(PROGRAM), COMPILED, "")))
+            install(cls.prefix, pieces(Program(Path(PROGRAM), COMPILED, ""), library=FOLDER and Library(FOLDER, COMPILED)))
         finally:
             os.umask(mask)
         cls.bin = cls.prefix / "bin"
@@ -78,11 +80,12 @@ class Whole(unittest.TestCase):
                      "share/fish/vendor_completions.d/registryd.fish",
                      "share/registryd/lines.schema.json", "share/doc/registryd/FORMATS.md",
                      "share/registryd/clients/python/registryd.py", "share/registryd/clients/c/registryd.h",
-                     "share/registryd/clients/c/registryd.c", "share/registryd/clients/rust/Cargo.toml",
+                     "share/registryd/clients/c/embedded.c", "share/registryd/clients/c/Makefile", "share/registryd/clients/rust/Cargo.toml",
                      "share/registryd/clients/rust/src/lib.rs"):
             self.assertIn(path, there)
-        self.assertEqual({it.split("/")[0] for it in there}, {"bin", "lib", "share"})
+        self.assertEqual({it.split("/")[0] for it in there}, {"bin", "lib", "share", *(["include"] if FOLDER else [])})
 
+    @unittest.skipUnless(FOLDER, LACKING)
     def test_the_page_on_installing_names_places_that_there_are(self):
         rows = re.findall(r"^\| (`.*?) \|", Path(TOP, "docs", "INSTALLING.md").read_text(encoding="utf-8"), re.M)
         named = [it if "/" in it else f"bin/{it}" for row in rows for it in re.findall("`([^`]+)`", row)]
@@ -324,7 +327,7 @@ class Words(Case):
     def called(self, *words, proved=None, compiled=None):
         stands = {"proved": proved, "compiled": compiled}
         of = {name: lambda _, kind=kind: kind and Program(self.stub, kind, "") for name, kind in stands.items()}
-        with mock.patch.multiple(installed.programs, **of):
+        with mock.patch.multiple(installed.programs, **of), mock.patch.object(installed.c_library, "standing", lambda: None):
             return called("install", *map(str, words))
 
     def test_the_proved_program_is_taken(self):

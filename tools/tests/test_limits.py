@@ -17,7 +17,7 @@ from etcd import front
 ROW = re.compile(r"^\| ([^|]+) \| ([\d,]+) ([^|]+) \| \[`(\w+)`\]\(\.\./(crates/[\w/.]+)\) \| `(\w+)` \|$", re.M)
 # What the program's libraries export beside: how many requests are answered together, how much is read at once, the seats, one more
 # than there are files, the bytes of a lock, which is a line, the package of the request, and what a search and a reader make room for.
-OTHERS = {"THREAD", "BATCH_LIMIT", "READ_SIZE", "SEAT_LIMIT", "LOCK_BYTES", "ROOT", "FAR", "FEW", "ROOM"}
+OTHERS = {"MOST_CONFLICTS", "THREAD", "BATCH_LIMIT", "READ_SIZE", "SEAT_LIMIT", "LOCK_BYTES", "ROOT", "FAR", "FEW", "ROOM"}
 # Where else a limit stands by hand, since it can't be read from elsewhere.
 STATED = [
     ("clients/c/registryd.c", r"workers > (\d+)", "MOST_WORKERS"), ("clients/c/registryd.h", r"resolving threads, 1 to (\d+)", "MOST_WORKERS"),

@@ -9,10 +9,11 @@ class Case(unittest.TestCase):
     def test_a(self):
         for name in ("REGISTRYD", "PROBE"):
             print(subprocess.run([PATHS[name]], stdout=subprocess.PIPE, text=True).stdout)
+        print("library of", open(PATHS["EMBEDDED"]).readline())
 import sys
 sys.path.insert(0, os.path.join(os.path.dirname(__file__), ".."))
 from programs import path_for_tests
-PATHS = {name.upper(): path_for_tests(name) for name in ("registryd", "probe")}
+PATHS = {name.upper(): path_for_tests(name) for name in ("registryd", "probe", "embedded")}
 """
 LAST = "import unittest\nclass Case(unittest.TestCase):\n    def test_b(self):\n        pass\n"
 
@@ -28,15 +29,26 @@ class Tests(Case):
     def test_the_gate_notes_what_it_proved(self):
         status, said, wrong = self.tree.run("test")
         self.assertEqual(status, 0, said + wrong)
-        self.assertEqual(said.count("proved\n"), 2)
-        self.assertRegex(said.splitlines()[-1], "^4 passed, 0 failed")
+        self.assertIn("embedded: the static library is proved and built\n", said)
+        self.assertIn("library of proved\n", said)
+        self.assertEqual(said.replace("library of proved", "").count("proved\n"), 2)
+        self.assertRegex(said.splitlines()[-1], "^5 passed, 0 failed")
         self.assertEqual(self.state(), PROVED)
+        self.assertEqual(self.tree.run("tools/build", "embedded")[1:], (f"{self.tree.top}/out/proved/libembedded.a\n", ""))
         self.assertEqual(self.says("a", first=None), "")
 
     def test_a_gate_that_failed_notes_nothing(self):
         status, said, _wrong = self.tree.run("test", FAIL="1")
         self.assertEqual(status, 1)
         self.assertEqual(self.state(), NONE)
+
+    def test_neither_does_one_whose_library_could_not_be_built(self):
+        with open(self.tree.top / "crates" / "embedded" / "src" / "lib.rt", "a", encoding="ascii") as root:
+            root.write("broken\n")
+        status, said, _wrong = self.tree.run("test")
+        self.assertEqual((status, self.state()), (1, NONE))
+        self.assertIn("broken\nembedded: the static library could not be built\n", said)
+        self.assertRegex(said.splitlines()[-1], r"^\d+ passed, [1-9]")
 
     def test_neither_does_one_whose_sources_changed_meanwhile(self):
         _status, said, _wrong = self.tree.run("test", CHANGE=str(self.tree.top / "crates" / "low" / "proofs" / "Lib.antt"))
@@ -50,9 +62,9 @@ class Tests(Case):
         self.assertEqual(lines[-2], "nothing was proved in this run: ./test proves everything")
         self.assertRegex(lines[-1], "^2 passed, 0 failed")
         self.assertEqual(said.count("checked\n"), 2)
-        self.assertEqual((self.state(), len(self.tree.compilations())), (COMPILED, 2))
+        self.assertEqual((self.state(), len(self.tree.compilations())), (COMPILED, 3))
         self.assertEqual(self.tree.run("test", "--quick")[0], 0)
-        self.assertEqual(len(self.tree.compilations()), 2)
+        self.assertEqual(len(self.tree.compilations()), 3)
 
     def test_quick_does_not_test_what_has_no_checks(self):
         self.tree.run("tools/build", "--unchecked")
@@ -69,7 +81,7 @@ class Tests(Case):
     def test_tools_takes_what_stands(self):
         status, said, _wrong = self.tree.run("test", "--tools")
         self.assertEqual(status, 1)
-        self.assertIn("no program registryd or probe stands of just these sources", said)
+        self.assertIn("no registryd or probe or embedded stands of just these sources", said)
         self.tree.run("test", "--quick")
         self.assertEqual(self.tree.run("test", "--tools")[0], 0)
         self.tree.write("crates/low/src/lib.rt", "echo lower\n")

@@ -190,7 +190,8 @@ class Made(unittest.TestCase):
 class Words(unittest.TestCase):
     def called(self, *words, **stands):
         of = {kind: lambda name, kind=kind: stands.get(kind) for kind in ("proved", "compiled")}
-        with mock.patch.multiple(installed.programs, **of):
+        # none of these words asks which library for C stands here
+        with mock.patch.multiple(installed.programs, **of), mock.patch.object(installed.c_library, "standing", lambda: None):
             return called("package", *map(str, words))
 
     def test_what_has_to_be_run_first(self):
@@ -207,7 +208,8 @@ class Words(unittest.TestCase):
     def test_it_says_where_the_package_is(self):
         with tempfile.TemporaryDirectory() as folder:
             proved = Program(Path(PROGRAM), PROVED, "")
-            self.assertEqual(self.called("--output", folder, proved=proved), (0, f"{folder}/registryd_{VERSION}-1_amd64.deb\n", ""))
+            told = "tools/package: it has no library for C, since none stands that may be packed: tools/build_library builds it\n"
+            self.assertEqual(self.called("--output", folder, proved=proved), (0, f"{folder}/registryd_{VERSION}-1_amd64.deb\n", told))
             self.assertEqual(os.listdir(folder), [f"registryd_{VERSION}-1_amd64.deb"])
 
 

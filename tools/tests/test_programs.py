@@ -188,6 +188,54 @@ class Starts(Case):
         self.assertEqual(self.says(), "")
 
 
+class Library(Case):
+    """The static library, of whose sources the front end is given a copy with a `main`."""
+
+    def build(self, *words, status=0):
+        done, said, wrong = self.tree.run("tools/build", *words, "embedded")
+        self.assertEqual((done, self.tree.left()), (status, []), wrong)
+        return said, wrong
+
+    def test_its_exports_are_found_by_their_names_and_the_rest_is_not(self):
+        said, wrong = self.build()
+        library = self.tree.top / "out" / "compiled" / "libembedded.a"
+        self.assertEqual(said, f"{library}\n")
+        self.assertRegex(wrong, r"\Aembedded: it is compiled first, .*\nembedded: compiled in \d+ s\n\Z")
+        lines = library.read_text(encoding="ascii").splitlines()
+        self.assertEqual([line for line in lines if line.startswith("define")],
+                         ["define noundef i32 @begin(ptr noundef %a0) {", "define internal i64 @within() {"])
+        self.assertEqual([line for line in lines if "@begin(ptr null)" in line], ["  call i32 @begin(ptr null)"])
+        # the copy's root calls each export with all that it takes, and the library's own is as it was
+        self.assertIn('    begin(rt.alloc(), &mut slot, b"", &mut first, &mut second);', lines)
+        self.assertNotIn("fn main", (self.tree.top / "crates/embedded/src/lib.rt").read_text(encoding="ascii"))
+        self.assertEqual(self.build(), (said, ""))
+        self.tree.write("crates/low/src/lib.rt", "echo lower\n")
+        self.assertIn("its sources have changed", self.build()[1])
+
+    def test_checks_as_it_runs_are_left_out_of_one_for_measurements(self):
+        library = self.tree.top / "out" / "compiled" / "libembedded.a"
+        for words, is_checked in ((["--compiled"], True), (["--unchecked"], False)):
+            self.build(*words)
+            self.assertEqual("call void @llvm.trap()" in library.read_text(encoding="ascii"), is_checked)
+
+    def test_a_root_that_no_main_can_call(self):
+        root = self.tree.top / "crates" / "embedded" / "src" / "lib.rt"
+        before = root.read_text(encoding="ascii")
+        for text, why in ((before.replace("&[u8]", "&Thing"), "its export begin has parameters for which tools/compile_library.py has no call"),
+                          (before.replace("&[u8]", "&mut usize"), "its export begin has parameters for which"),
+                          ("fn begin() {}\n", "its root has no exports for a library")):
+            root.write_text(text, encoding="ascii")
+            self.assertIn(f"embedded: it was not built: {why}", self.build(status=1)[1])
+
+    def test_another_kit_tells_why_and_who_proves_it(self):
+        root = self.tree.top / "crates" / "embedded" / "src" / "lib.rt"
+        root.write_text(root.read_text(encoding="ascii").replace('@"embedded::begin"(ptr noundef', '@"other::begin"(ptr noundef'), encoding="ascii")
+        self.assertIn("embedded: this kit cannot compile it without a proof; ./test builds it: its front end names what is exported in "
+                      "another way", self.build(status=1)[1])
+        done, _said, wrong = self.tree.run("tools/build", "--proved", "embedded")
+        self.assertEqual((done, wrong), (1, "embedded is proved by ./test alone\n"))
+
+
 class Failures(Case):
     def fails(self, *words, status=1, **more):
         """It ends without output, and leaves nothing; gives what is said."""

@@ -36,7 +36,7 @@ def answers(folder, lines):
 FORMATS = blocks("docs/FORMATS.md")
 CLIENTS = ["clients/README.md", "clients/rust/README.md", "clients/c/README.md"]
 # where an example begins a journal's file
-BEGUN = re.compile(r"""(?:--save |--journal |\./example \./registryd |journal="|Some\(")([\w-]+\.journal)""")
+BEGUN = re.compile(r"""(?:--save |--journal |\./example |journal="|Some\(")([\w-]+\.journal)""")
 
 
 class Readme(unittest.TestCase):

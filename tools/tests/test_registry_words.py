@@ -9,10 +9,10 @@ import signal
 import subprocess
 import sys
 import tempfile
-import time
 import unittest
 
 from called import registry
+from processes import child_of, is_gone
 from program import PROGRAM, TOP, publish, skip_without, yank
 from registry_folder import Folder, at_terminal, pigeons
 
@@ -113,7 +113,7 @@ class Completed(Folder):
                               (["diff", ""], "file"), (["diff", "a", ""], "file"), (["diff", "a", "b", ""], []), (["import", "cargo", ""], "folder"),
                               (["import", "cargo", "x", "--index", ""], "folder"), (["import", "debian", ""], "file"), (["tree", "a", "--invert", "a"], ["app"]),
                               (["why", "app", "--not", "l"], ["lock", "log"]), (["why", "app", "--not", "log", "1.0"], ["1.0.0"]),
-                              (["why", "app", "--not", "log", "1.0.0", "a"], ["app"]), (["upgrade", "--need", "app", "l"], ["lock", "log"]), (["nonsense", ""], []), (["list", "--"], ["--help", "--journal", "--json"])):
+                              (["why", "app", "--not", "log", "1.0.0", "a"], ["app"]), (["upgrade", "--need", "app", "l"], ["lock", "log"]), (["nonsense", ""], []), (["list", "--"], ["--connect", "--help", "--journal", "--json"])):
             self.assertEqual(self.offered(*words), wanted, words)
         self.assertTrue({"publish", "import", "--journal", "--help"} <= set(self.offered("")))
 
@@ -230,7 +230,7 @@ class Ends(Folder):
 
     def test_the_program_of_the_path(self):
         # a command that has no program beside it takes the one of the path
-        for name in ("tools/registry", "tools/check_derivation.py", "tools/limits.py", "registry"):
+        for name in ("tools/registry", "tools/check_derivation.py", "tools/limits.py", "tools/tied.py", "registry"):
             target = self.path(os.path.join("away", name))
             os.makedirs(os.path.dirname(target), exist_ok=True)
             source = os.path.join(TOP, name)
@@ -244,27 +244,6 @@ class Ends(Folder):
         environment["PATH"] = self.path("bin") + os.pathsep + environment["PATH"]
         done = subprocess.run(words, env=environment, stdout=subprocess.PIPE)
         self.assertEqual((done.returncode, done.stdout), (0, b"published a 1.0.0 (revision 1)\n"))
-
-
-def is_gone(process):
-    """Whether a process has ended, or does so soon."""
-    until = time.monotonic() + 30
-    while os.path.exists(f"/proc/{process}/exe") and time.monotonic() < until:
-        time.sleep(0.05)
-    return not os.path.exists(f"/proc/{process}/exe")
-
-
-def child_of(process):
-    """The one child of a process, once it has begun."""
-    until = time.monotonic() + 30
-    while time.monotonic() < until:
-        with open(f"/proc/{process}/task/{process}/children", encoding="ascii") as file:
-            found = file.read().split()
-        if found:
-            time.sleep(0.3)  # it reads the journal and begins to search
-            return int(found[0])
-        time.sleep(0.01)
-    raise AssertionError("no program was started")
 
 
 class Shown(Folder):

@@ -76,6 +76,20 @@ class Parts(unittest.TestCase):
         self.assertEqual(sorted(name for part in parts for name in heads(part, "define") if name not in ("short", "deeper", "lone")),
                          ['"a::first"', '"a::second"', "deep", "main"])
 
+    def test_a_library_has_what_it_exports_and_what_that_reaches(self):
+        library = MODULE.replace(function("main", ['"a::first"', '"a::second"']), "")
+        for name in ('"a::first"', '"a::second"'):
+            library = library.replace(f"define internal void @{name}(", f"define void @{name}(")
+        parts = split(library, 2, ('"a::first"', '"a::second"'))
+        self.assertEqual([{name: head for name, head in heads(part, "define").items() if "a::" in name} for part in parts],
+                         [{'"a::first"': "define void"}, {'"a::second"': "define void"}])
+        self.assertIn('declare void @"a::first"(ptr %0) #0\n', parts[1])
+        self.assertEqual([sorted(heads(part, "define").keys() & {"lone", "deep", "never", "short"}) for part in parts],
+                         [["lone", "short"], ["deep", "short"]])
+        for names in (("main",), ('"a::first"', '"a::third"')):
+            with self.assertRaises(Unknown):
+                split(library, 2, names)
+
     def test_a_module_of_another_form_is_not_split(self):
         for other in (MODULE + "$group = comdat any\n", MODULE + "@other = alias void (), ptr @lone\n", MODULE.replace("@main(", "@start("),
                       MODULE.replace("internal void @lone", "weak void @lone"), MODULE.replace("i64 @write", "i64 @read"),

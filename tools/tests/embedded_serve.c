@@ -1,0 +1,98 @@
+/* `registryd serve` over a session in process: takes the program's words, reads lines from standard input, and tells on standard
+ * error what is the matter, as the program does. So the program's tests can be run on it. EMBEDDED_PIECE, if given, tells how many
+ * bytes are fed at once, at most. */
+#define _GNU_SOURCE
+#include "registryd.h"
+
+#include <stdio.h>
+#include <stdlib.h>
+#include <string.h>
+#include <unistd.h>
+
+#define PIECE 131072
+
+static char words[8192];
+
+static int tell(const char *what)
+{
+    fprintf(stderr, "registryd: %s\n", what);
+    return 1;
+}
+
+/* Opens a session by the words of the command line; answers what the matter is, or null. */
+static const char *open_by(char **given, registryd_session *session)
+{
+    const char *journal = NULL, *load = NULL, *save = NULL;
+    for (; given[0] && given[1]; given += 2) {
+        if (!strcmp(given[0], "--journal"))
+            journal = given[1];
+        else if (!strcmp(given[0], "--load"))
+            load = given[1];
+        else if (!strcmp(given[0], "--save"))
+            save = given[1];
+    }
+    int answer = journal ? registryd_open_embedded_journal(journal, session, words, sizeof words)
+                         : registryd_open_embedded(load, save, session, words, sizeof words);
+    return answer ? words : NULL;
+}
+
+/* Writes the replies that may be taken; answers whether that is done. */
+static int write_replies(registryd_session session)
+{
+    static char replies[PIECE];
+    size_t length, left;
+    do {
+        if (registryd_take(session, replies, sizeof replies, &length, &left))
+            return 0;
+        for (size_t at = 0; at < length;) {
+            ssize_t written = write(STDOUT_FILENO, replies + at, length - at);
+            if (written <= 0)
+                exit(tell("output failed"));
+            at += (size_t)written;
+        }
+    } while (left);
+    return 1;
+}
+
+/* Feeds what was read, some bytes at a time. */
+static int feed(registryd_session session, const char *bytes, size_t length)
+{
+    const char *given = getenv("EMBEDDED_PIECE");
+    size_t piece = given ? strtoul(given, NULL, 10) : PIECE;
+    for (size_t at = 0; at < length; at += piece) {
+        size_t some = length - at < piece ? length - at : piece;
+        if (registryd_feed(session, bytes + at, some) || !write_replies(session))
+            return 0;
+    }
+    return 1;
+}
+
+static int serve(registryd_session session)
+{
+    static char bytes[PIECE];
+    for (;;) {
+        ssize_t got = read(STDIN_FILENO, bytes, sizeof bytes);
+        if (got < 0)
+            return tell("input failed");
+        int goes_on = got ? feed(session, bytes, (size_t)got) : !registryd_save(session) && write_replies(session);
+        if (!goes_on) {
+            registryd_error(session, words, sizeof words);
+            return tell(words);
+        }
+        if (!got)
+            return 0;
+    }
+}
+
+int main(int count, char **given)
+{
+    registryd_session session;
+    if (count < 2 || strcmp(given[1], "serve"))
+        return 2;
+    const char *why = open_by(given + 2, &session);
+    if (why)
+        return tell(why);
+    int status = serve(session);
+    registryd_close(session);
+    return status;
+}

@@ -1,0 +1,19 @@
+"""A session in process is killed as the program is, at each call and under load, and crashes with its machine: with the program's own tests,
+each with the judge that it has."""
+import unittest
+
+import test_durable_kills
+import test_kill_sessions
+from in_process import InProcess
+
+
+class Kills(InProcess, test_durable_kills.Kills):
+    pass
+
+
+class UnderLoad(InProcess, test_kill_sessions.Kills):
+    pass
+
+
+if __name__ == "__main__":
+    unittest.main()

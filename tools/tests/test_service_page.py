@@ -1,0 +1,191 @@
+"""What docs/SERVICE.md tells can be done as it says: what is typed, the programs in three languages, the unit of systemd, an upgrade."""
+import configparser
+import os
+import re
+import shlex
+import signal
+import socket
+import subprocess
+import sys
+import tempfile
+import unittest
+from pathlib import Path
+
+from program import LIST, PROGRAM, TOP, heed_signals, publish, skip_without
+from library import CLIENT, FOLDER, needs_library
+from services import Case, Client
+from test_client_rust import HERE, why_not_built
+from test_readme import answers, blocks, page
+
+sys.path.insert(0, os.path.join(TOP, "tools"))
+from prefix import install
+from programs import COMPILED, Program
+from installed import pieces
+from registry import table
+from registry.service import client, readers, service, watching
+
+PAGE, SOCKET = "docs/SERVICE.md", "/run/registryd/socket"
+BLOCKS = blocks(PAGE)
+
+
+class Typed(unittest.TestCase):
+    def test_the_first_service(self):
+        with tempfile.TemporaryDirectory() as folder:
+            self.assertEqual(answers(folder, BLOCKS[0]), (BLOCKS[1], 0))
+            self.assertTrue(Path(folder, "team.journal").read_text().endswith("\nend 2\n"))
+
+    def test_it_tells_of_each_word(self):
+        of = table.subcommand("serve")
+        told = dict(re.findall(r"^\| `(--[a-z-]+) [^|]*\| [^|]* \| ([^|]*) \|$", page(PAGE), re.M))
+        self.assertEqual(set(told), {it.flag for it in of.words} - {"--mode", "--group"})
+        plan = service.Plan("")
+        for name, value in (("--readers", plan.readers), ("--seconds", plan.seconds), ("--workers", plan.workers), ("--clients", plan.clients)):
+            self.assertEqual(told[name].replace(",", ""), str(value))
+            self.assertIn(f"(else: {value})", next(it.about for it in of.words if it.flag == name))
+
+    def test_its_numbers_are_those_of_the_service(self):
+        text = page(PAGE)
+        for said in (f": {client.MOST_ASKED} lines of a client are under way", f"cut off after {client.STALLED} seconds", "for a quarter of a second"):
+            self.assertIn(said, text)
+        self.assertEqual((readers.PATIENCE, watching.SLOW), (0.25, 1.0))
+
+
+class Languages(Case):
+    """The programs that the page shows, over a service with what they ask for."""
+
+    def setUp(self):
+        super().setUp()
+        self.service = self.begin()
+        with self.service.client() as one:
+            one.ask(publish("log", "1.3.0"), publish("app", "1.0.0", ["log ^1.2"]))
+
+    def source(self, mark, name):
+        """The file of a program of the page, with this service's socket in it."""
+        path = Path(self.folder, name)
+        # with the empty lines in it
+        text = next(it for it in re.findall(r"(?:^    .*\n|^\n(?=    ))+", page(PAGE), re.M) if mark in it)
+        self.assertIn(SOCKET, text)
+        path.write_text(re.sub("^    ", "", text.strip("\n"), flags=re.M).replace(SOCKET, self.service.socket) + "\n")
+        return path
+
+    def printed(self, *words, **more):
+        done = subprocess.run(words, stdout=subprocess.PIPE, stderr=subprocess.PIPE, text=True, timeout=60, cwd=self.folder, **more)
+        self.assertEqual((done.returncode, done.stderr), (0, ""))
+        return done.stdout
+
+    def test_python(self):
+        path = self.source("Registry(connect=", "asks.py")
+        environment = {**os.environ, "PYTHONPATH": os.path.join(TOP, "clients", "python")}
+        self.assertEqual(self.printed(sys.executable, path, env=environment), "{'app': '1.0.0', 'log': '1.3.0'}\n")
+
+    @needs_library
+    @skip_without("cc", "gcc")
+    def test_c(self):
+        path = self.source("int main(void)", "asks.c")
+        self.printed("cc", "-std=c11", "-Wall", "-Wextra", "-Werror", "-I", CLIENT, path, FOLDER / "libregistryd.a", "-lpthread", "-o", path.with_suffix(""))
+        self.assertEqual(self.printed(path.with_suffix("")), '{"revision":2,"selected":[["app","1.0.0"],["log","1.3.0"]]}\n')
+
+    def test_rust(self):
+        if without := why_not_built():
+            self.skipTest(without)
+        path, crate = self.source("fn main()", "asks.rs"), os.path.join(self.folder, "libregistryd.rlib")
+        for words in (["--crate-type", "rlib", "--crate-name", "registryd", os.path.join(HERE, "src", "lib.rs"), "-o", crate],
+                      ["-D", "warnings", "--extern", f"registryd={crate}", path, "-o", path.with_suffix("")]):
+            self.printed("rustc", "--edition", "2021", *words)
+        self.assertEqual(self.printed(path.with_suffix("")), 'Versions([("app", "1.0.0"), ("log", "1.3.0")])\n')
+
+
+class Unit(unittest.TestCase):
+    """The service as it is installed, begun by the words of its unit where no systemd runs."""
+
+    def setUp(self):
+        self.folder = Path(self.enterContext(tempfile.TemporaryDirectory()))
+        self.prefix = self.folder / "the prefix"
+        self.install()
+        self.unit = self.read_unit()
+
+    def install(self):
+        install(self.prefix, pieces(Program(Path(PROGRAM), COMPILED, ""), str(self.prefix)))
+
+    def read_unit(self):
+        unit = configparser.RawConfigParser(strict=True)
+        unit.optionxform = str
+        unit.read_string((self.prefix / "lib/systemd/system/registryd.service").read_text())
+        return unit
+
+    def begin(self):
+        """Begins it as systemd does: with its folders, and told where it says that it is ready."""
+        said = self.unit["Service"]
+        words = shlex.split(said["ExecStart"].replace("%%", "%"))
+        for name in ("State", "Runtime"):
+            self.assertEqual(said[f"{name}Directory"], "registryd")
+        (self.folder / "run").mkdir(exist_ok=True)
+        (self.folder / "lib").mkdir(exist_ok=True)
+        words = [it.replace("/run/registryd", str(self.folder / "run")).replace("/var/lib/registryd", str(self.folder / "lib")) for it in words]
+        heard = socket.socket(socket.AF_UNIX, socket.SOCK_DGRAM)
+        path = self.folder / "notify"
+        path.unlink(missing_ok=True)
+        heard.bind(str(path))
+        heard.settimeout(30)
+        running = subprocess.Popen(words, stdin=subprocess.DEVNULL, stdout=subprocess.PIPE, stderr=subprocess.PIPE, text=True, umask=int(said["UMask"], 8),
+                                   preexec_fn=heed_signals, env={"PATH": os.environ["PATH"], "NOTIFY_SOCKET": str(path)})
+        self.addCleanup(running.communicate)
+        self.addCleanup(running.kill)
+        with heard:
+            self.assertEqual(heard.recv(100), b"READY=1")
+        return running
+
+    def test_it_is_begun_used_upgraded_and_nothing_is_lost(self):
+        first = self.begin()
+        with Client(str(self.folder / "run/socket")) as client:
+            self.assertEqual(client.ask(publish("log", "1.3.0")), [{"ok": True, "revision": 1}])
+        self.assertEqual((self.folder / "run/socket").stat().st_mode & 0o777, 0o660)
+        self.assertEqual((self.folder / "lib/registry.journal").stat().st_mode & 0o777, 0o600)
+        self.install()  # a newer one, while it runs
+        with Client(str(self.folder / "run/socket")) as client:
+            self.assertEqual(client.ask(publish("log", "1.4.0")), [{"ok": True, "revision": 2}])
+        first.send_signal(signal.SIGTERM)
+        self.assertEqual((first.wait(30), first.stderr.read()), (0, ""))
+        second = self.begin()
+        with Client(str(self.folder / "run/socket")) as client:
+            self.assertEqual(client.ask(LIST), [{"packages": [["log", [["1.3.0", False], ["1.4.0", False]]]], "revision": 2}])
+        second.kill()
+        second.wait()
+        self.begin()
+        with Client(str(self.folder / "run/socket")) as client:
+            self.assertEqual(client.ask(publish("log", "1.5.0")), [{"ok": True, "revision": 3}])
+
+    def test_what_it_may_do(self):
+        said = self.unit["Service"]
+        self.assertEqual((said["Type"], said["KillMode"], said["User"], said["Restart"]), ("notify", "mixed", "registryd", "on-failure"))
+        for name in ("NoNewPrivileges", "ProtectHome", "PrivateTmp", "PrivateDevices", "RestrictSUIDSGID", "MemoryDenyWriteExecute"):
+            self.assertEqual(said[name], "yes")
+        self.assertEqual((said["ProtectSystem"], said["CapabilityBoundingSet"], said["IPAddressDeny"]), ("strict", "", "any"))
+        # a service that is told to stop has that long, and needs less
+        self.assertGreater(int(said["TimeoutStopSec"]), service.GRACE + service.ENDING + service.READING)
+        users = (self.prefix / "lib/sysusers.d/registryd.conf").read_text()
+        self.assertRegex(users, rf"(?m)^u {said['User']} - ")
+
+    @skip_without("systemd-analyze", "systemd")
+    def test_systemd_reads_it(self):
+        path = self.prefix / "lib/systemd/system/registryd.service"
+        done = subprocess.run(["systemd-analyze", "verify", path], stdin=subprocess.DEVNULL, stdout=subprocess.PIPE, stderr=subprocess.STDOUT, text=True,
+                              timeout=60, env={**os.environ, "MANPATH": str(self.prefix / "share/man")})
+        self.assertEqual((done.returncode, done.stdout), (0, ""))
+        done = subprocess.run(["systemd-analyze", "security", "--offline=yes", "--threshold=20", path], stdin=subprocess.DEVNULL, stdout=subprocess.PIPE,
+                              stderr=subprocess.STDOUT, text=True, timeout=60)
+        self.assertEqual(done.returncode, 0, done.stdout[-300:])
+
+    @skip_without("systemd-sysusers", "systemd")
+    def test_its_user_is_made(self):
+        root = self.folder / "root"
+        (root / "etc").mkdir(parents=True)
+        done = subprocess.run(["systemd-sysusers", f"--root={root}", self.prefix / "lib/sysusers.d/registryd.conf"], stdin=subprocess.DEVNULL,
+                              stdout=subprocess.PIPE, stderr=subprocess.PIPE, text=True, timeout=60)
+        self.assertEqual(done.returncode, 0, done.stderr)
+        self.assertRegex((root / "etc/passwd").read_text(), "(?m)^registryd:")
+        self.assertRegex((root / "etc/group").read_text(), "(?m)^registryd:")
+
+
+if __name__ == "__main__":
+    unittest.main()
