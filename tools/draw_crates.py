@@ -1,8 +1,9 @@
 #!/usr/bin/env python3
 """Draws which crate stands on which, from crates.txt, as docs/crates.svg.
 
-A crate stands below all that stand on it, as near to them as it can: by the longest way down from the program. A line
-is drawn only where no others say it already. What the program doesn't stand on is for the tests or an example, and apart.
+A crate stands below all that stand on it, as near to them as it can: by the longest way down from the program, and from the
+static library beside it. A line is drawn only where no others say it already. What neither stands on is for the tests or an
+example, and apart.
 """
 import os
 import random
@@ -12,7 +13,7 @@ from statistics import mean
 from progress import TOP
 from registry.svg import plain_text as text
 
-PROGRAM = "registryd"
+TOPS = ("registryd", "embedded")
 PICTURE = os.path.join(TOP, "docs", "crates.svg")
 WIDTH, HEIGHT = 136, 40
 # from the middle of a box to that of the next one, and from one row to the next
@@ -46,9 +47,9 @@ def edges_of(crates):
             for name in crates}
 
 
-def depths_of(edges, top):
+def depths_of(edges, tops):
     """How many crates there are on the longest way down to each."""
-    depths = {top: 0}
+    depths = dict.fromkeys(tops, 0)
 
     def go(name):
         for below in edges[name]:
@@ -56,7 +57,8 @@ def depths_of(edges, top):
                 depths[below] = depths[name] + 1
                 go(below)
 
-    go(top)
+    for top in tops:
+        go(top)
     return depths
 
 
@@ -189,7 +191,7 @@ def kit_of(crates, name):
 
 
 def apart(crates, edges, names, y):
-    """The crates beside the program, one under the other, each with those right below it in words."""
+    """The crates beside these, one under the other, each with those right below it in words."""
     said = [text(MARGIN, y, "for the tests, and an example", 12, "#667788", "start")]
     for place, name in enumerate(names):
         top = y + 14 + place * (HEIGHT + 10)
@@ -202,7 +204,7 @@ def picture():
     """The text of the picture."""
     crates = stands_on()
     edges = edges_of(crates)
-    depths = depths_of(edges, PROGRAM)
+    depths = depths_of(edges, TOPS)
     rows, short = rows_of(edges, depths)
     rows = ordered(rows, short)
     places = places_of(rows, short)

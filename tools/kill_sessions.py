@@ -26,6 +26,7 @@ import time
 
 sys.path.insert(0, os.path.join(os.path.dirname(os.path.abspath(__file__)), "tests"))
 import program
+import tied
 from made_lines import Maker
 from plain_remnant import NoRemnant, Reader
 from plain_session import PlainSession
@@ -87,7 +88,7 @@ class Session:
     """A program, a thread that writes its lines, and the replies that are read until it is killed."""
 
     def __init__(self, words, bursts):
-        self.running = subprocess.Popen([program.PROGRAM, *words], stdin=subprocess.PIPE, stdout=subprocess.PIPE, stderr=subprocess.PIPE, bufsize=0)
+        self.running = tied.Tied([program.PROGRAM, *words], stdin=subprocess.PIPE, stdout=subprocess.PIPE, stderr=subprocess.PIPE, bufsize=0)
         self.bursts, self.count, self.sent = bursts, sum(map(len, bursts)), 0
         self.read, self.replies, self.is_open = b"", 0, True
         self.writer = threading.Thread(target=self.write)

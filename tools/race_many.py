@@ -24,6 +24,7 @@ import time
 sys.path.insert(0, os.path.join(os.path.dirname(os.path.abspath(__file__)), "tests"))
 import plain_race
 import program
+import tied
 from made_lines import Maker
 
 SOURCE = os.path.join(program.TOP, "tools", "pause_threads", "pause.c")
@@ -82,7 +83,7 @@ def run(rng, pausing, paths):
     # what is started runs where this process does
     os.sched_setaffinity(0, sorted(everywhere)[:rng.choice(PROCESSORS)])
     try:
-        running = subprocess.Popen([program.PROGRAM, "race", *paths], env=env, stdout=subprocess.PIPE, stderr=subprocess.PIPE)
+        running = tied.Tied([program.PROGRAM, "race", *paths], env=env, stdout=subprocess.PIPE, stderr=subprocess.PIPE)
     finally:
         os.sched_setaffinity(0, everywhere)
     with running:

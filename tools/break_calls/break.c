@@ -140,6 +140,16 @@ int unlink(const char *path) {
     return (REAL(unlink))(path);
 }
 
+int stat(const char *restrict path, struct stat *restrict found) {
+    FAIL_OR_GO_ON("stat", -1)
+    return (REAL(stat))(path, found);
+}
+
+int fstat(int file, struct stat *found) {
+    FAIL_OR_GO_ON("fstat", -1)
+    return (REAL(fstat))(file, found);
+}
+
 int statx(int folder, const char *restrict path, int flags, unsigned wanted, struct statx *restrict found) {
     FAIL_OR_GO_ON("statx", -1)
     return (REAL(statx))(folder, path, flags, wanted, found);
