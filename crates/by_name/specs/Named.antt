@@ -43,6 +43,10 @@ numbered_cause packages (named.Need i) = Some (cause.Need i)
 numbered_cause packages (named.NotAllowed name versions) = option_map (λ p. cause.NotAllowed p versions) (number_of packages name)
 numbered_cause packages named.Root = Some cause.Root
 
+-- both causes by number, if each name of them has one
+abbrev pub numbered_causes : Packages → NamedCause × NamedCause → Option (Cause × Cause)
+numbered_causes packages causes = option_and_then (λ one. option_map (λ two. (one, two)) (numbered_cause packages causes.1)) (numbered_cause packages causes.0)
+
 abbrev pub numbered_line : Packages → NamedLine → Option Line
 numbered_line packages line =
     option_and_then (λ terms. option_and_then (λ one. option_and_then (λ two. option_map (λ pivot. record {

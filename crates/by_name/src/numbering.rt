@@ -1,7 +1,7 @@
 //! Derivations by name, turned into those by number that a registry can check.
-ghost use Rattle.std.specs.Prelude.{◌≡◌, Some, option_and_then, option_map, IfOk};
+ghost use Rattle.std.specs.Prelude.{◌≡◌, Some, option_map, IfOk};
 ghost use Rattle.terms.specs.Incompats.{IsIncompat};
-ghost use Rattle.by_name.specs.Named.{number_in, numbered_cause, numbered_line, numbered_premise, numbered_terms, FindsOne, IsNumbered};
+ghost use Rattle.by_name.specs.Named.{number_in, numbered_cause, numbered_causes, numbered_line, numbered_premise, numbered_terms, FindsOne, IsNumbered};
 
 use crate::derivation::{NamedCause, NamedDerivation, NamedLine, NamedPremise};
 use crate::naming::copied;
@@ -118,7 +118,7 @@ fn numbered_causes(
     registry: &Registry,
     causes: &(NamedCause, NamedCause),
 ) -> Result<Option<(Cause, Cause)>, AllocError>
-    ensures { IfOk result (λ found. found ≡ option_and_then (λ one. option_map (λ two. (one, two)) (numbered_cause registry.now.packages causes.now.1)) (numbered_cause registry.now.packages causes.now.0)) }
+    ensures { IfOk result (λ found. found ≡ numbered_causes registry.now.packages causes.now) }
 {
     let Some(one) = numbered_cause(alloc, registry, &causes.0)? else {
         return Ok(None);

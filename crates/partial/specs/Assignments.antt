@@ -47,6 +47,14 @@ is_decided made pkg = is_some (decided made pkg)
 
 -- ---- packages to decide
 
+-- the assignments on the package are true of no choice but this ordinal
+abbrev pub SaysOnly : List Assignment → ℕ → ℕ → Type 0
+SaysOnly made pkg ordinal = (choice : Option ℕ) → says made pkg choice ≡ true → choice ≡ Some ordinal
+
+-- the decision for an ordinal after these assignments, on a level of its own
+abbrev pub decision_after : List Assignment → ℕ → ℕ → Assignment
+decision_after made pkg ordinal = record { pkg = pkg; term = In (ordinal ∷ []); level = decisions made + 1; why = Decided ordinal }
+
 abbrev pub is_positive : Term → Bool
 is_positive (In set) = true
 is_positive (NotIn set) = false

@@ -2,6 +2,7 @@
 use Rattle.std.specs.Prelude.{◌≡◌, ◌<◌, ◌≤◌, ◌^◌, ℕ, suc, List, [], ◌∷◌, ◌++◌, take, length, slice_get, Option, None, Some, nat_eq, Vec, vec_len, vec_capacity, if◌then◌else◌}
 use Rattle.std.specs.Option.{option_flatten, option_map, option_or}
 use Rattle.terms.specs.Terms.{true_of}
+use Rattle.terms.specs.declared.term.Term.{Term}
 use Rattle.terms.specs.declared.term.Term.TheVariants.{NotIn}
 use Rattle.partial.specs.declared.assignment.Assignment.{Assignment}
 use Rattle.partial.specs.declared.ledger.Note.{Note}
@@ -22,6 +23,10 @@ through (Some i) = suc i
 abbrev pub IsPlaceOn : List Assignment → ℕ → Option ℕ → Type 0
 IsPlaceOn made pkg None = Unit {0}
 IsPlaceOn made pkg (Some i) = (a : Assignment) × (slice_get made i ≡ Some a) × (a.pkg ≡ pkg)
+
+-- the term says of each package what its assignments up to this place say
+abbrev pub SaysThrough : List Assignment → Option ℕ → Term → Type 0
+SaysThrough made place term = (pkg : ℕ) (choice : Option ℕ) → IsPlaceOn made pkg place → true_of term choice ≡ says (take (through place) made) pkg choice
 
 -- the note of an assignment that came after `before`
 pub record IsNote (before : List Assignment) (a : Assignment) (note : Note) : Type 0 where

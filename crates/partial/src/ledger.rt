@@ -3,7 +3,7 @@
 ghost use Rattle.std.specs.Prelude.{◌≡◌, ◌≤◌, ◌<◌, ◌++◌, ◌∷◌, ℕ, [], None, Option, Some, false, true, nat_eq, slice_get, take, length, IfOk, OnErr, OnOk};
 ghost use Rattle.terms.specs.Terms.{true_of};
 ghost use Rattle.partial.specs.Assignments.{decided, decisions, is_decided, is_decision, says, upto, LevelsFrom};
-ghost use Rattle.partial.specs.Ledger.{last_place, through, AreFew, AreSameHeads, HasRoom, IsLedger, IsPlaceOn};
+ghost use Rattle.partial.specs.Ledger.{last_place, through, AreFew, AreSameHeads, HasRoom, IsLedger, IsPlaceOn, SaysThrough};
 
 use crate::assignment::{Assignment, Why};
 use std::alloc::{AllocError, Global};
@@ -140,7 +140,7 @@ pub(crate) fn last_on(ledger: &Ledger, pkg: Pkg) -> Option<usize>
 pub(crate) fn said_at(ledger: &Ledger, place: Option<usize>) -> &Term
     requires kept { IsLedger ledger.now }
     requires within { through place ≤ length ledger.now.made.items }
-    ensures { (pkg : ℕ) (choice : Option ℕ) → IsPlaceOn ledger.now.made.items pkg place → true_of result.now choice ≡ says (take (through place) ledger.now.made.items) pkg choice }
+    ensures { SaysThrough ledger.now.made.items place result.now }
 {
     match place {
         None => &ledger.any,

@@ -4,7 +4,7 @@ ghost use Rattle.std.specs.Prelude.{◌≡◌, ◌+◌, ◌<◌, ◌++◌, ◌�
 ghost use Rattle.std.specs.List.Sorted.{IsStrictlyIncreasing};
 ghost use Rattle.terms.specs.Sets.{has};
 ghost use Rattle.terms.specs.Terms.{true_of};
-ghost use Rattle.partial.specs.Assignments.{decided, decisions, is_decided, is_undecided, says, upto, IsOpenTo, IsPartial};
+ghost use Rattle.partial.specs.Assignments.{decided, decision_after, decisions, is_decided, is_undecided, says, upto, IsOpenTo, IsPartial, SaysOnly};
 ghost use Rattle.partial.specs.Ledger.{last_place};
 ghost use Rattle.partial.specs.Rank.{rank, FallsBack, TakesAway};
 ghost use Rattle.partial.specs.Satisfying.{CanGoBack, IsSatisfier, Satisfied, Stands};
@@ -110,7 +110,7 @@ impl Partial {
     pub fn settled(&self, pkg: Pkg) -> Option<Settled<'_>>
         ensures said { IfSome result (λ settled. (choice : Option ℕ) → true_of settled.said.now choice ≡ says self.now pkg choice) }
         ensures decision { IfSome result (λ settled. settled.decision ≡ decided self.now pkg) }
-        ensures only { IfSome result (λ settled. IfSome settled.decision (λ ordinal. (choice : Option ℕ) → says self.now pkg choice ≡ true → choice ≡ Some ordinal)) }
+        ensures only { IfSome result (λ settled. IfSome settled.decision (SaysOnly self.now pkg)) }
         ensures none { IfNone result ((choice : Option ℕ) → says self.now pkg choice ≡ true) }
         ensures undecided { IfNone result (decided self.now pkg ≡ None) }
         ensures lawful { IsPartial self.now }
@@ -204,7 +204,7 @@ impl Partial {
     pub fn decide(&mut self, pkg: Pkg, ordinal: u32) -> Result<(), AllocError>
         requires undecided { is_decided self.old pkg ≡ false }
         requires within { says self.old pkg (Some ordinal) ≡ true }
-        ensures ok { OnOk result (self.new ≡ self.old ++ record { pkg = pkg; term = Term.In (ordinal ∷ []); level = decisions self.old + 1; why = Why.Decided ordinal } ∷ []) }
+        ensures ok { OnOk result (self.new ≡ self.old ++ decision_after self.old pkg ordinal ∷ []) }
         ensures falls { OnOk result (rank self.new < rank self.old) }
         ensures err { OnErr result (self.new ≡ self.old) }
     {

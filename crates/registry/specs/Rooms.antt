@@ -28,6 +28,10 @@ abbrev pub unknown_names : (Text → Bool) → List (Text × Text) → List Text
 unknown_names known [] = []
 unknown_names known (d ∷ rest) = if known d.0 then unknown_names known rest else d.0 ∷ unknown_names known rest
 
+-- the names of these needs that are not among these, in order
+abbrev pub names_beside : List Text → List (Text × Text) → List Text
+names_beside names needs = unknown_names (λ name. list_any (bytes_eq name) names) needs
+
 -- the names of packages, each with its list
 abbrev pub names_in : List (Text × PublicationList) → List Text
 names_in packages = map (λ (p : Text × PublicationList). p.0) packages
@@ -44,13 +48,17 @@ room_where more own (Some i) = slice_index more i
 -- what was made ready is what the publication needs, beside these names and lists with room for so many more
 pub record IsReady (names : List Text) (names_room : ℕ) (lists : List PublicationList) (lists_room : ℕ) (ready : Ready) : Type 0 where
   pub placed : ready.place ≡ position (bytes_eq ready.name) names
-  pub named : names_in ready.added.items ≡ unknown_names (λ name. list_any (bytes_eq name) names) ready.needs
+  pub named : names_in ready.added.items ≡ names_beside names ready.needs
   pub names_fit : length ready.added.items < names_room
   pub lists_fit : length ready.added.items < lists_room
   -- the list of the package itself, where it is new
   pub own : ready.own.publications ≡ []
   pub empty : AreEmpty ready.added.items
   pub room : 0 < room_where (rooms_of lists) ready.own.room ready.place
+
+-- each list stays at its place, with as much room
+abbrev pub KeepTheirRooms : List PublicationList → List PublicationList → Type 0
+KeepTheirRooms old new = (i : ℕ) → i < length old → (i < length new) × (slice_index (rooms_of new) i ≡ slice_index (rooms_of old) i)
 
 -- the publication that something was made ready for
 abbrev pub publication_for : Option Ready → Option (Text × List (Text × Text))

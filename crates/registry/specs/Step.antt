@@ -87,6 +87,10 @@ set_yanked version yanked (v ∷ rest) =
     if same_precedence version v.version then (record { version = v.version; needs = v.needs; yanked = yanked }) ∷ rest
     else v ∷ set_yanked version yanked rest
 
+-- the packages, with the version of equal precedence of the package of this name yanked or not
+abbrev pub with_yanked : Text → Text → Bool → Packages → Packages
+with_yanked name version yanked packages = with_versions name (set_yanked version yanked) packages
+
 -- the packages after an accepted command
 unfoldable pub after : Packages → Change → Packages
 after packages (Publish name version needs) = publish packages name version needs

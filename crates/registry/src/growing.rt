@@ -1,14 +1,14 @@
 // The two columns of the registry, names and lists of publications, grow together.
 
-ghost use Rattle.std.specs.Prelude.{◌≡◌, ◌<◌, ◌≤◌, ◌+◌, ℕ, [], count_by, not, length, slice_index, position, Some, vec_len, vec_capacity};
+ghost use Rattle.std.specs.Prelude.{◌≡◌, ◌<◌, ◌≤◌, ◌+◌, [], count_by, not, length, slice_index, position, Some, vec_len, vec_capacity};
 ghost use Rattle.std.specs.List.{list_any};
 ghost use Rattle.std.specs.Str.{bytes_eq};
 ghost use Rattle.indexmap.specs.IndexSet.{spare};
 ghost use Rattle.registry.specs.Publications.{packages_in, rooms_of};
 ghost use Rattle.registry.specs.Registry.{number_of};
-ghost use Rattle.registry.specs.Rooms.{names_in, room_where, AreEmpty};
+ghost use Rattle.registry.specs.Rooms.{names_in, room_where, AreEmpty, KeepTheirRooms};
 ghost use Rattle.registry.specs.Step as step;
-ghost use Rattle.registry.specs.Step.{with_listed, with_name, with_versions};
+ghost use Rattle.registry.specs.Step.{with_listed, with_name, with_yanked};
 
 use crate::publications::Publications;
 use indexmap::IndexSet;
@@ -70,7 +70,7 @@ fn add_name(
     requires lists_room { vec_len lists.old < vec_capacity lists.old }
     requires empty { publications.publications ≡ [] }
     ensures paired { length names.new.keys ≡ length lists.new.items }
-    ensures stay { (i : ℕ) → i < length lists.old.items → (i < length lists.new.items) × (slice_index (rooms_of lists.new.items) i ≡ slice_index (rooms_of lists.old.items) i) }
+    ensures stay { KeepTheirRooms lists.old.items lists.new.items }
     ensures packages { packages_in names.new.keys lists.new.items ≡ with_name (packages_in names.old.keys lists.old.items) name }
     ensures names_room { spare names.old ≤ spare names.new + 1 }
     ensures lists_room { (vec_capacity lists.old ≤ vec_capacity lists.new) × (vec_len lists.new ≤ vec_len lists.old + 1) }
@@ -93,7 +93,7 @@ pub fn add_names(
     requires lists_room { vec_len lists.old + length added.items ≤ vec_capacity lists.old }
     requires empty { AreEmpty added.items }
     ensures paired { length names.new.keys ≡ length lists.new.items }
-    ensures stay { (i : ℕ) → i < length lists.old.items → (i < length lists.new.items) × (slice_index (rooms_of lists.new.items) i ≡ slice_index (rooms_of lists.old.items) i) }
+    ensures stay { KeepTheirRooms lists.old.items lists.new.items }
     ensures packages { packages_in names.new.keys lists.new.items ≡ with_listed (packages_in names.old.keys lists.old.items) (names_in added.items) }
 {
     for (name, publications) in added {
@@ -111,7 +111,7 @@ pub fn set_yanked_in(
 )
     requires paired { length names.now.keys ≡ length lists.old.items }
     ensures paired { length names.now.keys ≡ length lists.new.items }
-    ensures packages { packages_in names.now.keys lists.new.items ≡ with_versions name.now (step.set_yanked version.now yanked) (packages_in names.now.keys lists.old.items) }
+    ensures packages { packages_in names.now.keys lists.new.items ≡ with_yanked name.now version.now yanked (packages_in names.now.keys lists.old.items) }
 {
     if let Some(index) = names.get_index_of(name) {
         let list = &mut lists[index];

@@ -1,12 +1,12 @@
 // What is made ready for a publication, so that it takes no memory.
 
-ghost use Rattle.std.specs.Prelude.{◌≡◌, ◌<◌, ◌≤◌, ◌-◌, ◌↔◌, ◌≢◌, ◌∷◌, ◌++◌, ℕ, List, [], length, vec_capacity, vec_len, None, Some, IfNone, IfOk, IfSome, IsTrue, OnOk, is_some, position};
+ghost use Rattle.std.specs.Prelude.{◌≡◌, ◌<◌, ◌≤◌, ◌-◌, ◌↔◌, ◌≢◌, ◌∷◌, ◌++◌, [], length, vec_capacity, vec_len, None, Some, IfOk, IfSome, IsTrue, OnOk, is_some, position};
 ghost use Rattle.std.specs.List.{list_any};
 ghost use Rattle.std.specs.Option.{ForSome, option_map};
 ghost use Rattle.std.specs.Str.{bytes_eq};
 ghost use Rattle.indexmap.specs.IndexSet.{spare};
 ghost use Rattle.registry.specs.Publications.{lists_of, rooms_of};
-ghost use Rattle.registry.specs.Rooms.{names_in, publication_for, room_where, unknown_names, AreEmpty, IsReady};
+ghost use Rattle.registry.specs.Rooms.{names_beside, names_in, publication_for, room_where, AreEmpty, IsReady};
 
 use crate::dependencies::{Dependencies, are_same};
 use crate::listed::{Listed, Place};
@@ -198,7 +198,7 @@ fn add_need(
     ensures lists { lists_of lists.new.items ≡ lists_of lists.old.items }
     ensures length { length lists.new.items ≡ length lists.old.items }
     ensures same { OnOk result (named.new.needs ≡ named.old.needs ++ need.now ∷ []) }
-    ensures added { OnOk result (names_in named.new.added.items ≡ names_in named.old.added.items ++ unknown_names (λ name. list_any (bytes_eq name) names.now.keys) (need.now ∷ [])) }
+    ensures added { OnOk result (names_in named.new.added.items ≡ names_in named.old.added.items ++ names_beside names.now.keys (need.now ∷ [])) }
     ensures empty { OnOk result (AreEmpty named.old.added.items → AreEmpty named.new.added.items) }
 {
     match kept_near(names, hint.name(), &need.0) {
@@ -224,7 +224,7 @@ fn name_needs(
     ensures lists { lists_of lists.new.items ≡ lists_of lists.old.items }
     ensures length { length lists.new.items ≡ length lists.old.items }
     ensures same { IfOk result (λ named. named.needs ≡ needs.now) }
-    ensures named { IfOk result (λ named. names_in named.added.items ≡ unknown_names (λ name. list_any (bytes_eq name) names.now.keys) needs.now) }
+    ensures named { IfOk result (λ named. names_in named.added.items ≡ names_beside names.now.keys needs.now) }
     ensures empty { IfOk result (λ named. AreEmpty named.added.items) }
 {
     let mut named = Named {
@@ -251,7 +251,7 @@ fn named_needs(
     ensures lists { lists_of lists.new.items ≡ lists_of lists.old.items }
     ensures length { length lists.new.items ≡ length lists.old.items }
     ensures same { IfOk result (λ named. named.0 ≡ needs.now) }
-    ensures named { IfOk result (λ named. names_in named.1.items ≡ unknown_names (λ name. list_any (bytes_eq name) names.now.keys) needs.now) }
+    ensures named { IfOk result (λ named. names_in named.1.items ≡ names_beside names.now.keys needs.now) }
     ensures empty { IfOk result (λ named. AreEmpty named.1.items) }
 {
     let next = next_place(names, place);

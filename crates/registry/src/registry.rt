@@ -14,7 +14,7 @@ ghost use Rattle.registry.specs.Registry.{Repeats, equals_at, has_version, has_y
 ghost use Rattle.registry.specs.Requests.{is_allowed};
 ghost use Rattle.registry.specs.Rooms.{HasRoomFor};
 ghost use Rattle.registry.specs.Step as step;
-ghost use Rattle.registry.specs.Step.{after, publish, publish_refusal, refusal_of, with_named, with_versions, yank_of};
+ghost use Rattle.registry.specs.Step.{after, publish, publish_refusal, refusal_of, with_named, with_yanked, yank_of};
 
 use crate::Pkg;
 use crate::commands::Command;
@@ -558,7 +558,7 @@ impl Registry {
 
     /// Marks a version as yanked or not.
     fn mark(&mut self, name: &Name, version: &Published, yanked: bool)
-        ensures packages { self.new.packages ≡ with_versions name.now (step.set_yanked version.now yanked) self.old.packages }
+        ensures packages { self.new.packages ≡ with_yanked name.now version.now yanked self.old.packages }
         ensures revision { self.new.revision ≡ self.old.revision }
     {
         drop(self.ready.take());

@@ -42,6 +42,10 @@ meeting versions need = meeting_from 0 versions need
 abbrev pub is_yanked : List Release → Text → Bool
 is_yanked releases version = list_any (λ (release : Release). same_precedence version release.version && release.yanked) releases
 
+-- the release with this ordinal, if there is one, is yanked where the version is
+abbrev pub IsYankedAs : List Release → Text → ℕ → Type 0
+IsYankedAs releases version k = (release : Release) → slice_get releases k ≡ Some release → release.yanked ≡ is_yanked releases version
+
 -- a release with this version as it is published
 abbrev pub published : Text → Release
 published version = record { version = version; yanked = false }
@@ -50,6 +54,10 @@ published version = record { version = version; yanked = false }
 abbrev pub stamped : Text → Bool → List Release → List Release
 stamped version yanked releases =
     map (λ (release : Release). if same_precedence version release.version then record { version = release.version; yanked = yanked } else release) releases
+
+-- where the version with this ordinal has equal precedence, the new releases are the old ones with it yanked or not
+abbrev pub AreStamped : List Release → ℕ → Bool → List Release → Type 0
+AreStamped old ordinal yanked new = (version : Text) → IsFound (versions_of old) version ordinal → new ≡ stamped version yanked old
 
 -- the releases, with the one of this ordinal yanked or not
 abbrev pub marked : List Release → ℕ → Bool → List Release

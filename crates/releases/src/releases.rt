@@ -1,13 +1,12 @@
 // The releases of a package.
 
-ghost use Rattle.std.specs.Prelude.{◌≡◌, ◌<◌, ◌≤◌, ◌^◌, ◌∷◌, ◌++◌, [], ℕ, Bool, true, false, is_some, length, slice_get, Some, IfNone, IfOk, IfSome, IsOk, OnErr, OnOk};
+ghost use Rattle.std.specs.Prelude.{◌≡◌, ◌<◌, ◌≤◌, ◌^◌, ◌∷◌, ◌++◌, [], ℕ, true, false, is_some, length, slice_get, Some, IfNone, IfOk, IfSome, IsOk, OnErr, OnOk};
 ghost use Rattle.terms.specs.Sets.{has};
 ghost use Rattle.releases.specs.Kept.{IsMatching};
 ghost use Rattle.releases.specs.Matching.{ordinals_of};
-ghost use Rattle.releases.specs.Releases.{has_version, is_named, is_yanked, marked, meets_at, published, stamped, versions_of, with_need, IsFound};
-ghost use Rattle.releases.specs.Rising.{IsHighest, IsRising};
+ghost use Rattle.releases.specs.Releases.{has_version, is_named, marked, meets_at, published, stamped, versions_of, with_need, AreStamped, IsFound, IsYankedAs};
+ghost use Rattle.releases.specs.Rising.{IsHighest};
 ghost use Rattle.releases.specs.declared.release.Release.{Release};
-ghost use Rattle.versions.specs.Words.{Text};
 
 use crate::matching::{Matching, computed, keep_set, keep_up, make_room};
 use crate::release::Release;
@@ -87,7 +86,7 @@ impl Releases {
         ensures there { is_some result ≡ has_version (versions_of self.now.releases) version.now }
         ensures found { IfSome result (IsFound (versions_of self.now.releases) version.now) }
         ensures only { IfSome result (λ k. (j : ℕ) → IsFound (versions_of self.now.releases) version.now j → j ≡ k) }
-        ensures yanked { IfSome result (λ k. (release : Release) → slice_get self.now.releases k ≡ Some release → release.yanked ≡ is_yanked self.now.releases version.now) }
+        ensures yanked { IfSome result (IsYankedAs self.now.releases version.now) }
     {
         equal_precedence_is_an_equivalence();
         match place_of(&self.releases, &self.rising, version) {
@@ -257,7 +256,7 @@ impl Releases {
     pub fn yank(&mut self, ordinal: u32)
         requires { ordinal < length self.old.releases }
         ensures releases { self.new.releases ≡ marked self.old.releases ordinal true }
-        ensures stamped { (version : Text) → IsFound (versions_of self.old.releases) version ordinal → self.new.releases ≡ stamped version true self.old.releases }
+        ensures stamped { AreStamped self.old.releases ordinal true self.new.releases }
         ensures needs { self.new.needs ≡ self.old.needs }
         ensures room { self.new.room ≡ self.old.room }
     {
@@ -270,7 +269,7 @@ impl Releases {
     pub fn unyank(&mut self, ordinal: u32)
         requires { ordinal < length self.old.releases }
         ensures releases { self.new.releases ≡ marked self.old.releases ordinal false }
-        ensures stamped { (version : Text) → IsFound (versions_of self.old.releases) version ordinal → self.new.releases ≡ stamped version false self.old.releases }
+        ensures stamped { AreStamped self.old.releases ordinal false self.new.releases }
         ensures needs { self.new.needs ≡ self.old.needs }
         ensures room { self.new.room ≡ self.old.room }
     {

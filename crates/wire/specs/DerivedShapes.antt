@@ -32,6 +32,9 @@ cause_said (shape.Need i) = named.Need i
 cause_said (shape.NotAllowed name versions) = named.NotAllowed name versions
 cause_said shape.Root = named.Root
 
+abbrev pub causes_said : CauseShape × CauseShape → NamedCause × NamedCause
+causes_said causes = (cause_said causes.0, cause_said causes.1)
+
 abbrev pub line_said : LineShape → NamedLine
 line_said line = record {
   conclusion = line.conclusion;

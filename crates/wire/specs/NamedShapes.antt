@@ -150,6 +150,9 @@ requirement_of (named.Need i) = []
 requirement_of (named.NotAllowed name versions) = []
 requirement_of named.Root = []
 
+abbrev pub requirements_of : NamedCause × NamedCause → List Text
+requirements_of causes = requirement_of causes.0 ++ requirement_of causes.1
+
 abbrev pub line_requirements : NamedLine → List Text
 line_requirements line = requirement_of line.causes.0 ++ requirement_of line.causes.1
 

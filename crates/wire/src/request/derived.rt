@@ -7,8 +7,8 @@ ghost use Rattle.std.specs.List.{list_all};
 ghost use Rattle.versions.specs.Refusals.{Gives};
 ghost use Rattle.versions.specs.Words.{is_requirement};
 ghost use Rattle.versions.specs.declared.refusal.Refusal.TheVariants.{BadRequirement};
-ghost use Rattle.wire.specs.DerivedShapes.{cause_said, line_said, premise_said, term_said};
-ghost use Rattle.wire.specs.NamedShapes.{line_requirements, premise_requirements, requirement_of, term_of};
+ghost use Rattle.wire.specs.DerivedShapes.{cause_said, causes_said, line_said, premise_said, term_said};
+ghost use Rattle.wire.specs.NamedShapes.{line_requirements, premise_requirements, requirement_of, requirements_of, term_of};
 ghost use Rattle.wire.specs.Requests.{checked};
 
 use super::cause_shapes::{CauseShape, PremiseShape};
@@ -101,7 +101,7 @@ fn causes_in(
     alloc: Global,
     causes: &(CauseShape<'_>, CauseShape<'_>),
 ) -> Result<(NamedCause, NamedCause), Refusal>
-    ensures { Gives (λ c. c) result (checked (list_all is_requirement (requirement_of (cause_said causes.now.0) ++ requirement_of (cause_said causes.now.1))) (cause_said causes.now.0, cause_said causes.now.1) BadRequirement) }
+    ensures { Gives (λ c. c) result (checked (list_all is_requirement (requirements_of (causes_said causes.now))) (causes_said causes.now) BadRequirement) }
 {
     let one = cause_in(alloc, &causes.0)?;
     let two = cause_in(alloc, &causes.1)?;
