@@ -1,8 +1,9 @@
 -- What is cut from the lines of a search stands where the search is lawful, and is learnt where it rests on premises.
-use Rattle.std.proofs.Common.{◌≡◌, ◌<◌, ◌≤◌, ℕ, List, [], ◌∷◌, ◌++◌, length, get_or, subst, sym, arith}
+use Rattle.std.proofs.Common.{◌≡◌, ◌+◌, ◌<◌, ◌≤◌, ℕ, List, [], ◌∷◌, ◌++◌, length, get_or, ap, subst, sym, arith}
 use Rattle.std.proofs.lemmas.List.Elements.{All-push, Contains-get_or}
+use Rattle.std.proofs.lemmas.List.Sums.{sum_by_push}
 use Rattle.std.proofs.lemmas.Option.{none-some}
-use Rattle.std.specs.Prelude.{All, Some}
+use Rattle.std.specs.Prelude.{All, IfNone, IfSome, None, Option, Some, sum_by}
 use Rattle.registry.specs.Registry.{Packages}
 use Rattle.registry.specs.Requests.{Wanted}
 use Rattle.derivations.specs.Facts.{Terms}
@@ -59,3 +60,25 @@ learnt_by known place lines somewhere shows rest few = record {
   few = few;
   derived = derived_by_premises somewhere.packages somewhere.wanted [] lines (shows.derived somewhere.packages somewhere.wanted somewhere.lawful) rest;
 }
+
+-- ---- how many lines are offered
+
+-- no more were counted than there was room for
+pub counted_few : (found : Option (List Line)) (count room : ℕ) → IfNone found (count ≡ 0) → IfSome found (λ lines. count ≡ length lines) → IfSome found (λ lines. length lines ≤ room) → count ≤ room
+counted_few None count room none some few = omega (arith, none)
+counted_few (Some lines) count room none some few = omega (arith, some, few)
+
+pub counted_some : (found : Option (List Line)) (lines : List Line) (offered pushed : List (List Line)) (taken count now : ℕ) → found ≡ Some lines → IfSome found (λ lines. count ≡ length lines)
+    → pushed ≡ offered ++ lines ∷ [] → taken ≡ sum_by length offered → now ≡ taken + count → now ≡ sum_by length pushed
+counted_some found lines offered pushed taken count now some counts is before more =
+    let own : count ≡ length lines = subst (λ (o : Option (List Line)). IfSome o (λ lines. count ≡ length lines)) some counts in
+    let all : sum_by length pushed ≡ sum_by length (offered ++ lines ∷ []) = ap (λ (l : List (List Line)). sum_by length l) is in
+    let last : sum_by length (offered ++ lines ∷ []) ≡ sum_by length offered + length lines = sum_by_push length offered lines in
+    omega arith
+
+pub counted_none : (found : Option (List Line)) (offered pushed : List (List Line)) (taken count now : ℕ) → found ≡ None → IfNone found (count ≡ 0)
+    → pushed ≡ offered → taken ≡ sum_by length offered → now ≡ taken + count → now ≡ sum_by length pushed
+counted_none found offered pushed taken count now none counts is before more =
+    let own : count ≡ 0 = subst (λ (o : Option (List Line)). IfNone o (count ≡ 0)) none counts in
+    let all : sum_by length pushed ≡ sum_by length offered = ap (λ (l : List (List Line)). sum_by length l) is in
+    omega arith

@@ -5,6 +5,7 @@ use Rattle.derivations.specs.Facts.{Terms}
 use Rattle.derivations.specs.Indexes.{Indexed, IsUnder}
 use Rattle.derivations.specs.Keys.{key_of}
 use Rattle.derivations.specs.Stored.{conclusion_of, is_on, same_terms}
+use Rattle.derivations.specs.declared.index.Link.{Link}
 use Rattle.derivations.specs.declared.line.Line.{Line}
 
 abbrev pub Slots : Type 0
@@ -74,3 +75,7 @@ AreFoundBelow Has first index slots = index.whole ≡ true → (place : ℕ) (li
 -- members may be gone, and each other stands where it stood
 abbrev pub AreFewer : Slots → Slots → Type 0
 AreFewer old new = (place : ℕ) (lines : List Line) → IsMemberAt new place lines → IsMemberAt old place lines
+
+-- no member that stands under the number passes the test
+abbrev pub NoneUnder : (List Line → Bool) → List Link → ℕ → Slots → Type 0
+NoneUnder test links number slots = (place : ℕ) (lines : List Line) → IsMemberAt slots place lines → IsUnder links number place → test lines ≡ false

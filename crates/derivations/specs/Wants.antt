@@ -1,8 +1,8 @@
 -- The requirements on packages that the members of a store rest on.
-use Rattle.std.specs.Prelude.{◌≡◌, ◌<◌, ◌⊎◌, ℕ, true, false, List, [], ◌∷◌, Some, length, slice_get}
+use Rattle.std.specs.Prelude.{◌≡◌, ◌<◌, ◌⊎◌, ℕ, true, List, [], ◌∷◌, Some, length, slice_get}
 use Rattle.versions.specs.Words.{Text, meets}
 use Rattle.derivations.specs.Indexes.{Indexed, IsUnder}
-use Rattle.derivations.specs.Slots.{AreFound, HasKey, IsMemberAt, Slots, is_met, kept}
+use Rattle.derivations.specs.Slots.{AreFound, HasKey, IsMemberAt, NoneUnder, Slots, is_met, kept}
 use Rattle.derivations.specs.declared.facts.Cause.{Cause}
 use Rattle.derivations.specs.declared.facts.Cause.TheVariants as cause
 use Rattle.derivations.specs.declared.index.Link.{Link}
@@ -56,6 +56,10 @@ abbrev pub Rests : List Line → ℕ → Text → Type 0
 Rests [] target need = ⊥
 Rests (line ∷ rest) target need = CauseRests line.causes.0 target need ⊎ CauseRests line.causes.1 target need ⊎ Rests rest target need
 
+-- a member in this place is held by each requirement that these lines rest on
+abbrev pub HoldsAt : Wanted → ℕ → List Line → Type 0
+HoldsAt wanted place lines = (target : ℕ) (need : Text) → Rests lines target need → IsHeld wanted place target need
+
 -- each member is held by each requirement that it rests on
 abbrev pub AreHeld : Wanted → Slots → Type 0
 AreHeld wanted slots = IsWhole wanted → (place : ℕ) (lines : List Line) (target : ℕ) (need : Text) → IsMemberAt slots place lines → Rests lines target need → IsHeld wanted place target need
@@ -66,7 +70,7 @@ AreHeldBelow first wanted slots = IsWhole wanted → (place : ℕ) (lines : List
 
 -- no member is met that stands under the requirement in this place, if that is one on the package which the version meets
 abbrev pub AreDropped : List Want → List Link → ℕ → ℕ → Text → Slots → Type 0
-AreDropped wants members want p version slots = (need : Text) → IsWant wants want p need → meets need version ≡ true → (place : ℕ) (lines : List Line) → IsMemberAt slots place lines → IsUnder members want place → is_met p version lines ≡ false
+AreDropped wants members want p version slots = (need : Text) → IsWant wants want p need → meets need version ≡ true → NoneUnder (is_met p version) members want slots
 
 -- so many members stand in the places, and are found under their keys and under what they rest on
 pub record IsStore (count : ℕ) (slots : Slots) (keys : Indexed) (wanted : Wanted) : Type 0 where

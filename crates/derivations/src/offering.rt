@@ -1,10 +1,12 @@
 // What a search offers to be learnt.
 
-ghost use Rattle.std.specs.Prelude.{◌≡◌, ◌≤◌, ◌↔◌, length, All, IfOk, IfSome, IsTrue};
+ghost use Rattle.std.specs.Prelude.{◌≡◌, ◌≤◌, ◌+◌, ◌-◌, ◌↔◌, false, length, sum_by, All, IfNone, IfOk, IfSome, IsTrue};
 ghost use Rattle.std.specs.Bool.{OnTrue};
 ghost use Rattle.derivations.specs.Known.{AreClear, AreOrdered, IsResolvedAt, ShowsLine};
 ghost use Rattle.derivations.specs.Learning.{IsLearnt};
 ghost use Rattle.derivations.specs.Offering.{AreLawfulSomewhere, MayRestOn, RestOnPremises, ShowsOne, StandWhereLawful};
+ghost use Rattle.derivations.specs.declared.learnt.TheConstants.{LINE_LIMIT};
+ghost use Rattle.derivations.specs.declared.offering.TheConstants.{OFFERED_LIMIT};
 
 use crate::cutting::{Known, Reason, few_lines_of, is_resolved, zeros};
 use crate::facts::Cause;
@@ -17,7 +19,10 @@ const OFFERED_LIMIT: usize = 1_024;
 
 /// How many lines one more offer may have behind so many lines of others: as many as are left, but for
 /// those that are kept for the last one.
-fn room_behind(taken: usize, is_last: bool) -> usize {
+fn room_behind(taken: usize, is_last: bool) -> usize
+    ensures few { result ≤ LINE_LIMIT }
+    ensures kept { is_last ≡ false → taken ≤ OFFERED_LIMIT - LINE_LIMIT → taken + result ≤ OFFERED_LIMIT - LINE_LIMIT }
+{
     if is_last {
         return LINE_LIMIT;
     }
@@ -100,12 +105,14 @@ fn rest_on_premises(lines: &[Line]) -> bool
     true
 }
 
-/// What may be learnt of these lines, if anything. They are not judged again.
-fn learnable(alloc: Global, lines: Vec<Line>) -> Result<Option<Learnt>, AllocError>
-    requires { RestOnPremises lines.items → length lines.items ≤ LINE_LIMIT → IsLearnt lines.items }
-    ensures { IfOk result (λ found. IfSome found (λ learnt. learnt ≡ lines.items)) }
+/// What may be learnt of these lines, if anything, and if there is room for them. They are not judged again.
+fn learnable(alloc: Global, lines: Vec<Line>, room: usize) -> Result<Option<Learnt>, AllocError>
+    requires learnt { RestOnPremises lines.items → length lines.items ≤ LINE_LIMIT → IsLearnt lines.items }
+    requires room { room ≤ LINE_LIMIT }
+    ensures same { IfOk result (λ found. IfSome found (λ learnt. learnt ≡ lines.items)) }
+    ensures few { IfOk result (λ found. IfSome found (λ learnt. length learnt ≤ room)) }
 {
-    if lines.len() > LINE_LIMIT || !rest_on_premises(&lines) {
+    if lines.len() > room || !rest_on_premises(&lines) {
         return Ok(None);
     }
     Ok(Some(Learnt::of_derived(alloc, lines)?))
@@ -125,7 +132,9 @@ fn offer(
     requires ordered { AreOrdered known.now }
     requires lawful { AreLawfulSomewhere known.now }
     requires clear { AreClear known.now zeros.items }
+    requires room { room ≤ LINE_LIMIT }
     ensures shows { IfOk result (λ made. IfSome made.0 (ShowsLine known.now place)) }
+    ensures few { IfOk result (λ made. IfSome made.0 (λ learnt. length learnt ≤ room)) }
     ensures clear { IfOk result (λ made. AreClear known.now made.1.items) }
 {
     count_up_to(least, known, place)?;
@@ -140,13 +149,16 @@ fn offer(
         }
         Some(lines) => {
             correct(least, place, lines.len());
-            Ok((learnable(alloc, lines)?, cleared))
+            Ok((learnable(alloc, lines, room)?, cleared))
         }
     }
 }
 
 /// How many lines it has, where something is offered.
-fn count_lines(found: &Option<Learnt>) -> usize {
+fn count_lines(found: &Option<Learnt>) -> usize
+    ensures none { IfNone found.now (result ≡ 0) }
+    ensures some { IfSome found.now (λ learnt. result ≡ length learnt) }
+{
     match found {
         None => 0,
         Some(learnt) => learnt.lines().len(),
@@ -166,6 +178,7 @@ pub fn offers(alloc: Global, known: &[Known], places: &[usize]) -> Result<Vec<Le
     requires lawful { AreLawfulSomewhere known.now }
     ensures stand { IfOk result (λ offered. StandWhereLawful known.now offered.items) }
     ensures from { IfOk result (λ offered. All (ShowsOne known.now places.now) offered.items) }
+    ensures few { IfOk result (λ offered. sum_by length offered.items ≤ OFFERED_LIMIT) }
 {
     if places.is_empty() {
         return Ok(Vec::new(alloc));

@@ -1,12 +1,11 @@
 // The places of a store: who is found there, and who goes.
 
-ghost use Rattle.std.specs.Prelude.{◌≡◌, ℕ, List, true, false, length, slice_get, IfSome};
+ghost use Rattle.std.specs.Prelude.{◌≡◌, true, false, length, slice_get, IfSome};
 ghost use Rattle.std.specs.List.{list_any};
 ghost use Rattle.derivations.specs.Indexes.{Extends, IsUnder};
 ghost use Rattle.derivations.specs.Keys.{key_of};
-ghost use Rattle.derivations.specs.Slots.{concludes, is_met, kept, passes_at, passes_in, unmet, AreFewer, AreFound, AreThinned, HasKey, IsDroppedAt, IsMemberAt};
+ghost use Rattle.derivations.specs.Slots.{concludes, is_met, kept, passes_at, passes_in, unmet, AreFewer, AreFound, AreThinned, HasKey, IsDroppedAt, IsMemberAt, NoneUnder};
 ghost use Rattle.derivations.specs.Stored.{conclusion_of, has_conclusion};
-ghost use Rattle.derivations.specs.declared.line.Line.{Line};
 
 use crate::index::{Index, Link};
 use crate::keys::key_of;
@@ -157,7 +156,7 @@ pub fn drop_numbered(
     requires count { count ≡ length (kept slots.old) }
     requires whole { members.now.whole ≡ true }
     ensures thinned { AreThinned (is_met pkg version.now) slots.old slots.new }
-    ensures gone { (place : ℕ) (lines : List Line) → IsMemberAt slots.new place lines → IsUnder members.now.links number place → is_met pkg version.now lines ≡ false }
+    ensures gone { NoneUnder (is_met pkg version.now) members.now.links number slots.new }
     ensures count { result ≡ length (kept slots.new) }
 {
     let mut left = count;

@@ -3,7 +3,7 @@
 ghost use Rattle.std.specs.Prelude.{◌≡◌, ◌∷◌, ◌++◌, ℕ, [], false, length, true, IfSome, OnErr};
 ghost use Rattle.versions.specs.Words.{Text};
 ghost use Rattle.derivations.specs.Slots.{is_met, kept, unmet, AreFewer, AreThinned};
-ghost use Rattle.derivations.specs.Wants.{AreDropped, AreHeld, AreListed, CauseRests, IsHeld, IsWant, IsWhole, KeepsHeld, Rests};
+ghost use Rattle.derivations.specs.Wants.{AreDropped, AreHeld, AreListed, CauseRests, HoldsAt, IsHeld, IsWant, IsWhole, KeepsHeld, Rests};
 
 use crate::facts::Cause;
 use crate::index::{Index, Link};
@@ -299,7 +299,7 @@ pub fn add_rests(wants: &mut Wants, member: usize, learnt: &Learnt)
 /// Adds the place of a slot under what its member rests on.
 fn add_slot_rests(wants: &mut Wants, place: usize, slot: &Option<Learnt>)
     ensures keeps { KeepsHeld wants.old wants.new }
-    ensures there { IsWhole wants.new → IfSome slot.now (λ lines. (target : ℕ) (need : Text) → Rests lines target need → IsHeld wants.new place target need) }
+    ensures there { IsWhole wants.new → IfSome slot.now (HoldsAt wants.new place) }
 {
     if let Some(member) = slot {
         add_rests(wants, place, member);

@@ -6,8 +6,8 @@ use Rattle.derivations.proofs.Finding.{if_weaker}
 use Rattle.derivations.proofs.Offered.{learnt_by}
 use Rattle.derivations.proofs.offering.offer.Goals as goal
 
-pub learnable-requires : goal.learnable-requires
-learnable-requires c =
+pub learnable-requires-clause-learnt : goal.learnable-requires-clause-learnt
+learnable-requires-clause-learnt c =
     learnt_by c.args.known.now c.args.place c.in-Some.lines.items c.requires.lawful
     (subst (λ found. IfSome found (λ lines. ShowsLine c.args.known.now c.args.place lines.items)) c.in-Some.is c.in_ok-found.ensures.shows)
 
@@ -15,4 +15,4 @@ pub returns-in_ok-learnable-in-Some-clause-shows : goal.returns-in_ok-learnable-
 returns-in_ok-learnable-in-Some-clause-shows c =
     let shows = subst (λ found. IfSome found (λ lines. ShowsLine c.args.known.now c.args.place lines.items)) c.in-Some.is c.in_ok-found.ensures.shows in
     if_weaker (λ (learnt : List Line). learnt ≡ c.in-Some.lines.items) (ShowsLine c.args.known.now c.args.place)
-    (λ learnt same. subst (λ (lines : List Line). ShowsLine c.args.known.now c.args.place lines) (sym same) shows) c.in_ok-learnable-in-Some.field-0 c.in_ok-learnable-in-Some.ensures
+    (λ learnt same. subst (λ (lines : List Line). ShowsLine c.args.known.now c.args.place lines) (sym same) shows) c.in_ok-learnable-in-Some.field-0 c.in_ok-learnable-in-Some.ensures.same
