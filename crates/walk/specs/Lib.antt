@@ -3,3 +3,6 @@ pub mod Choosing
 pub mod Walks
 pub mod Preferring
 pub mod Names
+pub mod Newest
+pub mod PlainlyNewest
+pub mod Listing

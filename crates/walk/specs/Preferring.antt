@@ -1,5 +1,5 @@
 -- The preferred version as it is found, and what a walk by the preferred versions answers.
-use Rattle.std.specs.Prelude.{◌≡◌, ◌<◌, ℕ, ◌&&◌, ◌||◌, Bool, false, not, length, Option, None, Some}
+use Rattle.std.specs.Prelude.{◌≡◌, ◌<◌, ℕ, ◌&&◌, ◌||◌, Bool, false, true, not, length, Option, None, Some}
 use Rattle.versions.specs.Words.{Text}
 use Rattle.registry.specs.Highest.{IsHighest}
 use Rattle.registry.specs.Preference.{IsPreferredSelection, admits}
@@ -33,6 +33,10 @@ is_kept_at need locked (Some publication) = is_kept need locked publication
 -- each version of the package fails the test
 abbrev pub Fails : Packages → ℕ → (Option Publication → Bool) → Type 0
 Fails packages p test = (k : ℕ) → k < length (versions_or_none (package_at packages p)) → test (publication_at packages p k) ≡ false
+
+-- no version of the package but this one meets the test
+abbrev pub AloneMeets : Packages → ℕ → (Option Publication → Bool) → ℕ → Type 0
+AloneMeets packages p test k = (j : ℕ) → test (publication_at packages p j) ≡ true → j ≡ k
 
 -- the version is the highest of the package that passes the test
 abbrev pub Highest : Packages → ℕ → (Option Publication → Bool) → ℕ → Type 0

@@ -93,6 +93,18 @@ pub record IsNamed (packages : Packages) (needs : List (Text × Text)) (p : ℕ)
 abbrev pub ComeFrom : Packages → List (Text × Text) → Choices → Choices → Type 0
 ComeFrom packages needs old new = (p k : ℕ) → new p ≡ Some k → (old p ≡ Some k) ⊎ IsNamed packages needs p
 
+-- the same of what was found, before and after
+abbrev pub FoundFrom : Packages → List (Text × Text) → List (ℕ × ℕ) → List (ℕ × ℕ) → Type 0
+FoundFrom packages needs old new = ComeFrom packages needs (choice_of old) (choice_of new)
+
+-- the line of who asks at this place is met by what was found
+abbrev pub FoundMeets : Packages → List (Text × Text) → ℕ → List (ℕ × ℕ) → Type 0
+FoundMeets packages needs index found = IsMetAt packages (choice_of found) needs index
+
+-- the line of who asks at this place is not met by the choices
+abbrev pub IsUnmetOf : Packages → Wanted → Choices → Asker → ℕ → Type 0
+IsUnmetOf packages wanted chooses asker index = IsUnmetAt packages chooses (asked_by packages wanted asker) index
+
 -- the version is allowed, and its dependencies are met
 pub record IsChecked (packages : Packages) (wanted : Wanted) (s : Choices) (p k : ℕ) : Type 0 where
   pub allowed : is_allowed packages wanted p k ≡ true

@@ -7,13 +7,23 @@
 #![tactic(auto)]
 
 mod chooser;
+mod laws;
+mod listing;
 mod names;
+mod newest;
 mod preferred;
 mod reached;
 mod walking;
 
 pub use chooser::Chooser;
+pub use laws::{
+    a_list_in_order_is_its_selection, ahead_is_locked_or_higher, plainly_newest_is_newest,
+    the_preferred_is_the_newest, there_is_one_list_in_order, there_is_one_newest_selection,
+    what_is_asked_is_listed,
+};
+pub use listing::{Listed, Next, list_in_order};
 pub use names::sort_by_name;
-pub use preferred::{Preferred, preferred_version, reach_preferred};
+pub use newest::is_plainly_newest;
+pub use preferred::{Preferred, locked_ordinal, preferred_version, reach_preferred};
 pub use reached::{Asker, Reached};
 pub use walking::reach;

@@ -1,10 +1,11 @@
 // The preferred version of each package, and the walk by the preferred versions.
 
-ghost use Rattle.std.specs.Prelude.{◌≡◌, ℕ, true, IfNone, IfOk, IfSome};
+ghost use Rattle.std.specs.Prelude.{◌≡◌, true, IfNone, IfOk, IfSome};
 ghost use Rattle.std.specs.Option.{option_copied};
 ghost use Rattle.registry.specs.Preference.{preferred};
 ghost use Rattle.registry.specs.Registry.{publication_at};
-ghost use Rattle.walk.specs.Preferring.{is_kept_at, is_open_at, Fails, Highest, IfPreferredServes, IsPreferredIfAny, Selects};
+ghost use Rattle.walk.specs.PlainlyNewest.{IsLocked, NoneLocked};
+ghost use Rattle.walk.specs.Preferring.{is_kept_at, is_open_at, AloneMeets, Fails, Highest, IfPreferredServes, IsPreferredIfAny, Selects};
 ghost use Rattle.walk.specs.Walks.{ReachesBy};
 
 use crate::chooser::Chooser;
@@ -76,7 +77,7 @@ fn kept_version(
     locked: Option<&Published>,
 ) -> Option<u32>
     ensures some { IfSome result (λ k. is_kept_at (option_copied need.entry) (option_copied locked.entry) (publication_at registry.now.packages pkg k) ≡ true) }
-    ensures only { IfSome result (λ k. (j : ℕ) → is_kept_at (option_copied need.entry) (option_copied locked.entry) (publication_at registry.now.packages pkg j) ≡ true → j ≡ k) }
+    ensures only { IfSome result (AloneMeets registry.now.packages pkg (is_kept_at (option_copied need.entry) (option_copied locked.entry))) }
     ensures none { IfNone result (Fails registry.now.packages pkg (is_kept_at (option_copied need.entry) (option_copied locked.entry))) }
 {
     let ordinal = registry.find(pkg, locked?)?;
@@ -85,6 +86,17 @@ fn kept_version(
     } else {
         None
     }
+}
+
+/// The version of a package that the lock names, if it is published. The cost grows with the logarithm of
+/// the number of versions, and of the lines of the lock.
+pub fn locked_ordinal(registry: &Registry, request: &Request, pkg: Pkg) -> Option<u32>
+    ensures some { IfSome result (IsLocked registry.now.packages request.now pkg) }
+    ensures none { IfNone result (NoneLocked registry.now.packages request.now pkg) }
+{
+    let name = registry.name_at(pkg)?;
+    let locked = request.locked(name)?;
+    registry.find(pkg, locked)
 }
 
 /// The highest version that is allowed by the lock's line of the package and meets the need on it.

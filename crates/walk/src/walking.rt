@@ -6,7 +6,7 @@ ghost use Rattle.std.specs.List.{IsDistinct};
 ghost use Rattle.std.specs.Map.{keys_of};
 ghost use Rattle.registry.specs.Registry.{meets_at, needs_of};
 ghost use Rattle.walk.specs.Choosing.{choice_of, Follows};
-ghost use Rattle.walk.specs.Walks.{asked_by, AreMet, ComeFrom, ComesAs, Grows, IsMetAt, IsUnmetAt, ReachesBy};
+ghost use Rattle.walk.specs.Walks.{asked_by, AreMet, ComeFrom, ComesAs, FoundFrom, FoundMeets, Grows, IsMetAt, IsUnmetAt, IsUnmetOf, ReachesBy};
 
 use crate::chooser::Chooser;
 use crate::reached::{Asker, Reached};
@@ -17,7 +17,7 @@ use versions::Need;
 
 /// For how many packages room is made before a walk, so that a short one need not move them again and
 /// again.
-const ROOM: usize = 128;
+pub(crate) const ROOM: usize = 128;
 
 /// Whether a version of a package is published and meets a requirement.
 fn meets(registry: &Registry, pkg: Pkg, ordinal: u32, need: &Need) -> bool
@@ -95,8 +95,8 @@ fn follow_dependency<C: Chooser>(
     requires follows { Follows (C.chooses chooser.now) (choice_of found.old.entries) }
     ensures follows { OnOk result (Follows (C.chooses chooser.now) (choice_of found.new.entries)) }
     ensures grown { OnOk result (Grows found.old.entries found.new.entries) }
-    ensures come { OnOk result (ComeFrom registry.now.packages (needs_of registry.now.packages pkg ordinal) (choice_of found.old.entries) (choice_of found.new.entries)) }
-    ensures met { IfOk result (λ met. OnTrue met (IsMetAt registry.now.packages (choice_of found.new.entries) (needs_of registry.now.packages pkg ordinal) index)) }
+    ensures come { OnOk result (FoundFrom registry.now.packages (needs_of registry.now.packages pkg ordinal) found.old.entries found.new.entries) }
+    ensures met { IfOk result (λ met. OnTrue met (FoundMeets registry.now.packages (needs_of registry.now.packages pkg ordinal) index found.new.entries)) }
     ensures unmet { IfOk result (λ met. OnFalse met (IsUnmetAt registry.now.packages (C.chooses chooser.now) (needs_of registry.now.packages pkg ordinal) index)) }
 {
     let (target, matching) = registry.dependency(pkg, ordinal, index)?;
@@ -118,9 +118,9 @@ fn follow_at<C: Chooser>(
     requires follows { Follows (C.chooses chooser.now) (choice_of found.old.entries) }
     ensures follows { OnOk result (Follows (C.chooses chooser.now) (choice_of found.new.entries)) }
     ensures grown { OnOk result (Grows found.old.entries found.new.entries) }
-    ensures come { OnOk result (ComeFrom registry.now.packages (asked_by registry.now.packages request.now asker) (choice_of found.old.entries) (choice_of found.new.entries)) }
-    ensures met { IfOk result (λ met. OnTrue met (IsMetAt registry.now.packages (choice_of found.new.entries) (asked_by registry.now.packages request.now asker) index)) }
-    ensures unmet { IfOk result (λ met. OnFalse met (IsUnmetAt registry.now.packages (C.chooses chooser.now) (asked_by registry.now.packages request.now asker) index)) }
+    ensures come { OnOk result (FoundFrom registry.now.packages (asked_by registry.now.packages request.now asker) found.old.entries found.new.entries) }
+    ensures met { IfOk result (λ met. OnTrue met (FoundMeets registry.now.packages (asked_by registry.now.packages request.now asker) index found.new.entries)) }
+    ensures unmet { IfOk result (λ met. OnFalse met (IsUnmetOf registry.now.packages request.now (C.chooses chooser.now) asker index)) }
 {
     match asker {
         Asker::Request => follow_need(registry, request, chooser, index, found),
@@ -141,9 +141,9 @@ fn follow_all<C: Chooser>(
     requires { Follows (C.chooses chooser.now) (choice_of found.old.entries) }
     ensures follows { OnOk result (Follows (C.chooses chooser.now) (choice_of found.new.entries)) }
     ensures grown { OnOk result (Grows found.old.entries found.new.entries) }
-    ensures come { OnOk result (ComeFrom registry.now.packages (asked_by registry.now.packages request.now asker) (choice_of found.old.entries) (choice_of found.new.entries)) }
+    ensures come { OnOk result (FoundFrom registry.now.packages (asked_by registry.now.packages request.now asker) found.old.entries found.new.entries) }
     ensures met { IfOk result (λ at. IfNone at (AreMet registry.now.packages (choice_of found.new.entries) (asked_by registry.now.packages request.now asker))) }
-    ensures unmet { IfOk result (λ at. IfSome at (IsUnmetAt registry.now.packages (C.chooses chooser.now) (asked_by registry.now.packages request.now asker))) }
+    ensures unmet { IfOk result (λ at. IfSome at (IsUnmetOf registry.now.packages request.now (C.chooses chooser.now) asker)) }
 {
     let count = asker.needs(registry, request).len();
     for index in 0..count {
@@ -203,7 +203,7 @@ fn reach_into<C: Chooser>(
 }
 
 /// The package that was found at a place, with its version's ordinal.
-fn entry_at(found: &IndexMap<Pkg, u32>, place: usize) -> (Pkg, u32)
+pub(crate) fn entry_at(found: &IndexMap<Pkg, u32>, place: usize) -> (Pkg, u32)
     requires { place < length found.now.entries }
     ensures at { slice_get found.now.entries place ≡ Some result }
     ensures chosen { choice_of found.now.entries result.0 ≡ Some result.1 }
@@ -215,7 +215,10 @@ fn entry_at(found: &IndexMap<Pkg, u32>, place: usize) -> (Pkg, u32)
 }
 
 /// What was found, as a list.
-fn entries_of(alloc: Global, found: &IndexMap<Pkg, u32>) -> Result<Vec<(Pkg, u32)>, AllocError>
+pub(crate) fn entries_of(
+    alloc: Global,
+    found: &IndexMap<Pkg, u32>,
+) -> Result<Vec<(Pkg, u32)>, AllocError>
     ensures list { IfOk result (λ list. list.items ≡ found.now.entries) }
     ensures once { IsDistinct nat_eq (keys_of found.now.entries) }
 {
