@@ -7,4 +7,3 @@ pub mod Answering
 pub mod Reusing
 pub mod Outcomes
 pub mod Finding
-pub mod Verdicts

@@ -1,5 +1,5 @@
 -- Outcomes: a selection as it is told, or why there is none.
-use Rattle.std.specs.Prelude.{◌≡◌, ◌⊎◌, ℕ, map, All, List, [], Option, None, Some, IsSorted, nat_eq}
+use Rattle.std.specs.Prelude.{◌≡◌, ◌⊎◌, ℕ, map, All, Bool, false, true, List, [], Option, None, Some, IsSorted, nat_eq}
 use Rattle.std.specs.List.{IsDistinct}
 use Rattle.std.specs.Map.{keys_of}
 use Rattle.versions.specs.Words.{Text}
@@ -8,7 +8,7 @@ use Rattle.versions.specs.declared.refusal.Refusal.TheVariants.{BudgetSpent, NoM
 use Rattle.registry.specs.Registry.{Packages, Publication, publication_at}
 use Rattle.registry.specs.Requests.{Wanted}
 use Rattle.registry.specs.Selections.{Choices, Meets}
-use Rattle.derivations.specs.Derivations.{IsDerivation, NoSelection}
+use Rattle.derivations.specs.Derivations.{IsDerivation, IsRefuted, NoSelection}
 use Rattle.derivations.specs.Learning.{AllStand}
 use Rattle.walk.specs.Choosing.{choice_of}
 use Rattle.walk.specs.Names.{by_name, name_of}
@@ -38,14 +38,16 @@ pub record TellsOne (packages : Packages) (wanted : Wanted) (list : List (Text �
   pub meets : Meets packages wanted selection
   pub tells : Tells packages selection list
 
--- a selection that meets the request, or a derivation, so that none does; what is offered to be learnt stands
-abbrev pub IsLawful : Packages → Wanted → Outcome → Type 0
-IsLawful packages wanted (outcome.Selection list offered) = TellsOne packages wanted list.items × All (AllStand packages) offered.items
-IsLawful packages wanted (outcome.Refused derivation offered) = IsDerivation packages wanted derivation × All (AllStand packages) offered.items
+-- a selection that meets the request, or that none does: by a derivation where it is asked why, and else without one, though there is one; what is offered to be learnt stands
+abbrev pub IsLawful : Packages → Wanted → Bool → Outcome → Type 0
+IsLawful packages wanted explain (outcome.Selection list offered) = TellsOne packages wanted list.items × All (AllStand packages) offered.items
+IsLawful packages wanted explain (outcome.NoSelection offered) = (explain ≡ false) × IsRefuted packages wanted × All (AllStand packages) offered.items
+IsLawful packages wanted explain (outcome.Refused derivation offered) = (explain ≡ true) × IsDerivation packages wanted derivation × All (AllStand packages) offered.items
 
 -- the outcome is this selection
 abbrev pub Answers : Packages → Choices → Outcome → Type 0
 Answers packages s (outcome.Selection list offered) = Tells packages s list.items
+Answers packages s (outcome.NoSelection offered) = ⊥
 Answers packages s (outcome.Refused derivation offered) = ⊥
 
 -- ---- what may be refused
@@ -53,6 +55,7 @@ Answers packages s (outcome.Refused derivation offered) = ⊥
 -- a refusal comes only where no selection meets the request
 abbrev pub OnlyWhereNone : Packages → Wanted → Outcome → Type 0
 OnlyWhereNone packages wanted (outcome.Selection list offered) = Unit {0}
+OnlyWhereNone packages wanted (outcome.NoSelection offered) = NoSelection packages wanted
 OnlyWhereNone packages wanted (outcome.Refused derivation offered) = NoSelection packages wanted
 
 -- there is no preferred selection, or it does not meet the request

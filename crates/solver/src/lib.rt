@@ -6,7 +6,6 @@
 //! | File | What it does | Section of doc/solver.md | Contract |
 //! |---|---|---|---|
 //! | `solving.rt` | the answer of a request: the preferred walk, the greedy search, the full search | | `IsLawful`, `Answers` |
-//! | `verdict.rt` | the answer of a request that may not ask why | | `IsVerdict`, `Decides` |
 //! | `found.rt` | what a search found, before it is told | | `IsFound` |
 //! | `greedy.rt` | what a greedy search finds, validated by the walk | | `IsAnswer` |
 //! | `starting.rt` | the root, and the needs of the request | The Algorithm | `Searches` |
@@ -47,8 +46,6 @@ mod solving;
 mod starting;
 mod task;
 mod turns;
-mod verdict;
 mod worklist;
 
-pub use solving::{Outcome, solve, solve_under, solve_within};
-pub use verdict::{Verdict, decide_under};
+pub use solving::{Options, Outcome, solve, solve_with, solve_within};

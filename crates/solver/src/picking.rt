@@ -1,12 +1,11 @@
 // What is decided: a package, and a version of it (doc/solver.md, "Decision Making").
 
-ghost use Rattle.std.specs.Prelude.{◌≡◌, ◌<◌, ℕ, true, false, not, None, length, IfNone, IfOk, IfSome, IsSome};
-ghost use Rattle.registry.specs.Highest.{IsHighest};
-ghost use Rattle.registry.specs.Registry.{package_at, versions_or_none};
+ghost use Rattle.std.specs.Prelude.{◌≡◌, ◌<◌, true, false, not, None, IfNone, IfOk, IfSome, IsSome};
+ghost use Rattle.registry.specs.Registry.{package_at};
 ghost use Rattle.terms.specs.Terms.{true_of};
 ghost use Rattle.terms.specs.declared.term.Term.TheVariants.{In};
 ghost use Rattle.partial.specs.Assignments.{is_decided, says};
-ghost use Rattle.solver.specs.Picking.{is_choosable, AreBarred, IsToDecide, IsWithin, PicksBy};
+ghost use Rattle.solver.specs.Picking.{is_choosable, AreBarred, IsHighestChoosable, IsToDecide, IsWithin, NoneChoosable, PicksBy};
 
 use crate::task::Task;
 use crate::worklist::Worklist;
@@ -110,8 +109,8 @@ fn is_choosable(task: &Task<'_>, pkg: Pkg, said: &Term, ordinal: u32) -> bool
 
 /// The highest version that is allowed and within a term.
 fn highest_within(task: &Task<'_>, pkg: Pkg, said: &Term) -> Option<u32>
-    ensures some { IfSome result (IsHighest (λ k b. is_choosable task.now pkg said.now k ≡ b) (versions_or_none (package_at task.now.registry.now.packages pkg))) }
-    ensures none { IfNone result ((k : ℕ) → k < length (versions_or_none (package_at task.now.registry.now.packages pkg)) → is_choosable task.now pkg said.now k ≡ false) }
+    ensures some { IfSome result (IsHighestChoosable task.now pkg said.now) }
+    ensures none { IfNone result (NoneChoosable task.now pkg said.now) }
 {
     task.registry
         .highest_where(pkg, |ordinal| is_choosable(task, pkg, said, ordinal))

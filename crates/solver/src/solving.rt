@@ -20,7 +20,7 @@ use crate::starting::start;
 use crate::task::Task;
 use crate::turns::run;
 use crate::worklist::Worklist;
-use derivations::{Derivation, Learnt, Store, cut};
+use derivations::{Derivation, Learnt, Store, cut, kept_lines_refute};
 use heuristics::Obstacle;
 use registry::{Registry, Request, ordinals_are_below_the_count};
 use std::alloc::{AllocError, Global};
@@ -33,8 +33,19 @@ use walk::{Reached, reach_preferred, sort_by_name};
 pub enum Outcome {
     /// Packages with their versions, in the order of the bytes of their names.
     Selection(Vec<(Name, Published)>, Vec<Learnt>),
+    /// No selection meets the request, and it is not asked why.
+    NoSelection(Vec<Learnt>),
     /// Why no selection meets the request.
     Refused(Derivation, Vec<Learnt>),
+}
+
+/// How a request is to be answered.
+#[derive(Clone, Copy)]
+pub struct Options {
+    /// The most conflicts that the search may meet, if there is a limit.
+    pub budget: Option<u32>,
+    /// Whether a refusal comes with its derivation.
+    pub explain: bool,
 }
 
 /// A version by its package's name and its own text.
@@ -68,7 +79,7 @@ fn named_all(
 }
 
 /// What a list selects, by names and versions in the order of the names.
-pub(crate) fn tell(
+fn tell(
     alloc: Global,
     registry: &Registry,
     chosen: Vec<(Pkg, u32)>,
@@ -130,7 +141,7 @@ fn search_for(task: &Task<'_>, obstacle: Option<Obstacle>) -> Result<Found, Refu
 }
 
 /// Finds what answers a task: the preferred selection where it serves, else by a search.
-pub(crate) fn find(task: &Task<'_>) -> Result<Found, Refusal>
+fn find(task: &Task<'_>) -> Result<Found, Refusal>
     requires { StoreStands task.now }
     ensures found { IfOk result (IsFound task.now) }
     ensures preferred { IfPreferredServes task.now.registry.now.packages task.now.request.now (λ s. IfOk result (Finds s)) }
@@ -147,46 +158,68 @@ pub(crate) fn find(task: &Task<'_>) -> Result<Found, Refusal>
     }
 }
 
-/// What is answered of what was found: where no selection meets the request, the derivation.
-fn outcome_of(task: &Task<'_>, found: Found) -> Result<Outcome, Refusal>
+/// What is answered of what was found. Where it isn't asked why no selection meets the request, no derivation is
+/// cut from the lines that the search kept: that there is one is known of them.
+fn outcome_of(task: &Task<'_>, found: Found, explain: bool) -> Result<Outcome, Refusal>
     requires { IsFound task.now found }
-    ensures lawful { IfOk result (IsLawful task.now.registry.now.packages task.now.request.now) }
+    ensures lawful { IfOk result (IsLawful task.now.registry.now.packages task.now.request.now explain) }
     ensures answers { (s : Choices) → Finds s found → IfOk result (Answers task.now.registry.now.packages s) }
     ensures only { IfErr result (λ e. e ≡ Refusal.NoMemory) }
 {
+    kept_lines_refute();
     match found {
         Found::Selected(list, offered) => {
             let pairs = tell(task.alloc, task.registry, list)?;
             Ok(Outcome::Selection(pairs, offered))
         }
         Found::Refused(known, end, offered) => {
+            if !explain {
+                return Ok(Outcome::NoSelection(offered));
+            }
             let derivation = cut(task.alloc, known, end)?;
             Ok(Outcome::Refused(derivation, offered))
         }
     }
 }
 
-/// Answers a task.
-fn answer(task: &Task<'_>) -> Result<Outcome, Refusal>
-    requires { StoreStands task.now }
-    ensures lawful { IfOk result (IsLawful task.now.registry.now.packages task.now.request.now) }
-    ensures preferred { IfPreferredServes task.now.registry.now.packages task.now.request.now (λ s. IfOk result (Answers task.now.registry.now.packages s)) }
-    ensures unspent { IfPreferredServes task.now.registry.now.packages task.now.request.now (λ s. IfErr result (λ e. e ≡ Refusal.NoMemory)) }
-    ensures only { IfErr result (MayRefuse task.now.budget) }
-{
-    let found = find(task)?;
-    outcome_of(task, found)
-}
-
-/// Answers a request: a selection that meets it, or the derivation that none does. Where the
-/// preferred selection exists and meets the request, it is the answer, and nothing is searched.
+/// Answers a request: a selection that meets it, or that none does, with the derivation of that where the options
+/// ask for it. What is selected, refused and offered doesn't depend on whether they do. Where the preferred
+/// selection exists and meets the request, it is the answer, and nothing is searched.
+///
+/// Under a budget at most so many conflicts are met: at the next one the answer is 22, and nothing is offered. Under
+/// every budget, 0 included, the preferred selection is the answer where it exists and meets the request.
 ///
 /// A search that jumps back uses of the store what acts on the packages that it comes to, each with its
 /// lines, so that a derivation carries them. It asks as many members as its own size allows, and what
-/// the store says of other packages costs it nothing. What is offered to be learnt, the second part of
+/// the store says of other packages costs it nothing. What is offered to be learnt, the last part of
 /// an outcome, is what conflicts led to, where it rests on premises alone, by the lines of members too.
 /// Nothing is offered that the store has, nor to a store that is full; and for want of memory nothing
 /// is offered, where there is enough for the answer.
+pub fn solve_with(
+    alloc: Global,
+    registry: &Registry,
+    request: &Request,
+    store: &Store,
+    options: Options,
+) -> Result<Outcome, Refusal>
+    requires stored { All (AllStand registry.now.packages) store.now.members }
+    ensures lawful { IfOk result (IsLawful registry.now.packages request.now options.explain) }
+    ensures preferred { IfPreferredServes registry.now.packages request.now (λ s. IfOk result (Answers registry.now.packages s)) }
+    ensures unspent { IfPreferredServes registry.now.packages request.now (λ s. IfErr result (λ e. e ≡ Refusal.NoMemory)) }
+    ensures only { IfErr result (MayStop registry.now.packages request.now options.budget) }
+{
+    let task = Task {
+        alloc,
+        registry,
+        request,
+        store,
+        budget: options.budget,
+    };
+    let found = find(&task)?;
+    outcome_of(&task, found, options.explain)
+}
+
+/// As [`solve_with`], without a budget; a refusal comes with its derivation.
 pub fn solve(
     alloc: Global,
     registry: &Registry,
@@ -194,22 +227,18 @@ pub fn solve(
     store: &Store,
 ) -> Result<Outcome, Refusal>
     requires stored { All (AllStand registry.now.packages) store.now.members }
-    ensures lawful { IfOk result (IsLawful registry.now.packages request.now) }
+    ensures lawful { IfOk result (IsLawful registry.now.packages request.now true) }
     ensures preferred { IfPreferredServes registry.now.packages request.now (λ s. IfOk result (Answers registry.now.packages s)) }
     ensures only { IfErr result (λ e. e ≡ Refusal.NoMemory) }
 {
-    answer(&Task {
-        alloc,
-        registry,
-        request,
-        store,
+    let options = Options {
         budget: None,
-    })
+        explain: true,
+    };
+    solve_with(alloc, registry, request, store, options)
 }
 
-/// As [`solve`], with at most so many conflicts: at the next one the answer is 22, and nothing is
-/// offered. Under every budget, 0 included, the preferred selection is the answer where it exists and
-/// meets the request.
+/// As [`solve_with`], under this budget; a refusal comes with its derivation.
 pub fn solve_within(
     alloc: Global,
     registry: &Registry,
@@ -218,35 +247,14 @@ pub fn solve_within(
     budget: u32,
 ) -> Result<Outcome, Refusal>
     requires stored { All (AllStand registry.now.packages) store.now.members }
-    ensures lawful { IfOk result (IsLawful registry.now.packages request.now) }
+    ensures lawful { IfOk result (IsLawful registry.now.packages request.now true) }
     ensures preferred { IfPreferredServes registry.now.packages request.now (λ s. IfOk result (Answers registry.now.packages s)) }
     ensures unspent { IfPreferredServes registry.now.packages request.now (λ s. IfErr result (λ e. e ≡ Refusal.NoMemory)) }
     ensures only { IfErr result (MayStop registry.now.packages request.now (Some budget)) }
 {
-    Ok(answer(&Task {
-        alloc,
-        registry,
-        request,
-        store,
+    let options = Options {
         budget: Some(budget),
-    })?)
-}
-
-/// As [`solve_within`] where there is a budget, else as [`solve`].
-pub fn solve_under(
-    alloc: Global,
-    registry: &Registry,
-    request: &Request,
-    store: &Store,
-    budget: Option<u32>,
-) -> Result<Outcome, Refusal>
-    requires { All (AllStand registry.now.packages) store.now.members }
-    ensures lawful { IfOk result (IsLawful registry.now.packages request.now) }
-    ensures preferred { IfPreferredServes registry.now.packages request.now (λ s. IfOk result (Answers registry.now.packages s)) }
-    ensures only { IfErr result (MayStop registry.now.packages request.now budget) }
-{
-    match budget {
-        Some(budget) => Ok(solve_within(alloc, registry, request, store, budget)?),
-        None => Ok(solve(alloc, registry, request, store)?),
-    }
+        explain: true,
+    };
+    solve_with(alloc, registry, request, store, options)
 }

@@ -1,5 +1,6 @@
 use Rattle.std.proofs.Common.{subst}
 use Rattle.registry.specs.Selections.{Choices}
+use Rattle.std.proofs.lemmas.Result.{IfOk-from_err}
 use Rattle.solver.specs.Outcomes.{Tells}
 use Rattle.solver.proofs.solving.outcome_of.Goals as goal
 
@@ -19,16 +20,15 @@ returns-in_ok-pairs-in-Selected-clause-answers c s finds =
     let same = rw c.in-Selected.is at finds in
     subst (λ (chosen : Choices). Tells c.args.task.now.registry.now.packages chosen c.in_ok-pairs-in-Selected.pairs.items) same c.in_ok-pairs-in-Selected.ensures
 
-pub cut-requires-clause-ordered : goal.cut-requires-clause-ordered
-cut-requires-clause-ordered c = (rw c.in-Refused.is at c.requires).0.ordered
-
-pub cut-requires-clause-end : goal.cut-requires-clause-end
-cut-requires-clause-end c = (rw c.in-Refused.is at c.requires).0.ends
-
 pub returns-in_ok-derivation-in-Refused-clause-lawful : goal.returns-in_ok-derivation-in-Refused-clause-lawful
 returns-in_ok-derivation-in-Refused-clause-lawful c =
     let found = rw c.in-Refused.is at c.requires in
-    (c.in_ok-derivation-in-Refused.ensures.derived c.args.task.now.registry.now.packages c.args.task.now.request.now found.0.lawful, found.1)
+    (c.if-not-explain.false, c.in_ok-derivation-in-Refused.ensures.derived c.args.task.now.registry.now.packages c.args.task.now.request.now found.0.lawful, found.1)
 
-pub returns-in_ok-derivation-in-Refused-clause-answers : goal.returns-in_ok-derivation-in-Refused-clause-answers
-returns-in_ok-derivation-in-Refused-clause-answers c s finds = absurd (rw c.in-Refused.is at finds)
+-- where memory is refused
+
+pub returns-in_err-derivation-in-Refused-clause-lawful : goal.returns-in_err-derivation-in-Refused-clause-lawful
+returns-in_err-derivation-in-Refused-clause-lawful c = IfOk-from_err c.from_residual-in_err-derivation-in-Refused.result _ c.from_residual-in_err-derivation-in-Refused.ensures.0
+
+pub returns-in_err-pairs-in-Selected-clause-lawful : goal.returns-in_err-pairs-in-Selected-clause-lawful
+returns-in_err-pairs-in-Selected-clause-lawful c = IfOk-from_err c.from_residual.result _ c.from_residual.ensures.0
