@@ -1,13 +1,7 @@
 -- Slots that hold what was found at their places.
-use Rattle.std.proofs.Common.{◌≡◌, ◌⊎◌, ℕ, Bool, zero, suc, List, [], ◌∷◌, ◌++◌, Option, Some, None, Result, length, set, take, refl, sym, ap, ◌∙◌, subst, inl, inr, ⊎_elim, arith}
+use Rattle.std.proofs.Common.{◌≡◌, ◌⊎◌, ℕ, zero, suc, List, [], ◌∷◌, ◌++◌, Option, Some, None, length, set, refl, ap, inl, inr, ⊎_elim, arith}
 use Rattle.std.specs.Prelude.{slice_get}
-use Rattle.std.specs.List.{AllZip}
-use Rattle.versions.specs.declared.refusal.Refusal.{Refusal}
-use Rattle.registry.specs.Registry.{Packages}
-use Rattle.registry.specs.Requests.{Wanted}
-use Rattle.solver.specs.declared.verdict.Verdict.{Verdict}
 use Rattle.pool.specs.Ahead.{AreInPlace}
-use Rattle.pool.specs.Answering.{AreAnswers, IsAnswerAt, IsAnswerTo}
 
 -- what is got after a change at one place: what was put there, or what was there before
 get_set : {A : Type 0} (xs : List A) (i k : ℕ) (x y : A) → slice_get (set xs i x) k ≡ Some y → ((k ≡ i) × (x ≡ y)) ⊎ (slice_get xs k ≡ Some y)
@@ -53,27 +47,3 @@ pub AreInPlace-push : (slots : List (Option ℕ)) (at : ℕ) → at ≡ length s
 AreInPlace-push slots at last h = record {
   each = λ place index e. ⊎_elim (λ (w : (place ≡ length slots) × (Some at ≡ Some index)). let same = some_some at index w.1 in let here = w.0 in omega arith) (λ (w : slice_get slots place ≡ Some (Some index)). h.each place index w) (get_push slots place (Some at) (Some index) e);
 }
-
--- ---- the answers to the first requests
-
-get_seam : {A : Type 0} (xs ys : List A) (y : A) → slice_get (xs ++ y ∷ ys) (length xs) ≡ Some y
-get_seam [] ys y = refl
-get_seam (x ∷ xs) ys y = get_seam xs ys y
-
-none_got : {A : Type 0} (k : ℕ) (x : A) (P : Type 0) → slice_get [] k ≡ Some x → P
-none_got k x P e = cc
-
-module _ {A B : Type 0} (R : A → B → Type 0) where
-  zip_at : (xs : List A) (n : ℕ) (ys : List B) (k : ℕ) (x : A) (y : B) → AllZip R (take n xs) ys → slice_get ys k ≡ Some y → slice_get xs k ≡ Some x → R x y
-  zip_at [] n ys k x y z at of = none_got k x (R x y) of
-  zip_at (a ∷ xs) zero [] k x y z at of = none_got k y (R x y) at
-  zip_at (a ∷ xs) zero (b ∷ ys) k x y z at of = absurd z
-  zip_at (a ∷ xs) (suc n) [] k x y z at of = none_got k y (R x y) at
-  zip_at (a ∷ xs) (suc n) (b ∷ ys) zero x y z at of = let same : a ≡ x = cc in let same' : b ≡ y = cc in subst (λ (w : A × B). R w.0 w.1) (λ i. (same i, same' i)) z.0
-  zip_at (a ∷ xs) (suc n) (b ∷ ys) (suc k) x y z at of = zip_at xs n ys k x y z.1 at of
-
--- what comes behind the answers that came is one to the request at that place
-pub answer_next : (packages : Packages) (asked : List (Wanted × Option ℕ × Bool)) (n k : ℕ) (came rest all : List (Result Verdict Refusal)) (answer : Result Verdict Refusal) → AreAnswers packages (take n asked) all
-    → came ++ answer ∷ rest ≡ all → k ≡ length came → IsAnswerAt packages asked k answer
-answer_next packages asked n k came rest all answer answers e is = λ one of.
-    zip_at (IsAnswerTo packages) asked n all k one answer answers (ap (slice_get all) is ∙ ap (λ l. slice_get l (length came)) (sym e) ∙ get_seam came rest answer) of

@@ -3,5 +3,4 @@ mod Orders
 mod Steps
 mod Takers
 mod Filling
-mod Found
 mod InPlace

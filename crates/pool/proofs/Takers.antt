@@ -1,10 +1,11 @@
 -- What the takers took, put together.
-use Rattle.std.proofs.Common.{All, ◌≡◌, ℕ, zero, suc, ◌+◌, ◌<◌, ◌≤◌, ◌||◌, Bool, true, false, List, [], ◌∷◌, ◌++◌, length, Option, get_or, sym, refl, ap, ◌∙◌, append_assoc, arith}
+use Rattle.std.proofs.Common.{All, ◌≡◌, ℕ, zero, suc, ◌+◌, ◌<◌, ◌≤◌, ◌||◌, Bool, true, false, List, [], ◌∷◌, ◌++◌, length, Option, get_or, replicate, sym, refl, ap, subst, ◌∙◌, append_assoc, arith}
 use Rattle.std.proofs.lemmas.Bool.Decides.{nat_tests}
+use Rattle.std.proofs.lemmas.List.Elements.{All-cons, All-head, All-nil, All-replicate, All-tail}
 use Rattle.pool.specs.declared.rule.Hand.{Hand}
 use Rattle.pool.specs.Sharing.{times, once, indexes, IsAll}
 use Rattle.pool.proofs.Orders.{times_append}
-use Rattle.pool.specs.Taking.{Took, taken_by, WereShared}
+use Rattle.pool.specs.Taking.{Dealt, IsTakerOf, Took, fresh, taken_by, WereShared}
 
 -- whether some taker was answered none
 abbrev pub is_any_told : List Took → Bool
@@ -76,3 +77,16 @@ shared takers last v items taken told h =
       no_other = λ i above. ap (λ n. n + times i (indexes items)) (same i) ∙ sym (h.0 i) ∙ once_above v.count i above;
       none_left = λ k d short t. h.1 (told ∙ or_comm last.told (is_any_told takers) ∙ sym (is_any_told-push takers last) ∙ told_somewhere (takers ++ last ∷ []) k d short t);
     }
+
+-- ---- takers that are set to their queue
+
+-- all but the last
+pub all_but_last : {A : Type 0} (P : A → Type 0) (x : A) (xs ys : List A) → ys ≡ xs ++ x ∷ [] → All P ys → All P xs
+all_but_last P x xs ys e h = go xs (subst (λ (l : List _). All P l) e h) where
+  go : (xs : List _) → All P (xs ++ x ∷ []) → All P xs
+  go [] h = All-nil P
+  go (y ∷ xs) h = All-cons P y xs (All-head P y (xs ++ x ∷ []) h) (go xs (All-tail P y (xs ++ x ∷ []) h))
+
+-- those that are just made
+pub are_takers : (jobs : Dealt) (n : ℕ) (takers : List Took) → takers ≡ replicate n (fresh jobs) → All (IsTakerOf jobs) takers
+are_takers jobs n takers e = subst (λ (l : List Took). All (IsTakerOf jobs) l) (sym e) (All-replicate (IsTakerOf jobs) n (fresh jobs) refl)

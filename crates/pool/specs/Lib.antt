@@ -1,6 +1,5 @@
 pub mod Ahead
 pub mod Answering
-pub mod Finding
 pub mod Hands
 pub mod Sharing
 pub mod Taking

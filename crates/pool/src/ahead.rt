@@ -1,24 +1,21 @@
 //! Threads that search for requests ahead of the one that is to be answered next.
-ghost use Rattle.std.specs.Prelude.{◌≡◌, ◌<◌, ◌≤◌, ℕ, All, IfSome, length};
-ghost use denote.Param.Send.{IsSend, IsSync};
-ghost use Rattle.derivations.specs.Learning.{AllStand};
-ghost use Rattle.pool.specs.Answering.{IsAnswerAt};
+ghost use Rattle.std.specs.Prelude.{◌≡◌, ◌<◌, All, IfSome, length};
+ghost use Rattle.pool.specs.Taking.{IsTakerOf};
 
-use crate::alone::answer_soon;
 use crate::board::Board;
-use crate::gate::Idle;
+use crate::gate::Gate;
+use crate::jobs::{Jobs, Taker};
 use crate::query::{Answered, Query};
-use crate::work::{Answer, Work, answer_at};
-use std::marker::Model;
-use std::ops::Range;
+use crate::work::Finder;
 use std::sync::{Condvar, Mutex, Wait};
-use std::thread::{Threads, join};
+use std::thread;
+use std::thread::Threads;
 
-/// What the threads share: the requests and what is known of them. Contracts see how many requests there are.
+/// What the threads share: who finds answers, and what was found.
 #[derive(Drop)]
-pub(crate) struct Ahead<'a, Q: Query> {
-    work: Work<'a, Idle>,
-    /// How many neighbouring requests a thread takes at a time.
+pub(crate) struct Ahead<'a, G, Q: Query> {
+    finder: Finder<'a, G, Q>,
+    /// After how many answers a thread wakes the calling one.
     share: usize,
     board: Mutex<Board<Q>>,
     /// The calling thread waits here for an answer.
@@ -27,26 +24,10 @@ pub(crate) struct Ahead<'a, Q: Query> {
     freed: Condvar,
 }
 
-impl<'a, Q: Query> Model for Ahead<'a, Q> {
-    ghost use Rattle.std.specs.Prelude.{◌≡◌, ℕ, All, length};
-    ghost use Rattle.derivations.specs.Learning.{AllStand};
-
-    ghost Value = { ℕ };
-
-    ghost view = { λ a. length a.work.asked.now };
-
-    ghost invariant = { λ a. (a.work.registry.now.packages ≡ Q.packages) × (a.work.asked.now ≡ Q.asked)
-        × All (AllStand a.work.registry.now.packages) a.work.store.now.members };
-}
-
-impl<'a, Q: Query> Ahead<'a, Q> {
-    pub(crate) fn new(work: Work<'a, Idle>, share: usize, board: Board<Q>) -> Ahead<'a, Q>
-        requires packages { work.registry.now.packages ≡ Q.packages }
-        requires asked { work.asked.now ≡ Q.asked }
-        requires stored { All (AllStand work.registry.now.packages) work.store.now.members }
-    {
+impl<'a, G: Gate, Q: Query> Ahead<'a, G, Q> {
+    pub(crate) fn new(finder: Finder<'a, G, Q>, share: usize, board: Board<Q>) -> Ahead<'a, G, Q> {
         Ahead {
-            work,
+            finder,
             share,
             board: Mutex::new(board),
             there: Condvar::new(),
@@ -58,63 +39,59 @@ impl<'a, Q: Query> Ahead<'a, Q> {
     pub(crate) fn count(&self) -> usize
         ensures { result ≡ length Q.asked }
     {
-        self.work.asked.len()
+        self.finder.count()
     }
 
-    /// Searches for requests until none is left that nobody has begun.
-    pub(crate) fn search<R: Wait>(&self, rt: &R) {
-        let mut turn = self.first_turn(rt);
+    /// Waits for a seat. Then takes requests and searches for them, until none is left.
+    fn search<R: Wait>(&self, rt: &R, jobs: &Jobs, taker: &mut Taker)
+        requires jobs { jobs.now.count ≡ length Q.asked }
+        requires own { IsTakerOf jobs.now taker.old }
+    {
+        self.sit(rt);
         for _ in rt.forever() {
-            let Some(indexes) = turn else {
-                return;
-            };
-            for index in indexes {
-                self.find(rt, index);
-            }
-            turn = self.next_turn(rt);
-        }
-    }
-
-    /// Waits for a seat, and begins the next requests.
-    fn first_turn<R: Wait>(&self, rt: &R) -> Option<Range<usize>> {
-        let board = self.board.lock(rt);
-        let mut board = self.freed.wait_while(rt, board, |board| board.is_full());
-        let turn = board.begin(self.share);
-        if turn.is_none() {
-            self.freed.notify_all();
-        }
-        turn
-    }
-
-    /// Ends a turn, and begins the next requests.
-    fn next_turn<R: Wait>(&self, rt: &R) -> Option<Range<usize>> {
-        let mut board = self.board.lock(rt);
-        board.leave();
-        let turn = board.begin(self.share);
-        if board.is_to_wake() {
-            self.there.notify_one();
-        }
-        if turn.is_none() {
-            self.freed.notify_all();
-        }
-        turn
-    }
-
-    /// Searches for the request at an index. Where that takes longer, the calling thread is woken before, if what it
-    /// waits for is there.
-    fn find<R: Wait>(&self, rt: &R, index: usize) {
-        if index >= self.work.asked.len() {
-            return;
-        }
-        if self.share > 1 {
-            if let Some(found) = self.find_soon(index) {
-                self.board.lock(rt).put(found);
-                return;
+            if !self.search_some(rt, jobs, taker) {
+                return self.leave(rt);
             }
             self.wake(rt);
         }
-        let found = self.find_here(index);
-        self.board.lock(rt).put(found);
+    }
+
+    /// Takes a seat, once there is one.
+    fn sit<R: Wait>(&self, rt: &R) {
+        let board = self.board.lock(rt);
+        let mut board = self.freed.wait_while(rt, board, |board| board.is_full());
+        board.sit();
+    }
+
+    /// Takes a share of the requests and searches for them. Answers whether any may be left.
+    fn search_some<R: Wait>(&self, rt: &R, jobs: &Jobs, taker: &mut Taker) -> bool
+        requires jobs { jobs.now.count ≡ length Q.asked }
+        requires own { IsTakerOf jobs.now taker.old }
+        ensures { IsTakerOf jobs.now taker.new }
+    {
+        for _i in 0..self.share {
+            let Some(index) = jobs.take(rt, taker) else {
+                return false;
+            };
+            let found = self.find(rt, index);
+            self.board.lock(rt).put(found);
+        }
+        true
+    }
+
+    /// What is found of the request at an index. Where that takes longer, the calling thread is woken before, if what
+    /// it waits for is there.
+    fn find<R: Wait>(&self, rt: &R, index: usize) -> Answered<Q>
+        requires { index < length Q.asked }
+        ensures { result ≡ index }
+    {
+        if self.share > 1 {
+            if let Some(found) = self.find_soon(index) {
+                return found;
+            }
+            self.wake(rt);
+        }
+        self.find_here(index)
     }
 
     /// Wakes the calling thread, if what it waits for is there.
@@ -129,15 +106,7 @@ impl<'a, Q: Query> Ahead<'a, Q> {
         requires { index < length Q.asked }
         ensures { IfSome result (λ answered. answered ≡ index) }
     {
-        match answer_soon(
-            self.work.alloc,
-            self.work.registry,
-            self.work.store,
-            &self.work.asked[index],
-        ) {
-            Some(answer) => Some(Answered::new(index, answer)),
-            None => None,
-        }
+        self.finder.find_soon(index)
     }
 
     /// The answer to the request at an index.
@@ -145,22 +114,27 @@ impl<'a, Q: Query> Ahead<'a, Q> {
         requires { index < length Q.asked }
         ensures { result ≡ index }
     {
-        let answer = answer_at(&self.work, index);
-        Answered::new(index, answer)
+        self.finder.find(index)
     }
 
-    /// The answer to the request at an index, if a thread found it and it was not taken yet.
+    /// The answer to the request at an index, if it was found and not taken yet.
     pub(crate) fn take<R: Wait>(&self, rt: &R, index: usize) -> Option<Answered<Q>>
         ensures { IfSome result (λ answered. answered ≡ index) }
     {
         self.board.lock(rt).take(index)
     }
 
-    /// Begins the request at an index, if nobody has and as many threads may search. Where no thread searches for it
-    /// ahead, the calling one always does.
-    pub(crate) fn begin_at<R: Wait>(&self, rt: &R, index: usize) -> bool {
+    /// Takes a seat, and the next request out of the queue, for the calling thread. It does so only while no other
+    /// thread searches: the next request is then the one that it comes to, at this index, and else another thread has
+    /// taken that one or is about to. Answers whether it did.
+    pub(crate) fn begin_at<R: Wait>(&self, rt: &R, index: usize, own: &mut Own<'_>) -> bool {
         let mut board = self.board.lock(rt);
-        !board.reaches(index) || board.begin_at(index)
+        let begins = board.is_empty() && !board.has(index);
+        if begins {
+            board.sit();
+            own.take(rt);
+        }
+        begins
     }
 
     /// The answer to the request at an index, once a thread has found it.
@@ -173,36 +147,83 @@ impl<'a, Q: Query> Ahead<'a, Q> {
         board.take(index)
     }
 
-    /// Ends a search of the calling thread.
+    /// Gives a seat back, and wakes the calling thread, if what it waits for is there.
     pub(crate) fn leave<R: Wait>(&self, rt: &R) {
-        self.board.lock(rt).leave();
+        let mut board = self.board.lock(rt);
+        board.leave();
+        if board.is_to_wake() {
+            self.there.notify_one();
+        }
         self.freed.notify_one();
-    }
-
-    /// Nobody begins another request.
-    pub(crate) fn stop<R: Wait>(&self, rt: &R) {
-        self.board.lock(rt).stop();
-        self.freed.notify_all();
     }
 }
 
-/// Has so many threads search, the calling one among them. What one can't be started for, the calling one does.
-#[cycle(threads)]
-pub(crate) fn search_by<Q: Query + Send + Sync, R: Threads + Wait + Sync>(
-    rt: &R,
-    ahead: &Ahead<'_, Q>,
-    threads: usize,
-) {
-    if threads < 2 {
-        return ahead.search(rt);
+/// The calling thread's taker, at the queue of requests.
+#[derive(Drop)]
+pub(crate) struct Own<'a> {
+    jobs: &'a Jobs,
+    taker: Taker,
+    ghost own: { IsTakerOf jobs.now taker },
+}
+
+impl<'a> Own<'a> {
+    pub(crate) fn new(jobs: &'a Jobs, taker: Taker) -> Own<'a>
+        requires { IsTakerOf jobs.now taker }
+    {
+        Own { jobs, taker }
     }
-    let half = threads / 2;
-    let rest = threads - half;
-    let front = move ||
-        requires { IsSync R.row × IsSend Q.row × IsSync Q.row × (0 < half) }
-    { search_by(rt, ahead, half) };
-    let back = move ||
-        requires { IsSync R.row × IsSend Q.row × IsSync Q.row × (0 < rest) }
-    { search_by(rt, ahead, rest) };
-    join(rt, front, back);
+
+    /// Takes the next request, which the calling thread answers. Answers whether there was one.
+    pub(crate) fn take<R: Wait>(&mut self, rt: &R) -> bool {
+        self.jobs.take(rt, &mut self.taker).is_some()
+    }
+
+    /// Takes so many requests.
+    pub(crate) fn take_first<R: Wait>(&mut self, rt: &R, count: usize) {
+        for _i in 0..count {
+            self.take(rt);
+        }
+    }
+
+    /// Takes all that are left, so that no other thread begins one.
+    pub(crate) fn take_rest<R: Wait>(&mut self, rt: &R) {
+        for _ in rt.forever() {
+            if !self.take(rt) {
+                return;
+            }
+        }
+    }
+}
+
+/// Sets each taker to the queue, in a thread of its own where one can be started.
+pub(crate) fn search_all<Q: Query + Send + Sync, G: Gate + Sync, R: Threads + Wait + Sync>(
+    rt: &R,
+    ahead: &Ahead<'_, G, Q>,
+    jobs: &Jobs,
+    takers: &mut Vec<Taker>,
+)
+    requires jobs { jobs.now.count ≡ length Q.asked }
+    requires takers { All (IsTakerOf jobs.now) takers.old.items }
+{
+    search_by(rt, ahead, jobs, takers.as_mut_slice());
+}
+
+fn search_by<Q: Query + Send + Sync, G: Gate + Sync, R: Threads + Wait + Sync>(
+    rt: &R,
+    ahead: &Ahead<'_, G, Q>,
+    jobs: &Jobs,
+    takers: &mut [Taker],
+)
+    requires jobs { jobs.now.count ≡ length Q.asked }
+    requires takers { All (IsTakerOf jobs.now) takers.old }
+{
+    let threads = takers.len().max(1);
+    thread::for_each_mut(
+        rt,
+        takers,
+        threads,
+        &|_, taker: &mut Taker|
+            requires { (jobs.now.count ≡ length Q.asked) × IsTakerOf jobs.now taker.old }
+        { ahead.search(rt, jobs, taker) },
+    );
 }

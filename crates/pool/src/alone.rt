@@ -1,13 +1,14 @@
 //! What the calling thread answers alone, and how many threads the other requests are worth.
-ghost use Rattle.std.specs.Prelude.{◌≡◌, ◌+◌, ◌<◌, ◌≤◌, All, IfSome, length, vec_len};
+ghost use Rattle.std.specs.Prelude.{All, IfSome, length};
 ghost use Rattle.derivations.specs.Learning.{AllStand};
-ghost use Rattle.pool.specs.Answering.{AreAnswers, AreBegun, IsAnswerAt, IsAnswerTo};
+ghost use Rattle.pool.specs.Ahead.{AreFirst};
+ghost use Rattle.pool.specs.Answering.{IsAnswerTo};
 
-use crate::gate::Gate;
-use crate::work::{Answer, Asked, Work, answer, answer_at};
+use crate::query::{Answered, Query};
+use crate::work::{Answer, Asked, Finder, answer};
 use derivations::Store;
 use registry::Registry;
-use solver::{Verdict, decide_under};
+use solver::{Options, Outcome, solve_with};
 use std::alloc::Global;
 use versions::Refusal;
 
@@ -21,76 +22,63 @@ const REFUSED: usize = 4;
 /// With how many conflicts a request is still answered before any thread is started.
 const FEW: u32 = 8;
 
-/// The most effort that a thread takes at a time, in the packages and lines that answers have, where each request takes
-/// little.
+/// The most effort after which a thread wakes the calling one, in the packages and lines that answers have, where each
+/// request takes little.
 const SHARE: usize = 128;
 
-/// By how many threads requests are to be answered, and how many of them a thread is to take at a time.
+/// By how many threads requests are to be answered, and after how many of them each is to wake the calling one.
 #[derive(Clone, Copy)]
 pub(crate) struct Pace {
     pub(crate) threads: usize,
     pub(crate) share: usize,
 }
 
-/// The calling thread answers all of them.
-pub(crate) const ALONE: Pace = Pace {
-    threads: 1,
-    share: 1,
-};
-
 /// Answers the first requests, until as much was done as starting a thread takes or one of them asks for a
 /// longer search, and says how many threads the others are worth: one for each such effort that they will
 /// take, if they are like the first. No gate is asked.
-pub(crate) fn begin<G>(work: &Work<'_, G>, workers: usize, answers: &mut Vec<Answer>) -> Pace
-    requires stored { All (AllStand work.now.registry.now.packages) work.now.store.now.members }
-    requires begun { AreBegun work.now.registry.now.packages work.now.asked.now answers.old }
-    ensures { AreBegun work.now.registry.now.packages work.now.asked.now answers.new }
+pub(crate) fn begin<G, Q: Query>(
+    finder: &Finder<'_, G, Q>,
+    workers: usize,
+    slots: &mut Vec<Option<Answered<Q>>>,
+) -> Pace
+    requires { AreFirst (length Q.asked) slots.old }
+    ensures { AreFirst (length Q.asked) slots.new }
 {
     if workers < 2 {
-        return ALONE;
+        return Pace {
+            threads: 1,
+            share: 1,
+        };
     }
-    let effort = answer_first(work, answers);
-    let others = work.asked.len() - answers.len();
+    let effort = answer_first(finder, slots);
+    let others = finder.count() - slots.len();
     Pace {
-        threads: workers.min(threads_for(effort, answers.len(), others)),
-        share: share_for(effort, answers.len()),
+        threads: workers.min(threads_for(effort, slots.len(), others)),
+        share: share_for(effort, slots.len()),
     }
 }
 
 /// Answers requests until as much was done as starting a thread takes, and says how much it was. The last
 /// one is left, since no thread would be started for it alone.
-fn answer_first<G>(work: &Work<'_, G>, answers: &mut Vec<Answer>) -> usize
-    requires stored { All (AllStand work.now.registry.now.packages) work.now.store.now.members }
-    requires begun { AreBegun work.now.registry.now.packages work.now.asked.now answers.old }
-    ensures { AreBegun work.now.registry.now.packages work.now.asked.now answers.new }
+fn answer_first<G, Q: Query>(
+    finder: &Finder<'_, G, Q>,
+    slots: &mut Vec<Option<Answered<Q>>>,
+) -> usize
+    requires { AreFirst (length Q.asked) slots.old }
+    ensures { AreFirst (length Q.asked) slots.new }
 {
     let mut effort: usize = 0;
-    for _i in answers.len()..work.asked.len().saturating_sub(1) {
+    for index in slots.len()..finder.count().saturating_sub(1) {
         if effort >= THREAD {
             break;
         }
-        effort = effort.saturating_add(answer_next(work, answers));
+        let Some(found) = finder.find_soon(index) else {
+            return usize::MAX;
+        };
+        effort = effort.saturating_add(effort_of(found.answer()));
+        slots.push_reserved(Some(found));
     }
     effort
-}
-
-/// Answers the next request where few conflicts do, and says how much there was to do.
-fn answer_next<G>(work: &Work<'_, G>, answers: &mut Vec<Answer>) -> usize
-    requires stored { All (AllStand work.now.registry.now.packages) work.now.store.now.members }
-    requires begun { AreBegun work.now.registry.now.packages work.now.asked.now answers.old }
-    requires inside { vec_len answers.old < length work.now.asked.now }
-    ensures begun { AreBegun work.now.registry.now.packages work.now.asked.now answers.new }
-    ensures one { vec_len answers.new ≤ vec_len answers.old + 1 }
-{
-    let asked = &work.asked[answers.len()];
-    match answer_soon(work.alloc, work.registry, work.store, asked) {
-        Some(answer) => {
-            let effort = effort_of(&answer);
-            put_next(work, answers, answer);
-            effort
-        }
-        None => usize::MAX,
-    }
 }
 
 /// The answer to a request, unless more than a few conflicts stand in its way. It is 18 where no memory was left for it.
@@ -103,11 +91,16 @@ pub fn answer_soon(
     requires { All (AllStand registry.now.packages) store.now.members }
     ensures { IfSome result (IsAnswerTo registry.now.packages asked.now) }
 {
-    if asked.1.is_some_and(|budget| budget <= FEW) {
+    let (request, options) = asked;
+    if options.budget.is_some_and(|budget| budget <= FEW) {
         return Some(answer(alloc, registry, store, asked));
     }
-    match decide_under(alloc, registry, &asked.0, store, Some(FEW), asked.2) {
-        Ok(verdict) => Some(Ok(verdict)),
+    let few = Options {
+        budget: Some(FEW),
+        explain: options.explain,
+    };
+    match solve_with(alloc, registry, request, store, few) {
+        Ok(outcome) => Some(Ok(outcome)),
         Err(Refusal::NoMemory) => Some(Err(Refusal::NoMemory)),
         Err(_) => None,
     }
@@ -117,9 +110,9 @@ pub fn answer_soon(
 /// as starting a thread takes.
 pub fn effort_of(answer: &Answer) -> usize {
     match answer {
-        Ok(Verdict::Selection(list, offered)) if offered.is_empty() => list.len().saturating_add(1),
-        Ok(Verdict::NoSelection(offered)) if offered.is_empty() => REFUSED,
-        Ok(Verdict::Refused(derivation, offered)) if offered.is_empty() => {
+        Ok(Outcome::Selection(list, offered)) if offered.is_empty() => list.len().saturating_add(1),
+        Ok(Outcome::NoSelection(offered)) if offered.is_empty() => REFUSED,
+        Ok(Outcome::Refused(derivation, offered)) if offered.is_empty() => {
             derivation.lines().len().saturating_add(1)
         }
         _ => THREAD,
@@ -135,27 +128,4 @@ fn threads_for(effort: usize, answered: usize, others: usize) -> usize {
 /// How many requests make a share of the work, where so many took this effort.
 fn share_for(effort: usize, answered: usize) -> usize {
     (SHARE.saturating_mul(answered) / effort.max(1)).max(1)
-}
-
-/// Answers the other requests, one after another.
-pub(crate) fn answer_others<G: Gate>(work: &Work<'_, G>, answers: &mut Vec<Answer>)
-    requires stored { All (AllStand work.now.registry.now.packages) work.now.store.now.members }
-    requires begun { AreBegun work.now.registry.now.packages work.now.asked.now answers.old }
-    ensures { AreAnswers work.now.registry.now.packages work.now.asked.now answers.new.items }
-{
-    for index in answers.len()..work.asked.len() {
-        let answer = answer_at(work, index);
-        put_next(work, answers, answer);
-    }
-}
-
-/// Puts the next answer behind the others.
-pub(crate) fn put_next<G>(work: &Work<'_, G>, answers: &mut Vec<Answer>, answer: Answer)
-    requires begun { AreBegun work.now.registry.now.packages work.now.asked.now answers.old }
-    requires inside { vec_len answers.old < length work.now.asked.now }
-    requires answer { IsAnswerAt work.now.registry.now.packages work.now.asked.now (vec_len answers.old) answer }
-    ensures begun { AreBegun work.now.registry.now.packages work.now.asked.now answers.new }
-    ensures one { vec_len answers.new ≡ vec_len answers.old + 1 }
-{
-    answers.push_reserved(answer);
 }

@@ -1,26 +1,44 @@
-//! Requests that are answered by several threads.
-ghost use Rattle.std.specs.Prelude.{ℕ, ◌<◌, ◌≤◌, All, IfOk, length};
+//! Requests that are answered by several threads, all of them before any answer is used.
+ghost use Rattle.std.specs.Prelude.{All, IfOk};
 ghost use Rattle.derivations.specs.Learning.{AllStand};
-ghost use Rattle.pool.specs.Answering.{AreAnswers, AreBegun, AreSlots};
-ghost use Rattle.pool.specs.Finding.{AreAllFound, indexes_in};
-ghost use Rattle.pool.specs.Sharing.{once, times};
+ghost use Rattle.pool.specs.Answering.{AreAnswers};
 
-use crate::alone::{answer_others, begin};
-use crate::desk::{gather, set_up, work_at};
-use crate::gate::{Gate, Idle};
-use crate::jobs::Jobs;
-use crate::slots::{Found, empty_slots, fill, put_all};
+use crate::gate::Gate;
+use crate::in_order::{Answers, Consumer, answer_in_order, start};
+use crate::query::Query;
 use crate::work::{Answer, Asked, Work};
 use derivations::Store;
 use registry::Registry;
 use std::alloc::{AllocError, Global};
+use std::marker::Brand;
 use std::sync::Wait;
 use std::thread::Threads;
 
-/// Answers each request at its place, by at most so many threads, of which each takes the next request
-/// until none is left. The calling thread is one of them, does the work of those that can't be started,
-/// and answers what no other answered. It begins alone: no thread is started for requests that end
-/// before that would have begun.
+/// Who keeps the answers to so many requests.
+#[derive(Drop)]
+struct Keeping {
+    answers: Vec<Answer>,
+    count: usize,
+}
+
+impl Consumer for Keeping {
+    ghost use Rattle.std.specs.Prelude.{◌≡◌, ◌≤◌, [], length, vec_capacity};
+    ghost use Rattle.pool.specs.Answering.{AreAnswers};
+
+    type Output = ();
+
+    ghost can_consume = { λ k packages asked. (k.answers.items ≡ []) × (length asked ≤ vec_capacity k.answers) × (k.count ≡ length asked) };
+
+    ghost consumes = { λ k packages asked result then. AreAnswers packages asked then.answers.items };
+
+    fn consume<G: Gate, Q: Query, R: Wait>(&mut self, rt: &R, answers: &mut Answers<'_, G, Q>) {
+        for _at in 0..self.count {
+            self.answers.push_reserved(answers.next(rt));
+        }
+    }
+}
+
+/// Answers each request at its place, as [`answer_in_order`] does.
 ///
 /// An answer is 18 where no memory was left for it, and may be 22 under a budget. All of them are refused
 /// only where there is no room to keep them, and then none was begun.
@@ -35,31 +53,13 @@ pub fn answer_all<R: Threads + Wait + Sync>(
     requires { All (AllStand registry.now.packages) store.now.members }
     ensures { IfOk result (λ answers. AreAnswers registry.now.packages requests.items answers.items) }
 {
-    answer_lent(rt, alloc, registry, store, requests.as_slice(), workers)
-}
-
-/// As [`answer_all`], of requests that stay with the caller, who may have more to say of them.
-pub fn answer_lent<R: Threads + Wait + Sync>(
-    rt: &R,
-    alloc: Global,
-    registry: &Registry,
-    store: &Store,
-    requests: &[Asked],
-    workers: usize,
-) -> Result<Vec<Answer>, AllocError>
-    requires { All (AllStand registry.now.packages) store.now.members }
-    ensures { IfOk result (λ answers. AreAnswers registry.now.packages requests.now answers.items) }
-{
-    let work = Work {
-        alloc,
-        registry,
-        store,
-        asked: requests,
-        gate: &Idle,
+    let mut all = Keeping {
+        answers: Vec::with_capacity(alloc, requests.len())?,
+        count: requests.len(),
     };
-    let mut answers = Vec::with_capacity(alloc, requests.len())?;
-    let pace = begin(&work, workers, &mut answers);
-    go_on(rt, &work, pace.threads, &mut answers);
+    let asked = requests.as_slice();
+    answer_in_order(rt, alloc, registry, store, asked, workers, &mut all);
+    let Keeping { answers, count: _ } = all;
     Ok(answers)
 }
 
@@ -77,6 +77,10 @@ pub fn answer_all_with<R: Threads + Wait + Sync, G: Gate + Sync>(
     requires { All (AllStand registry.now.packages) store.now.members }
     ensures { IfOk result (λ answers. AreAnswers registry.now.packages requests.items answers.items) }
 {
+    let mut all = Keeping {
+        answers: Vec::with_capacity(alloc, requests.len())?,
+        count: requests.len(),
+    };
     let work = Work {
         alloc,
         registry,
@@ -84,72 +88,7 @@ pub fn answer_all_with<R: Threads + Wait + Sync, G: Gate + Sync>(
         asked: requests.as_slice(),
         gate,
     };
-    let mut answers = Vec::with_capacity(alloc, requests.len())?;
-    go_on(rt, &work, workers, &mut answers);
+    start::<Brand, G, R, Keeping>(rt, work, workers, true, &mut all);
+    let Keeping { answers, count: _ } = all;
     Ok(answers)
-}
-
-/// Answers the other requests, by so many threads at most.
-fn go_on<R: Threads + Wait + Sync, G: Gate + Sync>(
-    rt: &R,
-    work: &Work<'_, G>,
-    threads: usize,
-    answers: &mut Vec<Answer>,
-)
-    requires stored { All (AllStand work.now.registry.now.packages) work.now.store.now.members }
-    requires begun { AreBegun work.now.registry.now.packages work.now.asked.now answers.old }
-    ensures { AreAnswers work.now.registry.now.packages work.now.asked.now answers.new.items }
-{
-    let others = Work {
-        alloc: work.alloc,
-        registry: work.registry,
-        store: work.store,
-        asked: &work.asked[answers.len()..],
-        gate: work.gate,
-    };
-    let threads = threads.min(others.asked.len());
-    if threads < 2 {
-        return answer_others(work, answers);
-    }
-    match found_by(rt, &others, threads) {
-        Ok(slots) => fill(work, slots, answers),
-        Err(_) => answer_others(work, answers),
-    }
-}
-
-/// What so many threads find, each answer in the slot of its request.
-fn found_by<R: Threads + Wait + Sync, G: Gate + Sync>(
-    rt: &R,
-    work: &Work<'_, G>,
-    threads: usize,
-) -> Result<Vec<Option<Answer>>, AllocError>
-    requires stored { All (AllStand work.now.registry.now.packages) work.now.store.now.members }
-    requires threads { (0 < threads) × (threads ≤ length work.now.asked.now) }
-    ensures { IfOk result (λ slots. AreSlots work.now.registry.now.packages work.now.asked.now slots.items) }
-{
-    let mut slots = empty_slots(work)?;
-    let all = found_at_desks(rt, work, threads)?;
-    put_all(work, &mut slots, all);
-    Ok(slots)
-}
-
-/// What so many threads find, each at its desk.
-fn found_at_desks<R: Threads + Wait + Sync, G: Gate + Sync>(
-    rt: &R,
-    work: &Work<'_, G>,
-    threads: usize,
-) -> Result<Vec<Vec<Found>>, AllocError>
-    requires stored { All (AllStand work.now.registry.now.packages) work.now.store.now.members }
-    requires threads { (0 < threads) × (threads ≤ length work.now.asked.now) }
-    ensures found { IfOk result (λ all. AreAllFound work.now.registry.now.packages work.now.asked.now all.items) }
-    ensures once { IfOk result (λ all. (i : ℕ) → times i (indexes_in all.items) ≤ once (length work.now.asked.now) i) }
-{
-    let mut all = Vec::with_capacity(work.alloc, threads)?;
-    let mut desks = Vec::with_capacity(work.alloc, threads)?;
-    let back = Vec::with_capacity(work.alloc, threads)?;
-    let (jobs, takers) = Jobs::new(rt, work.alloc, work.asked.len(), threads)?;
-    set_up(work, &jobs, takers, &mut desks);
-    work_at(rt, work, &jobs, desks.as_mut_slice());
-    gather(work, jobs, desks, back, &mut all);
-    Ok(all)
 }

@@ -1,20 +1,23 @@
 //! Answers that are handed over in order, each as soon as it and all before it are there.
-ghost use Rattle.std.specs.Prelude.{◌≡◌, ◌+◌, ◌<◌, ◌≤◌, ℕ, Bool, List, Option, All, length, vec_capacity, vec_len};
+ghost use Rattle.std.specs.Prelude.{◌≡◌, ◌+◌, ◌<◌, ◌≤◌, List, All, length, vec_capacity, vec_len};
 ghost use Rattle.derivations.specs.Learning.{AllStand};
 ghost use Rattle.registry.specs.Registry.{Packages};
 ghost use Rattle.registry.specs.Requests.{Wanted};
-ghost use Rattle.pool.specs.Ahead.{AreInPlace};
-ghost use Rattle.pool.specs.Answering.{AreBegun, IsAnswerAt};
+ghost use Rattle.solver.specs.declared.solving.Options.{Options};
+ghost use Rattle.pool.specs.Ahead.{AreFirst, AreInPlace};
+ghost use Rattle.pool.specs.Answering.{IsAnswerAt};
+ghost use Rattle.pool.specs.Taking.{IsTakerOf};
 
-use crate::ahead::{Ahead, search_by};
-use crate::alone::{ALONE, Pace, begin};
+use crate::ahead::{Ahead, Own, search_all};
+use crate::alone::{Pace, begin};
 use crate::board::Board;
-use crate::gate::Idle;
+use crate::gate::{Gate, Idle};
+use crate::jobs::{Jobs, Taker};
 use crate::query::{Answered, Query};
-use crate::work::{Answer, Asked, Work};
+use crate::work::{Answer, Asked, Finder, Work};
 use derivations::Store;
 use registry::Registry;
-use std::alloc::{AllocError, Global};
+use std::alloc::Global;
 use std::marker::{Brand, Model};
 use std::sync::Wait;
 use std::thread::{Threads, join_mut};
@@ -22,32 +25,34 @@ use std::thread::{Threads, join_mut};
 /// Answers to requests, in order. Those behind the next one may still be searched for. Contracts see how many were
 /// handed over.
 #[derive(Drop)]
-pub struct Answers<'a, Q: Query> {
-    ahead: &'a Ahead<'a, Q>,
-    count: usize,
+pub struct Answers<'a, G, Q: Query> {
+    ahead: &'a Ahead<'a, G, Q>,
+    /// None where the calling thread answers alone.
+    own: Option<Own<'a>>,
     at: usize,
     held: Option<Answered<Q>>,
+    /// Whether the calling thread has begun the next request.
     is_own: bool,
 }
 
-impl<'a, Q: Query> Model for Answers<'a, Q> {
-    ghost use Rattle.std.specs.Prelude.{◌≡◌, ℕ, IfSome, length};
+impl<'a, G, Q: Query> Model for Answers<'a, G, Q> {
+    ghost use Rattle.std.specs.Prelude.{◌≡◌, ℕ, IfSome};
 
     ghost Value = { ℕ };
 
     ghost view = { λ a. a.at };
 
-    ghost invariant = { λ a. (a.count ≡ length Q.asked) × IfSome a.held (λ answered. answered ≡ a.at) };
+    ghost invariant = { λ a. IfSome a.held (λ answered. answered ≡ a.at) };
 }
 
-impl<'a, Q: Query> Answers<'a, Q> {
+impl<'a, G: Gate, Q: Query> Answers<'a, G, Q> {
     /// None was handed over.
-    pub(crate) fn new(ahead: &'a Ahead<'a, Q>) -> Answers<'a, Q>
+    fn new(ahead: &'a Ahead<'a, G, Q>, own: Option<Own<'a>>) -> Answers<'a, G, Q>
         ensures { result ≡ 0 }
     {
         Answers {
             ahead,
-            count: ahead.count(),
+            own,
             at: 0,
             held: None,
             is_own: false,
@@ -60,15 +65,12 @@ impl<'a, Q: Query> Answers<'a, Q> {
         requires { self.old < length Q.asked }
         ensures { self.new ≡ self.old }
     {
-        if self.held.is_some() || self.is_own {
-            return self.held.is_some();
-        }
-        self.held = self.ahead.take(rt, self.at);
-        if self.held.is_none() && self.ahead.begin_at(rt, self.at) {
+        let was_own = self.is_own;
+        self.look(rt);
+        if self.is_own && !was_own {
             self.held = self.ahead.find_soon(self.at);
-            self.is_own = self.held.is_none();
-            if !self.is_own {
-                self.ahead.leave(rt);
+            if self.held.is_some() {
+                self.leave(rt);
             }
         }
         self.held.is_some()
@@ -81,6 +83,8 @@ impl<'a, Q: Query> Answers<'a, Q> {
         ensures one { self.new ≡ self.old + 1 }
     {
         let found = self.take_next(rt);
+        // The next place is no more than their number, and so fits.
+        let _count = self.ahead.count();
         self.held = None;
         self.at += 1;
         found.into_answer()
@@ -92,51 +96,82 @@ impl<'a, Q: Query> Answers<'a, Q> {
         ensures found { result ≡ self.old }
         ensures same { self.new ≡ self.old }
     {
-        if self.is_ready(rt) {
-            if let Some(found) = self.held.take() {
-                return found;
-            }
+        self.look(rt);
+        if let Some(found) = self.held.take() {
+            return found;
         }
         if !self.is_own {
             if let Some(found) = self.ahead.wait_for(rt, self.at) {
                 return found;
             }
         }
-        self.search(rt)
+        let found = self.ahead.find_here(self.at);
+        self.leave(rt);
+        found
     }
 
-    /// What the calling thread finds itself.
-    fn search<R: Wait>(&mut self, rt: &R) -> Answered<Q>
-        requires { self.old < length Q.asked }
-        ensures found { result ≡ self.old }
-        ensures same { self.new ≡ self.old }
+    /// Holds the next answer if it was found. If it wasn't and no other thread searches, the calling one begins.
+    fn look<R: Wait>(&mut self, rt: &R)
+        ensures { self.new ≡ self.old }
     {
-        let found = self.ahead.find_here(self.at);
+        if self.held.is_some() || self.is_own {
+            return;
+        }
+        self.held = self.ahead.take(rt, self.at);
+        self.is_own = self.held.is_none() && self.begin(rt);
+    }
+
+    /// Begins the next request, if no other thread searches.
+    fn begin<R: Wait>(&mut self, rt: &R) -> bool
+        ensures { self.new ≡ self.old }
+    {
+        match &mut self.own {
+            Some(own) => self.ahead.begin_at(rt, self.at, own),
+            None => true,
+        }
+    }
+
+    /// Ends a search of the calling thread.
+    fn leave<R: Wait>(&mut self, rt: &R)
+        ensures { self.new ≡ self.old }
+    {
         if self.is_own {
             self.is_own = false;
             self.ahead.leave(rt);
         }
-        found
+    }
+
+    /// From now on no other request is begun.
+    fn end<R: Wait>(&mut self, rt: &R) {
+        self.leave(rt);
+        if let Some(own) = &mut self.own {
+            own.take_rest(rt);
+        }
     }
 }
 
 /// Who takes the answers to the requests of a call, in the thread that called.
 pub trait Consumer {
-    ghost use Rattle.std.specs.Prelude.{ℕ, Bool, List, Option};
+    ghost use Rattle.std.specs.Prelude.{List};
     ghost use Rattle.registry.specs.Registry.{Packages};
     ghost use Rattle.registry.specs.Requests.{Wanted};
+    ghost use Rattle.solver.specs.declared.solving.Options.{Options};
 
     /// What it tells at the end.
     type Output;
 
     /// It may take the answers to these requests of these packages.
-    ghost can_consume: { Self → Packages → List (Wanted × Option ℕ × Bool) → Type 0 };
+    ghost can_consume: { Self → Packages → List (Wanted × Options) → Type 0 };
 
     /// What it has done with such answers.
-    ghost consumes: { Self → Packages → List (Wanted × Option ℕ × Bool) → Self.Output → Self → Type 0 };
+    ghost consumes: { Self → Packages → List (Wanted × Options) → Self.Output → Self → Type 0 };
 
     /// Takes answers until it has them all or wants no more.
-    fn consume<Q: Query, R: Wait>(&mut self, rt: &R, answers: &mut Answers<'_, Q>) -> Self::Output
+    fn consume<G: Gate, Q: Query, R: Wait>(
+        &mut self,
+        rt: &R,
+        answers: &mut Answers<'_, G, Q>,
+    ) -> Self::Output
         requires can { can_consume self.old Q.packages Q.asked }
         requires none { answers.old ≡ 0 }
         ensures { consumes self.old Q.packages Q.asked result self.new };
@@ -144,8 +179,8 @@ pub trait Consumer {
 
 /// Hands the answers to requests over in order, each as soon as it and all before it are there, while at most so many
 /// threads search for those behind it. The calling thread takes them, and is one of these threads where it searches
-/// itself: that for the first requests, as [`answer_all`](crate::answer_all) does, and for the next one where no thread
-/// could be started or there was no room to keep an answer.
+/// itself: that for the first requests, until as much was done as starting a thread takes, and for the next one as long
+/// as no other thread searches, since none has begun yet, none could be started or there was no room to keep an answer.
 ///
 /// When the consumer ends, no other request is begun, and those that are searched for are waited for.
 pub fn answer_in_order<R: Threads + Wait + Sync, C: Consumer>(
@@ -168,14 +203,16 @@ pub fn answer_in_order<R: Threads + Wait + Sync, C: Consumer>(
         asked: requests,
         gate: &Idle,
     };
-    start::<Brand, R, C>(rt, work, workers, consumer)
+    start::<Brand, Idle, R, C>(rt, work, workers, false, consumer)
 }
 
-/// Answers the first requests, and starts threads for the others where these are worth it.
-fn start<Q: Query + Send + Sync, R: Threads + Wait + Sync, C: Consumer>(
+/// Hands the answers over. Threads are started for all requests at once, or for those behind the first ones and where
+/// they are worth it.
+pub(crate) fn start<Q: Query + Send + Sync, G: Gate + Sync, R: Threads + Wait + Sync, C: Consumer>(
     rt: &R,
-    work: Work<'_, Idle>,
+    work: Work<'_, G>,
     workers: usize,
+    at_once: bool,
     consumer: &mut C,
 ) -> C::Output
     requires packages { work.registry.now.packages ≡ Q.packages }
@@ -184,80 +221,57 @@ fn start<Q: Query + Send + Sync, R: Threads + Wait + Sync, C: Consumer>(
     requires can { C.can_consume consumer.old Q.packages Q.asked }
     ensures { C.consumes consumer.old Q.packages Q.asked result consumer.new }
 {
-    let alloc = work.alloc;
-    let (board, pace) = match begun(&work, workers) {
-        Ok(begun) => begun,
-        Err(_) => (Board::new(Vec::new(alloc), 0, 1), ALONE),
+    let finder: Finder<'_, G, Q> = Finder::new(work);
+    let alloc = finder.alloc();
+    let Ok(mut slots) = Vec::with_capacity(alloc, finder.count()) else {
+        let slots = Vec::new(alloc);
+        return consume_alone(rt, finder, slots, consumer);
     };
-    let ahead: Ahead<'_, Q> = Ahead::new(work, pace.share, board);
-    if pace.threads < 2 {
-        return consume_all(rt, &ahead, consumer);
-    }
-    consume_beside(rt, &ahead, pace.threads, consumer)
+    let pace = if at_once {
+        Pace {
+            threads: workers,
+            share: 1,
+        }
+    } else {
+        begin(&finder, workers, &mut slots)
+    };
+    share_out(rt, finder, slots, pace, consumer)
 }
 
-/// Has the consumer take the answers, while so many threads search.
-fn consume_beside<Q: Query + Send + Sync, R: Threads + Wait + Sync, C: Consumer>(
+/// Has the consumer take the answers while threads search, where at least two are worth it and there is room for what
+/// they need.
+#[tactic(auto, using(crate::proofs::Takers::are_takers))]
+fn share_out<Q: Query + Send + Sync, G: Gate + Sync, R: Threads + Wait + Sync, C: Consumer>(
     rt: &R,
-    ahead: &Ahead<'_, Q>,
-    threads: usize,
+    finder: Finder<'_, G, Q>,
+    mut slots: Vec<Option<Answered<Q>>>,
+    pace: Pace,
     consumer: &mut C,
 ) -> C::Output
-    requires { C.can_consume consumer.old Q.packages Q.asked }
+    requires first { AreFirst (length Q.asked) slots }
+    requires can { C.can_consume consumer.old Q.packages Q.asked }
     ensures { C.consumes consumer.old Q.packages Q.asked result consumer.new }
 {
-    join_mut(
+    let first = slots.len();
+    let others = finder.count() - first;
+    let threads = pace.threads.min(others);
+    if threads < 2 {
+        return consume_alone(rt, finder, slots, consumer);
+    }
+    // A taker more is the calling thread's.
+    let made = Jobs::new(
         rt,
-        &mut || search_by(rt, ahead, threads),
-        &mut || consume_all(rt, ahead, consumer),
-    )
-    .1
-}
-
-/// The first requests are answered, and where threads are worth it, there is a slot for each other.
-fn begun<Q: Query>(work: &Work<'_, Idle>, workers: usize) -> Result<(Board<Q>, Pace), AllocError>
-    requires packages { work.now.registry.now.packages ≡ Q.packages }
-    requires asked { work.now.asked.now ≡ Q.asked }
-    requires stored { All (AllStand work.now.registry.now.packages) work.now.store.now.members }
-{
-    let count = work.asked.len();
-    let mut slots = Vec::with_capacity(work.alloc, count)?;
-    let mut answers = Vec::with_capacity(work.alloc, count)?;
-    let pace = begin(work, workers, &mut answers);
-    let next = answers.len();
-    let threads = pace.threads.min(count - next);
-    put_answers(work, &mut slots, answers);
-    if threads > 1 {
-        put_none(&mut slots, count - next);
-    }
-    let board = Board::new(slots, next, threads);
-    Ok((
-        board,
-        Pace {
-            threads,
-            share: pace.share,
-        },
-    ))
-}
-
-/// Fills the slots of the first requests with their answers.
-fn put_answers<Q: Query>(
-    work: &Work<'_, Idle>,
-    slots: &mut Vec<Option<Answered<Q>>>,
-    answers: Vec<Answer>,
-)
-    requires packages { work.now.registry.now.packages ≡ Q.packages }
-    requires asked { work.now.asked.now ≡ Q.asked }
-    requires begun { AreBegun work.now.registry.now.packages work.now.asked.now answers }
-    requires none { vec_len slots.old ≡ 0 }
-    requires room { vec_len answers ≤ vec_capacity slots.old }
-    ensures count { vec_len slots.new ≡ vec_len answers }
-    ensures room { vec_capacity slots.new ≡ vec_capacity slots.old }
-    ensures places { AreInPlace slots.new.items }
-{
-    for answer in answers {
-        slots.push_reserved(Some(Answered::new(slots.len(), answer)));
-    }
+        finder.alloc(),
+        finder.count(),
+        threads.saturating_add(1),
+    );
+    let Ok((jobs, takers)) = made else {
+        return consume_alone(rt, finder, slots, consumer);
+    };
+    put_none(&mut slots, others);
+    let board = Board::new(slots, threads);
+    let ahead = Ahead::new(finder, pace.share, board);
+    consume_beside(rt, &ahead, first, &jobs, takers, consumer)
 }
 
 /// Makes so many more slots, with nothing in them.
@@ -271,16 +285,87 @@ fn put_none<Q: Query>(slots: &mut Vec<Option<Answered<Q>>>, count: usize)
     }
 }
 
-/// Has the consumer take the answers. Then no other request is begun.
-fn consume_all<Q: Query, R: Wait, C: Consumer>(
+/// Has the consumer take the answers, of which the calling thread finds those that were not found.
+fn consume_alone<G: Gate, Q: Query, R: Wait, C: Consumer>(
     rt: &R,
-    ahead: &Ahead<'_, Q>,
+    finder: Finder<'_, G, Q>,
+    slots: Vec<Option<Answered<Q>>>,
+    consumer: &mut C,
+) -> C::Output
+    requires places { AreInPlace slots.items }
+    requires can { C.can_consume consumer.old Q.packages Q.asked }
+    ensures { C.consumes consumer.old Q.packages Q.asked result consumer.new }
+{
+    let board = Board::new(slots, 1);
+    let ahead = Ahead::new(finder, 1, board);
+    consume_all(rt, &ahead, None, consumer)
+}
+
+/// Has the consumer take the answers, while the others take requests and search. The calling thread has answered the
+/// first ones.
+#[tactic(auto, using(crate::proofs::Takers::all_but_last))]
+fn consume_beside<
+    'a,
+    Q: Query + Send + Sync,
+    G: Gate + Sync,
+    R: Threads + Wait + Sync,
+    C: Consumer,
+>(
+    rt: &R,
+    ahead: &'a Ahead<'a, G, Q>,
+    first: usize,
+    jobs: &'a Jobs,
+    mut takers: Vec<Taker>,
+    consumer: &mut C,
+) -> C::Output
+    requires jobs { jobs.now.count ≡ length Q.asked }
+    requires takers { All (IsTakerOf jobs.now) takers.items }
+    requires can { C.can_consume consumer.old Q.packages Q.asked }
+    ensures { C.consumes consumer.old Q.packages Q.asked result consumer.new }
+{
+    let Some(taker) = takers.pop() else {
+        return consume_all(rt, ahead, None, consumer);
+    };
+    let mut own = Own::new(jobs, taker);
+    own.take_first(rt, first);
+    let mut own = Some(own);
+    let others = &mut takers;
+    join_mut(
+        rt,
+        &mut ||
+            requires { (jobs.now.count ≡ length Q.asked) × All (IsTakerOf jobs.now) others.now.items }
+        { search_all(rt, ahead, jobs, others) },
+        &mut || consume_by(rt, ahead, &mut own, consumer),
+    )
+    .1
+}
+
+/// Has the consumer take the answers, as the calling thread's taker, which is there, may too.
+fn consume_by<'a, G: Gate, Q: Query, R: Wait, C: Consumer>(
+    rt: &R,
+    ahead: &'a Ahead<'a, G, Q>,
+    own: &mut Option<Own<'a>>,
     consumer: &mut C,
 ) -> C::Output
     requires { C.can_consume consumer.old Q.packages Q.asked }
     ensures { C.consumes consumer.old Q.packages Q.asked result consumer.new }
 {
-    let output = consumer.consume(rt, &mut Answers::new(ahead));
-    ahead.stop(rt);
+    let own = own.take();
+    consume_all(rt, ahead, own, consumer)
+}
+
+/// Has the consumer take the answers. Then no other request is begun.
+fn consume_all<'a, G: Gate, Q: Query, R: Wait, C: Consumer>(
+    rt: &R,
+    ahead: &'a Ahead<'a, G, Q>,
+    own: Option<Own<'a>>,
+    consumer: &mut C,
+) -> C::Output
+    requires { C.can_consume consumer.old Q.packages Q.asked }
+    ensures { C.consumes consumer.old Q.packages Q.asked result consumer.new }
+{
+    let mut answers = Answers::new(ahead, own);
+    let output = consumer.consume(rt, &mut answers);
+    answers.end(rt);
     output
 }

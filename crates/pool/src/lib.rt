@@ -5,17 +5,15 @@ mod ahead;
 mod alone;
 mod answers;
 mod board;
-mod desk;
 mod gate;
 mod in_order;
 mod jobs;
 mod query;
 mod rule;
-mod slots;
 mod work;
 
 pub use alone::{THREAD, answer_soon, effort_of};
-pub use answers::{answer_all, answer_all_with, answer_lent};
+pub use answers::{answer_all, answer_all_with};
 pub use gate::Gate;
 pub use in_order::{Answers, Consumer, answer_in_order};
 pub use jobs::{Jobs, Taker};

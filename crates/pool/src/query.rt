@@ -1,7 +1,8 @@
 //! What one call asks, as contracts see it, and an answer that was found for it.
-ghost use Rattle.std.specs.Prelude.{◌≡◌, ℕ, Bool, List, Option, IfSome};
+ghost use Rattle.std.specs.Prelude.{◌≡◌, ℕ, List, IfSome};
 ghost use Rattle.registry.specs.Registry.{Packages};
 ghost use Rattle.registry.specs.Requests.{Wanted};
+ghost use Rattle.solver.specs.declared.solving.Options.{Options};
 ghost use Rattle.pool.specs.Answering.{IsAnswerAt};
 
 use crate::work::Answer;
@@ -10,13 +11,14 @@ use std::marker::{Brand, Model, PhantomData};
 /// The packages and the requests of one call. What crosses threads has them in its type, so that an answer is known
 /// to be one to a request of this call.
 pub trait Query {
-    ghost use Rattle.std.specs.Prelude.{ℕ, Bool, List, Option};
+    ghost use Rattle.std.specs.Prelude.{List};
     ghost use Rattle.registry.specs.Registry.{Packages};
     ghost use Rattle.registry.specs.Requests.{Wanted};
+    ghost use Rattle.solver.specs.declared.solving.Options.{Options};
 
     ghost packages: { Packages };
 
-    ghost asked: { List (Wanted × Option ℕ × Bool) };
+    ghost asked: { List (Wanted × Options) };
 }
 
 impl Query for Brand {
@@ -62,6 +64,10 @@ impl<Q: Query> Answered<Q> {
         ensures { result ≡ self.now }
     {
         self.index
+    }
+
+    pub(crate) fn answer(&self) -> &Answer {
+        &self.answer
     }
 
     pub(crate) fn into_answer(self) -> Answer

@@ -1,22 +1,25 @@
 //! What is asked, and how one request is answered.
-ghost use Rattle.std.specs.Prelude.{◌<◌, All, length};
+ghost use Rattle.std.specs.Prelude.{◌≡◌, ◌<◌, All, IfSome, length};
 ghost use Rattle.derivations.specs.Learning.{AllStand};
-ghost use Rattle.pool.specs.Answering.{IsAnswerAt, IsAnswerTo};
+ghost use Rattle.pool.specs.Answering.{IsAnswerTo};
 
+use crate::alone::answer_soon;
 use crate::gate::Gate;
+use crate::query::{Answered, Query};
 use derivations::Store;
 use registry::{Registry, Request};
-use solver::{Verdict, decide_under};
+use solver::{Options, Outcome, solve_with};
 use std::alloc::Global;
+use std::marker::{Model, PhantomData};
 use versions::Refusal;
 
-/// A request, with its budget of conflicts where it has one, and whether a refusal of it is to be explained.
-pub type Asked = (Request, Option<u32>, bool);
+/// A request, and how it is to be answered.
+pub type Asked = (Request, Options);
 
 /// What a request is answered, or why it is left without an answer.
-pub type Answer = Result<Verdict, Refusal>;
+pub type Answer = Result<Outcome, Refusal>;
 
-/// What the threads share: the requests, and what they are answered from.
+/// The requests of one call, and what they are answered from.
 #[derive(Drop)]
 pub(crate) struct Work<'a, G> {
     pub(crate) alloc: Global,
@@ -26,22 +29,87 @@ pub(crate) struct Work<'a, G> {
     pub(crate) gate: &'a G,
 }
 
-/// Answers the request at an index.
-pub(crate) fn answer_at<G: Gate>(work: &Work<'_, G>, index: usize) -> Answer
-    requires stored { All (AllStand work.now.registry.now.packages) work.now.store.now.members }
-    requires inside { index < length work.now.asked.now }
-    ensures { IsAnswerAt work.now.registry.now.packages work.now.asked.now index result }
-{
-    work.gate.before(index);
-    let answer = answer(work.alloc, work.registry, work.store, &work.asked[index]);
-    work.gate.after(index);
-    answer
-}
-
-/// Answers a request, under its budget where it has one.
+/// Answers a request.
 pub(crate) fn answer(alloc: Global, registry: &Registry, store: &Store, asked: &Asked) -> Answer
     requires { All (AllStand registry.now.packages) store.now.members }
     ensures { IsAnswerTo registry.now.packages asked.now result }
 {
-    decide_under(alloc, registry, &asked.0, store, asked.1, asked.2)
+    solve_with(alloc, registry, &asked.0, store, asked.1)
+}
+
+/// Who finds answers to the requests of a call. Threads share it.
+#[derive(Drop)]
+pub(crate) struct Finder<'a, G, Q: Query> {
+    work: Work<'a, G>,
+    query: PhantomData<Q>,
+}
+
+impl<'a, G, Q: Query> Model for Finder<'a, G, Q> {
+    ghost use Rattle.std.specs.Prelude.{◌≡◌, ℕ, All, length};
+    ghost use Rattle.derivations.specs.Learning.{AllStand};
+
+    ghost Value = { ℕ };
+
+    ghost view = { λ f. length f.work.asked.now };
+
+    ghost invariant = { λ f. (f.work.registry.now.packages ≡ Q.packages) × (f.work.asked.now ≡ Q.asked)
+        × All (AllStand f.work.registry.now.packages) f.work.store.now.members };
+}
+
+impl<'a, G, Q: Query> Finder<'a, G, Q> {
+    pub(crate) fn new(work: Work<'a, G>) -> Finder<'a, G, Q>
+        requires packages { work.registry.now.packages ≡ Q.packages }
+        requires asked { work.asked.now ≡ Q.asked }
+        requires stored { All (AllStand work.registry.now.packages) work.store.now.members }
+    {
+        Finder {
+            work,
+            query: PhantomData,
+        }
+    }
+
+    pub(crate) fn alloc(&self) -> Global {
+        self.work.alloc
+    }
+
+    /// How many requests there are.
+    pub(crate) fn count(&self) -> usize
+        ensures { result ≡ length Q.asked }
+    {
+        self.work.asked.len()
+    }
+
+    /// The answer to the request at an index, if few conflicts stand in its way. No gate is asked.
+    pub(crate) fn find_soon(&self, index: usize) -> Option<Answered<Q>>
+        requires { index < length Q.asked }
+        ensures { IfSome result (λ answered. answered ≡ index) }
+    {
+        match answer_soon(
+            self.work.alloc,
+            self.work.registry,
+            self.work.store,
+            &self.work.asked[index],
+        ) {
+            Some(answer) => Some(Answered::new(index, answer)),
+            None => None,
+        }
+    }
+}
+
+impl<'a, G: Gate, Q: Query> Finder<'a, G, Q> {
+    /// The answer to the request at an index.
+    pub(crate) fn find(&self, index: usize) -> Answered<Q>
+        requires { index < length Q.asked }
+        ensures { result ≡ index }
+    {
+        self.work.gate.before(index);
+        let answer = answer(
+            self.work.alloc,
+            self.work.registry,
+            self.work.store,
+            &self.work.asked[index],
+        );
+        self.work.gate.after(index);
+        Answered::new(index, answer)
+    }
 }

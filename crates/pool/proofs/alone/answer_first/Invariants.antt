@@ -1,9 +1,9 @@
-use Rattle.std.proofs.Common.{◌≤◌, vec_len}
-use Rattle.pool.specs.Answering.{AreBegun}
+use Rattle.std.proofs.Common.{◌≡◌, length, vec_len}
+use Rattle.pool.specs.Ahead.{AreFirst}
 use Rattle.pool.proofs.alone.answer_first.Given as goal
 
-abbrev pub invariant-loop-i : goal.invariant-loop-i
-invariant-loop-i g l = record {
-  begun : AreBegun l.work.registry.now.packages l.work.asked.now l.answers;
-  behind : vec_len l.answers ≤ l._i;
+abbrev pub invariant-loop-index : goal.invariant-loop-index
+invariant-loop-index g l = record {
+  first : AreFirst (length g.Q.Query.asked) l.slots;
+  here : vec_len l.slots ≡ l.index;
 }
