@@ -10,7 +10,7 @@ use crate::entry::Stamp;
 use crate::seat::Seat;
 use derivations::derivations_refute;
 use registry::Request;
-use solver::{Outcome, solve_under};
+use solver::{Options, Outcome, solve_with};
 use versions::Refusal;
 
 impl<'a> Seat<'a> {
@@ -20,7 +20,8 @@ impl<'a> Seat<'a> {
         ensures again { IfSome self.old.stray (λ e. result ≡ Err Refusal.Stray) }
         ensures answered { IfOk result (λ r. Resolves self.new.journal request.now r.0.place r.0.revision r.1) }
         ensures none { IfOk result (λ r. OnlyWhereNone (packages_of self.new.journal) request.now r.1) }
-        ensures preferred { IfPreferredServes (packages_of self.new.journal) request.now (λ s. IfOk result (λ r. outcomes.Answers (packages_of self.new.journal) s r.1)) }
+        ensures preferred { IfPreferredServes (packages_of self.new.journal) request.now
+            (λ s. IfOk result (λ r. outcomes.Answers (packages_of self.new.journal) s r.1)) }
         ensures reason { IfErr result (IsStopped self.new) }
     {
         self.catch_up()?;
@@ -39,7 +40,8 @@ impl<'a> Seat<'a> {
         ensures again { IfSome self.old.stray (λ e. result ≡ Err Refusal.Stray) }
         ensures answered { IfOk result (λ r. Resolves self.new.journal request.now r.0.place r.0.revision r.1) }
         ensures none { IfOk result (λ r. OnlyWhereNone (packages_of self.new.journal) request.now r.1) }
-        ensures preferred { IfPreferredServes (packages_of self.new.journal) request.now (λ s. IfOk result (λ r. outcomes.Answers (packages_of self.new.journal) s r.1)) }
+        ensures preferred { IfPreferredServes (packages_of self.new.journal) request.now
+            (λ s. IfOk result (λ r. outcomes.Answers (packages_of self.new.journal) s r.1)) }
         ensures reason { IfErr result (λ e. IsStopped self.new e ⊎ ((e ≡ Refusal.BudgetSpent) × NonePreferred (packages_of self.new.journal) request.now)) }
     {
         self.catch_up()?;
@@ -55,11 +57,22 @@ fn answer_here(
 ) -> Result<(Stamp, Outcome), Refusal>
     ensures answered { IfOk result (λ r. Resolves seat.now.journal request.now r.0.place r.0.revision r.1) }
     ensures none { IfOk result (λ r. OnlyWhereNone (packages_of seat.now.journal) request.now r.1) }
-    ensures preferred { IfPreferredServes (packages_of seat.now.journal) request.now (λ s. IfOk result (λ r. outcomes.Answers (packages_of seat.now.journal) s r.1)) }
+    ensures preferred { IfPreferredServes (packages_of seat.now.journal) request.now
+        (λ s. IfOk result (λ r. outcomes.Answers (packages_of seat.now.journal) s r.1)) }
     ensures only { IfErr result (MayStop (packages_of seat.now.journal) request.now budget) }
 {
     derivations_refute();
     let stamp = seat.stamp();
-    let outcome = solve_under(seat.alloc(), seat.registry(), request, seat.store(), budget)?;
+    let options = Options {
+        budget,
+        explain: true,
+    };
+    let outcome = solve_with(
+        seat.alloc(),
+        seat.registry(),
+        request,
+        seat.store(),
+        options,
+    )?;
     Ok((stamp, outcome))
 }

@@ -8,10 +8,12 @@ use Rattle.chronicle.proofs.AnswerLemmas.{none_here}
 use Rattle.chronicle.proofs.resolving.answer_here.Goals as goal
 
 -- what is stored stands in the seat's registry
-pub solve_under-requires : goal.solve_under-requires
-solve_under-requires c =
-    subst (λ (p : Packages). All (AllStand p) c.store.result.now.members) (sym c.registry.ensures.packages)
-    (subst (λ (ms : List (List Line)). All (AllStand (packages_of c.args.seat.now.journal)) ms) (sym c.store.ensures.members) c.store.ensures.stand)
+pub solve_with-requires : goal.solve_with-requires
+solve_with-requires c = record {
+  stored =
+      subst (λ (p : Packages). All (AllStand p) c.store.result.now.members) (sym c.registry.ensures.packages)
+      (subst (λ (ms : List (List Line)). All (AllStand (packages_of c.args.seat.now.journal)) ms) (sym c.store.ensures.members) c.store.ensures.stand);
+}
 
 pub returns-clause-none : goal.returns-clause-none
 returns-clause-none c =
