@@ -5,10 +5,10 @@ use Rattle.versions.specs.declared.refusal.Refusal.{Refusal}
 use Rattle.wire.specs.Asked.{asked_of}
 use Rattle.wire.specs.Requests.{request_of}
 use Rattle.wire.specs.declared.request.Asked.{Asked}
+use Rattle.replies.specs.Replied.{body_of}
 use Rattle.replies.specs.Replies.{Body, Reply}
 use Rattle.answers.specs.Lawful.{LearnsSome, Ways, asked_within, reply_at}
 use Rattle.answers.specs.Outcomes.{MayTell, TellsListing}
-use Rattle.answers.specs.Told.{told_body}
 use Rattle.answers.specs.declared.answer.Answer.{Answer}
 use Rattle.answers.specs.declared.answer.Answer.TheVariants as answer
 
@@ -22,6 +22,6 @@ IsReadWithin budget read line = Gives asked_of read (asked_within budget line)
 
 -- Each reply that tells this answer where the ledger stands is such a reply, and leaves it so: of a search, once some of what it offers is learnt.
 abbrev pub LeadsTo : {S : Type 0} → Ways S → (Reply → S → Type 0) → Answer → S → Type 0
-LeadsTo {S} w is (answer.Told told) here = is (reply_at w here (told_body told)) here
-LeadsTo {S} w is (answer.Found told offered) here = (new : S) → LearnsSome w here new → is (reply_at w here (told_body told)) new
+LeadsTo {S} w is (answer.Told told) here = is (reply_at w here (body_of told)) here
+LeadsTo {S} w is (answer.Found told offered) here = (new : S) → LearnsSome w here new → is (reply_at w here (body_of told)) new
 LeadsTo {S} w is answer.Listing here = (body : Body) → MayTell (TellsListing (w.packages here)) body → is (reply_at w here body) here

@@ -3,19 +3,20 @@ ghost use Rattle.std.specs.Prelude.{◌⊎◌, ℕ, List, IfErr, IfOk, None, Opt
 ghost use Rattle.registry.specs.Commands.{change_of};
 ghost use Rattle.solver.specs.Outcomes.{MayStop};
 ghost use Rattle.wire.specs.Shapes as shapes;
+ghost use Rattle.replies.specs.Replied.{body_of};
 ghost use Rattle.answers.specs.Answering.{IsRead, IsReadWithin, LeadsTo};
 ghost use Rattle.answers.specs.Lawful.{IsLawful, IsLawfulWithin, IsStopped, MayAnswer};
 ghost use Rattle.answers.specs.Outcomes.{TellsFound};
-ghost use Rattle.answers.specs.Told.{told_body};
 
 use crate::ledger::Ledger;
-use crate::told::{Told, told_of, verdict_on};
+use crate::told::{told_of, verdict_on};
 use book::Item;
 use by_name::NamedDerivation;
 use derivations::Learnt;
 use intake::Intake;
 use registry::{Command, Request};
-use solver::decide_under;
+use replies::Body;
+use solver::{Options, solve_with};
 use std::alloc::Global;
 use versions::Refusal;
 use wire::Asked;
@@ -23,9 +24,9 @@ use wire::Asked;
 /// What is answered to a line, where the ledger then stands.
 #[derive(Drop)]
 pub enum Answer {
-    Told(Told),
+    Told(Body<'static>),
     /// What a search found, and what it offers to be learnt once that is told.
-    Found(Told, Vec<Learnt>),
+    Found(Body<'static>, Vec<Learnt>),
     /// What is published, which the registry lends.
     Listing,
 }
@@ -39,14 +40,7 @@ pub fn answer_line<L: Ledger>(
 ) -> Answer
     ensures { LeadsTo L.ways (IsLawful L.ways line.now ledger.old) result ledger.new }
 {
-    answer_read(alloc, ledger, read_line(alloc, intake, line))
-}
-
-/// Reads what a line asks.
-pub fn read_line(alloc: Global, intake: &mut Intake, line: &[u8]) -> Result<Asked, Refusal>
-    ensures { IsRead result line.now }
-{
-    intake.read(alloc, line)
+    answer_read(alloc, ledger, intake.read(alloc, line))
 }
 
 /// What was read of a line, with this budget where it asks to resolve and names none.
@@ -82,7 +76,7 @@ pub fn answer_read<L: Ledger>(alloc: Global, ledger: &mut L, read: Result<Asked,
                 explain,
                 budget,
             },
-        ) => resolve(alloc, ledger, &request, explain, budget),
+        ) => resolve(alloc, ledger, &request, Options { budget, explain }),
         Ok(
             Asked::Check {
                 request,
@@ -90,7 +84,7 @@ pub fn answer_read<L: Ledger>(alloc: Global, ledger: &mut L, read: Result<Asked,
             },
         ) => judge(alloc, ledger, &request, &derivation),
         Ok(Asked::Listing) => list(ledger),
-        Err(fault) => Answer::Told(Told::Refusal(fault)),
+        Err(fault) => Answer::Told(Body::Refusal(fault)),
     }
 }
 
@@ -99,24 +93,18 @@ fn enter<L: Ledger>(ledger: &mut L, command: Command) -> Answer
     ensures { LeadsTo L.ways (MayAnswer L.ways (shapes.command (change_of command)) ledger.old) result ledger.new }
 {
     match ledger.enter(Item::Command(command)) {
-        Ok(()) => Answer::Told(Told::Accepted),
-        Err(refusal) => Answer::Told(Told::Refusal(refusal)),
+        Ok(()) => Answer::Told(Body::Accepted),
+        Err(refusal) => Answer::Told(Body::Refusal(refusal)),
     }
 }
 
 /// Answers a request, after a look, with what the solver answers.
-fn resolve<L: Ledger>(
-    alloc: Global,
-    ledger: &mut L,
-    request: &Request,
-    explain: bool,
-    budget: Option<u32>,
-) -> Answer
-    ensures { LeadsTo L.ways (MayAnswer L.ways (shapes.resolve request.now explain budget) ledger.old) result ledger.new }
+fn resolve<L: Ledger>(alloc: Global, ledger: &mut L, request: &Request, options: Options) -> Answer
+    ensures { LeadsTo L.ways (MayAnswer L.ways (shapes.resolve request.now options.explain options.budget) ledger.old) result ledger.new }
 {
-    match found_by(alloc, ledger, request, explain, budget) {
+    match found_by(alloc, ledger, request, options) {
         Ok((told, offered)) => Answer::Found(told, offered),
-        Err(e) => Answer::Told(Told::Refusal(e)),
+        Err(e) => Answer::Told(Body::Refusal(e)),
     }
 }
 
@@ -131,7 +119,7 @@ fn judge<L: Ledger>(
 {
     match ledger.look() {
         Ok(()) => Answer::Told(verdict_on(alloc, ledger.registry(), request, derivation)),
-        Err(e) => Answer::Told(Told::Refusal(e)),
+        Err(e) => Answer::Told(Body::Refusal(e)),
     }
 }
 
@@ -141,7 +129,7 @@ fn list<L: Ledger>(ledger: &mut L) -> Answer
 {
     match ledger.look() {
         Ok(()) => Answer::Listing,
-        Err(e) => Answer::Told(Told::Refusal(e)),
+        Err(e) => Answer::Told(Body::Refusal(e)),
     }
 }
 
@@ -150,15 +138,14 @@ fn found_by<L: Ledger>(
     alloc: Global,
     ledger: &mut L,
     request: &Request,
-    explain: bool,
-    budget: Option<u32>,
-) -> Result<(Told, Vec<Learnt>), Refusal>
+    options: Options,
+) -> Result<(Body<'static>, Vec<Learnt>), Refusal>
     ensures looks { L.ways.looks ledger.old ledger.new }
-    ensures told { IfOk result (λ r. TellsFound (L.ways.packages ledger.new) request.now explain (told_body r.0)) }
-    ensures only { IfErr result (λ e. IsStopped L.ways ledger.new e ⊎ MayStop (L.ways.packages ledger.new) request.now budget e) }
+    ensures told { IfOk result (λ r. TellsFound (L.ways.packages ledger.new) request.now options.explain (body_of r.0)) }
+    ensures only { IfErr result (λ e. IsStopped L.ways ledger.new e ⊎ MayStop (L.ways.packages ledger.new) request.now options.budget e) }
 {
     ledger.look()?;
-    found_here(alloc, ledger, request, explain, budget)
+    found_here(alloc, ledger, request, options)
 }
 
 /// What is told of a request where the ledger stands, and what is offered to be learnt.
@@ -166,13 +153,12 @@ fn found_here<L: Ledger>(
     alloc: Global,
     ledger: &L,
     request: &Request,
-    explain: bool,
-    budget: Option<u32>,
-) -> Result<(Told, Vec<Learnt>), Refusal>
-    ensures told { IfOk result (λ r. TellsFound (L.ways.packages ledger.now) request.now explain (told_body r.0)) }
-    ensures only { IfErr result (MayStop (L.ways.packages ledger.now) request.now budget) }
+    options: Options,
+) -> Result<(Body<'static>, Vec<Learnt>), Refusal>
+    ensures told { IfOk result (λ r. TellsFound (L.ways.packages ledger.now) request.now options.explain (body_of r.0)) }
+    ensures only { IfErr result (MayStop (L.ways.packages ledger.now) request.now options.budget) }
 {
     let registry = ledger.registry();
-    let verdict = decide_under(alloc, registry, request, ledger.store(), budget, explain)?;
-    Ok(told_of(alloc, registry, request, explain, verdict)?)
+    let outcome = solve_with(alloc, registry, request, ledger.store(), options)?;
+    Ok(told_of(alloc, registry, request, options.explain, outcome)?)
 }

@@ -20,9 +20,9 @@ mod put;
 mod reasons;
 mod told;
 
-pub use answer::{Answer, answer_line, answer_read, read_line, within};
+pub use answer::{Answer, answer_line, answer_read, within};
 pub use fault::RunFault;
 pub use laws::lawful_replies_add_up;
 pub use ledger::{Ledger, learn_all};
-pub use put::{put_listing, put_or_send, put_told};
-pub use told::{Standing, Told, told_of};
+pub use put::{put_listing, put_told, send_told};
+pub use told::{Standing, told_of};

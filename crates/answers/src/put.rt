@@ -4,12 +4,12 @@ ghost use Rattle.replies.specs.Replied.{body_of};
 ghost use Rattle.replies.specs.Replies.{reply_text};
 ghost use Rattle.replies.specs.Replies as texts;
 ghost use Rattle.answers.specs.Outcomes.{MayTell, TellsListing};
-ghost use Rattle.answers.specs.Told.{reply_from, told_body};
+ghost use Rattle.answers.specs.Told.{reply_from};
 
-use crate::told::{Standing, Told};
+use crate::told::Standing;
 use lines::Outbox;
 use registry::Registry;
-use replies::{Body, Listing, Reply, reply_line};
+use replies::{Body, Listing, reply_line};
 use std::alloc::Global;
 use std::io;
 use std::io::Write;
@@ -20,19 +20,15 @@ pub fn put_told<W: Write>(
     outbox: &mut Outbox,
     writer: &mut W,
     at: Standing,
-    told: &Told,
+    body: Body<'_>,
 ) -> io::Result<()>
     ensures { Puts (W.contents writer.old) (W.contents writer.new) outbox.old outbox.new result
-        (reply_text (reply_from at (told_body told.now))) }
+        (reply_text (reply_from at (body_of body.entry))) }
 {
-    match told {
-        Told::Accepted => put_reply(outbox, writer, at, Body::Accepted),
-        Told::Refusal(refusal) => put_reply(outbox, writer, at, Body::Refusal(*refusal)),
-        Told::Selection(list) => put_reply(outbox, writer, at, Body::Selection(list.as_slice())),
-        Told::NoSelection => put_reply(outbox, writer, at, Body::NoSelection),
-        Told::Explained(reason) => put_reply(outbox, writer, at, Body::Explained(reason)),
-        Told::Follows(verdict) => put_reply(outbox, writer, at, Body::Follows(*verdict)),
-    }
+    let reply = at.reply(body);
+    let put = reply_line(outbox, writer, &reply);
+    drop(reply);
+    put
 }
 
 /// As [`put_told`], and writes it at once with all that waits.
@@ -40,32 +36,15 @@ pub fn send_told<W: Write>(
     outbox: &mut Outbox,
     writer: &mut W,
     at: Standing,
-    told: &Told,
+    body: Body<'_>,
 ) -> io::Result<()>
     ensures { Puts (W.contents writer.old) (W.contents writer.new) outbox.old outbox.new result
-        (reply_text (reply_from at (told_body told.now))) }
+        (reply_text (reply_from at (body_of body.entry))) }
 {
-    match put_told(outbox, writer, at, told) {
+    match put_told(outbox, writer, at, body) {
         Ok(()) => outbox.send(writer),
         Err(e) => Err(e),
     }
-}
-
-/// As [`send_told`] where it is to be written at once, else as [`put_told`].
-pub fn put_or_send<W: Write>(
-    outbox: &mut Outbox,
-    writer: &mut W,
-    at: Standing,
-    told: &Told,
-    at_once: bool,
-) -> io::Result<()>
-    ensures { Puts (W.contents writer.old) (W.contents writer.new) outbox.old outbox.new result
-        (reply_text (reply_from at (told_body told.now))) }
-{
-    if at_once {
-        return send_told(outbox, writer, at, told);
-    }
-    put_told(outbox, writer, at, told)
 }
 
 /// Puts the line that lists what is published, or that no memory is there for it.
@@ -80,25 +59,7 @@ pub fn put_listing<W: Write>(
         × Puts (W.contents writer.old) (W.contents writer.new) outbox.old outbox.new result (reply_text (reply_from at body)) }
 {
     match Listing::new(alloc, registry) {
-        Ok(listing) => put_reply(outbox, writer, at, Body::Listing(listing)),
-        Err(_) => put_reply(outbox, writer, at, Body::Refusal(Refusal::NoMemory)),
+        Ok(listing) => put_told(outbox, writer, at, Body::Listing(listing)),
+        Err(_) => put_told(outbox, writer, at, Body::Refusal(Refusal::NoMemory)),
     }
-}
-
-/// Puts the line of a reply, with where it was found.
-fn put_reply<W: Write>(
-    outbox: &mut Outbox,
-    writer: &mut W,
-    at: Standing,
-    body: Body<'_>,
-) -> io::Result<()>
-    ensures { Puts (W.contents writer.old) (W.contents writer.new) outbox.old outbox.new result
-        (reply_text (reply_from at (body_of body.entry))) }
-{
-    let reply = Reply {
-        revision: at.revision,
-        stamp: at.stamp,
-        body,
-    };
-    reply_line(outbox, writer, &reply)
 }

@@ -1,18 +1,19 @@
 //! What is told in reply to a line, by a session and by the seats of a race alike.
-ghost use Rattle.std.specs.Prelude.{IfOk};
+ghost use Rattle.std.specs.Prelude.{◌≡◌, IfOk};
 ghost use Rattle.walk.specs.Preferring.{IfPreferredServes};
-ghost use Rattle.solver.specs.Verdicts.{Decides, IsVerdict};
+ghost use Rattle.solver.specs.Outcomes.{Answers, IsLawful};
+ghost use Rattle.replies.specs.Replied.{body_of, reply_of};
 ghost use Rattle.answers.specs.Outcomes.{MayTell, TellsFound, TellsVerdict};
-ghost use Rattle.answers.specs.Told.{told_body};
+ghost use Rattle.answers.specs.Told.{reply_from};
 
 use crate::reasons::{explained, follows};
 use by_name::NamedDerivation;
 use derivations::{Learnt, derivations_refute};
 use registry::{Registry, Request};
-use replies::{Explained, Spot};
-use solver::Verdict;
+use replies::{Body, Reply, Spot};
+use solver::Outcome;
 use std::alloc::{AllocError, Global};
-use versions::{Name, Published, Refusal};
+use versions::Refusal;
 
 /// Where a line is answered, which its reply tells too.
 #[derive(Clone, Copy)]
@@ -23,15 +24,17 @@ pub struct Standing {
     pub stamp: Option<Spot>,
 }
 
-/// What is told in reply to a line. A listing is not among it, since it is lent by the registry.
-#[derive(Drop)]
-pub enum Told {
-    Accepted,
-    Refusal(Refusal),
-    Selection(Vec<(Name, Published)>),
-    NoSelection,
-    Explained(Explained),
-    Follows(bool),
+impl Standing {
+    /// The reply that tells this here.
+    pub fn reply(self, body: Body<'_>) -> Reply<'_>
+        ensures { reply_of result ≡ reply_from self (body_of body.entry) }
+    {
+        Reply {
+            revision: self.revision,
+            stamp: self.stamp,
+            body,
+        }
+    }
 }
 
 /// What is told of a request for which the solver found this, and what it offers to be learnt.
@@ -40,19 +43,19 @@ pub fn told_of(
     registry: &Registry,
     request: &Request,
     explain: bool,
-    verdict: Verdict,
-) -> Result<(Told, Vec<Learnt>), AllocError>
-    requires lawful { IsVerdict registry.now.packages request.now explain verdict }
-    requires preferred { IfPreferredServes registry.now.packages request.now (λ s. Decides registry.now.packages s verdict) }
-    ensures { IfOk result (λ r. TellsFound registry.now.packages request.now explain (told_body r.0)) }
+    outcome: Outcome,
+) -> Result<(Body<'static>, Vec<Learnt>), AllocError>
+    requires lawful { IsLawful registry.now.packages request.now explain outcome }
+    requires preferred { IfPreferredServes registry.now.packages request.now (λ s. Answers registry.now.packages s outcome) }
+    ensures { IfOk result (λ r. TellsFound registry.now.packages request.now explain (body_of r.0)) }
 {
     derivations_refute();
-    match verdict {
-        Verdict::Selection(list, offered) => Ok((Told::Selection(list), offered)),
-        Verdict::NoSelection(offered) => Ok((Told::NoSelection, offered)),
-        Verdict::Refused(derivation, offered) => {
+    match outcome {
+        Outcome::Selection(list, offered) => Ok((Body::Selection(list), offered)),
+        Outcome::NoSelection(offered) => Ok((Body::NoSelection, offered)),
+        Outcome::Refused(derivation, offered) => {
             let reason = explained(alloc, registry, request, &derivation)?;
-            Ok((Told::Explained(reason), offered))
+            Ok((Body::Explained(reason), offered))
         }
     }
 }
@@ -63,11 +66,11 @@ pub fn verdict_on(
     registry: &Registry,
     request: &Request,
     derivation: &NamedDerivation,
-) -> Told
-    ensures { MayTell (TellsVerdict registry.now.packages request.now derivation.now) (told_body result) }
+) -> Body<'static>
+    ensures { MayTell (TellsVerdict registry.now.packages request.now derivation.now) (body_of result) }
 {
     match follows(alloc, registry, request, derivation) {
-        Ok(verdict) => Told::Follows(verdict),
-        Err(_) => Told::Refusal(Refusal::NoMemory),
+        Ok(verdict) => Body::Follows(verdict),
+        Err(_) => Body::Refusal(Refusal::NoMemory),
     }
 }

@@ -7,9 +7,9 @@ use Rattle.replies.specs.declared.reply.Reply.{Reply as KeptReply}
 abbrev pub body_of : Kept → Body
 body_of kept.Accepted = accepted
 body_of (kept.Refusal refusal) = refused refusal
-body_of (kept.Selection pairs) = selected pairs.now
+body_of (kept.Selection pairs) = selected pairs.items
 body_of kept.NoSelection = no_selection
-body_of (kept.Explained reason) = explained reason.now.lines reason.now.texts
+body_of (kept.Explained reason) = explained reason.lines reason.texts
 body_of (kept.Follows holds) = follows holds
 body_of (kept.Listing rows) = listed rows
 

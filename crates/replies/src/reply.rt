@@ -32,7 +32,7 @@ pub struct Reply<'r> {
     pub body: Body<'r>,
 }
 
-/// What a reply tells.
+/// What a reply tells. Of what is published it tells what the registry lends.
 #[derive(Drop)]
 pub enum Body<'r> {
     /// The command was accepted.
@@ -40,11 +40,11 @@ pub enum Body<'r> {
     /// The line was refused.
     Refusal(Refusal),
     /// The packages that are selected, each with its version. The caller gives them in byte order of their names.
-    Selection(&'r [(Name, Published)]),
+    Selection(Vec<(Name, Published)>),
     /// No selection meets the request.
     NoSelection,
     /// No selection meets the request, by this derivation.
-    Explained(&'r Explained),
+    Explained(Explained),
     /// Whether a derivation follows.
     Follows(bool),
     /// What is published.
@@ -67,9 +67,9 @@ pub fn reply_line<W: Write>(
     match &reply.body {
         Body::Accepted => put_accepted(outbox, writer, revision, stamp),
         Body::Refusal(refusal) => put_refusal(outbox, writer, *refusal, revision, stamp),
-        Body::Selection(pairs) => put_selection(outbox, writer, *pairs, revision, stamp),
+        Body::Selection(pairs) => put_selection(outbox, writer, pairs.as_slice(), revision, stamp),
         Body::NoSelection => put_no_selection(outbox, writer, revision, stamp),
-        Body::Explained(reason) => put_explained(outbox, writer, *reason, revision, stamp),
+        Body::Explained(reason) => put_explained(outbox, writer, reason, revision, stamp),
         Body::Follows(yes) => put_follows(outbox, writer, *yes, revision, stamp),
         Body::Listing(listing) => put_listing(outbox, writer, listing, revision, stamp),
     }

@@ -2,4 +2,4 @@ use Rattle.std.proofs.Common.{None}
 use Rattle.answers.proofs.answer.answer_line.Goals as goal
 
 pub returns : goal.returns
-returns g c = c.answer_read.ensures None c.args.line.now c.read_line.ensures
+returns g c = c.answer_read.ensures None c.args.line.now c.read.ensures
