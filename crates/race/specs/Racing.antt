@@ -12,7 +12,8 @@ use Rattle.chronicle.specs.declared.entry.Stamp.{Stamp}
 use Rattle.chronicle.specs.declared.row.TheConstants.{CAPACITY_LIMIT}
 use Rattle.lines.specs.Lines.{lines_of}
 use Rattle.lines.specs.Texts.{IsBeginning}
-use Rattle.journals.specs.Saved.{saved_text}
+use Rattle.journals.specs.Files.{IsJournalOf}
+use Rattle.journals.specs.Saved.{kept, saved_text}
 use Rattle.replies.specs.Replies.{Reply, replies_text}
 use Rattle.answers.specs.Lawful.{AreLawful, Ways}
 
@@ -22,9 +23,14 @@ use Rattle.answers.specs.Lawful.{AreLawful, Ways}
 abbrev pub file_of : List Entry → Text
 file_of journal = saved_text (packages_of journal) (items_of journal)
 
+-- the file of a journal loads again: it is that of its items, less what was left out
+abbrev pub Loads : List Entry → Type 0
+Loads journal = IsJournalOf (kept (packages_of journal) (items_of journal)) (file_of journal)
+
 -- ---- a seat's ledger
 
--- A look may show what others entered. An item that is accepted stands behind all that the seat had seen. A call goes no further where the next cell has an entry of the seat's number that it did not make.
+-- A look may show what others entered. An item that is accepted stands behind all that the seat had seen. A call goes no further where the
+-- next cell has an entry of the seat's number that it did not make.
 abbrev pub seat_ways : Ways Place
 seat_ways = record {
   standing = λ seat. record { revision = revision_of seat.journal; stamp = Some (record { place = length seat.journal; seat = seat.number }) };
@@ -56,7 +62,8 @@ AreRun row number [] (replies ∷ rest) all = ⊥
 AreRun row number (file ∷ files) [] all = ⊥
 AreRun row number (file ∷ files) (replies ∷ rest) [] = ⊥
 
--- There is a row of so many cells, and each file has its replies by a seat of it, which has seen a beginning of the journal. Unless the journal is empty, one of them has seen all of it.
+-- There is a row of so many cells, and each file has its replies by a seat of it, which has seen a beginning of the journal. Unless the
+-- journal is empty, one of them has seen all of it.
 pub record IsRace (files : List Text) (journal : List Entry) (replies : List (List Reply)) : Type 0 where
   pub row : Cells
   pub sized : row.capacity ≡ CAPACITY_LIMIT
@@ -71,11 +78,13 @@ pub record IsRace (files : List Text) (journal : List Entry) (replies : List (Li
 abbrev pub race_text : List (List Reply) → List Entry → Text
 race_text replies journal = flat_map replies_text replies ++ file_of journal
 
--- There is one journal, of which each seat has seen a beginning and one has seen all, each file's lines have their lawful replies, and what was written is these replies and the journal.
+-- There is one journal, of which each seat has seen a beginning and one has seen all, each file's lines have their lawful replies, and what
+-- was written is these replies and the journal, whose file loads again.
 pub record Races (written_before written_after : Option (List ℕ)) (files : List Text) : Type 0 where
   pub journal : List Entry
   pub replies : List (List Reply)
   pub raced : IsRace files journal replies
+  pub loads : Loads journal
   pub written : Appends written_before written_after (race_text replies journal)
 
 -- The same, but that a beginning alone of these replies and the journal was written.

@@ -84,11 +84,11 @@ fn answer(alloc: Global, seat: &mut Racer<'_>, intake: &mut Intake, line: &[u8])
     ensures { (reply : Reply) × IsLawful seat_ways line.now seat.old reply seat.new × (kept_line result ≡ reply_text reply) }
 {
     match answer_line(alloc, seat, intake, line) {
-        Answer::Told(told) => Kept::Reply(seat.standing(), told),
-        Answer::Found(told, offered) => {
-            let at = seat.standing();
+        Answer::Told(body) => Kept::Reply(seat.standing().reply(body)),
+        Answer::Found(body, offered) => {
+            let reply = seat.standing().reply(body);
             learn_all(seat, offered);
-            Kept::Reply(at, told)
+            Kept::Reply(reply)
         }
         Answer::Listing => keep_listing(alloc, seat.standing(), seat.registry()),
     }

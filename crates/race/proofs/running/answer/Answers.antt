@@ -1,18 +1,19 @@
 use Rattle.std.proofs.Common.{ap, subst, ◌∙◌}
 use Rattle.replies.specs.Replies.{reply_text}
 use Rattle.answers.specs.Outcomes.{MayTell, TellsListing}
-use Rattle.answers.specs.Told.{reply_from, told_body}
+use Rattle.replies.specs.Replied.{body_of}
+use Rattle.answers.specs.Told.{reply_from}
 use Rattle.race.proofs.running.answer.Goals as goal
 
 pub returns-in-Told : goal.returns-in-Told
 returns-in-Told c =
     let lawful = rw c.in-Told.is at c.answer_line.ensures in
-    (_, lawful, ap (λ at. reply_text (reply_from at (told_body c.in-Told.told))) c.standing.ensures)
+    (_, lawful, ap reply_text c.reply.ensures ∙ ap (λ at. reply_text (reply_from at (body_of c.in-Told.body))) c.standing.ensures)
 
 pub returns-in-Found : goal.returns-in-Found
 returns-in-Found c =
     let lawful = rw c.in-Found.is at c.answer_line.ensures in
-    (_, lawful _ c.learn_all.ensures, ap (λ at. reply_text (reply_from at (told_body c.in-Found.told))) c.standing-at.ensures)
+    (_, lawful _ c.learn_all.ensures, ap reply_text c.reply-reply.ensures ∙ ap (λ at. reply_text (reply_from at (body_of c.in-Found.body))) c.standing-in-Found.ensures)
 
 pub returns-in-Listing : goal.returns-in-Listing
 returns-in-Listing c =
