@@ -171,7 +171,8 @@ fn words_with(
     save: Option<&str>,
     journal: Option<&str>,
 ) -> Result<Words, WordFault>
-    ensures ok { IfOk result (λ w. AreWords w workers budget (option_map (λ t. t.now) load.entry) (option_map (λ t. t.now) save.entry) (option_map (λ t. t.now) journal.entry)) }
+    ensures ok { IfOk result (λ w. AreWords w workers budget (option_map (λ t. t.now) load.entry)
+        (option_map (λ t. t.now) save.entry) (option_map (λ t. t.now) journal.entry)) }
     ensures bad { IsErrOf result WordFault.Bad
         → NamesBoth (option_map (λ t. t.now) load.entry) (option_map (λ t. t.now) save.entry) (option_map (λ t. t.now) journal.entry) }
 {
