@@ -1,21 +1,19 @@
 -- What words ask that were read.
 use Rattle.std.proofs.Common.{◌≡◌, ◌⊎◌, ◌<◌, ℕ, Bool, nat_eq, List, [], Option, None, Some, String, Global, inl, inr, refl, sym, subst, ap, arith, codes, length, true≢false, ◌∙◌}
 use Rattle.std.specs.Option.{option_map_or}
-use Rattle.std.specs.Io.KnownBytes.{Keeps}
 use Rattle.std.specs.Prelude.{IsSome, option_map, string_bytes}
 use Rattle.clap.specs.Words.{Row, Text, all_of, fault_of, first_of, subcommand_of}
-use Rattle.book.specs.declared.item.Item.{Item}
 use Rattle.journals.specs.declared.load.LoadFault.{LoadFault}
 use Rattle.journals.specs.declared.load.LoadFault.TheVariants as unloaded
 use Rattle.command_line.specs.CommandLine.{program_app}
-use Rattle.registryd.specs.Ending.{IsUnread, end_of_load, end_of_run}
-use Rattle.registryd.specs.Obeyed.{Ends, Falls, HasBroken, HasFallen, HasKept, HasNoJournal, HasNotBegun, HasServed, HasStopped, MayBegin, Stops, TellsOfFile}
-use Rattle.session.specs.Session.{Breaks, Serves}
+use Rattle.endings.specs.Ending.{IsUnread, end_of_load, end_of_run}
+use Rattle.registryd.specs.Obeyed.{BreaksFrom, Ends, Falls, HasBroken, HasFallen, HasKept, HasNoJournal, HasNotBegun, HasServed, HasStopped, ServesFrom, Stops, TellsOfFile}
+use Rattle.session.specs.Streams.{AreUntouched, streams}
 use Rattle.command_line.specs.Words.{AreMixed, AskToKeep, AskToRace, AskToServe, HasManyFiles, HasMixedFiles, IsKeep, IsServe, Says}
 use Rattle.command_line.specs.declared.words.TheConstants.{MOST_FILES}
-use Rattle.registryd.specs.Shown.{shown_text}
-use Rattle.registryd.specs.declared.fault.FileFault.{FileFault}
-use Rattle.registryd.specs.declared.ending.End.TheVariants as end
+use Rattle.endings.specs.Shown.{shown_text}
+use Rattle.endings.specs.declared.fault.FileFault.{FileFault}
+use Rattle.endings.specs.declared.ends.End.TheVariants as end
 use Rattle.answers.specs.declared.fault.RunFault.{RunFault}
 use Rattle.answers.specs.declared.fault.RunFault.TheVariants.{Input, Memory, Output}
 use Rattle.command_line.specs.declared.words.Words.{Words}
@@ -113,32 +111,32 @@ load_ends unloaded.Input = tt
 -- ---- what comes of the words
 
 module _ (words : List Text) (r0 r w0 w : Option (List ℕ)) (budget : Option ℕ) (load save : Option Text) (asked : AskToServe words budget load save) where
-  pub has_served : (lines_in : List ℕ → List (List ℕ)) → ((loaded items : List Item) × MayBegin load loaded × Serves budget r0 r w0 w lines_in loaded items) → HasServed words r0 r w0 w lines_in
+  pub has_served : (lines_in : List ℕ → List (List ℕ)) → ServesFrom budget load (streams r0 r w0 w) lines_in → HasServed words (streams r0 r w0 w) lines_in
   has_served lines_in (loaded, items, begins, serves) =
       record { budget = budget; load = load; save = save; asked = asked; loaded = loaded; begins = begins; accepted = items; serves = serves }
 
-  pub has_broken : ((loaded : List Item) × MayBegin load loaded × Breaks budget r0 r w0 w loaded) → HasBroken words r0 r w0 w
+  pub has_broken : BreaksFrom budget load (streams r0 r w0 w) → HasBroken words (streams r0 r w0 w)
   has_broken (loaded, begins, breaks) = record { budget = budget; load = load; save = save; asked = asked; loaded = loaded; begins = begins; breaks = breaks }
 
 -- a journal is named
-pub has_no_journal : (words : List Text) (r0 r w0 w : Option (List ℕ)) (budget : Option ℕ) (load save : Option Text) → AskToServe words budget load save → IsSome load → Keeps r0 r → Keeps w0 w
-    → HasNoJournal words r0 r w0 w
-has_no_journal words r0 r w0 w budget None save asked some read written = absurd (true≢false (sym some))
-has_no_journal words r0 r w0 w budget (Some load) save asked some read written = record { budget = budget; load = load; save = save; asked = asked; read = read; written = written }
+pub has_no_journal : (words : List Text) (r0 r w0 w : Option (List ℕ)) (budget : Option ℕ) (load save : Option Text) → AskToServe words budget load save → IsSome load → AreUntouched (streams r0 r w0 w)
+    → HasNoJournal words (streams r0 r w0 w)
+has_no_journal words r0 r w0 w budget None save asked some none = absurd (true≢false (sym some))
+has_no_journal words r0 r w0 w budget (Some load) save asked some none = record { budget = budget; load = load; save = save; asked = asked; none = none }
 
 -- a journal is kept
 module _ (words : List Text) (r0 r w0 w : Option (List ℕ)) (budget : Option ℕ) (journal : Text) (asked : AskToKeep words budget journal) where
-  pub has_kept : Ends budget r0 r w0 w → HasKept words r0 r w0 w
+  pub has_kept : Ends budget (streams r0 r w0 w) → HasKept words (streams r0 r w0 w)
   has_kept ends = record { budget = budget; journal = journal; asked = asked; ends = ends }
 
-  pub has_stopped : Stops budget r0 r w0 w → HasStopped words r0 r w0 w
+  pub has_stopped : Stops budget (streams r0 r w0 w) → HasStopped words (streams r0 r w0 w)
   has_stopped stops = record { budget = budget; journal = journal; asked = asked; stops = stops }
 
-  pub has_fallen : Falls budget r0 r w0 w → HasFallen words r0 r w0 w
+  pub has_fallen : Falls budget (streams r0 r w0 w) → HasFallen words (streams r0 r w0 w)
   has_fallen falls = record { budget = budget; journal = journal; asked = asked; falls = falls }
 
-  pub has_not_begun : Keeps r0 r → Keeps w0 w → HasNotBegun words r0 r w0 w
-  has_not_begun read written = record { budget = budget; journal = journal; asked = asked; read = read; written = written }
+  pub has_not_begun : AreUntouched (streams r0 r w0 w) → HasNotBegun words (streams r0 r w0 w)
+  has_not_begun none = record { budget = budget; journal = journal; asked = asked; none = none }
 
 pub tells_of_file : (words : List Text) (budget : Option ℕ) (journal : Text) → AskToKeep words budget journal → (fault : FileFault) → fault.name.items ≡ shown_text journal → TellsOfFile words fault
 tells_of_file words budget journal asked fault named = record { budget = budget; journal = journal; asked = asked; named = named }

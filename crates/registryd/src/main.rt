@@ -3,8 +3,6 @@
 
 ghost use Rattle.std.specs.Prelude.{◌≡◌, drop};
 
-mod ending;
-mod fault;
 mod files;
 mod folder;
 mod freed;
@@ -16,7 +14,7 @@ mod system;
 mod target;
 
 use command_line::{Words, read_words};
-use ending::{End, ending};
+use endings::{End, ending};
 use freed::keep_what_is_freed;
 use lines::write_text;
 use obey::{Obeyed, obey};
@@ -50,9 +48,7 @@ fn main(rt: HostRuntime) -> ExitCode {
         // A word is no text.
         Err(_) => End::Words,
     };
-    // A line that can't be written is given up: the status tells the end too.
-    let _ = ending(&end, &mut rt.stderr());
-    ExitCode::from(end.status())
+    ExitCode::from(ending(&end, &mut rt.stderr()))
 }
 
 // Settles what is done with freed memory, and gives the words of the command line.

@@ -1,24 +1,25 @@
 //! What the words of the command line ask for, done.
-ghost use Rattle.std.specs.Prelude.{◌≡◌, ◌≢◌, ◌⊎◌, ◌<◌, ◌≤◌, ℕ, List, [], length, option_map, string_bytes, vec_len, IfOk, IsSome, None, Option};
+ghost use Rattle.std.specs.Prelude.{◌≡◌, ◌≢◌, ◌⊎◌, ◌<◌, ◌≤◌, ℕ, List, [], length, option_map, string_bytes, vec_len, IfOk, IsSome, None, Some, Option};
 ghost use Rattle.std.specs.Io.KnownBytes.{Keeps, IsAtEnd};
 ghost use Rattle.clap.specs.Words.{fault_of, subcommand_of};
 ghost use Rattle.versions.specs.Words.{Text};
 ghost use Rattle.book.specs.declared.item.Item.{Item};
 ghost use Rattle.lines.specs.Lines.{lines_of, whole_lines_of};
 ghost use Rattle.command_line.specs.CommandLine.{program_app};
-ghost use Rattle.registryd.specs.Obeyed.{Ends, Falls, HasBroken, HasFallen, HasKept, HasNoJournal, HasNotBegun, HasServed, HasStopped, MayBegin, Stops, TellsOfFile};
-ghost use Rattle.registryd.specs.Shown.{shown_text};
-ghost use Rattle.registryd.specs.declared.fault.FileFault.{FileFault};
+ghost use Rattle.registryd.specs.Obeyed.{AskForNothing, BreaksFrom, Ends, Falls, FallsAtMost, HasEnded, HasLostInput, HasLostJournal, HasLostOutput};
+ghost use Rattle.registryd.specs.Obeyed.{HasNoJournal, ServesFrom, Stops};
+ghost use Rattle.endings.specs.Shown.{shown_text};
+ghost use Rattle.endings.specs.declared.fault.Failure.{Failure};
+ghost use Rattle.endings.specs.declared.fault.FileFault.{FileFault};
 ghost use Rattle.race.specs.Racing.{Races, RacesInPart};
 ghost use Rattle.session.specs.Served.{MayBeServed};
 ghost use Rattle.journals.specs.Files.{IsHistory};
 ghost use Rattle.journals.specs.declared.format.Format.TheVariants.{Two};
 ghost use Rattle.session.specs.Session.{Serves, Breaks};
+ghost use Rattle.session.specs.Streams.{AreUntouched, streams_of};
 ghost use Rattle.command_line.specs.Words.{AskToKeep, AskToRace, AskToServe, HasManyFiles, HasMixedFiles, texts};
 ghost use Rattle.command_line.specs.declared.words.TheConstants.{MOST_FILES, MOST_WORKERS};
 
-use crate::ending::{End, end_of_making, end_of_read};
-use crate::fault::{Failure, shown, told};
 use crate::files::loaded_from;
 use crate::journal_file::{Opened, open_journal};
 use crate::kept::Kept;
@@ -27,6 +28,7 @@ use crate::system::SystemFile;
 use crate::target::{Target, saved_to, target_of};
 use answers::RunFault;
 use command_line::{WordFault, Words, advice_on, read_words};
+use endings::{End, Failure, end_of_making, end_of_read, shown, told};
 use lines::write_text;
 use race::race;
 use session::{Served, serve_durably, serve_session};
@@ -57,42 +59,25 @@ where
     H::File: SystemFile,
     // Each line has its lawful reply, in order; those of a race by one journal, which is printed. Of a journal that is kept, each
     // went out once what it rests on was durable.
-    ensures done { result.end ≡ End.Done
-        → (HasServed (texts words.now) (R.remaining reader.old) (R.remaining reader.new) (W.contents writer) (W.contents result.writer) lines_of × IsAtEnd (R.remaining reader.new))
-        ⊎ HasKept (texts words.now) (R.remaining reader.old) (R.remaining reader.new) (W.contents writer) (W.contents result.writer)
-        ⊎ ((files : List Text) × AskToRace (texts words.now) (length files) × Races (W.contents writer) (W.contents result.writer) files) }
+    ensures done { result.end ≡ End.Done → HasEnded (texts words.now) (streams_of R.remaining W.contents reader.old reader.new writer result.writer) }
     // Each whole line that was read has its lawful reply. Without a journal to begin from none is read, and of a race nothing is written.
-    ensures input { result.end ≡ End.Input
-        → HasServed (texts words.now) (R.remaining reader.old) (R.remaining reader.new) (W.contents writer) (W.contents result.writer) whole_lines_of
-        ⊎ HasStopped (texts words.now) (R.remaining reader.old) (R.remaining reader.new) (W.contents writer) (W.contents result.writer)
-        ⊎ HasNoJournal (texts words.now) (R.remaining reader.old) (R.remaining reader.new) (W.contents writer) (W.contents result.writer)
-        ⊎ ((count : ℕ) × AskToRace (texts words.now) count × Keeps (W.contents writer) (W.contents result.writer)) }
+    ensures input { result.end ≡ End.Input → HasLostInput (texts words.now) (streams_of R.remaining W.contents reader.old reader.new writer result.writer) }
     // A beginning of the lawful replies is written; or all of them, and the journal is not saved.
-    ensures output { result.end ≡ End.Output
-        → HasBroken (texts words.now) (R.remaining reader.old) (R.remaining reader.new) (W.contents writer) (W.contents result.writer)
-        ⊎ HasFallen (texts words.now) (R.remaining reader.old) (R.remaining reader.new) (W.contents writer) (W.contents result.writer)
-        ⊎ (HasServed (texts words.now) (R.remaining reader.old) (R.remaining reader.new) (W.contents writer) (W.contents result.writer) lines_of × IsAtEnd (R.remaining reader.new))
-        ⊎ ((files : List Text) × AskToRace (texts words.now) (length files)
-        × (Keeps (W.contents writer) (W.contents result.writer) ⊎ RacesInPart (W.contents writer) (W.contents result.writer) files)) }
+    ensures output { result.end ≡ End.Output → HasLostOutput (texts words.now) (streams_of R.remaining W.contents reader.old reader.new writer result.writer) }
     // A line of the journal to begin from is at fault.
     ensures journal { (line : ℕ) → result.end ≡ End.Journal line
-        → HasNoJournal (texts words.now) (R.remaining reader.old) (R.remaining reader.new) (W.contents writer) (W.contents result.writer) }
+        → HasNoJournal (texts words.now) (streams_of R.remaining W.contents reader.old reader.new writer result.writer) }
     // Something is the matter with the journal that is kept, and it is told of its name: nothing was read or written, or a
     // beginning of the lawful replies is, each of which rests on what is durable.
     ensures kept { (fault : FileFault) → result.end ≡ End.Kept fault
-        → TellsOfFile (texts words.now) fault
-        × (HasNotBegun (texts words.now) (R.remaining reader.old) (R.remaining reader.new) (W.contents writer) (W.contents result.writer)
-        ⊎ HasFallen (texts words.now) (R.remaining reader.old) (R.remaining reader.new) (W.contents writer) (W.contents result.writer)) }
+        → HasLostJournal (texts words.now) (streams_of R.remaining W.contents reader.old reader.new writer result.writer) fault }
     // Nothing was read or written.
-    ensures memory { result.end ≡ End.Memory
-        → Keeps (R.remaining reader.old) (R.remaining reader.new) × Keeps (W.contents writer) (W.contents result.writer) }
+    ensures memory { result.end ≡ End.Memory → AreUntouched (streams_of R.remaining W.contents reader.old reader.new writer result.writer) }
     // Nothing was read, and the words ask neither to serve nor for a race.
-    ensures words { result.end ≡ End.Words → Keeps (R.remaining reader.old) (R.remaining reader.new)
-        × ((budget : Option ℕ) (load save : Option Text) → AskToServe (texts words.now) budget load save → ⊥)
-        × ((budget : Option ℕ) (journal : Text) → AskToKeep (texts words.now) budget journal → ⊥)
-        × ((count : ℕ) → AskToRace (texts words.now) count → ⊥) }
+    ensures words { result.end ≡ End.Words → Keeps (R.remaining reader.old) (R.remaining reader.new) × AskForNothing (texts words.now) }
     // Words that clap takes are told nothing, but for too many files, and for files that are not named together.
-    ensures quiet { result.end ≡ End.Words → fault_of program_app (texts words.now) ≡ [] → (HasManyFiles (subcommand_of program_app (texts words.now)) → ⊥)
+    ensures quiet { result.end ≡ End.Words → fault_of program_app (texts words.now) ≡ []
+        → (HasManyFiles (subcommand_of program_app (texts words.now)) → ⊥)
         → (HasMixedFiles (subcommand_of program_app (texts words.now)) → ⊥) → Keeps (W.contents writer) (W.contents result.writer) }
 {
     let mut writer = writer;
@@ -160,19 +145,18 @@ fn serve<H: Threads + Wait + Sync + Files, R: Read, W: Write>(
 where
     H::File: SystemFile,
     requires { (1 ≤ workers) × (workers ≤ MOST_WORKERS) }
-    ensures done { result ≡ End.Done → IsAtEnd (R.remaining reader.new) × ((loaded items : List Item) × MayBegin (option_map (λ t. t.now) load.entry) loaded
-        × Serves budget (R.remaining reader.old) (R.remaining reader.new) (W.contents writer.old) (W.contents writer.new) lines_of loaded items) }
-    ensures input { result ≡ End.Input → ((loaded items : List Item) × MayBegin (option_map (λ t. t.now) load.entry) loaded
-        × Serves budget (R.remaining reader.old) (R.remaining reader.new) (W.contents writer.old) (W.contents writer.new) whole_lines_of loaded items)
-        ⊎ (IsSome (option_map (λ t. t.now) load.entry) × Keeps (R.remaining reader.old) (R.remaining reader.new) × Keeps (W.contents writer.old) (W.contents writer.new)) }
-    ensures output { result ≡ End.Output → ((loaded : List Item) × MayBegin (option_map (λ t. t.now) load.entry) loaded
-        × Breaks budget (R.remaining reader.old) (R.remaining reader.new) (W.contents writer.old) (W.contents writer.new) loaded)
-        ⊎ (IsAtEnd (R.remaining reader.new) × ((loaded items : List Item) × MayBegin (option_map (λ t. t.now) load.entry) loaded
-        × Serves budget (R.remaining reader.old) (R.remaining reader.new) (W.contents writer.old) (W.contents writer.new) lines_of loaded items)) }
-    ensures journal { (line : ℕ) → result ≡ End.Journal line
-        → IsSome (option_map (λ t. t.now) load.entry) × Keeps (R.remaining reader.old) (R.remaining reader.new) × Keeps (W.contents writer.old) (W.contents writer.new) }
-    ensures memory { result ≡ End.Memory
-        → Keeps (R.remaining reader.old) (R.remaining reader.new) × Keeps (W.contents writer.old) (W.contents writer.new) }
+    ensures done { result ≡ End.Done → IsAtEnd (R.remaining reader.new)
+        × ServesFrom budget (option_map (λ t. t.now) load.entry) (streams_of R.remaining W.contents reader.old reader.new writer.old writer.new) lines_of }
+    ensures input { result ≡ End.Input
+        → ServesFrom budget (option_map (λ t. t.now) load.entry) (streams_of R.remaining W.contents reader.old reader.new writer.old writer.new) whole_lines_of
+        ⊎ (IsSome (option_map (λ t. t.now) load.entry) × AreUntouched (streams_of R.remaining W.contents reader.old reader.new writer.old writer.new)) }
+    ensures output { result ≡ End.Output
+        → BreaksFrom budget (option_map (λ t. t.now) load.entry) (streams_of R.remaining W.contents reader.old reader.new writer.old writer.new)
+        ⊎ (IsAtEnd (R.remaining reader.new)
+        × ServesFrom budget (option_map (λ t. t.now) load.entry) (streams_of R.remaining W.contents reader.old reader.new writer.old writer.new) lines_of) }
+    ensures journal { (line : ℕ) → result ≡ End.Journal line → IsSome (option_map (λ t. t.now) load.entry)
+        × AreUntouched (streams_of R.remaining W.contents reader.old reader.new writer.old writer.new) }
+    ensures memory { result ≡ End.Memory → AreUntouched (streams_of R.remaining W.contents reader.old reader.new writer.old writer.new) }
     ensures kept { (fault : FileFault) → result ≢ End.Kept fault }
     ensures words { result ≢ End.Words }
 {
@@ -197,15 +181,15 @@ where
     H::File: SystemFile,
     requires { (1 ≤ workers) × (workers ≤ MOST_WORKERS) }
     ensures done { result ≡ End.Done → IsAtEnd (R.remaining reader.new) × ((accepted : List Item)
-        × Serves budget (R.remaining reader.old) (R.remaining reader.new) (W.contents writer.old) (W.contents writer.new) lines_of begun accepted) }
+        × Serves budget (streams_of R.remaining W.contents reader.old reader.new writer.old writer.new) lines_of begun accepted) }
     ensures input { result ≡ End.Input → (accepted : List Item)
-        × Serves budget (R.remaining reader.old) (R.remaining reader.new) (W.contents writer.old) (W.contents writer.new) whole_lines_of begun accepted }
+        × Serves budget (streams_of R.remaining W.contents reader.old reader.new writer.old writer.new) whole_lines_of begun accepted }
     ensures output { result ≡ End.Output
-        → Breaks budget (R.remaining reader.old) (R.remaining reader.new) (W.contents writer.old) (W.contents writer.new) begun
+        → Breaks budget (streams_of R.remaining W.contents reader.old reader.new writer.old writer.new) begun
         ⊎ (IsAtEnd (R.remaining reader.new) × ((accepted : List Item)
-        × Serves budget (R.remaining reader.old) (R.remaining reader.new) (W.contents writer.old) (W.contents writer.new) lines_of begun accepted)) }
+        × Serves budget (streams_of R.remaining W.contents reader.old reader.new writer.old writer.new) lines_of begun accepted)) }
     ensures memory { result ≡ End.Memory
-        → Keeps (R.remaining reader.old) (R.remaining reader.new) × Keeps (W.contents writer.old) (W.contents writer.new) }
+        → AreUntouched (streams_of R.remaining W.contents reader.old reader.new writer.old writer.new) }
     ensures kept { (fault : FileFault) → result ≢ End.Kept fault }
     ensures words { result ≢ End.Words }
     ensures no_journal { (line : ℕ) → result ≢ End.Journal line }
@@ -234,15 +218,15 @@ where
     H::File: SystemFile,
     requires { (1 ≤ workers) × (workers ≤ MOST_WORKERS) }
     ensures done { result ≡ End.Done → IsAtEnd (R.remaining reader.new) × ((accepted : List Item)
-        × Serves budget (R.remaining reader.old) (R.remaining reader.new) (W.contents writer.old) (W.contents writer.new) lines_of begun accepted) }
+        × Serves budget (streams_of R.remaining W.contents reader.old reader.new writer.old writer.new) lines_of begun accepted) }
     ensures input { result ≡ End.Input → (accepted : List Item)
-        × Serves budget (R.remaining reader.old) (R.remaining reader.new) (W.contents writer.old) (W.contents writer.new) whole_lines_of begun accepted }
+        × Serves budget (streams_of R.remaining W.contents reader.old reader.new writer.old writer.new) whole_lines_of begun accepted }
     ensures output { result ≡ End.Output
-        → Breaks budget (R.remaining reader.old) (R.remaining reader.new) (W.contents writer.old) (W.contents writer.new) begun
+        → Breaks budget (streams_of R.remaining W.contents reader.old reader.new writer.old writer.new) begun
         ⊎ (IsAtEnd (R.remaining reader.new) × ((accepted : List Item)
-        × Serves budget (R.remaining reader.old) (R.remaining reader.new) (W.contents writer.old) (W.contents writer.new) lines_of begun accepted)) }
+        × Serves budget (streams_of R.remaining W.contents reader.old reader.new writer.old writer.new) lines_of begun accepted)) }
     ensures memory { result ≡ End.Memory
-        → Keeps (R.remaining reader.old) (R.remaining reader.new) × Keeps (W.contents writer.old) (W.contents writer.new) }
+        → AreUntouched (streams_of R.remaining W.contents reader.old reader.new writer.old writer.new) }
     ensures kept { (fault : FileFault) → result ≢ End.Kept fault }
     ensures words { result ≢ End.Words }
     ensures no_journal { (line : ℕ) → result ≢ End.Journal line }
@@ -271,12 +255,12 @@ fn keep<H: Threads + Wait + Sync + Files, R: Read, W: Write>(
 where
     H::File: SystemFile,
     requires { (1 ≤ workers) × (workers ≤ MOST_WORKERS) }
-    ensures done { result.end ≡ End.Done → Ends budget (R.remaining reader.old) (R.remaining reader.new) (W.contents writer) (W.contents result.writer) }
-    ensures input { result.end ≡ End.Input → Stops budget (R.remaining reader.old) (R.remaining reader.new) (W.contents writer) (W.contents result.writer) }
-    ensures output { result.end ≡ End.Output → Falls budget (R.remaining reader.old) (R.remaining reader.new) (W.contents writer) (W.contents result.writer) }
+    ensures done { result.end ≡ End.Done → Ends budget (streams_of R.remaining W.contents reader.old reader.new writer result.writer) }
+    ensures input { result.end ≡ End.Input → Stops budget (streams_of R.remaining W.contents reader.old reader.new writer result.writer) }
+    ensures output { result.end ≡ End.Output → Falls budget (streams_of R.remaining W.contents reader.old reader.new writer result.writer) }
     ensures kept { (fault : FileFault) → result.end ≡ End.Kept fault → (fault.name.items ≡ shown_text journal.now)
-        × ((Keeps (R.remaining reader.old) (R.remaining reader.new) × Keeps (W.contents writer) (W.contents result.writer)) ⊎ Falls budget (R.remaining reader.old) (R.remaining reader.new) (W.contents writer) (W.contents result.writer)) }
-    ensures memory { result.end ≡ End.Memory → Keeps (R.remaining reader.old) (R.remaining reader.new) × Keeps (W.contents writer) (W.contents result.writer) }
+        × FallsAtMost budget (streams_of R.remaining W.contents reader.old reader.new writer result.writer) }
+    ensures memory { result.end ≡ End.Memory → AreUntouched (streams_of R.remaining W.contents reader.old reader.new writer result.writer) }
     ensures words { result.end ≢ End.Words }
     ensures no_journal { (line : ℕ) → result.end ≢ End.Journal line }
 {
@@ -298,6 +282,8 @@ where
 /// How the program ends where no session begins from the file of this name, as it is shown.
 fn end_without(alloc: Global, name: Vec<u8>, why: Unbegun) -> End
     ensures kept { (fault : FileFault) → result ≡ End.Kept fault → fault.name.items ≡ name.items }
+    ensures failed { (failure : Failure) → why ≡ Unbegun.Failed failure → (fault : FileFault) × (result ≡ End.Kept fault) × (fault.what ≡ failure.what) }
+    ensures memory { result ≡ End.Memory → why ≡ Unbegun.Memory }
     ensures done { result ≢ End.Done }
     ensures input { result ≢ End.Input }
     ensures output { result ≢ End.Output }
@@ -325,15 +311,16 @@ fn keep_in<H: Threads + Wait + Sync, R: Read, F: Write + OpenFile + Drop, W: Wri
     requires served { MayBeServed opened.begun }
     requires history { IsHistory Two opened.begun }
     // Each line has its lawful reply, and at the end the file has the lines of all items.
-    ensures done { result.end ≡ End.Done → Ends budget (R.remaining reader.old) (R.remaining reader.new) (W.contents writer) (W.contents result.writer) }
+    ensures done { result.end ≡ End.Done → Ends budget (streams_of R.remaining W.contents reader.old reader.new writer result.writer) }
     // Each whole line that was read has its lawful reply.
-    ensures input { result.end ≡ End.Input → Stops budget (R.remaining reader.old) (R.remaining reader.new) (W.contents writer) (W.contents result.writer) }
+    ensures input { result.end ≡ End.Input → Stops budget (streams_of R.remaining W.contents reader.old reader.new writer result.writer) }
     // A beginning of the lawful replies is written.
-    ensures output { result.end ≡ End.Output → Falls budget (R.remaining reader.old) (R.remaining reader.new) (W.contents writer) (W.contents result.writer) }
+    ensures output { result.end ≡ End.Output → Falls budget (streams_of R.remaining W.contents reader.old reader.new writer result.writer) }
     // The same, and a call failed at the file, whose name is told.
-    ensures fallen { (fault : FileFault) → result.end ≡ End.Kept fault → Falls budget (R.remaining reader.old) (R.remaining reader.new) (W.contents writer) (W.contents result.writer) }
+    ensures fallen { (fault : FileFault) → result.end ≡ End.Kept fault
+        → Falls budget (streams_of R.remaining W.contents reader.old reader.new writer result.writer) }
     ensures kept { (fault : FileFault) → result.end ≡ End.Kept fault → fault.name ≡ name }
-    ensures memory { result.end ≡ End.Memory → Keeps (R.remaining reader.old) (R.remaining reader.new) × Keeps (W.contents writer) (W.contents result.writer) }
+    ensures memory { result.end ≡ End.Memory → AreUntouched (streams_of R.remaining W.contents reader.old reader.new writer result.writer) }
     ensures words { result.end ≢ End.Words }
     ensures no_journal { (line : ℕ) → result.end ≢ End.Journal line }
 {
@@ -375,6 +362,7 @@ fn end_of_keeping(alloc: Global, name: Vec<u8>, fault: RunFault, failure: Option
     ensures input { result ≡ End.Input → fault ≡ RunFault.Input }
     ensures output { result ≡ End.Output → (fault ≡ RunFault.Output) × (failure ≡ None) }
     ensures kept { (told : FileFault) → result ≡ End.Kept told → (fault ≡ RunFault.Output) × (told.name ≡ name) }
+    ensures failed { (failed : Failure) (told : FileFault) → failure ≡ Some failed → result ≡ End.Kept told → told.what ≡ failed.what }
     ensures words { result ≢ End.Words }
     ensures no_journal { (line : ℕ) → result ≢ End.Journal line }
 {

@@ -27,6 +27,7 @@ use Rattle.answers.specs.Told.{reply_from}
 use Rattle.solver.specs.Outcomes.{MayStop}
 use Rattle.session.specs.Session.{session_ways}
 use Rattle.session.proofs.ServeLemmas.{replies_text-more}
+use Rattle.solver.specs.declared.solving.Options.{Options}
 
 -- what was written before, and more
 pub appends_behind : (front held more written : List ℕ) → Appends (Some held) (Some more) written → Appends (Some (front ++ held)) (Some (front ++ more)) written
@@ -34,22 +35,22 @@ appends_behind front held more written is = ap (λ (l : List ℕ). front ++ l) i
 
 -- ---- what is asked
 
-pub requests_of-length : (asked : List (Wanted × Option ℕ × Bool)) → length (requests_of asked) ≡ length asked
-requests_of-length asked = length-map asked (λ (one : Wanted × Option ℕ × Bool). resolve one.0 one.2 one.1)
+pub requests_of-length : (asked : List (Wanted × Options)) → length (requests_of asked) ≡ length asked
+requests_of-length asked = length-map asked (λ (one : Wanted × Options). resolve one.0 one.1.explain one.1.budget)
 
-pub requests_of-append : (asked others : List (Wanted × Option ℕ × Bool)) → requests_of (asked ++ others) ≡ requests_of asked ++ requests_of others
-requests_of-append asked others = map-append (λ (one : Wanted × Option ℕ × Bool). resolve one.0 one.2 one.1) asked others
+pub requests_of-append : (asked others : List (Wanted × Options)) → requests_of (asked ++ others) ≡ requests_of asked ++ requests_of others
+requests_of-append asked others = map-append (λ (one : Wanted × Options). resolve one.0 one.1.explain one.1.budget) asked others
 
-pub requests_of-none : (asked : List (Wanted × Option ℕ × Bool)) → asked ≡ [] → requests_of asked ≡ []
+pub requests_of-none : (asked : List (Wanted × Options)) → asked ≡ [] → requests_of asked ≡ []
 requests_of-none asked none = ap requests_of none
 
-module _ (asked : List (Wanted × Option ℕ × Bool)) where
+module _ (asked : List (Wanted × Options)) where
   -- the next one, and those behind it
-  pub requests_of-next : (k : ℕ) (one : Wanted × Option ℕ × Bool) → k < length asked → one ≡ get_or asked k one → drop k (requests_of asked) ≡ resolve one.0 one.2 one.1 ∷ drop (k + 1) (requests_of asked)
+  pub requests_of-next : (k : ℕ) (one : Wanted × Options) → k < length asked → one ≡ get_or asked k one → drop k (requests_of asked) ≡ resolve one.0 one.1.explain one.1.budget ∷ drop (k + 1) (requests_of asked)
   requests_of-next k one within here =
-      drop-map (λ (one : Wanted × Option ℕ × Bool). resolve one.0 one.2 one.1) k asked
-      ∙ ap requests_of (drop_more asked k one within ∙ ap (λ (x : Wanted × Option ℕ × Bool). x ∷ drop (k + 1) asked) (sym here))
-      ∙ ap (λ (requests : List Request). resolve one.0 one.2 one.1 ∷ requests) (sym (drop-map (λ (one : Wanted × Option ℕ × Bool). resolve one.0 one.2 one.1) (k + 1) asked))
+      drop-map (λ (one : Wanted × Options). resolve one.0 one.1.explain one.1.budget) k asked
+      ∙ ap requests_of (drop_more asked k one within ∙ ap (λ (x : Wanted × Options). x ∷ drop (k + 1) asked) (sym here))
+      ∙ ap (λ (requests : List Request). resolve one.0 one.1.explain one.1.budget ∷ requests) (sym (drop-map (λ (one : Wanted × Options). resolve one.0 one.1.explain one.1.budget) (k + 1) asked))
 
 -- ---- what is learnt publishes nothing
 
@@ -338,14 +339,14 @@ tells_before r a b p q requests left behind items before after t = record {
 }
 
 -- the next one, of those from a place on
-pub tells_next : {A E : Type 0} (r : Result A E) (a b : Option (List ℕ)) (p q : List ℕ) (asked : List (Wanted × Option ℕ × Bool)) (k : ℕ) (one : Wanted × Option ℕ × Bool) (items : List Item) (before after : List (List Line))
-    → k < length asked → one ≡ get_or asked k one → Tells a b p q r (resolve one.0 one.2 one.1 ∷ []) [] items before after → Tells a b p q r (drop k (requests_of asked)) (drop (k + 1) (requests_of asked)) items before after
+pub tells_next : {A E : Type 0} (r : Result A E) (a b : Option (List ℕ)) (p q : List ℕ) (asked : List (Wanted × Options)) (k : ℕ) (one : Wanted × Options) (items : List Item) (before after : List (List Line))
+    → k < length asked → one ≡ get_or asked k one → Tells a b p q r (resolve one.0 one.1.explain one.1.budget ∷ []) [] items before after → Tells a b p q r (drop k (requests_of asked)) (drop (k + 1) (requests_of asked)) items before after
 tells_next {A} {E} r a b p q asked k one items before after within here t =
     subst (λ (l : List Request). Tells {A = A} {E = E} a b p q r l (drop (k + 1) (requests_of asked)) items before after) (sym (requests_of-next asked k one within here))
-    (tells_before r a b p q (resolve one.0 one.2 one.1 ∷ []) [] (drop (k + 1) (requests_of asked)) items before after t)
+    (tells_before r a b p q (resolve one.0 one.1.explain one.1.budget ∷ []) [] (drop (k + 1) (requests_of asked)) items before after t)
 
 -- none is left behind the last
-pub drop_requests : (asked : List (Wanted × Option ℕ × Bool)) (k : ℕ) → length asked ≤ k → drop k (requests_of asked) ≡ []
+pub drop_requests : (asked : List (Wanted × Options)) (k : ℕ) → length asked ≤ k → drop k (requests_of asked) ≡ []
 drop_requests asked k end = drop_all k (requests_of asked) (subst (λ (n : ℕ). n ≤ k) (sym (requests_of-length asked)) end)
 
 -- the first ones, of all
@@ -361,25 +362,25 @@ pub drop_past : {A : Type 0} (xs ys : List A) → drop (length xs) (xs ++ ys) �
 drop_past [] ys = refl
 drop_past (x ∷ xs) ys = drop_past xs ys
 
-pub part_length : (part : List (Wanted × Option ℕ × Bool)) (requests : List Request) (most : ℕ) → requests_of part ≡ take most requests → length part ≡ length (take most requests)
+pub part_length : (part : List (Wanted × Options)) (requests : List Request) (most : ℕ) → requests_of part ≡ take most requests → length part ≡ length (take most requests)
 part_length part requests most is = sym (requests_of-length part) ∙ ap length is
 
 -- no more than there are
-pub part_within : (part : List (Wanted × Option ℕ × Bool)) (requests : List Request) (most count : ℕ) → requests_of part ≡ take most requests → count ≤ length part → count ≤ length requests
+pub part_within : (part : List (Wanted × Options)) (requests : List Request) (most count : ℕ) → requests_of part ≡ take most requests → count ≤ length part → count ≤ length requests
 part_within part requests most count is within =
     let same = part_length part requests most is in
     let all = sym (length-append (take most requests) (drop most requests)) ∙ ap length (take-append-drop most requests) in
     omega (arith, within, same, all)
 
 -- some of a part of the requests, from the first on
-pub tells_part : {A E : Type 0} (r : Result A E) (a b : Option (List ℕ)) (p q : List ℕ) (part : List (Wanted × Option ℕ × Bool)) (requests : List Request) (most count : ℕ) (items : List Item) (before after : List (List Line))
+pub tells_part : {A E : Type 0} (r : Result A E) (a b : Option (List ℕ)) (p q : List ℕ) (part : List (Wanted × Options)) (requests : List Request) (most count : ℕ) (items : List Item) (before after : List (List Line))
     → requests_of part ≡ take most requests → count ≤ length part → Tells a b p q r (requests_of part) (drop count (requests_of part)) items before after → Tells a b p q r requests (drop count requests) items before after
 tells_part {A} {E} r a b p q part requests most count items before after is within t =
     tells_first r a b p q requests most count items before after (subst (λ (n : ℕ). count ≤ n) (part_length part requests most is) within)
     (subst (λ (l : List Request). Tells {A = A} {E = E} a b p q r l (drop count l) items before after) is t)
 
 -- all of a part
-pub tells_whole : {A E : Type 0} (r : Result A E) (a b : Option (List ℕ)) (p q : List ℕ) (part : List (Wanted × Option ℕ × Bool)) (requests : List Request) (most count : ℕ) (items : List Item) (before after : List (List Line))
+pub tells_whole : {A E : Type 0} (r : Result A E) (a b : Option (List ℕ)) (p q : List ℕ) (part : List (Wanted × Options)) (requests : List Request) (most count : ℕ) (items : List Item) (before after : List (List Line))
     → requests_of part ≡ take most requests → count ≡ length part → Tells a b p q r (requests_of part) [] items before after → Tells a b p q r requests (drop count requests) items before after
 tells_whole {A} {E} r a b p q part requests most count items before after is all t =
     let whole : take most requests ++ drop most requests ≡ requests = take-append-drop most requests in

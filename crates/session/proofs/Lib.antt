@@ -10,7 +10,6 @@ pub mod FedLemmas
 pub mod CallLemmas
 pub mod DurableLemmas
 pub mod CommitLemmas
-pub mod LearntLemmas
 pub mod SavableLemmas
 pub mod CrashLemmas
 mod TellingLemmas

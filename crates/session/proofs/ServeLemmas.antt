@@ -15,6 +15,7 @@ use Rattle.answers.specs.Laws.{RepliesAddUp}
 use Rattle.answers.specs.Lawful.{AreLawfulWithin}
 use Rattle.session.specs.Serving.{Progress}
 use Rattle.session.specs.Session.{Breaks, Serves, session_ways}
+use Rattle.session.specs.Streams.{streams}
 
 -- ---- lines that end in line feeds
 
@@ -101,7 +102,7 @@ module _ {limit : Option ℕ} (laws : RepliesAddUp session_ways) (r0 r w0 w w' :
   answers_left held' waiting' stands all = (answers held' waiting' stands all, refl)
 
   -- the write of the replies failed
-  pub answer_fails : LinesInFront → WholeLinesInFront → IsBeginning written (waiting ++ replies_text a.replies) → Breaks limit r0 r w0 w' old
+  pub answer_fails : LinesInFront → WholeLinesInFront → IsBeginning written (waiting ++ replies_text a.replies) → Breaks limit (streams r0 r w0 w') old
   answer_fails in_front whole_in_front (more, is) = record {
     input = p.input;
     count = length (p.lines ++ a.lines);
@@ -154,7 +155,7 @@ reads_none {limit} goes_on r0 r r' w0 w old new held held' waiting piece p no_fe
 
 -- a read failed when no whole line was left, and all replies were sent
 pub read_fails : {limit : Option ℕ} → WholeLinesInFront → NoWholeLine → (r0 r r' w0 w : Option (List ℕ)) (old new : List Item) (held : Unread) (waiting : List ℕ)
-    → (p : Progress limit r0 r w0 w old new held waiting) → HasNoFeed p.rest → waiting ≡ [] → Keeps r r' → Serves limit r0 r' w0 w whole_lines_of old new
+    → (p : Progress limit r0 r w0 w old new held waiting) → HasNoFeed p.rest → waiting ≡ [] → Keeps r r' → Serves limit (streams r0 r' w0 w) whole_lines_of old new
 read_fails {limit} whole_in_front no_line r0 r r' w0 w old new held waiting p no_feed none kept = record {
   input = p.input;
   replies = p.replies;
@@ -170,7 +171,7 @@ read_fails {limit} whole_in_front no_line r0 r r' w0 w old new held waiting p no
 -- the text ended, and the rest of it was answered
 pub ends : {limit : Option ℕ} → RepliesAddUp session_ways → LinesInFront → (r0 r w0 w w' : Option (List ℕ)) (old mid new : List Item) (held : Unread) (waiting : List ℕ) (after : List Reply) (written : List ℕ)
     → (p : Progress limit r0 r w0 w old mid held waiting) → waiting ≡ [] → AreLawfulWithin limit session_ways (lines_of p.rest) mid after new → Appends w w' written → written ≡ replies_text after
-    → Serves limit r0 r w0 w' lines_of old new
+    → Serves limit (streams r0 r w0 w') lines_of old new
 ends {limit} laws in_front r0 r w0 w w' old mid new held waiting after written p none session appends is = record {
   input = p.input;
   replies = p.replies ++ after;
@@ -189,7 +190,7 @@ ends {limit} laws in_front r0 r w0 w w' old mid new held waiting after written p
 -- the text ended, and the write of the last reply failed
 pub end_fails : {limit : Option ℕ} → RepliesAddUp session_ways → LinesInFront → (r0 r w0 w w' : Option (List ℕ)) (old mid new : List Item) (held : Unread) (waiting : List ℕ) (after : List Reply) (written : List ℕ)
     → (p : Progress limit r0 r w0 w old mid held waiting) → IsAtEnd r → waiting ≡ [] → AreLawfulWithin limit session_ways (lines_of p.rest) mid after new → Appends w w' written → IsBeginning written (replies_text after)
-    → Breaks limit r0 r w0 w' old
+    → Breaks limit (streams r0 r w0 w') old
 end_fails {limit} laws in_front r0 r w0 w w' old mid new held waiting after written p at_end none session appends (more, is) = record {
   input = p.input;
   count = length (p.lines ++ lines_of p.rest);

@@ -1,5 +1,5 @@
 -- Replies that are told in order, some of them written before others are told.
-use Rattle.std.proofs.Common.{◌≡◌, ◌∙◌, ℕ, Bool, List, [], ◌++◌, Option, Result, Ok, Err, ap, drop, length, refl, subst, sym, take}
+use Rattle.std.proofs.Common.{◌≡◌, ◌∙◌, ℕ, List, [], ◌++◌, Option, Result, Ok, Err, ap, drop, length, refl, subst, sym, take}
 use Rattle.std.proofs.lemmas.List.{take-append-drop}
 use Rattle.std.specs.Prelude.{MatchResult}
 use Rattle.registry.specs.Requests.{Wanted}
@@ -15,6 +15,7 @@ use Rattle.session.specs.Batches.{Tells, requests_of}
 use Rattle.session.specs.Committing.{Telling, TellsOn}
 use Rattle.session.specs.declared.committed.Committed.{Committed}
 use Rattle.session.proofs.BatchLemmas.{HasTold, drop_past, part_length, tells_err, tells_ok, tells_puts_none, tells_then}
+use Rattle.solver.specs.declared.solving.Options.{Options}
 
 -- what waits may have been written, behind what was told
 pub told_puts : PutsAddUp → ReplayGrows → (E : Type 0) (v : Unit {0}) (a b c : Option (List ℕ)) (p q s : List ℕ) (requests left : List Request) (items : List Item) (before after : List (List Line))
@@ -33,7 +34,7 @@ told_cut laws grows E e a b c p q s requests left last items before after told p
 -- ---- the same in a session whose journal is kept
 
 -- of all that wait, where a part was told
-pub tells_on_whole : {A E : Type 0} (result : Result A E) (e e' : Seen) (here : List Item) (waiting waiting' : List ℕ) (part : List (Wanted × Option ℕ × Bool)) (requests : List Request) (most count : ℕ)
+pub tells_on_whole : {A E : Type 0} (result : Result A E) (e e' : Seen) (here : List Item) (waiting waiting' : List ℕ) (part : List (Wanted × Options)) (requests : List Request) (most count : ℕ)
     (offered offered' : List (List Line)) (held held' : List ℕ) (at at' : Committed) → requests_of part ≡ take most requests → count ≡ length part
     → ((behind : List Request) → TellsOn result e e' here waiting waiting' (requests_of part ++ behind) behind offered offered' held held' at at')
     → TellsOn result e e' here waiting waiting' requests (drop count requests) offered offered' held held' at at'

@@ -1,5 +1,5 @@
 -- Requests of neighbouring lines, which are answered together.
-use Rattle.std.specs.Prelude.{◌≡◌, Bool, ℕ, List, [], ◌∷◌, ◌++◌, map, OnOk, Option, Result, MatchResult, Ok}
+use Rattle.std.specs.Prelude.{◌≡◌, ℕ, List, [], ◌∷◌, ◌++◌, map, OnOk, Option, Result, MatchResult, Ok}
 use Rattle.std.specs.List.{AllZip}
 use Rattle.registry.specs.Requests.{Wanted}
 use Rattle.derivations.specs.declared.line.Line.{Line}
@@ -11,10 +11,11 @@ use Rattle.book.specs.Items.{packages_of, revision_of}
 use Rattle.book.specs.declared.item.Item.{Item}
 use Rattle.answers.specs.Lawful.{AreLawfulWithin, LearnsSome, MayAnswer, Ways, asked_within}
 use Rattle.session.specs.Session.{session_ways}
+use Rattle.solver.specs.declared.solving.Options.{Options}
 
--- what each of these asks: a request, its budget or none, and whether a refusal is to be explained
-abbrev pub requests_of : List (Wanted × Option ℕ × Bool) → List Request
-requests_of = map (λ one. resolve one.0 one.2 one.1)
+-- what each of these asks: a request, and how it is to be answered
+abbrev pub requests_of : List (Wanted × Options) → List Request
+requests_of = map (λ one. resolve one.0 one.1.explain one.1.budget)
 
 -- each of these lines asks what stands at its place, by this budget of each request that names none, if there is one
 abbrev pub AreAsked : Option ℕ → List (List ℕ) → List Request → Type 0
@@ -36,11 +37,13 @@ LearnsOf (lines ∷ offered) old new = LearnsSome session_ways old new
 
 -- The requests may be told so where the session has these packages and this revision, whatever is learnt then of what the answers offer.
 abbrev pub MayBeTold : List Request → List Item → List Reply → List (List Line) → Type 0
-MayBeTold requests items replies offered = (here new : List Item) → packages_of here ≡ packages_of items → revision_of here ≡ revision_of items → LearnsOf offered here new
+MayBeTold requests items replies offered = (here new : List Item) → packages_of here ≡ packages_of items → revision_of here ≡ revision_of items
+    → LearnsOf offered here new
     → AreReplied session_ways requests here replies new
 
 -- The first of these requests were told replies, whose texts were put, and what the answers offer stands behind what was offered before. The others are left.
-pub record Tells {A E : Type 0} (written_before written_after : Option (List ℕ)) (before after : List ℕ) (r : Result A E) (requests left : List Request) (items : List Item)
+pub record Tells {A E : Type 0} (written_before written_after : Option (List ℕ)) (before after : List ℕ) (r : Result A E) (requests left : List Request)
+    (items : List Item)
     (offered_before offered_after : List (List Line)) : Type 0 where
   pub first : List Request
   pub others : List Request
@@ -55,7 +58,8 @@ pub record Tells {A E : Type 0} (written_before written_after : Option (List ℕ
 -- ---- lines that are taken
 
 -- The first of these requests were replied to, and what was put are the texts of the replies. The others are left.
-pub record Leaves {E : Type 0} (written_before written_after : Option (List ℕ)) (before after : List ℕ) (r : Result Unit E) (requests : List Request) (old new : List Item) (left : List Request) : Type 0 where
+pub record Leaves {E : Type 0} (written_before written_after : Option (List ℕ)) (before after : List ℕ) (r : Result Unit E) (requests : List Request)
+    (old new : List Item) (left : List Request) : Type 0 where
   pub first : List Request
   pub replies : List Reply
   pub split : requests ≡ first ++ left
@@ -63,7 +67,8 @@ pub record Leaves {E : Type 0} (written_before written_after : Option (List ℕ)
   pub puts : Puts written_before written_after before after r (replies_text replies)
 
 -- Of these lines the first are answered, and what was put are the texts of their lawful replies. The others wait as what they ask.
-pub record Takes {E : Type 0} (limit : Option ℕ) (written_before written_after : Option (List ℕ)) (before after : List ℕ) (r : Result Unit E) (lines : List (List ℕ)) (old new : List Item) (batch : List Request) : Type 0 where
+pub record Takes {E : Type 0} (limit : Option ℕ) (written_before written_after : Option (List ℕ)) (before after : List ℕ) (r : Result Unit E)
+    (lines : List (List ℕ)) (old new : List Item) (batch : List Request) : Type 0 where
   pub answered : List (List ℕ)
   pub others : List (List ℕ)
   pub replies : List Reply

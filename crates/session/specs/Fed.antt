@@ -137,7 +137,8 @@ pub record Feeds (text bytes : List ℕ) (old new : FedSession) : Type 0 where
 
 -- One more line may have been answered, whose reply is lost.
 abbrev pub LosesOne : List ℕ → List (List ℕ) → List Item → List Item → Type 0
-LosesOne input lines here new = (new ≡ here) ⊎ ((line : List ℕ) × (reply : Reply) × FrontOf input (lines ++ line ∷ []) × IsLawful session_ways line here reply new)
+LosesOne input lines here new = (new ≡ here) ⊎ ((line : List ℕ) × (reply : Reply) × FrontOf input (lines ++ line ∷ [])
+    × IsLawful session_ways line here reply new)
 
 -- The bytes were fed behind a text of which no line had ended, and there was no memory for a reply: of the whole lines of both the first ones
 -- have their lawful replies, in order and whole, behind the replies that waited, and the session takes no more.
@@ -157,7 +158,8 @@ pub record Stops (text bytes : List ℕ) (old new : FedSession) : Type 0 where
 -- ---- within a feed
 
 -- Lines of what was read were answered, their replies stand behind what stood before, and the rest is held.
-pub record Feeding (read_before read_after : Option (List ℕ)) (old new : List Item) (held : Unread) (before after : List ℕ) (needs_before needs : ℕ) : Type 0 where
+pub record Feeding (read_before read_after : Option (List ℕ)) (old new : List Item) (held : Unread) (before after : List ℕ)
+    (needs_before needs : ℕ) : Type 0 where
   pub input : List ℕ
   pub lines : List (List ℕ)
   pub rest : List ℕ

@@ -1,5 +1,6 @@
 pub mod Served
 pub mod Putting
+pub mod Streams
 pub mod Session
 pub mod Saving
 pub mod Batches

@@ -5,26 +5,27 @@ ghost use Rattle.lines.specs.Texts.{Puts};
 ghost use Rattle.pool.specs.Answering.{IsAnswerTo};
 ghost use Rattle.solver.specs.Outcomes.{MayStop};
 ghost use Rattle.wire.specs.Shapes.{resolve};
+ghost use Rattle.replies.specs.Replied.{body_of};
 ghost use Rattle.session.specs.Batches.{AreReplied, Leaves, LearnsOf, Tells, requests_of};
 ghost use Rattle.derivations.specs.declared.line.Line.{Line};
 ghost use Rattle.answers.specs.Outcomes.{TellsFound};
 ghost use Rattle.session.specs.Committing.{TellsOn};
 ghost use Rattle.session.specs.Putting.{PutsReplies};
 ghost use Rattle.session.specs.Session.{session_ways};
-ghost use Rattle.answers.specs.Told.{told_body};
 
 use crate::committed::Committed;
 use crate::served::Served;
 use crate::telling::tell_in_order;
 use crate::telling_kept::tell_kept_in_order;
-use answers::{Ledger, Told, lawful_replies_add_up, learn_all, put_told, told_of};
+use answers::{Ledger, lawful_replies_add_up, learn_all, put_told, told_of};
 use book::journals_grow;
 use commits::Devices;
 use derivations::Learnt;
 use lines::Outbox;
 use pool::{Answer, Asked, THREAD, answer_soon, effort_of};
 use registry::{Registry, Request};
-use replies::puts_add_up;
+use replies::{Body, puts_add_up};
+use solver::Options;
 use std::alloc::{AllocError, Global};
 use std::io;
 use std::io::Write;
@@ -90,7 +91,8 @@ impl Batch {
         requires { length self.old < BATCH_LIMIT }
         ensures { self.new ≡ self.old ++ resolve request explain budget ∷ [] }
     {
-        self.asked.push_reserved((request, budget, explain));
+        self.asked
+            .push_reserved((request, Options { budget, explain }));
     }
 
     /// How many wait.
@@ -327,22 +329,15 @@ pub(crate) fn put_answer<W: Write>(
 ) -> io::Result<()>
     requires { IsAnswerTo (packages_of served.now) asked.now answer }
     ensures { Tells (W.contents writer.old) (W.contents writer.new) outbox.old outbox.new result
-        (resolve asked.now.0 asked.now.2 asked.now.1 ∷ []) [] served.now offered.old.items offered.new.items }
+        (resolve asked.now.0 asked.now.1.explain asked.now.1.budget ∷ []) [] served.now offered.old.items offered.new.items }
 {
     lawful_replies_add_up::<Served>();
     match told_to(alloc, served.registry(), asked, answer) {
-        Ok((told, more)) => {
+        Ok((body, more)) => {
             add_offers(offered, more);
-            let put = put_told(outbox, writer, served.standing(), &told);
-            drop(told);
-            put
+            put_told(outbox, writer, served.standing(), body)
         }
-        Err(e) => {
-            let told = Told::Refusal(e);
-            let told_put = put_told(outbox, writer, served.standing(), &told);
-            drop(told);
-            told_put
-        }
+        Err(e) => put_told(outbox, writer, served.standing(), Body::Refusal(e)),
     }
 }
 
@@ -369,11 +364,11 @@ fn told_to(
     registry: &Registry,
     asked: &Asked,
     answer: Answer,
-) -> Result<(Told, Vec<Learnt>), Refusal>
+) -> Result<(Body<'static>, Vec<Learnt>), Refusal>
     requires { IsAnswerTo registry.now.packages asked.now answer }
-    ensures told { IfOk result (λ r. TellsFound registry.now.packages asked.now.0 asked.now.2 (told_body r.0)) }
-    ensures only { IfErr result (MayStop registry.now.packages asked.now.0 asked.now.1) }
+    ensures told { IfOk result (λ r. TellsFound registry.now.packages asked.now.0 asked.now.1.explain (body_of r.0)) }
+    ensures only { IfErr result (MayStop registry.now.packages asked.now.0 asked.now.1.budget) }
 {
-    let verdict = answer?;
-    Ok(told_of(alloc, registry, &asked.0, asked.2, verdict)?)
+    let outcome = answer?;
+    Ok(told_of(alloc, registry, &asked.0, asked.1.explain, outcome)?)
 }

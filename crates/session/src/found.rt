@@ -10,8 +10,8 @@ ghost use Rattle.session.specs.Session.{session_ways};
 use crate::batch::Batch;
 use crate::served::Served;
 use answers::{
-    Answer, Ledger, answer_read, lawful_replies_add_up, learn_all, put_listing, put_or_send,
-    put_told, read_line, within,
+    Answer, Ledger, answer_read, lawful_replies_add_up, learn_all, put_listing, put_told,
+    send_told, within,
 };
 use intake::Intake;
 use lines::{LineBuffer, Next, Outbox};
@@ -36,7 +36,7 @@ pub fn read_found(
     ensures { (line : List ℕ) → IsFound found lines.now line → IsReadWithin limit result line }
 {
     match found {
-        Next::Line => within(read_line(alloc, intake, lines.line()), limit),
+        Next::Line => within(intake.read(alloc, lines.line()), limit),
         Next::TooLong => Err(Refusal::BadLine),
         Next::More => unreachable!(),
     }
@@ -111,15 +111,10 @@ pub fn reply_to<W: Write>(
         → PutsReply (λ reply. IsLawfulWithin limit session_ways line served.old reply served.new) (W.contents writer.old) (W.contents writer.new) outbox.old outbox.new result }
 {
     match answer_read(alloc, served, read) {
-        Answer::Told(told) => {
-            let told_put = put_told(outbox, writer, served.standing(), &told);
-            drop(told);
-            told_put
-        }
-        Answer::Found(told, offered) => {
-            let put = put_or_send(outbox, writer, served.standing(), &told, true);
+        Answer::Told(body) => put_told(outbox, writer, served.standing(), body),
+        Answer::Found(body, offered) => {
+            let put = send_told(outbox, writer, served.standing(), body);
             learn_all(served, offered);
-            drop(told);
             put
         }
         Answer::Listing => {

@@ -12,7 +12,6 @@
 //! | `committed` | how far a session's journal is in its file |
 //! | `durable` | the same as `serve`, with a file that has what was accepted before it is told |
 //! | `fed` | a session that lives between calls: it is fed bytes, and its replies are taken |
-//! | `learnt` | that what was learnt can be said again by its line |
 //! | `journal` | the journal's file from which a session begins, and the one that it leaves |
 #![tactic(auto)]
 
@@ -23,7 +22,6 @@ mod fed;
 mod found;
 mod journal;
 mod laws;
-mod learnt;
 mod limits;
 mod serve;
 mod served;

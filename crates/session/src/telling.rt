@@ -9,7 +9,7 @@ use answers::Ledger;
 use book::journals_grow;
 use derivations::Learnt;
 use lines::Outbox;
-use pool::{Answers, Asked, Consumer, Query, answer_in_order};
+use pool::{Answers, Asked, Consumer, Gate, Query, answer_in_order};
 use replies::puts_add_up;
 use std::alloc::Global;
 use std::io;
@@ -42,10 +42,10 @@ impl<'a, W: Write> Consumer for Telling<'a, W> {
         × Tells (W.contents t.writer.now) (W.contents then.writer.now) t.outbox.now then.outbox.now result
         (requests_of t.asked.now) [] t.served.now t.offered.now.items then.offered.now.items };
 
-    fn consume<Q: Query, R: Wait>(
+    fn consume<G: Gate, Q: Query, R: Wait>(
         &mut self,
         rt: &R,
-        answers: &mut Answers<'_, Q>,
+        answers: &mut Answers<'_, G, Q>,
     ) -> io::Result<()> {
         tell_each(
             rt,
@@ -95,9 +95,9 @@ pub(crate) fn tell_in_order<H: Threads + Wait + Sync, W: Write>(
 }
 
 /// Puts the replies to requests, in order, and has them written where the next answer isn't there yet.
-fn tell_each<Q: Query, R: Wait, W: Write>(
+fn tell_each<G: Gate, Q: Query, R: Wait, W: Write>(
     rt: &R,
-    answers: &mut Answers<'_, Q>,
+    answers: &mut Answers<'_, G, Q>,
     alloc: Global,
     served: &Served,
     outbox: &mut Outbox,

@@ -14,7 +14,7 @@ use book::journals_grow;
 use commits::Devices;
 use derivations::Learnt;
 use lines::{Outbox, lines_end_at_feeds};
-use pool::{Answers, Asked, Consumer, Query, answer_in_order};
+use pool::{Answers, Asked, Consumer, Gate, Query, answer_in_order};
 use replies::puts_add_up;
 use std::alloc::Global;
 use std::io;
@@ -51,10 +51,10 @@ impl<'a, D: Devices> Consumer for TellingKept<'a, D> {
         × ((behind : List Request) → TellsOn result (D.seen t.devices.now) (D.seen then.devices.now) t.served.now t.outbox.now then.outbox.now
         (requests_of t.asked.now ++ behind) behind t.offered.now.items then.offered.now.items t.held.now.items then.held.now.items t.at.now then.at.now) };
 
-    fn consume<Q: Query, R: Wait>(
+    fn consume<G: Gate, Q: Query, R: Wait>(
         &mut self,
         rt: &R,
-        answers: &mut Answers<'_, Q>,
+        answers: &mut Answers<'_, G, Q>,
     ) -> io::Result<()> {
         tell_each(
             rt,
@@ -110,9 +110,9 @@ pub(crate) fn tell_kept_in_order<H: Threads + Wait + Sync, D: Devices>(
 }
 
 /// Puts the replies to requests, in order, and has them go out where the next answer isn't there yet.
-fn tell_each<Q: Query, R: Wait, D: Devices>(
+fn tell_each<G: Gate, Q: Query, R: Wait, D: Devices>(
     rt: &R,
-    answers: &mut Answers<'_, Q>,
+    answers: &mut Answers<'_, G, Q>,
     alloc: Global,
     devices: &mut D,
     served: &Served,

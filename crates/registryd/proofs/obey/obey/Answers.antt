@@ -17,7 +17,7 @@ returns-in-Ok-Serve-clause-input g c = λ is.
     let asked = serve_asks _ _ _ _ _ _ _ _ words.ensures.taken words.ensures.ok words.field-0-is c.lent_name-from.ensures c.lent_name-to.ensures in
     elim (c.serve-end.ensures.input is) [
       | inl served ↦ inl (has_served _ _ _ _ _ _ _ _ asked _ served)
-      | inr kept ↦ inr (inr (inl (has_no_journal _ _ _ _ _ _ _ _ asked kept.0 kept.1 kept.2)))
+      | inr kept ↦ inr (inr (inl (has_no_journal _ _ _ _ _ _ _ _ asked kept.0 kept.1)))
     ]
 
 pub returns-in-Ok-Serve-clause-output : goal.returns-in-Ok-Serve-clause-output
@@ -34,7 +34,7 @@ returns-in-Ok-Serve-clause-journal g c = λ line is.
     let words = c.in-Ok-Serve in
     let asked = serve_asks _ _ _ _ _ _ _ _ words.ensures.taken words.ensures.ok words.field-0-is c.lent_name-from.ensures c.lent_name-to.ensures in
     let kept = c.serve-end.ensures.journal line is in
-    has_no_journal _ _ _ _ _ _ _ _ asked kept.0 kept.1 kept.2
+    has_no_journal _ _ _ _ _ _ _ _ asked kept.0 kept.1
 
 pub returns-in-Ok-Serve-clause-kept : goal.returns-in-Ok-Serve-clause-kept
 returns-in-Ok-Serve-clause-kept g c = λ fault is. absurd (c.serve-end.ensures.kept fault is)
@@ -66,7 +66,7 @@ returns-in-Ok-Keep-clause-kept g c = λ fault is.
     let kept = c.keep.ensures.kept fault is in (
       tells_of_file _ _ _ asked fault kept.0,
       elim kept.1 [
-        | inl none ↦ inl (has_not_begun _ _ _ _ _ _ _ asked none.0 none.1)
+        | inl none ↦ inl (has_not_begun _ _ _ _ _ _ _ asked none)
         | inr fallen ↦ inr (has_fallen _ _ _ _ _ _ _ asked fallen)
       ],
     )
@@ -76,7 +76,7 @@ returns-in-Ok-Keep-clause-kept g c = λ fault is.
 pub returns-in-Err-Bad-clause-words : goal.returns-in-Err-Bad-clause-words
 returns-in-Err-Bad-clause-words g c = λ is.
     let bad = c.in-Err-Bad.ensures.bad (err_same _ _ _ c.in-Err-Bad.field-0-is) in
-    (Keeps-refl _, asks_no_serve _ bad, asks_no_keep _ bad, asks_no_race _ bad)
+    (Keeps-refl _, record { serve = asks_no_serve _ bad; keep = asks_no_keep _ bad; race = asks_no_race _ bad })
 
 pub returns-in-Err-Bad-clause-quiet : goal.returns-in-Err-Bad-clause-quiet
 returns-in-Err-Bad-clause-quiet g c = λ is taken few apart.

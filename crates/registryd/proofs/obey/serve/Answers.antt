@@ -1,6 +1,6 @@
 use Rattle.std.proofs.Common.{inl, inr, subst}
 use Rattle.std.proofs.KnownBytes.{Keeps-refl}
-use Rattle.registryd.specs.Ending.{IsUnread}
+use Rattle.endings.specs.Ending.{IsUnread}
 use Rattle.registryd.proofs.obey.serve.Goals as goal
 
 pub returns-in-Ok-clause-done : goal.returns-in-Ok-clause-done
@@ -24,13 +24,13 @@ pub returns-in-Err-clause-done : goal.returns-in-Err-clause-done
 returns-in-Err-clause-done g c = λ is. absurd (subst IsUnread is c.in-Err.ensures.unread)
 
 pub returns-in-Err-clause-input : goal.returns-in-Err-clause-input
-returns-in-Err-clause-input g c = λ is. inr (c.in-Err.ensures.named, Keeps-refl _, Keeps-refl _)
+returns-in-Err-clause-input g c = λ is. inr (c.in-Err.ensures.named, (Keeps-refl _, Keeps-refl _))
 
 pub returns-in-Err-clause-output : goal.returns-in-Err-clause-output
 returns-in-Err-clause-output g c = λ is. absurd (subst IsUnread is c.in-Err.ensures.unread)
 
 pub returns-in-Err-clause-journal : goal.returns-in-Err-clause-journal
-returns-in-Err-clause-journal g c = λ line is. (c.in-Err.ensures.named, Keeps-refl _, Keeps-refl _)
+returns-in-Err-clause-journal g c = λ line is. (c.in-Err.ensures.named, (Keeps-refl _, Keeps-refl _))
 
 pub returns-in-Err-clause-words : goal.returns-in-Err-clause-words
 returns-in-Err-clause-words g c = λ is. subst IsUnread is c.in-Err.ensures.unread

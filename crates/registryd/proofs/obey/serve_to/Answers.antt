@@ -1,6 +1,6 @@
 use Rattle.std.proofs.Common.{inl, subst}
 use Rattle.std.proofs.KnownBytes.{Keeps-refl}
-use Rattle.registryd.specs.Ending.{IsUnmade}
+use Rattle.endings.specs.Ending.{IsUnmade}
 use Rattle.registryd.proofs.KeptLemmas.{none_broken}
 use Rattle.registryd.proofs.obey.serve_to.Goals as goal
 

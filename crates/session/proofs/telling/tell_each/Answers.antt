@@ -1,4 +1,4 @@
-use Rattle.std.proofs.Common.{◌≡◌, ℕ, Bool, List, Option, Some, ◌+◌, ap, arith, length, refl, subst, sym, ◌∙◌}
+use Rattle.std.proofs.Common.{◌≡◌, ℕ, List, Some, ◌+◌, ap, arith, length, refl, subst, sym, ◌∙◌}
 use Rattle.std.proofs.lemmas.Option.{slice_get_read}
 use Rattle.std.proofs.lemmas.Result.{err_from_is_err_and}
 use Rattle.std.specs.Prelude.{slice_get}
@@ -7,6 +7,7 @@ use Rattle.registry.specs.Requests.{Wanted}
 use Rattle.pool.specs.Answering.{IsAnswerTo}
 use Rattle.session.proofs.BatchLemmas.{drop_requests, tells_err, tells_next, tells_none, tells_ok, tells_then}
 use Rattle.session.proofs.TellingLemmas.{told_cut, told_puts}
+use Rattle.solver.specs.declared.solving.Options.{Options}
 use Rattle.session.proofs.telling.tell_each.Goals as goal
 
 pub loop-at-init : goal.loop-at-init
@@ -28,7 +29,7 @@ put_answer-requires g c =
     let place = c.is_ready-is_ready.ensures ∙ at.invariant.count in
     let here = slice_get_read c.args.asked.now _ at.at one.result refl c.loop-at-test.true one.is in
     subst (λ (packages : Packages). IsAnswerTo packages one.result c.next-answer.result) c.requires.packages
-    (c.next-answer.ensures.answer one.result (subst (λ (x : List (Wanted × Option ℕ × Bool) × ℕ). slice_get x.0 x.1 ≡ Some one.result) (λ i. (sym asked i, sym place i)) here))
+    (c.next-answer.ensures.answer one.result (subst (λ (x : List (Wanted × Options) × ℕ). slice_get x.0 x.1 ≡ Some one.result) (λ i. (sym asked i, sym place i)) here))
 
 pub loop-at-preserved : goal.loop-at-preserved
 loop-at-preserved g c =

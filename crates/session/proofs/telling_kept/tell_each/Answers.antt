@@ -1,4 +1,4 @@
-use Rattle.std.proofs.Common.{◌≡◌, ℕ, Bool, List, Option, Some, ◌+◌, ◌++◌, ap, arith, length, refl, subst, sym, ◌∙◌}
+use Rattle.std.proofs.Common.{◌≡◌, ℕ, List, Some, ◌+◌, ◌++◌, ap, arith, length, refl, subst, sym, ◌∙◌}
 use Rattle.std.proofs.lemmas.Option.{slice_get_read}
 use Rattle.std.proofs.lemmas.Result.{err_from_is_err_and}
 use Rattle.std.specs.Prelude.{slice_get}
@@ -8,6 +8,7 @@ use Rattle.pool.specs.Answering.{IsAnswerTo}
 use Rattle.session.proofs.BatchLemmas.{drop_requests, tells_before, tells_next}
 use Rattle.session.proofs.DurableLemmas.{telling_puts}
 use Rattle.session.proofs.TellingLemmas.{telling_left}
+use Rattle.solver.specs.declared.solving.Options.{Options}
 use Rattle.session.proofs.telling_kept.tell_each.Goals as goal
 
 pub loop-place-init : goal.loop-place-init
@@ -29,7 +30,7 @@ put_answer-requires g c =
     let place = c.is_ready-is_ready.ensures ∙ at.invariant.count in
     let here = slice_get_read c.args.asked.now _ at.place one.result refl c.loop-place-test.true one.is in
     subst (λ (packages : Packages). IsAnswerTo packages one.result c.next-answer.result) c.requires.packages
-    (c.next-answer.ensures.answer one.result (subst (λ (x : List (Wanted × Option ℕ × Bool) × ℕ). slice_get x.0 x.1 ≡ Some one.result) (λ i. (sym asked i, sym place i)) here))
+    (c.next-answer.ensures.answer one.result (subst (λ (x : List (Wanted × Options) × ℕ). slice_get x.0 x.1 ≡ Some one.result) (λ i. (sym asked i, sym place i)) here))
 
 pub loop-place-preserved : goal.loop-place-preserved
 loop-place-preserved g c =
