@@ -1,15 +1,13 @@
 //! Calls that answer many requests.
 
 use crate::order::InOrder;
-use crate::outcomes::{budget_at, explains, put_verdict};
+use crate::outcomes::{options_at, put_outcome};
 use derivations::Store;
-use pool::{
-    Answers, Asked, Consumer, Query, answer_all, answer_all_with, answer_in_order, answer_lent,
-};
+use pool::{Answers, Asked, Consumer, Gate, Query, answer_all, answer_all_with, answer_in_order};
 use registry::Registry;
 use rows::{Answer, AnswerText, Shows, Unread, items, member, request_at, size_at, whole_at};
 use serde_json::Value;
-use solver::Verdict;
+use solver::Outcome;
 use std::alloc::{AllocError, Global};
 use std::sync::Wait;
 use std::thread::Threads;
@@ -24,7 +22,6 @@ pub fn pool_call<R: Threads + Wait + Sync>(
 ) -> Result<Answer, Unread> {
     match name {
         "answer_all" => all_answered(rt, alloc, registry, row),
-        "answer_lent" => lent_answered(rt, alloc, registry, row),
         "answer_all_with" => in_order(rt, alloc, registry, row),
         "answer_in_order" => handed_over(rt, alloc, registry, row),
         _ => Err(Unread::Row),
@@ -42,21 +39,6 @@ fn all_answered<R: Threads + Wait + Sync>(
     let store = Store::new(alloc);
     let answers = answer_all(rt, alloc, registry, &store, requests, workers);
     drop(store);
-    if_answered(alloc, true, answers)
-}
-
-fn lent_answered<R: Threads + Wait + Sync>(
-    rt: &R,
-    alloc: Global,
-    registry: &Registry,
-    row: &Value,
-) -> Result<Answer, Unread> {
-    let workers = size_at(row, "workers")?;
-    let requests = requests_at(alloc, row)?;
-    let store = Store::new(alloc);
-    let answers = answer_lent(rt, alloc, registry, &store, &requests, workers);
-    drop(store);
-    drop(requests);
     if_answered(alloc, true, answers)
 }
 
@@ -94,10 +76,10 @@ impl Consumer for First {
 
     ghost consumes = { λ first packages asked result then. Unit {0} };
 
-    fn consume<Q: Query, R: Wait>(
+    fn consume<G: Gate, Q: Query, R: Wait>(
         &mut self,
         rt: &R,
-        answers: &mut Answers<'_, Q>,
+        answers: &mut Answers<'_, G, Q>,
     ) -> Result<(), AllocError> {
         for _at in 0..self.count {
             let _is_there = answers.is_ready(rt);
@@ -165,13 +147,13 @@ fn answers_told(alloc: Global, answers: &[pool::Answer]) -> Result<Answer, Unrea
 
 fn put_answer(text: &mut AnswerText, answer: &pool::Answer) {
     match answer {
-        Ok(verdict) => put_lawful(text, verdict),
+        Ok(outcome) => put_lawful(text, outcome),
         Err(refusal) => Answer::Refused(*refusal).show(text),
     }
 }
 
-fn put_lawful(text: &mut AnswerText, verdict: &Verdict) {
-    put_verdict(text, verdict);
+fn put_lawful(text: &mut AnswerText, outcome: &Outcome) {
+    put_outcome(text, outcome);
     text.put("}");
 }
 
@@ -199,6 +181,6 @@ fn put_requests(alloc: Global, row: &Value, requests: &mut Vec<Asked>) -> Result
 }
 
 fn asked(alloc: Global, one: &Value) -> Result<Asked, Unread> {
-    let budget = budget_at(one)?;
-    Ok((request_at(alloc, one)?, budget, explains(one)))
+    let options = options_at(one)?;
+    Ok((request_at(alloc, one)?, options))
 }

@@ -349,7 +349,7 @@ fn put_resolved(text: &mut AnswerText, stamp: Stamp, outcome: &Outcome) {
     text.put("],\"selected\":");
     match outcome {
         Outcome::Selection(items, _) => items.show(text),
-        Outcome::Refused(_, _) => text.put("null"),
+        Outcome::NoSelection(_) | Outcome::Refused(_, _) => text.put("null"),
     }
     text.put("}");
 }

@@ -1,11 +1,11 @@
 //! Calls of the solver.
 
-use crate::outcomes::{budget_at, explains, offered, offered_with, put_outcome, put_verdict};
+use crate::outcomes::{budget_at, offered, options_at, put_outcome};
 use derivations::{Learnt, Store, check};
 use registry::{Registry, Request};
 use rows::{Answer, AnswerText, Shows, Unread, request_at, shown};
 use serde_json::Value;
-use solver::{Outcome, Verdict, decide_under, solve_under};
+use solver::{Options, Outcome, solve, solve_with, solve_within};
 use std::alloc::Global;
 use versions::Refusal;
 
@@ -29,11 +29,10 @@ fn answered(
     name: &str,
     row: &Value,
 ) -> Result<Answer, Unread> {
-    let budget = budget_at(row)?;
-    if name == "decide" {
-        return decided(alloc, registry, request, budget, explains(row));
+    if name == "solve_with" {
+        return solved_with(alloc, registry, request, options_at(row)?);
     }
-    let outcome = solved(alloc, registry, request, budget)?;
+    let outcome = solved(alloc, registry, request, budget_at(row)?)?;
     let answer = told(alloc, registry, request, &outcome, name);
     drop(outcome);
     answer
@@ -47,32 +46,34 @@ fn solved(
     budget: Option<u32>,
 ) -> Result<Outcome, Refusal> {
     let store = Store::new(alloc);
-    let outcome = solve_under(alloc, registry, request, &store, budget);
+    let outcome = match budget {
+        Some(budget) => solve_within(alloc, registry, request, &store, budget),
+        None => solve(alloc, registry, request, &store),
+    };
     drop(store);
     outcome
 }
 
 /// What a request is answered that asks why there is no selection, or doesn't, and the conclusions of what
 /// is offered: `{"selected":null,"offered":[[[1,{"in":[0]}]]]}`.
-fn decided(
+fn solved_with(
     alloc: Global,
     registry: &Registry,
     request: &Request,
-    budget: Option<u32>,
-    explain: bool,
+    options: Options,
 ) -> Result<Answer, Unread> {
     let store = Store::new(alloc);
-    let verdict = decide_under(alloc, registry, request, &store, budget, explain);
+    let outcome = solve_with(alloc, registry, request, &store, options);
     drop(store);
-    verdict_told(alloc, verdict?)
+    conclusions_told(alloc, outcome?)
 }
 
-fn verdict_told(alloc: Global, verdict: Verdict) -> Result<Answer, Unread> {
+fn conclusions_told(alloc: Global, outcome: Outcome) -> Result<Answer, Unread> {
     let mut text = AnswerText::new(alloc);
-    put_verdict(&mut text, &verdict);
+    put_outcome(&mut text, &outcome);
     text.put(",\"offered\":");
-    offered_with(&verdict).show(&mut text);
-    drop(verdict);
+    offered(&outcome).show(&mut text);
+    drop(outcome);
     text.put("}");
     text.answer()
 }
@@ -102,6 +103,7 @@ fn judged(
     let stand = all_stand(registry, offered(outcome));
     match outcome {
         Outcome::Selection(list, _) => judged_told(alloc, "{\"selected\":", list, stand),
+        Outcome::NoSelection(_) => Err(Unread::Row),
         Outcome::Refused(derivation, _) => {
             let derived = check(alloc, registry, request, derivation)?;
             judged_told(alloc, "{\"derived\":", &derived, stand)

@@ -10,7 +10,8 @@ use std::alloc::Global;
 use std::collections::BTreeMap;
 use versions::{Name, Need, Published};
 use walk::{
-    Asker, Chooser, Preferred, Reached, preferred_version, reach, reach_preferred, sort_by_name,
+    Asker, Chooser, Listed, Preferred, Reached, is_plainly_newest, list_in_order, locked_ordinal,
+    preferred_version, reach, reach_preferred, sort_by_name,
 };
 
 pub fn walk_call(
@@ -36,6 +37,12 @@ fn about(
         "reach" => reach_chosen(alloc, registry, row, request),
         "reach_by_preferred" => walked(alloc, registry, request, &Preferred { registry, request }),
         "reach_preferred" => reach_by_itself(alloc, registry, request),
+        "list_in_order" => list_chosen(alloc, registry, row, request),
+        "is_plainly_newest" => plainly_newest(alloc, registry, row, request),
+        "locked_ordinal" => {
+            let pkg = whole_at(row, "pkg")?;
+            Ok(Answer::choice(locked_ordinal(registry, request, pkg)))
+        }
         "preferred_version" => {
             let pkg = whole_at(row, "pkg")?;
             Ok(Answer::choice(preferred_version(registry, request, pkg)))
@@ -122,6 +129,54 @@ fn reach_by_itself(
         Reached::Unmet(asker, index) => unmet(alloc, registry, request, asker, index),
         Reached::NotAllowed(pkg, ordinal) => not_allowed(alloc, registry, pkg, ordinal),
     }
+}
+
+/// What is listed in the order of the walk, and the name of the package that comes next:
+/// `{"found":[["a","1.0.0"]],"next":"b"}`; without a next one, none is there.
+fn list_chosen(
+    alloc: Global,
+    registry: &Registry,
+    row: &Value,
+    request: &Request,
+) -> Result<Answer, Unread> {
+    let choices = choices_at(alloc, row)?;
+    let listed = list_in_order(alloc, registry, request, &Chosen { choices: &choices });
+    drop(choices);
+    let listed = listed?;
+    listed_in_order(alloc, registry, &listed)
+}
+
+fn listed_in_order(alloc: Global, registry: &Registry, listed: &Listed) -> Result<Answer, Unread> {
+    let mut is_first = true;
+    let mut text = AnswerText::new(alloc);
+    text.put("{\"found\":[");
+    for (pkg, ordinal) in &listed.found {
+        text.put_between(is_first);
+        version_of(registry, *pkg, *ordinal).show(&mut text);
+        is_first = false;
+    }
+    text.put("]");
+    if let Some(next) = listed.next {
+        text.put(",\"next\":");
+        registry.name_at(next.pkg).show(&mut text);
+    }
+    text.put("}");
+    text.answer()
+}
+
+/// Whether what a row selects, as `[[1,0],[2,1]]`, is plainly the newest.
+fn plainly_newest(
+    alloc: Global,
+    registry: &Registry,
+    row: &Value,
+    request: &Request,
+) -> Result<Answer, Unread> {
+    let mut selection = Vec::new(alloc);
+    for item in items(member(row, "selection")?)? {
+        selection.push(<(Pkg, u32)>::of(alloc, item)?)?;
+    }
+    let plain = is_plainly_newest(alloc, registry, request, &selection)?;
+    Ok(Answer::Bool(plain))
 }
 
 fn selected(alloc: Global, registry: &Registry, list: &[(Pkg, u32)]) -> Result<Answer, Unread> {

@@ -95,16 +95,12 @@ fn is_yes(row: &Value) -> bool {
 /// The lock lines of the row are the selection.
 fn selection(alloc: Global, row: &Value) -> Result<Answer, Unread> {
     let lock = at::<Vec<(Name, Published)>>(alloc, row, "lock")?;
-    let answer = put(alloc, row, Body::Selection(&lock));
-    drop(lock);
-    answer
+    put(alloc, row, Body::Selection(lock))
 }
 
 fn explained(alloc: Global, row: &Value) -> Result<Answer, Unread> {
     let explained = explained_at(alloc, row)?;
-    let answer = put(alloc, row, Body::Explained(&explained));
-    drop(explained);
-    answer
+    put(alloc, row, Body::Explained(explained))
 }
 
 fn listing(alloc: Global, registry: &Registry, row: &Value) -> Result<Answer, Unread> {

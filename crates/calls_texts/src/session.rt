@@ -2,6 +2,7 @@
 
 use crate::by_name_calls::by_name_call;
 use crate::commit_calls::commit_call;
+use crate::endings_calls::endings_call;
 use crate::explain_calls::explain_call;
 use crate::journal_calls::journal_call;
 use crate::lines_calls::lines_call;
@@ -92,6 +93,7 @@ fn call_for(
         ("wire", _) => wire_call(alloc, name, row),
         ("journals", _) => journal_call(alloc, name, row),
         ("commits", _) => commit_call(alloc, name, row),
+        ("endings", _) => endings_call(alloc, name, row),
         _ => Err(Unread::Row),
     }
 }

@@ -140,6 +140,7 @@ fn answer(alloc: Global, seat: &mut Seat<'_>, request: &Request, text: &mut Vec<
     let (_stamp, mut outcome) = seat.resolve(request)?;
     let written = match &mut outcome {
         Outcome::Selection(list, _offered) => write_lock(alloc, list, text),
+        Outcome::NoSelection(_offered) => unreachable!(),
         Outcome::Refused(why, _offered) => write_lines(alloc, seat.registry(), request, why, text),
     };
     ending(written.map_err(|_| Refusal::NoMemory), outcome)
