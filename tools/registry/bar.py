@@ -28,9 +28,11 @@ class Bar:
     def step(self):
         """One more step is done. The line is written anew with each percent."""
         self.done += 1
-        percent = 100 * self.done // self.whole if self.whole else 100
-        if self.is_seen and percent != self.shown:
-            self.shown, full = percent, WIDE * self.done // self.whole
+        if not self.is_seen:
+            return
+        percent, full = 100 * self.done // self.whole, WIDE * self.done // self.whole
+        if percent != self.shown:
+            self.shown = percent
             print(f"\r{self.said} [{'#' * full}{'.' * (WIDE - full)}] {percent}%, {self.done} of {self.whole}", end="", file=sys.stderr, flush=True)
 
     def end(self):

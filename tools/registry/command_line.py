@@ -73,8 +73,8 @@ def add(parser, of):
         told["type"] = number(of.takes)
     if of.many or len(of.names) > 1:
         told["nargs"] = of.many or len(of.names)
-    if of.many == "*" and not of.flag:
-        told["default"] = None  # said, so that it isn't told as missing
+    if of.default is not None or of.many == "*" and not of.flag:
+        told["default"] = of.default  # said where there is none, so that the word isn't told as missing
     told["metavar"] = of.names if len(of.names) > 1 else of.names[0]
     parser.add_argument(*([of.flag] if of.flag else [of.member]), **told)
 

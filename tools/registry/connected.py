@@ -11,7 +11,7 @@ from collections import deque
 
 from . import near_limits
 from .failures import Failed, Refused
-from .journal_file import LEARN
+from .journal_file import commands_in
 
 PATIENCE, PAUSE = 10, 0.2  # seconds in which a service that is begun again is waited for
 SMALL = 32_768  # bytes that a socket takes at once
@@ -48,10 +48,6 @@ def journal_of_service(address, revision=""):
     if not re.match(rb"HTTP/1\.[01] 200 ", head):
         raise Failed(f"the service at {address} does not tell its journal now: {text.decode(errors='replace').strip()}")
     return text
-
-
-def commands_in(text):
-    return [line for line in text.split(b"\n")[1:-2] if not line.endswith(LEARN)]
 
 
 def line_of(request):

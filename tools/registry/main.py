@@ -94,6 +94,10 @@ def open_streams():
     sys.stdout.reconfigure(errors="replace")
 
 
+class EndedBySignal(SystemExit):
+    """A signal ends the command, and a shell that it stands in too."""
+
+
 def end_by_signal(number, _):
     """Ends by a signal as by an exception: so what was begun is left in order, and no program goes on alone."""
-    raise SystemExit(128 + number)
+    raise EndedBySignal(128 + number)

@@ -98,6 +98,15 @@ def shared(text):
     return file
 
 
+def reason(said, path):
+    """Why a program ended, by what it said on standard error; nothing where that tells no reason."""
+    for form, told_as in REASONS:
+        found = re.fullmatch(f"registryd: {form}\n", said)
+        if found:
+            return told_as.format(*found.groups(), path=path)
+    return ""
+
+
 class Session:
     """A program that answers request lines, begun with these words."""
     group = None  # of processes: that of this command, so that a key that ends it ends the program too
@@ -117,7 +126,7 @@ class Session:
         """Keeps why the program ends, and passes on what else is said on standard error, as how far it is where it is built first."""
         for line in self.process.stderr:
             text = line.decode(errors="replace")
-            if any(re.fullmatch(f"registryd: {form}\n", text) for form, _ in REASONS):
+            if reason(text, self.path):
                 self.said = text
             else:
                 sys.stderr.write(text)
@@ -152,11 +161,7 @@ class Session:
             self.process.kill()
             status = self.process.wait()
         self.hearing.join()
-        for form, reason in REASONS:
-            found = re.fullmatch(f"registryd: {form}\n", self.said)
-            if found:
-                return Failed(reason.format(*found.groups(), path=self.path))
-        return Failed(f"the program {' '.join(program())} ended with status {status} before it had answered")
+        return Failed(reason(self.said, self.path) or f"the program {' '.join(program())} ended with status {status} before it had answered")
 
     def close(self):
         """Ends the input and waits for the program."""

@@ -3,14 +3,16 @@ completion; else they are read to their end."""
 import contextlib
 import os
 import shlex
+import signal
 import sys
 
 from . import near_limits, session
 from .failures import DONE, INTERRUPTED, USAGE, Refused
-from .main import guarded
+from .main import EndedBySignal, guarded
 
 PROMPT, MOST_KEPT = "registry> ", 1000
 LEAVING = (["exit"], ["quit"])
+TICK = 0.5  # seconds
 
 
 class Kept(session.Writing):
@@ -97,7 +99,8 @@ def typed():
     remember = history()
     while True:
         try:
-            line = input(PROMPT)
+            with ticking():
+                line = input(PROMPT)
         except KeyboardInterrupt:
             print()
             continue
@@ -111,6 +114,18 @@ def typed():
             return DONE
         if words != []:
             obey(words)
+
+
+@contextlib.contextmanager
+def ticking():
+    """Wakes the wait for a key now and then: a signal that came just before that wait is heeded then, and not at the next key."""
+    handler = signal.signal(signal.SIGALRM, lambda *_: None)
+    signal.setitimer(signal.ITIMER_REAL, TICK, TICK)
+    try:
+        yield
+    finally:
+        signal.setitimer(signal.ITIMER_REAL, 0)
+        signal.signal(signal.SIGALRM, handler)
 
 
 def words_of(line):
@@ -136,6 +151,8 @@ def obey(words):
     except KeyboardInterrupt:
         print("registry: interrupted", file=sys.stderr)
         return INTERRUPTED
+    except EndedBySignal:
+        raise
     except SystemExit as ended:  # argparse, when it has shown its help
         return ended.code or DONE
 

@@ -17,6 +17,7 @@ class Word(NamedTuple):
     flag: str = ""
     many: str = ""
     kept_as: str = ""  # under which name its value is found, where its own can't be one
+    default: object = None  # its value where it isn't given
 
     @property
     def member(self):
@@ -37,8 +38,8 @@ def word(name, about, takes=TEXT, many=""):
     return Word((name,), about, takes, many=many)
 
 
-def option(flag, name, about, takes=TEXT, many=""):
-    return Word((name,), about, takes, flag, many)
+def option(flag, name, about, takes=TEXT, many="", default=None):
+    return Word((name,), about, takes, flag, many, default=default)
 
 
 def flag(name, about):
@@ -155,13 +156,13 @@ SUBCOMMANDS = (
     Subcommand("serve", "serve", "Serve the journal to many clients at once, over a socket, until a signal ends it",
                (option("--socket", "PATH", "listen on a socket of the file system", FILE),
                 option("--port", "N", "listen on a port of this machine alone; 0 is one that is free", range(65_536)),
-                option("--mode", "MODE", "who may use the socket, as 660 (else: 600)", MODES),
+                option("--mode", "MODE", "who may use the socket, as 660 (else: 600)", MODES, default="600"),
                 option("--group", "NAME", "the group of the socket"),
-                option("--readers", "N", "how many programs answer requests (else: 2)", range(1, 65)),
-                option("--seconds", "N", "end a search after N seconds (else: 10)", range(1, 3_601)),
+                option("--readers", "N", "how many programs answer requests (else: 2)", range(1, 65), default=2),
+                option("--seconds", "N", "end a search after N seconds (else: 10)", range(1, 3_601), default=10),
                 option("--budget", "N", "the budget of conflicts of requests that name none", BUDGETS),
-                option("--workers", "N", "how many threads of each program resolve (else: 1)", range(1, 65)),
-                option("--clients", "N", "no more than N clients at a time (else: 1000)", range(1, 100_001)),
+                option("--workers", "N", "how many threads of each program resolve (else: 1)", range(1, 65), default=1),
+                option("--clients", "N", "no more than N clients at a time (else: 1000)", range(1, 100_001), default=1_000),
                 option("--log", "FILE", "log each line that is answered; - is standard output", FILE),
                 option("--metrics-port", "N", "answer /metrics, /health and /journal over HTTP on this port, too", range(65_536))),
                ("registry serve --socket registry.socket", "registry serve --journal team.journal --port 7000 --seconds 5 --log service.log"),

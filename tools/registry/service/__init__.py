@@ -1,11 +1,18 @@
 """The service: one process that many clients ask over a socket, in the lines of the program.
 
-    client.py    a connection: its lines in order, and what bounds it
-    keeper.py    the one program that keeps the journal: it answers commands
-    readers.py   programs that follow it: they answer requests, each within a limit of time
-    child.py     the program as a child of this process
-    journal.py   the journal's file while it grows
-    watching.py  what is counted and logged of all that
-    http.py      what is answered over HTTP: counts, health, the journal
-    service.py   puts these together: sockets, start and stop
+What takes lines in and keeps the journal:
+
+    service.py     puts all together: how it begins and how it ends
+    sockets.py     the sockets on which it listens, and what else it asks of the system
+    client.py      a connection: its lines in order, and what bounds it
+    keeper.py      the one program that keeps the journal: it answers commands
+    supervisor.py  has a program begun again whenever it ends
+    child.py       the program as a child of this process
+    journal.py     the journal's file while it grows
+
+What stands on that:
+
+    readers.py     programs that follow the keeper: they answer requests, each within a limit of time
+    watching.py    what is counted and logged
+    http.py        what is answered over HTTP: counts, health, the journal
 """

@@ -1,48 +1,58 @@
 """Programs that follow the keeper: each is begun with the journal, is fed every accepted line, and answers requests."""
 import asyncio
+import select
 from collections import deque
 
-from ..failures import Failed
 from ..session import shared
-from .child import Child
+from .child import ACCEPTED, Child
 from .journal import text_at
+from .supervisor import Supervisor
 
 WINDOW = 32  # requests that a reader has at most
 PATIENCE = 0.25  # seconds; then those behind a request are asked of another reader
 MOST_TRIES = 2  # of a request with which readers ended by themselves
-TICK, PAUSE = 0.05, 0.5
+TICK = 0.05
+SPENT = b'{"error":22,"name":"BudgetSpent","revision":%d}'
 
 
-class Reader:
-    """One of them. `asked` has what it is to answer, in order; of what is behind a slow request another one may be asked, too."""
+def has_left(client):
+    """Whether nobody reads what it is answered. Who only sends no more may wait for replies."""
+    if client.transport.is_closing() or not client.is_ended:
+        return client.transport.is_closing()
+    other_end = select.poll()
+    other_end.register(client.transport.get_extra_info("socket").fileno(), 0)  # told is what is always told: that it hung up
+    return bool(other_end.poll(0))
 
-    def __init__(self, pool, revision):
-        self.pool, self.asked, self.since, self.is_held_up, self.first = pool, deque(), 0, False, revision
-        text = text_at(pool.path, revision)
-        with shared(text) as file:
-            self.child = Child(pool.path, [*pool.words, f"--load=/dev/fd/{file.fileno()}"], lambda: pool.lost(self), [file.fileno()])
-        self.child.begun.add_done_callback(self.begun)
 
-    def begun(self, at):
-        """It has loaded the journal. One that has less of it than was told is ended: another program has changed the file."""
-        if not at.exception() and at.result() != self.first:
-            self.child.kill()
+class Reader(Supervisor):
+    """One of them. `asked` has the requests that it is to answer, in order, and nothing in the place of one that was taken back since:
+    that one's reply here counts for nothing, since another reader may have answered it, at a later revision too."""
+    role = "reader"
+
+    def __init__(self, pool):
+        super().__init__(pool.path, pool.watch)
+        self.pool, self.since, self.is_held_up = pool, 0, False
+        pool.keeper.followers.append(self.feed)
+
+    async def begin(self):
+        """Begins with the journal as it was told so far; from then on it is fed."""
+        first = self.pool.keeper.revision
+        with shared(text_at(self.path, first)) as file:
+            self.child = Child(self.path, [*self.pool.words, f"--load=/dev/fd/{file.fileno()}"], [file.fileno()])
+        self.begun(await self.child.begin(), first)
         self.pool.share()
 
-    @property
-    def is_ready(self):
-        return self.child.begun.done() and not self.child.is_killed
-
-    @property
-    def is_free(self):
-        return self.is_ready and not self.is_held_up and len(self.asked) < WINDOW
-
     def feed(self, line):
-        """Hands on what was accepted. A reader that has no memory for it is ended."""
-        self.child.ask(line, lambda reply: reply.startswith(b'{"ok":') or self.child.kill())
+        if self.child:
+            self.child.ask(line, self.fed)
+
+    def fed(self, reply):
+        """One that has no memory for what was accepted is ended."""
+        if not reply.startswith(ACCEPTED):
+            self.kill()
 
     def ask(self, asked):
-        asked.holder, asked.revision = self, self.pool.revision()
+        asked.revision = self.pool.keeper.revision
         if not self.asked:
             self.since = self.pool.now()
         self.asked.append(asked)
@@ -50,65 +60,67 @@ class Reader:
 
     def answered(self, reply):
         asked, self.since, self.is_held_up = self.asked.popleft(), self.pool.now(), False
-        if asked.holder is self:
+        if asked:
             asked.answer(reply)
         self.pool.share()
 
-    def held(self):
-        """What no other reader was asked of."""
-        return [it for it in self.asked if it.holder is self]
+    def kill(self):
+        self.is_up = self.is_held_up = False
+        self.child.kill()
 
     def look(self, limit):
-        """Hands back what waits behind a slow request, and ends the program where that takes too long, or nobody waits for it."""
-        if not self.asked or self.child.is_killed:
+        """Ends a search that takes too long, or that nobody waits for. What waits behind one that is slow is asked of another reader."""
+        taken = self.pool.now() - self.since
+        if not self.is_up or not self.asked or taken <= PATIENCE:
             return
-        first, taken = self.asked[0], self.pool.now() - self.since
-        if taken > limit or taken > PATIENCE and first.client.has_left():
+        first = self.asked[0]
+        if taken > limit or first and has_left(first.client):
             self.asked.popleft()
-            self.child.kill()
-            if first.holder is self:
-                first.spend()
-        elif taken > PATIENCE and first.client.slow not in (None, first):
-            self.child.kill()  # one client may have one slow request
-        elif taken > PATIENCE and not self.is_held_up:
-            self.is_held_up, first.client.slow = True, first
-            self.pool.take_back([it for it in self.held() if it is not first])
+            self.kill()
+            if first and first.op == "resolve":
+                first.answer(SPENT % first.revision)
+            elif first:
+                first.fail()
+        elif first and first.client in self.pool.slow(but=self):
+            self.kill()  # one client may have one slow request
+        elif not self.is_held_up:
+            self.is_held_up, behind = True, self.held()[bool(first):]
+            self.asked = deque([first, *[None] * (len(self.asked) - 1)])
+            self.pool.take_back(behind)
+
+    def held(self):
+        """What was not taken back."""
+        return [it for it in self.asked if it]
+
+    def lost(self):
+        """What it had is asked of another one. A request with which two ended by themselves is given up."""
+        left, self.is_held_up = self.held(), False
+        self.asked.clear()
+        if left and not self.child.is_killed:
+            left[0].tries += 1
+            if left[0].tries == MOST_TRIES:
+                left.pop(0).fail()
+        self.pool.take_back(left)
 
 
 class Readers:
     """All of them. A request waits here until a reader is free, and goes to the one with the least to do."""
 
-    def __init__(self, path, count, words, limit, revision, watch):
-        self.path, self.words, self.limit, self.revision, self.watch = path, words, limit, revision, watch
-        self.count, self.readers, self.waiting, self.is_ending = count, [], deque(), False
-        self.loop = asyncio.get_running_loop()
-        self.now = self.loop.time
+    def __init__(self, path, watch, keeper, given):
+        self.path, self.watch, self.keeper, self.limit = path, watch, keeper, given.seconds
+        self.words = [f"--workers={given.workers}", *([] if given.budget is None else [f"--budget={given.budget}"])]
+        self.now, self.waiting = asyncio.get_running_loop().time, deque()
+        self.readers = [Reader(self) for _ in range(given.readers)]
 
-    async def begin(self):
-        for _ in range(self.count):
-            self.begin_one()
-        await asyncio.gather(*(it.child.begun for it in self.readers))
-        self.tick()
+    async def start(self):
+        await asyncio.gather(*(it.start() for it in self.readers))
+        self.looking = asyncio.create_task(self.look())
 
-    def begin_one(self):
-        """Begins one with the journal as it was told so far; from then on it is fed."""
-        if self.is_ending:
-            return
-        try:
-            self.readers.append(Reader(self, self.revision()))
-        except (Failed, OSError) as fault:
-            self.watch.restarted("reader", str(fault))
-            self.loop.call_later(PAUSE, self.begin_one)
-
-    def tick(self):
-        if not self.is_ending:
-            for it in self.readers[:]:
+    async def look(self):
+        while True:
+            await asyncio.sleep(TICK)
+            for it in self.readers:
                 it.look(self.limit)
-            self.loop.call_later(TICK, self.tick)
-
-    def feed(self, line):
-        for it in self.readers:
-            it.feed(line)
 
     def ask(self, asked):
         self.waiting.append(asked)
@@ -116,50 +128,35 @@ class Readers:
 
     def share(self):
         """Hands out what waits. A client with a slow request waits for that one, so it can't hold up all readers."""
+        slow = self.slow() if self.waiting else ()
         while self.waiting:
-            free = [it for it in self.readers if it.is_free]
-            place = next((at for at, it in enumerate(self.waiting) if not it.client.slow), None)
+            free = [it for it in self.readers if it.is_up and not it.is_held_up and len(it.asked) < WINDOW]
+            place = next((at for at, it in enumerate(self.waiting) if it.client not in slow), None)
             if not free or place is None:
                 return
             asked = self.waiting[place]
             del self.waiting[place]
-            if not asked.client.is_gone:
+            if not asked.client.transport.is_closing():
                 min(free, key=lambda it: len(it.asked)).ask(asked)
+
+    def slow(self, but=None):
+        """The clients that have a slow request with one of the readers."""
+        return {it.asked[0].client for it in self.readers if it.is_held_up and it is not but and it.asked[0]}
 
     def take_back(self, lines):
         """Has these wait again, before all others."""
-        for it in reversed(lines):
-            it.holder = None
-            if it.client.slow is it:
-                it.client.slow = None
-            self.waiting.appendleft(it)
+        self.waiting.extendleft(reversed(lines))
         self.share()
-
-    def lost(self, reader):
-        """A reader has ended: what it had is asked of another one, and it is begun again."""
-        self.readers.remove(reader)
-        if self.is_ending:
-            return
-        self.watch.restarted("reader", reader.child.why)
-        left = reader.held()
-        if left and not reader.child.is_killed:
-            left[0].tries += 1
-            if left[0].tries == MOST_TRIES:
-                left.pop(0).fail()
-        self.take_back(left)
-        has_begun = reader.child.begun.exception() is None
-        self.loop.call_later(0 if has_begun else PAUSE, self.begin_one)
 
     def end(self):
         """Ends all of them: what they had is told that it was not answered."""
-        self.is_ending = True
-        left = [*self.waiting, *(asked for it in self.readers for asked in it.held())]
-        self.waiting.clear()
         for it in self.readers:
-            it.child.kill()
-        for it in left:
-            it.fail()
+            it.keeping.cancel()
+            it.kill()
+            self.waiting.extend(it.held())
+        while self.waiting:
+            self.waiting.popleft().fail()
 
     def ready(self):
-        """How many readers can be asked."""
-        return sum(it.is_ready for it in self.readers)
+        """How many of them can be asked."""
+        return sum(it.is_up for it in self.readers)

@@ -1,42 +1,56 @@
 """What is seen of a service from outside: its log, and its counts in the text form of Prometheus."""
 import contextlib
 import re
+import socket
+import struct
 import sys
-from collections import Counter
+from bisect import bisect_left
+from collections import Counter, defaultdict
 from datetime import datetime, timezone
+from itertools import accumulate
 
 SLOW = 1.0  # seconds; what takes longer is logged in any case
-BUCKETS = (0.001, 0.003, 0.01, 0.03, 0.1, 0.3, 1.0, 3.0, 10.0, 30.0)
+BUCKETS = (0.001, 0.003, 0.01, 0.03, 0.1, 0.3, 1.0, 3.0, 10.0, 30.0)  # and one for what takes longer
 ERROR = re.compile(rb'\{"error":([0-9]+),"name":"(\w+)"')
 # what a reply is, by how it begins
 KINDS = ((b'{"ok"', "accepted"), (b'{"revision"', "selected"), (b'{"refused"', "refused"), (b'{"derivation"', "refused"), (b'{"follows"', "checked"),
          (b'{"packages"', "listed"))
 COUNTS = {
-    "commands_accepted_total": ("counter", "Commands that were accepted."),
-    "refused_total": ("counter", "Lines that were refused, by the number of the refusal."),
-    "budgets_spent_total": ("counter", "Requests that met more conflicts than their budget, or took more seconds than they may."),
-    "restarts_total": ("counter", "Programs that ended and were begun again."),
-    "clients_cut_off_total": ("counter", "Clients that were cut off since they did not read."),
-    "clients_refused_total": ("counter", "Clients that came when there were as many as may be."),
-    "clients": ("gauge", "Clients that are connected."),
-    "lines_waiting": ("gauge", "Lines that have no reply so far."),
-    "readers": ("gauge", "Readers that are ready."),
-    "keeper_up": ("gauge", "Whether commands can be accepted."),
-    "revision": ("gauge", "The commands in the journal."),
-    "journal_bytes": ("gauge", "The length of the journal's file."),
+    "commands_accepted_total": "Commands that were accepted.",
+    "refused_total": "Lines that were refused, by the number of the refusal.",
+    "budgets_spent_total": "Requests that met more conflicts than their budget, or took more seconds than they may.",
+    "restarts_total": "Programs that ended and were begun again.",
+    "clients_cut_off_total": "Clients that were cut off since they did not read.",
+    "clients_refused_total": "Clients that came when there were as many as may be.",
+    "clients": "Clients that are connected.",
+    "lines_waiting": "Lines that have no reply so far.",
+    "readers": "Readers that are ready.",
+    "keeper_up": "Whether commands can be accepted.",
+    "revision": "The commands in the journal.",
+    "journal_bytes": "The length of the journal's file.",
 }
+
+
+def name_of(transport):
+    """Who is at the other end: an address, or the user and process behind a socket in the file system."""
+    address = transport.get_extra_info("peername")
+    if address:
+        return "{}:{}".format(*address)
+    peer = transport.get_extra_info("socket").getsockopt(socket.SOL_SOCKET, socket.SO_PEERCRED, struct.calcsize("3i"))
+    process, user, _ = struct.unpack("3i", peer)
+    return f"user:{user}:process:{process}"
 
 
 class Watch:
     """Counts what happens, and logs it: all where a log is wanted, else on standard error what is slow or wrong."""
 
-    def __init__(self, log):
-        self.path, self.file = log, None
-        self.counts, self.taken, self.sums = Counter(), Counter(), Counter()
+    def __init__(self, path):
+        self.path, self.counts, self.sums = path, Counter(), Counter()
+        self.taken = defaultdict(lambda: [0] * (len(BUCKETS) + 1))  # lines by bucket, for each op
         self.open()
 
     def open(self):
-        if self.path in ("", "-"):
+        if self.path in (None, "-"):
             self.file = sys.stdout if self.path else sys.stderr
         else:
             self.file = open(self.path, "a", encoding="utf-8")
@@ -58,7 +72,7 @@ class Watch:
         """A line has its reply."""
         op, error = asked.op or "other", ERROR.match(asked.reply)
         self.sums[op] += seconds
-        self.taken[op, next((it for it in BUCKETS if seconds <= it), "+Inf")] += 1
+        self.taken[op][bisect_left(BUCKETS, seconds)] += 1
         if error:
             self.counts["refused_total", f'number="{int(error[1])}",name="{error[2].decode()}"'] += 1
             self.counts["budgets_spent_total", ""] += error[1] == b"22"
@@ -79,25 +93,19 @@ class Watch:
 
     def text(self, gauges):
         """All counts, with these that are not counted here."""
-        values = {**{(name, ""): 0 for name, (kind, _) in COUNTS.items() if kind == "counter"}, **self.counts,
-                  **{(name, ""): value for name, value in gauges.items()}}
         lines = []
-        for name, (kind, about) in COUNTS.items():
-            of = {labels: value for (other, labels), value in values.items() if other == name}
-            if len(of) > 1:
-                del of[""]
-            lines += [f"# HELP registryd_{name} {about}", f"# TYPE registryd_{name} {kind}"]
-            lines += [f"registryd_{name}{labels and '{' + labels + '}'} {int(value)}" for labels, value in sorted(of.items())]
+        for name, about in COUNTS.items():
+            found = {labels: count for (other, labels), count in self.counts.items() if other == name} or {"": gauges.get(name, 0)}
+            lines += [f"# HELP registryd_{name} {about}", f"# TYPE registryd_{name} {'gauge' if name in gauges else 'counter'}"]
+            lines += [f"registryd_{name}{labels and '{' + labels + '}'} {int(value)}" for labels, value in sorted(found.items())]
         return "\n".join([*lines, *self.histogram(), ""]).encode()
 
     def histogram(self):
         """How long lines took, by what they asked."""
         name = "registryd_request_seconds"
         yield from (f"# HELP {name} Seconds from a line to its reply.", f"# TYPE {name} histogram")
-        for op in sorted(self.sums):
-            count = 0
-            for bucket in (*BUCKETS, "+Inf"):
-                count += self.taken[op, bucket]
+        for op, taken in sorted(self.taken.items()):
+            for bucket, count in zip((*BUCKETS, "+Inf"), accumulate(taken)):
                 yield f'{name}_bucket{{op="{op}",le="{bucket}"}} {count}'
             yield f'{name}_sum{{op="{op}"}} {self.sums[op]:.6f}'
             yield f'{name}_count{{op="{op}"}} {count}'
