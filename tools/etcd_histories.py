@@ -158,7 +158,7 @@ class History:
 
 
 def started(faults, do, *more):
-    thread = threading.Thread(target=guarded, args=(faults, do, *more))
+    thread = threading.Thread(target=guarded, args=(faults, do, *more), daemon=True)  # a run that is stopped ends without waiting for it
     thread.start()
     return thread
 
