@@ -36,8 +36,7 @@ static bool is_passing(int error)
     return error == EAGAIN || error == EINTR;
 }
 
-/* Reads what was answered, without waiting. */
-static int receive(struct channel *it)
+int receive_channel(struct channel *it)
 {
     if (!make_piece(it))
         return REGISTRYD_MEMORY;
@@ -57,8 +56,7 @@ static int receive(struct channel *it)
     return REGISTRYD_OK;
 }
 
-/* Waits until something was answered, or, if more is to be fed, until it may be. */
-static void await(const struct channel *it, bool feeds)
+void await_channel(const struct channel *it, bool feeds)
 {
     struct pollfd both = {.fd = it->file, .events = (short)(feeds ? POLLIN | POLLOUT : POLLIN)};
     while (poll(&both, 1, -1) < 0 && errno == EINTR)
@@ -74,8 +72,7 @@ static void note_lines(struct channel *it, const char *bytes, size_t length)
         it->is_begun = bytes[length - 1] != '\n';
 }
 
-/* Sends what is taken of some bytes, and answers how many: -1 where no more is, and no SIGPIPE reaches the caller. */
-static ssize_t send_some(struct channel *it, const char *bytes, size_t length)
+ssize_t send_some(struct channel *it, const char *bytes, size_t length)
 {
     ssize_t sent = send(it->file, bytes, length < PIECE ? length : PIECE, MSG_DONTWAIT | MSG_NOSIGNAL);
     if (sent < 0 && is_passing(errno))
@@ -101,8 +98,8 @@ int feed_channel(struct channel *it, const char *bytes, size_t length)
         length -= (size_t)sent;
         if (sent == 0) {
             /* What was answered is read meanwhile, so that neither waits for the other. */
-            await(it, true);
-            int answer = receive(it);
+            await_channel(it, true);
+            int answer = receive_channel(it);
             if (answer)
                 return answer;
         }
@@ -114,8 +111,8 @@ int feed_channel(struct channel *it, const char *bytes, size_t length)
 static int read_replies(struct channel *it, bool to_end)
 {
     while (!it->is_over && (to_end || it->replies < it->lines)) {
-        await(it, false);
-        int answer = receive(it);
+        await_channel(it, false);
+        int answer = receive_channel(it);
         if (answer)
             return answer;
     }

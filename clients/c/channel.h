@@ -5,6 +5,7 @@
 #include <stdbool.h>
 #include <stddef.h>
 #include <stdint.h>
+#include <sys/types.h>
 
 struct channel {
     /* the socket, which stays open as long as the session: so a thread may shut it while another one waits for it */
@@ -27,6 +28,14 @@ int take_from_channel(struct channel *it, char *bytes, size_t room, size_t *leng
 
 /* Takes no more lines, and reads what is still answered. */
 int end_channel(struct channel *it);
+
+/* What these calls are made of. Sends what is taken at once of some bytes, and answers how many: -1 where no more is, and no SIGPIPE
+ * reaches the caller. */
+ssize_t send_some(struct channel *it, const char *bytes, size_t length);
+/* Reads what was answered, without waiting. */
+int receive_channel(struct channel *it);
+/* Waits until something was answered, or, if more is to be fed, until it may be. */
+void await_channel(const struct channel *it, bool feeds);
 
 /* Whether each line that was fed has its reply, once the channel has ended the last one too where it lacks its line feed. */
 bool is_all_answered(const struct channel *it);

@@ -4,6 +4,7 @@
 
 #include <errno.h>
 #include <fcntl.h>
+#include <inttypes.h>
 #include <signal.h>
 #include <spawn.h>
 #include <stdio.h>
@@ -95,8 +96,8 @@ static const struct way by_child = {feed, take, save, tell, close_session, cut, 
 
 /* The words of the program's command line. */
 struct words {
-    char number[16];
-    char *at[11];
+    char number[16], budget[16];
+    char *at[13];
 };
 
 static void put_words(struct words *words, const struct wanted *wanted)
@@ -108,6 +109,11 @@ static void put_words(struct words *words, const struct wanted *wanted)
     words->at[1] = "serve";
     words->at[2] = "--workers";
     words->at[3] = words->number;
+    if (wanted->has_budget) {
+        snprintf(words->budget, sizeof words->budget, "%" PRIu32, wanted->budget);
+        words->at[count++] = "--budget";
+        words->at[count++] = words->budget;
+    }
     for (size_t i = 0; i < sizeof files / sizeof *files; i++) {
         if (files[i][1]) {
             words->at[count++] = (char *)files[i][0];

@@ -136,6 +136,15 @@ int registryd_open_journal(const char *program, unsigned workers, const char *jo
     return open_program(&(struct wanted){.program = program, .workers = workers, .journal = journal}, session);
 }
 
+int registryd_open_budget(const char *program, unsigned workers, uint32_t budget, const char *journal, const char *load, const char *save,
+                          registryd_session *session)
+{
+    if (journal && (load || save))
+        return REGISTRYD_MISUSE;
+    return open_program(&(struct wanted){.program = program, .workers = workers, .has_budget = true, .budget = budget, .journal = journal,
+                                         .load = load, .save = save}, session);
+}
+
 /* Whether bytes that a caller names may be there. */
 static bool may_be(const void *bytes, size_t length)
 {

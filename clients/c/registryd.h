@@ -3,7 +3,8 @@
  * Request lines go in, reply lines come out, as docs/FORMATS.md has them. A session is answered in one of three ways, which is
  * chosen when it is opened; all other calls are the same for each:
  *
- *   by a child process   registryd_open, registryd_open_journal: a `registryd serve` of its own, with threads that share requests
+ *   by a child process   registryd_open, registryd_open_journal, registryd_open_budget: a `registryd serve` of its own, with threads
+ *                        that share requests
  *   in process           registryd_open_embedded, registryd_open_embedded_journal: the session is a part of the caller's process,
  *                        which starts nothing and waits for nothing but its journal's file
  *   by a service         registryd_connect: a `registry serve` that keeps one journal for many clients
@@ -44,7 +45,7 @@ enum registryd_answer {
     /* The program can't be started, or the service can't be reached. */
     REGISTRYD_START = 3,
     /* The program has ended, or the journal isn't whole: why stands on standard error. In process: there was no memory to go on.
-     * By a service: the connection has ended. */
+     * By a service: it is not there any more. */
     REGISTRYD_ENDED = 4,
     /* In process: something is the matter with a journal's file. A session that was open takes no more, and what was told as
      * accepted is in the file that it kept its journal in. */
@@ -68,6 +69,11 @@ int registryd_open(const char *program, unsigned workers, const char *load, cons
  * has a file at a time. */
 int registryd_open_journal(const char *program, unsigned workers, const char *journal, registryd_session *session);
 
+/* As registryd_open, or as registryd_open_journal where `journal` is not null, with a budget of each request that names none: how many
+ * conflicts its search may meet, 0 to 4,294,967,295. A request that needs more is answered 22. */
+int registryd_open_budget(const char *program, unsigned workers, uint32_t budget, const char *journal, const char *load, const char *save,
+                          registryd_session *session);
+
 /* Opens a session in process. It begins with the journal of a file, or with none where `load` is null; registryd_save will
  * write a journal to the file `save`, which is null where none is wanted.
  *
@@ -83,12 +89,13 @@ int registryd_open_embedded_journal(const char *journal, registryd_session *sess
 
 /* Connects to a service, `registry serve`. The address is the path of its socket, or HOST:PORT: a text without a slash that ends in
  * a colon and digits. The service has a journal of its own, which it keeps beyond the session. REGISTRYD_START says that it can't
- * be reached, and errno why.
+ * be reached within ten seconds, and errno why: EAGAIN where it has as many clients as may be.
  *
- * Where the connection ends, as it does when the service is begun again, the session answers REGISTRYD_ENDED until it is closed, once
- * the replies that came before are taken. Connecting again is the caller's. Of a command that has no reply, or the reply of the
- * service that has the number 503 and the name Unavailable, it is not known whether it was accepted: a list line tells. Other lines
- * change nothing, and can be fed again. */
+ * Where the connection ends, as it does when the service is begun again, or a program of the service ends, the call that finds that
+ * connects again, for ten seconds at most. What has no reply is asked again; of a command it is looked up first, in the journal
+ * that the service tells, whether it was carried out since the last reply: then it has the reply of an accepted one. Another
+ * client's same command of that time counts as its own. Where that can't be done in time the session answers REGISTRYD_ENDED until it is
+ * closed, once the replies that came are taken; of a command without a reply it is not known then whether it was accepted. */
 int registryd_connect(const char *where, registryd_session *session);
 
 /* Feeds bytes of request lines, which may begin and end anywhere. It waits while the program is slower; in process, until each

@@ -6,9 +6,11 @@
 #include "channel.h"
 #include "files.h"
 #include "journal_file.h"
+#include "reach.h"
 #include "registryd.h"
 #include "saved_file.h"
 
+#include <stdatomic.h>
 #include <stdbool.h>
 #include <sys/types.h>
 
@@ -22,11 +24,38 @@ struct child {
     bool was_reaped, was_saved;
 };
 
+/* Lines that were fed and have no reply so far. */
+struct asked {
+    /* from `begin` on `count` whole lines, up to `whole`, and then what is begun of one more */
+    struct bytes text;
+    size_t begin, whole, count;
+    /* what the connection has not taken so far: from `sent` on */
+    struct bytes unsent;
+    size_t sent;
+    /* for each whole line, from the one with this number on: the revision by which it is known to have been carried out, or 0 */
+    struct bytes known;
+    size_t first;
+};
+
 /* A service that this process is connected to. */
 struct service {
     struct channel channel;
     /* its address, as it was given */
     char *where;
+    struct asked asked;
+    /* replies that are not taken: from `taken` on */
+    struct bytes told;
+    size_t taken;
+    /* the revision that was told last */
+    uint64_t revision;
+    /* whether a line was answered since it was connected again, and how long to try that */
+    bool is_answered;
+    struct patience patience;
+    /* whether the caller has ended the lines, and whether the session has ended before; then why, a number of errno.h, or 0 */
+    bool is_ended, is_lost;
+    int error;
+    /* whether the session is being closed, which another thread may say */
+    atomic_bool is_cut;
 };
 
 /* What the archive `embedded` keeps of a session in its caller's memory: zero at first, never copied or touched. */
@@ -78,6 +107,8 @@ struct way {
 struct wanted {
     const char *program;
     unsigned workers;
+    bool has_budget;
+    uint32_t budget;
     const char *journal, *load, *save;
     const char *where;
 };

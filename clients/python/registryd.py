@@ -338,10 +338,11 @@ def answer(line: bytes) -> Reply | Refusal:
 class Registry:
     """A session, with a program of its own or, where it is `embedded`, in this process.
 
-    `program` is the program's path, or the words that start it; `workers` is how many threads resolve requests there. `library`
-    is the path of libregistryd.so for a session in this process, which else is the one that the variable REGISTRYD_LIBRARY
-    names, the one that is installed with this file, or the one that the system finds. What can't be started or loaded is an
-    OSError. A session in this process has no workers, and no signal breaks off a search there: give a `budget`.
+    `program` is the program's path, or the words that start it; `workers` is how many threads resolve requests there, and `budget`
+    that of each request that names none: how many conflicts its search may meet. `library` is the path of libregistryd.so for a
+    session in this process, which else is the one that the variable REGISTRYD_LIBRARY names, the one that is installed with this
+    file, or the one that the system finds. What can't be started or loaded is an OSError. A session in this process has no workers
+    and no budget of its own, and no signal breaks off a search there: give each request a `budget`.
 
     `connect` is the address of a service, the path of its socket or HOST:PORT; the file registryd_service.py has to stand beside
     this one. Where the connection breaks off, it is made again, and what has no reply is asked again, a command unless it
@@ -351,9 +352,11 @@ class Registry:
     the call that made it returns, whatever becomes of this process or the program. Else the session begins with the journal that
     is loaded, if one is, and where one is to be saved writes it as it is closed."""
 
-    def __init__(self, program: FilePath | Sequence[str] = "registryd", *, workers: int = 1, journal: FilePath | None = None,
-                 load: FilePath | None = None, save: FilePath | None = None, embedded: bool = False, library: FilePath | None = None,
-                 connect: FilePath | None = None) -> None:
+    def __init__(self, program: FilePath | Sequence[str] = "registryd", *, workers: int = 1, budget: int | None = None,
+                 journal: FilePath | None = None, load: FilePath | None = None, save: FilePath | None = None, embedded: bool = False,
+                 library: FilePath | None = None, connect: FilePath | None = None) -> None:
+        if budget is not None and (embedded or connect is not None):
+            raise ValueError("a program of its own alone takes a budget of all requests")
         if connect is not None:
             from registryd_service import Connection
             if journal or load or save or embedded:
@@ -366,7 +369,7 @@ class Registry:
             self._session = _Embedded(library, journal, load, save)
             return
         words = [os.fspath(program)] if isinstance(program, (str, os.PathLike)) else list(program)
-        words += ["serve", "--workers", str(workers)]
+        words += ["serve", "--workers", str(workers)] + ([] if budget is None else ["--budget", str(budget)])
         for option, path in (("--journal", journal), ("--load", load), ("--save", save)):
             words += [] if path is None else [option, os.fspath(path)]
         self._session = _Child(words)

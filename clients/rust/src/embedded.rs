@@ -46,6 +46,9 @@ impl Embedded {
         if options.workers != 1 {
             return Err(Ended::of("a session in this process has no workers"));
         }
+        if options.budget.is_some() {
+            return Err(Ended::of("a session in this process has no budget: each request may have one"));
+        }
         if journal.is_some() && (load.is_some() || save.is_some()) {
             return Err(Ended::of("a session that goes on with a journal loads and saves none"));
         }

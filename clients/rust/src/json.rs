@@ -26,6 +26,14 @@ impl Value {
         }
     }
 
+    /// The same, of several members of this name the last one.
+    pub(crate) fn last(&self, name: &str) -> Option<&Value> {
+        match self {
+            Value::Object(members) => members.iter().rfind(|(it, _)| it == name).map(|(_, value)| value),
+            _ => None,
+        }
+    }
+
     pub fn as_bool(&self) -> Option<bool> {
         match self {
             Value::Bool(it) => Some(*it),

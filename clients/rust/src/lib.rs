@@ -7,6 +7,7 @@
 //! registry alone. Where the session has ended, each call answers [`Error::Ended`], which says how; none waits for ever.
 
 mod child;
+mod connection;
 #[cfg(feature = "embedded")]
 mod embedded;
 pub mod json;

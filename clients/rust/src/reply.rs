@@ -17,6 +17,16 @@ pub enum Reply {
     Listing { revision: u64, packages: Packages },
 }
 
+impl Reply {
+    pub(crate) fn revision(&self) -> u64 {
+        match self {
+            Reply::Accepted { revision } | Reply::Resolved { revision, .. } | Reply::Verdict { revision, .. } | Reply::Listing { revision, .. } => {
+                *revision
+            }
+        }
+    }
+}
+
 /// The answer to a request.
 #[derive(Clone, Debug, PartialEq, Eq)]
 pub enum Selected {

@@ -9,7 +9,7 @@ use std::time::Duration;
 use crate::child::Program;
 use crate::json::Value;
 use crate::reply::{self, Packages};
-use crate::service::Service;
+use crate::service::{Service, PATIENCE};
 use crate::{Pairs, Refusal, Reply, Request, Resolve, Selected};
 
 pub(crate) const DIED: &str = "the program ended";
@@ -19,6 +19,9 @@ pub(crate) const DIED: &str = "the program ended";
 pub struct Options {
     /// How many threads of the program resolve requests, 1 to 64. A session in this process takes no other number than 1.
     pub workers: u8,
+    /// How many conflicts the search of each request may meet that names no budget of its own; any number where it is none. A session
+    /// in this process takes none.
+    pub budget: Option<u32>,
     /// The journal that the session goes on with, made where it is not there: it has each accepted command before the call
     /// that made it returns. With it nothing is loaded or saved.
     pub journal: Option<PathBuf>,
@@ -30,7 +33,7 @@ pub struct Options {
 
 impl Default for Options {
     fn default() -> Options {
-        Options { workers: 1, journal: None, load: None, save: None }
+        Options { workers: 1, budget: None, journal: None, load: None, save: None }
     }
 }
 
@@ -117,6 +120,9 @@ impl Registry {
     pub fn open(program: impl AsRef<OsStr>, options: &Options) -> Result<Registry, Error> {
         let mut command = Command::new(program);
         command.args(["serve", "--workers", &options.workers.to_string()]);
+        if let Some(budget) = options.budget {
+            command.args(["--budget", &budget.to_string()]);
+        }
         for (option, path) in [("--journal", &options.journal), ("--load", &options.load), ("--save", &options.save)] {
             if let Some(path) = path {
                 command.arg(option).arg(path);
@@ -141,10 +147,16 @@ impl Registry {
     /// Begins a session with a service, `registry serve`, at the path of its socket or at HOST:PORT. The service has a journal of its
     /// own, and goes on once the session is closed.
     ///
-    /// Where the service is begun again, the session connects again, for ten seconds at most. Requests that have no reply are asked
-    /// again; where a command has none, the session ends, since it may have been accepted: `list` tells in another session.
+    /// Where the service is begun again, the session connects again, for ten seconds at most. What has no reply is asked again; of a
+    /// command it is looked up first, in the journal that the service tells, whether it was carried out since the last reply.
     pub fn connect(address: impl AsRef<OsStr>) -> Result<Registry, Error> {
-        Ok(Registry::of(Service::open(address.as_ref())?))
+        Registry::connect_within(address, PATIENCE)
+    }
+
+    /// The same with another time than ten seconds for the service to be there: as the session begins, and each time that the connection
+    /// has ended.
+    pub fn connect_within(address: impl AsRef<OsStr>, patience: Duration) -> Result<Registry, Error> {
+        Ok(Registry::of(Service::open(address.as_ref(), patience)?))
     }
 
     fn of(way: impl Way + Send + 'static) -> Registry {

@@ -9,8 +9,8 @@ use std::process::{Command, Stdio};
 use std::thread;
 use std::time::{Duration, Instant};
 
-use common::{file, needs, pigeons, program, told};
-use registryd::{Options, Registry, Reply, Request};
+use common::{file, needs, pigeons, program, signal, told, SOON};
+use registryd::{Error, Options, Refusal, Registry, Reply, Request, Resolve, Selected};
 
 fn open() -> Registry {
     Registry::open(program(), &Options::default()).unwrap()
@@ -73,6 +73,28 @@ fn a_program_that_cannot_be_started() {
 }
 
 #[test]
+fn a_budget_of_requests_that_name_none() {
+    let (unmet, spent) = (Ok(Selected::Nothing(None)), Err(Error::Refused { refusal: Refusal::BudgetSpent, revision: 0 }));
+    let of_its_own = Resolve { budget: Some(1), ..needs(&[("zed", "*")]) };
+    for (budget, answer) in [(None, &unmet), (Some(0), &spent), (Some(u32::MAX), &unmet)] {
+        let mut registry = Registry::open(program(), &Options { budget, ..Options::default() }).unwrap();
+        assert_eq!(registry.resolve(needs(&[("zed", "*")])), *answer);
+        assert_eq!(registry.resolve(of_its_own), unmet);
+        assert_eq!(registry.close(), Ok(()));
+    }
+}
+
+#[test]
+fn a_session_is_closed_in_time_where_the_program_is_stopped() {
+    let registry = open();
+    signal(registry.id(), "STOP");
+    let begun = Instant::now();
+    let fault = "the program was killed, since it had not ended 0.5 seconds after the session was closed by signal 9";
+    assert_eq!(told(registry.close_within(Duration::from_millis(500))), fault);
+    assert!(begun.elapsed() < SOON);
+}
+
+#[test]
 fn a_session_that_is_closed_in_time() {
     let path = file("in-time.journal");
     let mut registry = Registry::open(program(), &Options { save: Some(path.clone()), ..Options::default() }).unwrap();
@@ -89,7 +111,7 @@ fn a_program_that_does_not_end_is_killed() {
     let begun = Instant::now();
     let ended = told(registry.close_within(Duration::from_millis(100)));
     assert_eq!(ended, "the program was killed, since it had not ended 0.1 seconds after the session was closed by signal 9");
-    assert!(begun.elapsed() < Duration::from_secs(3));
+    assert!(begun.elapsed() < SOON);
 }
 
 #[test]

@@ -6,6 +6,7 @@ use std::io::{BufRead, BufReader};
 use std::path::{Path, PathBuf};
 use std::process::{self, Child, Command, Stdio};
 use std::sync::atomic::{AtomicUsize, Ordering};
+use std::time::{Duration, Instant};
 
 use registryd::{Error, Registry, Request, Resolve};
 
@@ -35,6 +36,9 @@ pub fn told<T: std::fmt::Debug>(answer: Result<T, Error>) -> String {
         other => panic!("it has not ended: {other:?}"),
     }
 }
+
+/// In this time it is over on a busy machine, too, where a search would go on.
+pub const SOON: Duration = Duration::from_secs(15);
 
 pub const PIGEONS: usize = 15;
 
@@ -80,14 +84,26 @@ impl Service {
         Service { socket: folder.join("socket"), told, words, folder, running }
     }
 
+    pub fn id(&self) -> u32 {
+        self.running.id()
+    }
+
     /// Ends it as a kill does.
     pub fn end(&mut self) {
         self.running.kill().unwrap();
         self.running.wait().unwrap();
     }
 
+    /// Begins it again. The program of one that was killed ends with it, and may have the journal a moment longer.
     pub fn begin_again(&mut self) {
-        (self.running, self.told) = begun(&self.folder, &self.words);
+        let since = Instant::now();
+        loop {
+            (self.running, self.told) = begun(&self.folder, &self.words);
+            if !self.told.is_empty() || since.elapsed() > SOON {
+                return;
+            }
+            self.running.wait().unwrap();
+        }
     }
 
     pub fn journal(&self) -> String {
@@ -116,4 +132,9 @@ fn begun(folder: &Path, words: &[String]) -> (Child, String) {
     BufReader::new(running.stdout.as_mut().unwrap()).read_line(&mut told).unwrap();
     assert!(told.contains(" is served at "), "{told}");
     (running, told)
+}
+
+/// Sends a process a signal of this name.
+pub fn signal(process: u32, name: &str) {
+    assert!(Command::new("kill").args([&format!("-{name}"), &process.to_string()]).status().unwrap().success());
 }
