@@ -5,8 +5,8 @@
 
 Starts three members of etcd on loopback, whose data lies in a folder (by itself the system's for temporary files, on a
 disk). Prints for each number of fronts how many publications are accepted a second and how long one takes, when each client
-sends one line and waits, and when it sends 64 at once; the same of resolve lines, of `--stale` fronts too, and of the program without
-a front that is asked the same in turn; then what a race of as many files accepts a second, and how long a new front needs for all entries: from
+sends one line and waits, and when it sends 64 at once; the same of resolve lines, also 1,024 at once, of `--stale` fronts too, and of the
+program without a front that is asked the same in turn, with what a linearizable read takes alone; then what a race of as many files accepts a second, and how long a new front needs for all entries: from
 the cells, from a snapshot, from a file. Each figure is of this machine, with members, fronts and clients on it.
 
     bench/etcd.py --only resolves --fronts 1       prints no more than what one front answers, beside the program
@@ -29,7 +29,11 @@ from lines import publish_lines
 from members import Members, is_installed
 from race import race, write
 
-TOGETHER = 64
+from etcd.cells import Cell, Cells
+from etcd.gateway import Gateway, endpoints
+
+TOGETHER, MANY = 64, 1_024
+ENTRIES = 3_000  # of the journal that is asked
 
 
 class Alone(fronts.Front):
@@ -94,7 +98,7 @@ class Bench:
 
     def filled(self):
         """A journal of 3,000 publications of some 90 packages; answers its prefix and the packages' names."""
-        prefix, lines = self.founded(), publish_lines(3000)
+        prefix, lines = self.founded(), publish_lines(ENTRIES)
         front = self.opened(1, prefix)[0]
         for at in range(0, len(lines), TOGETHER):
             front.send(lines[at:at + TOGETHER])
@@ -106,13 +110,14 @@ class Bench:
         hardly any others."""
         prefix, names = self.filled()
         for what, some in ("each package", names), ("packages with few needs", names[:8]):
-            for together in (1, TOGETHER):
+            for together in (1, TOGETHER, MANY):
                 def lines_of(number, at, many):
                     return [program.resolve(f"{some[(it * 7 + number) % len(some)]} *") for it in range(at, at + many)]
                 for count, words in itertools.product(counts, ([], ["--stale"])):
                     made = self.opened(count, prefix, *words)
                     said = f"{' '.join([f'{count} fronts', *words])}, {together} at once, {what}: "
-                    tell(said + "resolved", self.measure(made, lines_of, together))
+                    if together < MANY:
+                        tell(said + "resolved", self.measure(made, lines_of, together))
                     if count == 1:
                         print(said + self.beside(made[0], prefix, lines_of, together), flush=True)
                     for front in made:
@@ -124,18 +129,20 @@ class Bench:
             file.write(fronts.run("journal", self.members.clients, "--prefix", prefix).stdout)
             file.flush()
             alone = Alone(file.name)
-        spent, at, end = ([], []), 0, time.perf_counter() + self.seconds
+        cells = Cells(Gateway(endpoints(self.members.clients[0])), prefix)
+        asked = (lambda lines: at_once(front, lines), lambda lines: at_once(alone, lines), lambda _: next(cells.pages(Cell(ENTRIES, None, None))))
+        spent, at, end = ([], [], []), 0, time.perf_counter() + self.seconds
         while time.perf_counter() < end:
             lines = lines_of(0, at, together)
-            for asked, times in zip((front, alone), spent):
+            for ask, times in zip(asked, spent):
                 start = time.perf_counter()
-                assert len(asked.replies(lines)) == together
+                ask(lines)
                 times.append(time.perf_counter() - start)
             at += together
         alone.end()
-        of_front, of_program = (statistics.median(times) * 1000 for times in spent)
+        of_front, of_program, of_read = (statistics.median(times) * 1000 for times in spent)
         return (f"{of_front:.2f} ms a call, and {of_program:.2f} ms of the program without a front that is asked the same in turn: "
-                f"{of_front / of_program:.2f} times, and {sum(spent[0]) / sum(spent[1]):.2f} times over all")
+                f"{of_front / of_program:.2f} times, and {sum(spent[0]) / sum(spent[1]):.2f} times over all; a read alone {of_read:.2f} ms")
 
     def catching_up(self, entries):
         """A new front, where so many entries stand."""
@@ -154,6 +161,14 @@ class Bench:
             start = time.perf_counter()
             subprocess.run([program.PROGRAM, *program.SERVE, "--load", path], stdin=subprocess.DEVNULL, check=True)
             print(f"the program alone loads them in {time.perf_counter() - start:.2f} s", flush=True)
+
+
+def at_once(front, lines):
+    """Sends all lines before the first reply is read: a pipe and a front hold them."""
+    front.child.stdin.write("".join(line + "\n" for line in lines))
+    front.child.stdin.flush()
+    for _ in lines:
+        assert front.child.stdout.readline().endswith("\n")
 
 
 def timed(what, *words):

@@ -30,7 +30,7 @@ sys.path.insert(0, os.path.join(TOP, "tools", "tests"))
 import program
 from program import journal_line
 from registry_folder import pigeons
-from services import Service
+from services import Service, wait_for
 from test_service_stops import Load
 
 PACKAGES, VERSIONS, COMMANDS = 8, 20, 40_000  # of the registry that is asked, and how many more fit into a journal
@@ -66,6 +66,8 @@ class Figure:
 
     def told(self):
         self.spent.sort()
+        if not self.spent:
+            return "    none in this time"
         return f"{self.rate:>8,.0f} a second" + "".join(f"{1000 * self.spent[int(len(self.spent) * part)]:>9.2f}" for part in (0.5, 0.99, 0.999))
 
 
@@ -176,11 +178,17 @@ def kills(folder, count, seed):
                     service.wait()
                     service = None
                     told += follow(load, accepted, own)
-            if service:
-                load.end()
-                status, said = service.end()
-                assert status == 0, said
-                told += follow(load, accepted, own)
+            # whatever was killed last, the file is gone on with
+            if service is None:
+                service = Service(own)
+                load = Load(service, 4, seed=first + 100)
+            wait_for(lambda: load.accepted)
+            load.end()
+            service.keeper()
+            wait_for(lambda: service.get("/health")[0] == 200)  # what was killed last is begun again
+            status, said = service.end()
+            assert status == 0, said
+            told += follow(load, accepted, own)
         print(f"{min(first + 100, count):,} kills, {told:,} accepted publications, all there: {counts}", flush=True)
     return told
 

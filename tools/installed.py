@@ -37,7 +37,7 @@ COPIES = {
 PAGES = {
     SHARE: ["clients/README.md", "clients/c/README.md", "clients/rust/README.md"],
     DOC: ["CHANGELOG.md", "docs/USING.md", "docs/FORMATS.md", "docs/REGISTRY.md", "docs/WHY.md", "docs/IMPORTING.md", "docs/SCALE.md",
-          "docs/REGISTRY_COMMAND.md", "docs/SERVICE.md"],
+          "docs/REGISTRY_COMMAND.md", "docs/SERVICE.md", "docs/GLOSSARY.md"],
 }
 # What systemd reads: the service, with the prefix in its words, and the user that it runs as.
 SYSTEMD = {"lib/systemd/system/registryd.service": "tools/systemd/registryd.service", "lib/sysusers.d/registryd.conf": "tools/systemd/registryd.sysusers"}

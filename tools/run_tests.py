@@ -11,11 +11,15 @@ from concurrent.futures import ProcessPoolExecutor
 
 from counts import Counts
 from progress import TOP
+from time_limit import limited
 
 FOLDERS = ("tools/tests", "bench/tests")
 LAST = "test_written_lines.py"
 # The files that take longest: they begin first.
 LONG = ("test_refused_calls.py", "test_row_tables.py", "test_memory.py", "test_etcd.py", "test_journals.py", "test_programs.py")
+# A test has so many seconds, in case that it waits for what never comes, and a file of tests, which may wait before the first, three times
+# as many. It is far above what any takes on a slow machine.
+SECONDS = float(os.environ.get("TEST_SECONDS", 1_800))
 
 
 def files():
@@ -26,8 +30,18 @@ def files():
 
 
 class Result(unittest.TextTestResult):
-    """Counts the tests that passed: of those that were begun some may be skipped, and a class that is skipped begins none."""
+    """Counts the tests that passed: of those that were begun some may be skipped, and a class that is skipped begins none. Each has a
+    time limit."""
     passed = 0
+
+    def startTest(self, test):
+        self.limit = contextlib.ExitStack()
+        self.limit.enter_context(limited(SECONDS))
+        super().startTest(test)
+
+    def stopTest(self, test):
+        super().stopTest(test)
+        self.limit.close()
 
     def addSuccess(self, test):
         super().addSuccess(test)
@@ -38,7 +52,7 @@ def run_file(path):
     """Runs the tests of one file; answers what they wrote, how many passed, failed and were skipped, and what the program said in
     them. A file without a test fails."""
     wrote = io.StringIO()
-    with contextlib.redirect_stdout(wrote):
+    with contextlib.redirect_stdout(wrote), limited(3 * SECONDS):
         suite = unittest.TestLoader().discover(os.path.dirname(path), os.path.basename(path))
         done = unittest.TextTestRunner(stream=wrote, verbosity=2, resultclass=Result).run(suite)
     failed = len(done.failures) + len(done.errors) + len(done.unexpectedSuccesses)

@@ -7,10 +7,11 @@ import contextlib
 import os
 import tempfile
 import threading
+from collections import Counter
 from concurrent.futures import ThreadPoolExecutor
 
 from draw_crates import reached, stands_on
-from try_rounds import BAD, BY_CLAUSE, build_below, library, listed, take, try_in_rounds
+from try_rounds import BAD, BY_CLAUSE, BY_PROOF, build_below, library, listed, take, try_in_rounds
 
 
 def give_way():
@@ -92,19 +93,23 @@ class Tries:
         of.add_done_callback(self.go_on)
 
     def end(self, is_well):
-        """Tries what is left, once the gate has ended well; answers how many edits a clause refuses, and how many not."""
+        """Tries what is left, once the gate has ended well; answers how many edits are refused, by a clause or because a proof no longer
+        fits, and how many are not, or say little."""
         with self.lock:
             if is_well:
                 for name in self.ready():
                     self.begin(name, self.room.name)
                 self.try_the_rest()
             self.waiting.clear()
-        counts = [0, 0]
+        kinds = Counter()
         for of in self.tried:
             for edit, (kind, said) in of.result():
                 print(f"wrong body {edit.crate}/{edit.file}: {kind}: {said[:160]}", flush=True)
-                counts[kind != BY_CLAUSE] += 1
-        return tuple(counts)
+                kinds[kind] += 1
+        if kinds:
+            print("wrong bodies: " + ", ".join(f"{count} {kind}" for kind, count in kinds.most_common()), flush=True)
+        refused = kinds[BY_CLAUSE] + kinds[BY_PROOF]
+        return refused, kinds.total() - refused
 
     def try_the_rest(self):
         """Tries the edits of crates that no line of the gate was told of, or whose libraries it keeps elsewhere."""

@@ -12,18 +12,21 @@ from concurrent.futures import ThreadPoolExecutor
 from draw_crates import reached, stands_on
 from edit_files import CRATES, EDITS, edits_of, functions_of
 from progress import TOP, jobs
-from try_rounds import BAD, BY_CLAUSE, BY_NAME, NOT_REFUSED, build_below, library, link_all, take, try_in_rounds
+from try_rounds import BAD, BY_CLAUSE, BY_NAME, BY_PROOF, NOT_REFUSED, VALUES, build_below, library, link_all, take, try_in_rounds
 
-# What else a try of a whole crate comes to, and the words by which `rt must-fail` tells it.
+# What else a try of a whole crate comes to, and the words by which `rt must-fail` tells it. It tells the beginning of one error: where
+# that has no values, it counts as one of the proof.
 BY_LIMIT, NOT_TRIED = "refused only by a limit of the prover", "not tried"
-KINDS = {
+WORDS = {
     BY_NAME: "refused, as it must be (only because a proof file",
     BY_LIMIT: "refused, as it must be (only by a limit",
-    BY_CLAUSE: "refused, as it must be",
+    BY_PROOF: "refused, as it must be",
     NOT_REFUSED: "NOT REFUSED",
     BAD: "BAD EDIT",
     NOT_TRIED: "NOT TRIED",
 }
+KINDS = (BY_CLAUSE, *WORDS)
+REFUSED = (BY_CLAUSE, BY_PROOF, BY_NAME, BY_LIMIT)
 
 
 def edited_crates():
@@ -61,9 +64,9 @@ def try_whole(edits):
             for line in running.stdout:
                 print(line, end="", flush=True)
                 told = re.match(r"(?:rt: )?must-fail (\w+)/(\S+): (.*)", line)
-                kind = told and next((kind for kind, words in KINDS.items() if told[3].startswith(words)), None)
+                kind = told and next((kind for kind, words in WORDS.items() if told[3].startswith(words)), None)
                 if kind and (told[1], told[2]) in kinds:
-                    kinds[told[1], told[2]] = kind
+                    kinds[told[1], told[2]] = BY_CLAUSE if kind == BY_PROOF and VALUES.search(told[3]) else kind
     return kinds
 
 
@@ -106,5 +109,5 @@ def edits(names):
         print(f"{name}: {sum(kinds.values())} edits: {told}")
     whole = {kind: sum(kinds[kind] for kinds in counts.values()) for kind in KINDS}
     print("all: " + ", ".join(f"{number} {kind}" for kind, number in whole.items()))
-    refused = whole[BY_CLAUSE] + whole[BY_NAME] + whole[BY_LIMIT]
+    refused = sum(whole[kind] for kind in REFUSED)
     return refused, sum(whole.values()) - refused

@@ -16,11 +16,17 @@ from edit_files import CRATES, EDITS, edits_of, functions_in, functions_of, put_
 
 PARTS = ("src", "specs", "proofs")
 # What a try comes to.
-BY_CLAUSE, BY_NAME, NOT_REFUSED, BAD = "refused by a clause", "refused only because a name is gone", "not refused", "bad"
+BY_CLAUSE, BY_PROOF, BY_NAME = "refused by a clause", "refused only because a proof no longer fits", "refused only because a name is gone"
+NOT_REFUSED, BAD = "not refused", "bad"
 # What the prover says of a function that has no error, over holes or not.
 HAS_NO_ERROR = ("no holes", "depends on a hole in ")
 # A proof that names what the edit took away says nothing of the contract.
 NAME_IS_GONE = re.compile(r"(\./)?proofs/.*(has no field|is not in scope|has no `|was not admitted)")
+# What says that no proof can be given: values at which what is wanted is false, or a number in the place of another one. Any other error
+# may be one of the proof alone, which may be put right where the edit promises the same.
+NUMBER = r"`(?:\d+|mathlib\.Core\.Bool\.(?:true|false))`"
+VALUES = re.compile(r"allow values at which this goal is false|the goal does not follow\b.*the goal fails, at "
+                    rf"|the two types (?:first differ|differ only) where one has {NUMBER} \(expected\) and the other has {NUMBER} \(found\)")
 
 
 def library(name):
@@ -127,9 +133,21 @@ def asked_with(edits, paths, room):
 
 
 def errors(lines):
-    """The lines that say what is wrong at a place of a file."""
-    wrong = r"\S+:\d+:\d+: error|note: \S+:\d+:\d+: it is not proved"
-    return [line for line in lines if re.match(wrong, line)]
+    """What the prover says is wrong at a place of a file, each with the lines that belong to it, as one."""
+    found, is_one = [], False
+    for line in lines:
+        if is_one and line.startswith("  "):
+            found[-1] += " " + line.strip()
+            continue
+        is_one = bool(re.match(r"\S+:\d+:\d+: error|note: \S+:\d+:\d+: (?:it is not proved|`search` found no proof)", line))
+        found += [line] if is_one else []
+    return found
+
+
+def kind_of(told):
+    """By what these errors refuse an edit, and the one that says so."""
+    kinds = {BY_CLAUSE: [line for line in told if VALUES.search(line)], BY_PROOF: [line for line in told if not NAME_IS_GONE.match(line)], BY_NAME: told}
+    return next((kind, lines[0]) for kind, lines in kinds.items() if lines)
 
 
 def is_at(line, path, function):
@@ -147,9 +165,8 @@ def judged(lines, crate, path, function):
     if not re.fullmatch(r"only=\d+ holes=\d+", lines[-1]):
         return None
     own = [line for line in errors(lines) if is_at(line, path, function)]
-    wrong = [line for line in own if not NAME_IS_GONE.match(line)]
-    if wrong:
-        return BY_CLAUSE, wrong[0]
+    if own and kind_of(own)[0] != BY_NAME:
+        return kind_of(own)
     state = f"fn {crate}::{function.path}: "
     if any(line.startswith(state) and line.removeprefix(state).startswith(HAS_NO_ERROR) for line in lines):
         return NOT_REFUSED, f"{function.path} stands with this edit"
@@ -162,8 +179,7 @@ def judged_alone(lines, crate, path, function):
     told = errors(lines)
     if verdict or not told or not lines[-1].startswith("only="):
         return verdict or (BAD, f"it did not come to a verdict: {lines[-1]}")
-    wrong = [line for line in told if not NAME_IS_GONE.match(line)]
-    return (BY_CLAUSE, wrong[0]) if wrong else (BY_NAME, told[0])
+    return kind_of(told)
 
 
 def first_of_each(places):

@@ -37,7 +37,8 @@ class Durable(unittest.TestCase):
 
     def test_what_is_loaded_is_all_of_it(self):
         none, loaded, gone_on = self.bench.loading(1)
-        self.assertLess(none.seconds, min(loaded.seconds, gone_on.seconds))
+        # of a processor, a tenth of it; how long they take hangs on what else runs
+        self.assertLess(none.processor, min(loaded.processor, gone_on.processor))
         self.assertEqual(self.ends(self.bench.kept), b"end %d" % LINES)
 
     @skip_without("cc", "gcc")

@@ -19,7 +19,7 @@ class Measured(unittest.TestCase):
         self.folder = folder.name
 
     def test_rates(self):
-        bench = Bench(self.folder, 0.3)
+        bench = Bench(self.folder, 1)
         self.assertEqual(len(list(registry())), 160)
         for figures in (bench.pipe(), bench.clients(5), bench.clients(1, is_hard=True)):
             for it in figures:

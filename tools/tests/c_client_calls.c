@@ -166,6 +166,36 @@ static void kept_journals(void)
     WANT(registryd_close(session) == REGISTRYD_OK);
 }
 
+/* A budget of requests that name none: docs/FORMATS.md has the replies. */
+static void budgets(void)
+{
+    static const char needs[] = "{\"op\":\"resolve\",\"needs\":[[\"zed\",\"*\"]]}\n";
+    static const char spent[] = "{\"error\":22,\"name\":\"BudgetSpent\",\"revision\":0}\n", refused[] = "{\"refused\":true,\"revision\":0}\n";
+    registryd_session none = 5, session = 0;
+    WANT(registryd_open_budget(NULL, 1, 0, NULL, NULL, NULL, &none) == REGISTRYD_MISUSE);
+    WANT(registryd_open_budget(program, 65, 0, NULL, NULL, NULL, &none) == REGISTRYD_MISUSE);
+    WANT(registryd_open_budget(program, 1, 0, "g.journal", "k.journal", NULL, &none) == REGISTRYD_MISUSE);
+    WANT(registryd_open_budget(program, 1, 0, "g.journal", NULL, "k.journal", &none) == REGISTRYD_MISUSE);
+    WANT(registryd_open_budget(program, 1, 0, NULL, NULL, NULL, NULL) == REGISTRYD_MISUSE && none == 5);
+    for (uint64_t budget = 0; budget <= UINT32_MAX; budget += UINT32_MAX) {
+        WANT(registryd_open_budget(program, 64, (uint32_t)budget, NULL, NULL, NULL, &session) == REGISTRYD_OK);
+        fed(session, needs);
+        told(session, budget ? refused : spent);
+        /* One that names its own has that. */
+        fed(session, "{\"op\":\"resolve\",\"needs\":[[\"zed\",\"*\"]],\"budget\":1}\n");
+        told(session, refused);
+        WANT(registryd_save(session) == REGISTRYD_OK && registryd_close(session) == REGISTRYD_OK);
+    }
+    WANT(registryd_open_budget(program, 1, 0, "g.journal", NULL, NULL, &session) == REGISTRYD_OK);
+    fed(session, publish);
+    told(session, published);
+    WANT(registryd_close(session) == REGISTRYD_OK && access("g.journal", F_OK) == 0);
+    WANT(registryd_open_budget(program, 1, 0, NULL, "k.journal", "s.journal", &session) == REGISTRYD_OK);
+    fed(session, list);
+    told(session, listed_a);
+    WANT(registryd_save(session) == REGISTRYD_OK && registryd_close(session) == REGISTRYD_OK && access("s.journal", F_OK) == 0);
+}
+
 static void *session_of_its_own(void *nothing)
 {
     for (int i = 0; i < 4; i++) {
@@ -197,6 +227,7 @@ int main(int count, char **words)
     much();
     journals();
     kept_journals();
+    budgets();
     threads();
     return 0;
 }

@@ -1,5 +1,5 @@
-/* Calls of sessions with a service. It prints the first line that failed. Words: what is tried, `calls`, `lines`, `gone`, `closed`
- * or `nowhere`, and the address. */
+/* Calls of sessions with a service. It prints the first line that failed. Words: what is tried, one of those at the end, the address, and
+ * how many milliseconds a session waits for a service that is gone. */
 #define _GNU_SOURCE
 #include "c_calls.h"
 
@@ -10,10 +10,15 @@
 static const char refused[] = "{\"error\":7,\"name\":\"AlreadyPublished\",\"revision\":1}\n";
 static char replies[1 << 16], words[REGISTRYD_WORDS];
 
+/* Milliseconds for a service to be there again, and once a caller is connected: at first as long as a begin takes on a busy machine. */
+int waited = 60000;
+static int later;
+
 static registryd_session connected(const char *where)
 {
     registryd_session session = 0;
     WANT(registryd_connect(where, &session) == REGISTRYD_OK && session != 0);
+    waited = later;
     return session;
 }
 
@@ -63,14 +68,14 @@ static void calls(const char *where)
     closed(other);
 }
 
-/* Prints what is answered to what it reads, and what the matter is where something is. */
-static void lines(const char *where)
+/* Prints what is answered to what it reads, which it feeds in pieces of so many bytes, and what the matter is where something is. */
+static void feed_in(const char *where, size_t most)
 {
     static char bytes[1 << 16];
     registryd_session session = connected(where);
     size_t got, length = 0, left = 0;
     int answer = REGISTRYD_OK;
-    while (!answer && (got = fread(bytes, 1, sizeof bytes, stdin)) > 0)
+    while (!answer && (got = fread(bytes, 1, most, stdin)) > 0)
         answer = registryd_feed(session, bytes, got);
     do {
         int taken = registryd_take(session, replies, sizeof replies, &length, &left);
@@ -80,6 +85,36 @@ static void lines(const char *where)
     WANT(registryd_error(session, words, sizeof words) == REGISTRYD_OK);
     if (answer || words[0])
         printf("%d: %s\n", answer, words);
+    closed(session);
+}
+
+static void lines(const char *where)
+{
+    feed_in(where, 1 << 16);
+}
+
+static void bytes(const char *where)
+{
+    feed_in(where, 1);
+}
+
+/* Publishes twenty versions more each time that it reads a line, and at its end, each by a call of its own; then prints all replies. */
+static void steps(const char *where)
+{
+    registryd_session session = connected(where);
+    size_t length, left, held = 0;
+    for (int step = 0, number = 0; step < 3; step++) {
+        char wanted[16];
+        WANT(step == 2 || fgets(wanted, sizeof wanted, stdin));
+        for (int end = number + 20; number < end; number++) {
+            char line[128];
+            snprintf(line, sizeof line, "{\"op\":\"publish\",\"name\":\"a\",\"version\":\"%d.0.0\",\"needs\":[]}\n", number);
+            WANT(registryd_ask(session, line, strlen(line), replies + held, sizeof replies - held, &length, &left) == REGISTRYD_OK && !left);
+            held += length;
+            usleep(10000);
+        }
+    }
+    fwrite(replies, 1, held, stdout);
     closed(session);
 }
 
@@ -116,22 +151,34 @@ static void *takes(void *answer)
     return NULL;
 }
 
-/* Feeds what it reads, and closes the session while a thread waits for replies; prints what that was answered. */
-static void closes(const char *where)
+/* Feeds what it reads, and closes the session after so many microseconds, while a thread waits for replies; prints what that was
+ * answered. */
+static void close_after(const char *where, useconds_t time)
 {
     static char bytes[1 << 16];
     pthread_t thread;
     int answer = 0;
     size_t got;
     waited_for = connected(where);
+    WANT(puts("connected") >= 0 && !fflush(stdout));
     while ((got = fread(bytes, 1, sizeof bytes, stdin)) > 0)
         WANT(registryd_feed(waited_for, bytes, got) == REGISTRYD_OK);
     WANT(!pthread_create(&thread, NULL, takes, &answer));
-    usleep(300000);
+    usleep(time);
     WANT(registryd_close(waited_for) == REGISTRYD_OK);
     WANT(!pthread_join(thread, NULL));
     WANT(registryd_close(waited_for) == REGISTRYD_MISUSE);
     printf("%d\n", answer);
+}
+
+static void closes(const char *where)
+{
+    close_after(where, 300000);
+}
+
+static void closes_late(const char *where)
+{
+    close_after(where, 3000000);
 }
 
 static void nowhere(const char *where)
@@ -145,8 +192,9 @@ static void nowhere(const char *where)
 int main(int count, char **given)
 {
     const struct { const char *name; void (*tried)(const char *where); } all[] =
-        {{"calls", calls}, {"lines", lines}, {"gone", gone}, {"closed", closes}, {"nowhere", nowhere}};
-    WANT(count == 3);
+        {{"calls", calls}, {"lines", lines}, {"bytes", bytes}, {"steps", steps}, {"gone", gone}, {"closed", closes}, {"closed late", closes_late}, {"nowhere", nowhere}};
+    WANT(count == 4);
+    later = atoi(given[3]);
     for (size_t i = 0; i < sizeof all / sizeof *all; i++)
         if (!strcmp(given[1], all[i].name))
             all[i].tried(given[2]);

@@ -143,7 +143,7 @@ def requirements_beyond_those_whose_sets_are_kept():
 
 def refused_beyond_the_kept_sets():
     """Tables of which one row is the call whose requests for memory are refused: a naming where the sets of the first requirements are
-    kept, and what is asked of a requirement beyond these. Where a title names a public call, that is the one that wants the memory."""
+    kept, and what is asked of a requirement beyond these. Where a title names public calls, the first is made, and the last is the one that wants the memory."""
     patches = [row("releases", "publish", version=f"0.0.{patch}") for patch in range(PATCHES)]
     needs = [need for need, _ in of_each_patch()][:KEPT_SETS + 1]
     *kept, beyond = [row("releases", "name_need", need=need) for need in needs]
@@ -151,7 +151,7 @@ def refused_beyond_the_kept_sets():
     yield "releases::Releases::name_need: a requirement beyond those whose sets are kept", [*kept, *patches, {**beyond, "refuse": True}, *left]
     for call, given in (("matching", {}), ("matching_at", {"place": KEPT_SETS}), ("matching_has", {"below": PATCHES})):
         asked = row("releases", call, need=needs[-1], **given, refuse=True)
-        name = "" if call == "matching_has" else "releases::Tested::set: "
+        name = "" if call == "matching_has" else "releases::Matching::set, releases::Tested::set: "
         yield f"{name}{call} of a requirement beyond those whose sets are kept", [*kept, beyond, *patches, asked, *left]
 
 

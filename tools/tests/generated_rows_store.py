@@ -124,6 +124,9 @@ def members_go_and_come_one_by_one():
     rows += [_publish(stay + 1, "q7", "1.2.0"), _publish(stay + 1, "q7", "1.3.0"), _publish(stay, "q0", "1.1.0")]
     rows += [{"of": "store", "call": "named", "package": 2 * count + 5, "gives": [_own_lines(count, 0, 1)[0]["conclusion"]]}]
     rows += [{"of": "store", "call": "named", "package": 5, "gives": []}]
+    # where the others have moved to, they are found, and none in the place of one that went
+    rows += [_publish(stay - 1, "q8", "1.1.0"), _learn_own({"refused": 15}, 32, 0)]
+    rows += [_store_row("named", [_own_lines(k, 0)[0]["conclusion"]] if k != 8 else [], package=2 * k + 5) for k in (4, 8, 32, 1020)]
     yield "Members go one by one, and others come in their place", rows
 
 

@@ -3,18 +3,19 @@ import json
 import os
 import shutil
 import signal
-import socket
 import subprocess
 import tempfile
+import threading
 import time
 import urllib.error
 import urllib.request
 
 from fake_etcd import Drop
+from ports import free_ports
 
 import tied
 
-BRIDGE, NET = "reg-etcd", "10.77.0"
+NETS = 100  # as many runs may have members in namespaces at a time
 MEMORY = "/dev/shm"
 
 
@@ -24,18 +25,23 @@ def is_installed():
 
 def may_divide():
     """Whether this machine lets us make namespaces of the network."""
-    done = subprocess.run(["ip", "netns", "add", BRIDGE], capture_output=True) if shutil.which("ip") else None
-    return bool(done) and done.returncode == 0 and subprocess.run(["ip", "netns", "del", BRIDGE], capture_output=True).returncode == 0
-
-
-def free_port():
-    with socket.socket() as taken:
-        taken.bind(("127.0.0.1", 0))
-        return taken.getsockname()[1]
+    name = f"reg-try-{os.getpid()}"
+    done = subprocess.run(["ip", "netns", "add", name], capture_output=True) if shutil.which("ip") else None
+    return bool(done) and done.returncode == 0 and subprocess.run(["ip", "netns", "del", name], capture_output=True).returncode == 0
 
 
 def ip(*words):
-    subprocess.run(["ip", *words], check=True, capture_output=True)
+    done = subprocess.run(["ip", *words], capture_output=True, text=True)
+    assert done.returncode == 0, f"ip {' '.join(words)}: {done.stderr.strip()}"
+
+
+def own_bridge():
+    """Makes a bridge that no other run has; answers its name and the first three numbers of its addresses."""
+    for number in range(1, NETS + 1):
+        name = f"reg-etcd-{number}"
+        if subprocess.run(["ip", "link", "add", name, "type", "bridge"], capture_output=True).returncode == 0:
+            return name, f"10.77.{number}"
+    raise AssertionError(f"no bridge can be made: there are {NETS}, or this machine lets us make none")
 
 
 class Members:
@@ -44,29 +50,35 @@ class Members:
     def __init__(self, count, divided=False, folder=MEMORY):
         # in memory where that may be: what is tested loses processes, not the machine, and others may use the disk
         self.folder = tempfile.mkdtemp(prefix="etcd-members-", dir=folder if os.path.isdir(folder) else None)
-        self.divided, self.children, self.ports = divided, [None] * count, {}
-        self.hosts = [f"{NET}.{number + 1}" if divided else "127.0.0.1" for number in range(count)]
+        self.divided, self.children = divided, [None] * count
+        self.beginning, self.are_ended = threading.Lock(), False  # none begins again once they are ended, whoever still disturbs them
+        self.hosts = ["127.0.0.1"] * count
         if divided:
             self.divide()
-        self.clients, self.peers = ([f"http://{host}:{2379 if divided else free_port()}" for host in self.hosts] for _ in range(2))
-        if divided:
-            self.peers = [url.replace("2379", "2380") for url in self.clients]
+        ports = [2379] * count + [2380] * count if divided else free_ports(2 * count)
+        urls = [f"http://{host}:{port}" for host, port in zip(2 * self.hosts, ports)]
+        self.clients, self.peers = urls[:count], urls[count:]
         for number in range(count):
             self.start(number)
         self.wait()
 
     def divide(self):
-        ip("link", "add", BRIDGE, "type", "bridge")
-        ip("addr", "add", f"{NET}.254/24", "dev", BRIDGE)
-        ip("link", "set", BRIDGE, "up")
+        self.bridge, net = own_bridge()
+        self.hosts = [f"{net}.{number + 1}" for number in range(len(self.hosts))]
+        ip("addr", "add", f"{net}.254/24", "dev", self.bridge)
+        ip("link", "set", self.bridge, "up")
         for number, host in enumerate(self.hosts):
-            name = f"{BRIDGE}{number}"
+            name = self.namespace(number)
             ip("netns", "add", name)
             ip("link", "add", name, "type", "veth", "peer", "name", "eth0", "netns", name)
-            ip("link", "set", name, "master", BRIDGE, "up")
+            ip("link", "set", name, "master", self.bridge, "up")
             ip("-n", name, "addr", "add", f"{host}/24", "dev", "eth0")
             ip("-n", name, "link", "set", "eth0", "up")
             ip("-n", name, "link", "set", "lo", "up")
+
+    def namespace(self, number):
+        """What a member's namespace is called, and the bridge's end of its link."""
+        return f"{self.bridge}-{number}"
 
     def start(self, number):
         name, client, peer = f"m{number}", self.clients[number], self.peers[number]
@@ -74,8 +86,10 @@ class Members:
                  "--advertise-client-urls", client, "--listen-peer-urls", peer, "--initial-advertise-peer-urls", peer,
                  "--initial-cluster", ",".join(f"m{n}={url}" for n, url in enumerate(self.peers)),
                  "--log-level", "error"]
-        within = ["ip", "netns", "exec", f"{BRIDGE}{number}"] if self.divided else []
-        self.children[number] = tied.Tied([*within, *words], stdout=subprocess.DEVNULL, stderr=subprocess.DEVNULL)
+        within = ["ip", "netns", "exec", self.namespace(number)] if self.divided else []
+        with self.beginning:
+            if not self.are_ended:
+                self.children[number] = tied.Tied([*within, *words], stdout=subprocess.DEVNULL, stderr=subprocess.DEVNULL)
 
     def wait(self):
         """Returns when each member answers."""
@@ -116,9 +130,9 @@ class Members:
 
     def cut_off(self, number, seconds):
         """For a while a member hears nothing from anyone, and nobody from it."""
-        ip("link", "set", f"{BRIDGE}{number}", "down")
+        ip("link", "set", self.namespace(number), "down")
         time.sleep(seconds)
-        ip("link", "set", f"{BRIDGE}{number}", "up")
+        ip("link", "set", self.namespace(number), "up")
         self.until_healthy(self.clients[number])
 
     def part(self, number, seconds):
@@ -126,19 +140,22 @@ class Members:
         for change in ("add", "del"):
             for other, host in enumerate(self.hosts):
                 if other != number:
-                    ip("-n", f"{BRIDGE}{number}", "route", change, "blackhole", f"{host}/32")
+                    ip("-n", self.namespace(number), "route", change, "blackhole", f"{host}/32")
             if change == "add":
                 time.sleep(seconds)
         self.until_healthy(self.clients[number])
 
     def close(self):
-        for child in self.children:
+        with self.beginning:
+            self.are_ended = True
+        for child in filter(None, self.children):
             child.kill()
             child.wait()
         if self.divided:
             for number in range(len(self.hosts)):
-                ip("netns", "del", f"{BRIDGE}{number}")
-            ip("link", "del", BRIDGE)
+                ip("link", "del", self.namespace(number))  # at once, where a namespace may go a while later
+                ip("netns", "del", self.namespace(number))
+            ip("link", "del", self.bridge)
         shutil.rmtree(self.folder)
 
 

@@ -37,7 +37,7 @@ class Case(unittest.TestCase):
         assert (ended.returncode, ended.stdout, ended.stderr) == (0, b"", b""), ended
 
     def setUp(self):
-        self.enterContext(program.in_time())
+        self.enterContext(program.in_time(2 * program.PATIENCE))
         self.etcd = self.founded.copy()
         self.gate = self.opened()
         folder = tempfile.TemporaryDirectory()

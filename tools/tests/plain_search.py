@@ -100,9 +100,9 @@ class Published:
                 left += [target for target, _ in chosen[name][1]] if name in chosen else []
         return found
 
-    def selections(self, needs, lock):
-        """Each selection that meets the request, as a sorted list of pairs of name and version."""
-        names = sorted(self.versions)
+    def selections(self, needs, lock, names=None):
+        """Each selection that meets the request, as a sorted list of pairs of name and version, of all packages or of these."""
+        names = sorted(self.versions if names is None else names)
         found = []
         for choice in product(*([None, *self.allowed(name, lock)] for name in names)):
             chosen = {name: row for name, row in zip(names, choice) if row}

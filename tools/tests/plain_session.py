@@ -1,6 +1,7 @@
 """What each line of a session may be answered, whatever the line is: the rules once more, put together of the plain readers
 that stand beside. It shares nothing with the program."""
 import json
+import math
 import os
 import re
 import sys
@@ -16,6 +17,7 @@ from check_derivation import CAUSES, COMMANDS, LINE, PAIRS, RESOLVE, ROOT, forme
 from limits import MOST_LINE_BYTES, MOST_NEEDS
 
 MOST_DEPTH = 127
+MOST_TRIES = 500
 BRACKETS = re.compile(r"[\[\]{}]")
 STRING = re.compile(r'"(?:[^"\\]|\\.)*"')
 FORMS = {form["op"]: form for form in COMMANDS} | {
@@ -186,6 +188,17 @@ class Published(plain_search.Published):
         met = all(self.is_met(chosen, asked) for asked in [needs, *(row[1] for row in chosen.values())])
         return met and list(chosen) == sorted(chosen) and len(chosen) == len(selected) and self.reached(chosen, needs) == set(chosen)
 
+    def is_met_by_some(self, needs, lock):
+        """Whether a selection meets a request, where that takes few tries; unknown elsewhere, which is none."""
+        names, left = set(), [name for name, _ in needs]
+        while left:
+            name = left.pop()
+            if name in self.versions and name not in names:
+                names.add(name)
+                left += [target for _, asked in self.allowed(name, lock) for target, _ in asked]
+        tries = math.prod(1 + len(self.allowed(name, lock)) for name in names)
+        return bool(self.selections(needs, lock, names)) if tries <= MOST_TRIES else None
+
 
 class PlainSession:
     """One session, as far as its lines were judged."""
@@ -258,7 +271,7 @@ class PlainSession:
             lawful = set(found) == {"selected", "revision"} and formed(found["selected"], PAIRS) and self.published.is_lawful(found["selected"], needs, lock)
             return None if lawful else "this selection does not meet the request"
         if not asked["explain"]:
-            return self.exactly(reply, self.told({"refused": True}))
+            return "a selection meets the request" if self.published.is_met_by_some(needs, lock) else self.exactly(reply, self.told({"refused": True}))
         if set(found) != {"derivation", "explanation", "refused", "revision"} or found["refused"] is not True or not formed(found["explanation"], [str]):
             return "a refusal of another form"
         try:

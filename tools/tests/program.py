@@ -9,7 +9,6 @@ import subprocess
 import sys
 import tempfile
 import unittest
-from pathlib import Path
 
 import said
 
@@ -17,11 +16,12 @@ TOP = os.path.dirname(os.path.dirname(os.path.dirname(os.path.abspath(__file__))
 sys.path.insert(0, os.path.join(TOP, "tools"))
 import tied
 from programs import path_for_tests
+from time_limit import children, limited  # noqa: F401, some tests ask for both here
 
 PROGRAM, PROBE = path_for_tests("registryd"), path_for_tests("probe")
 SERVE = ["serve", "--workers", "1"]
-# Seconds in which a program has answered what a test asks and waits for, on a busy machine too.
-PATIENCE = 30
+# Seconds in which a program has answered what a test asks and waits for, on a busy machine too. Only a test that fails waits so long.
+PATIENCE = 60
 # The least that a pipe holds.
 PAGE = 4_096
 
@@ -88,42 +88,15 @@ def run(words, given=b"", most=None, **more):
     return done
 
 
-def children():
-    """The processes that this one has started and that have not ended."""
-    for path in Path("/proc").glob("[0-9]*/stat"):
-        with contextlib.suppress(OSError):
-            # the name of what runs stands in parentheses, and may have any letters
-            state, parent, *_ = path.read_text(encoding="utf-8", errors="replace").rpartition(")")[2].split()
-            if int(parent) == os.getpid() and state != "Z":
-                yield int(path.parent.name)
-
-
 def heed_signals():
     """Has what is begun end at these, also where the tests run in the background and pass them over."""
     for number in (signal.SIGINT, signal.SIGTERM, signal.SIGHUP):
         signal.signal(number, signal.SIG_DFL)
 
 
-@contextlib.contextmanager
 def in_time(seconds=None):
-    """A test that waits for more than so many seconds meanwhile fails, and what it has started is ended: so a program that never
-    replies hangs no test."""
-    limit = seconds or PATIENCE
-
-    def break_off(*_):
-        for child in children():
-            with contextlib.suppress(ProcessLookupError):
-                os.kill(child, signal.SIGKILL)
-        raise AssertionError(f"it was not answered in {limit} seconds")
-
-    handler = signal.signal(signal.SIGALRM, break_off)
-    # again and again: what is left on the way out may wait, too
-    outer = signal.setitimer(signal.ITIMER_REAL, limit, limit)
-    try:
-        yield
-    finally:
-        signal.setitimer(signal.ITIMER_REAL, *outer)
-        signal.signal(signal.SIGALRM, handler)
+    """Meanwhile a test that waits for more than so many seconds fails."""
+    return limited(seconds or PATIENCE)
 
 
 @contextlib.contextmanager

@@ -7,6 +7,8 @@ from program import TOP
 
 # These answer a refusal and take no memory.
 TAKES_NONE = {"registry::Registry::check", "derivations::Store::check", "book::Replica::check", "book::Replica::judge"}
+# A race makes this one, and each of its requests is refused there (`test_memory.py`).
+OF_RACES = {"journals::can_be_saved"}
 # What the probe stands on, what is tried through the calls of the registry and of the solver, and what is tried through the
 # lines of the program (`test_memory.py`).
 NO_PART = {"rows", "calls_low", "calls_texts", "calls_high", "heuristics", "intake", "answers", "session", "race", "command_line"}
@@ -57,4 +59,4 @@ def that_take_memory():
                 for of, name, head in declared(text.read()):
                     if (of or name) in names and TAKES_MEMORY.search(head):
                         found.add("::".join(part for part in (crate, of, name) if part))
-    return found - TAKES_NONE
+    return found - TAKES_NONE - OF_RACES

@@ -59,6 +59,7 @@ class Reader:
         bounds = re.fullmatch(r"(?:>=(\S+))?(?: ?<(\S+))?", text)
         if bounds:
             low, high = (it and read_version(it) for it in bounds.groups())
+            self.demand((low is None) == (bounds[1] is None) and (high is None) == (bounds[2] is None), f"{text!r} has no version")
             return frozenset(at for at, it in enumerate(self.held(name))
                              if (not low or it.version >= low) and (not high or it.version < high))
         found = frozenset(at for at, it in enumerate(self.held(name)) if it.text == text)

@@ -1,7 +1,9 @@
 """A service under test in a folder of its own, and clients of it."""
 import contextlib
+import fcntl
 import json
 import os
+import re
 import signal
 import socket
 import subprocess
@@ -23,6 +25,11 @@ for module, name, value in {changes!r}:
 from registry.main import main
 sys.exit(main(sys.argv[1:]))
 """
+
+# The seconds of a stop as they are needed on a busy machine: so that all that is under way comes to its end.
+PATIENT = [("service", name, float(PATIENCE)) for name in ("GRACE", "ENDING", "READING")]
+# What a service says of a request that took longer than a second, and of a reader that it has ended since a client had two such.
+LONG = re.compile(r"\S+ (?:client=\S+ op=\w+ seconds=[1-9][0-9]*\.[0-9]+ reply=.*|event=restart program=reader why='the program ended with status -9')\n")
 
 
 class Client:
@@ -86,8 +93,10 @@ class Service:
             else [os.path.join(TOP, "registry")]
         words = [str(it) for it in words]
         listening = [] if "--port" in words else ["--socket", self.socket]
+        # a file, since a service that tells of many slow requests would wait for who reads a pipe
+        self.errors = tempfile.TemporaryFile("w+")
         self.running = subprocess.Popen([*command, "serve", "--journal", str(self.journal), *listening, *words], stdout=subprocess.PIPE,
-                                        stderr=subprocess.PIPE, text=True, preexec_fn=heed_signals,
+                                        stderr=self.errors, text=True, preexec_fn=heed_signals,
                                         env={**os.environ, "REGISTRY_PROGRAM": PROGRAM}, **more)
         self.begun = self.running.stdout.readline()
 
@@ -101,14 +110,27 @@ class Service:
 
     def programs(self):
         """The processes of its programs: the one that keeps the journal, and the readers in the order in which they began."""
-        keepers, readers = [], []
+        keepers, readers, own = [], [], words_of(self.running.pid)
         for path in Path("/proc").glob("[0-9]*/stat"):
             with contextlib.suppress(OSError):
                 state, parent, *_ = path.read_text(errors="replace").rpartition(")")[2].split()
-                if int(parent) == self.running.pid and state != "Z":
-                    words = Path(path.parent, "cmdline").read_bytes()
-                    (keepers if b"--journal=" in words else readers).append(int(path.parent.name))
+                if int(parent) == self.running.pid and state not in "ZX":
+                    words = words_of(path.parent.name)
+                    if words != own:  # else it is no program so far
+                        (keepers if b"--journal=" in words else readers).append(int(path.parent.name))
         return keepers, sorted(readers)
+
+    def kill_keeper(self):
+        """Kills the program that keeps the journal, once there is one, and waits until it has ended."""
+        keeper = self.keeper()
+        os.kill(keeper, signal.SIGKILL)
+        wait_for(lambda: keeper not in self.programs()[0])
+
+    def keeper(self):
+        """The process of the program that keeps the journal, once there is one."""
+        found = []
+        wait_for(lambda: found.extend(self.programs()[0]) or found)
+        return found[0]
 
     def get(self, target, method="GET", address=None, host="localhost"):
         """The status and the text of an answer over HTTP."""
@@ -123,8 +145,13 @@ class Service:
         return self.wait()
 
     def wait(self):
-        self.said, told = self.running.communicate(timeout=PATIENCE)
-        return self.running.returncode, told
+        """Waits for its end, and then for that of its programs: so whoever begins the next one finds the journal free."""
+        self.said, _ = self.running.communicate(timeout=PATIENCE)
+        if self.begun:
+            wait_for(lambda: is_free(self.journal))
+        with self.errors:
+            self.errors.seek(0)
+            return self.running.returncode, self.errors.read()
 
     def commands(self):
         """The commands that stand in the journal's file."""
@@ -143,17 +170,46 @@ class Case(unittest.TestCase):
         self.addCleanup(self.leave, service)
         return service
 
+    def ends_well(self, service):
+        """It ends in order, and has said nothing but that requests took long, as they may on a busy machine."""
+        status, said = service.end()
+        self.assertEqual((status, LONG.sub("", said)), (0, ""))
+
     @staticmethod
     def leave(service):
         if service.running.poll() is None:
             service.running.kill()
         service.running.communicate()
+        service.errors.close()
 
     def demand(self, accepted, commands):
         """Each line that was accepted, by its revision, stands at its place in the journal."""
         wrong = {revision: line for revision, line in accepted.items()
                  if commands[revision - 1:revision] != [journal_line(line).encode()]}
         self.assertEqual(wrong, {}, f"{len(commands)} commands")
+
+
+def words_of(process):
+    """The words that a process was begun with."""
+    return Path("/proc", str(process), "cmdline").read_bytes()
+
+
+def is_free(journal):
+    """Whether no session has a journal's file."""
+    with contextlib.suppress(OSError):
+        with open(journal, "rb") as file:
+            try:
+                fcntl.flock(file, fcntl.LOCK_SH | fcntl.LOCK_NB)
+            except BlockingIOError:
+                return False
+    return True
+
+
+def kill(processes):
+    """Kills processes, of which some may have ended."""
+    for process in processes:
+        with contextlib.suppress(ProcessLookupError):
+            os.kill(process, signal.SIGKILL)
 
 
 def wait_for(holds, seconds=PATIENCE):

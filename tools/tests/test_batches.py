@@ -71,7 +71,24 @@ def busy_behind(client, line):
     return busy(client) - before, replies.decode().splitlines()[1]
 
 
+# So many pairs of packages that are in each other's way: the higher version of each foo is ruled out by one conflict.
+PAIRS = 12
+PAIRED = [line for number in range(PAIRS) for line in (
+    publish(f"foo{number}", "2.0.0", [f"bar{number} ^1.0.0"]), publish(f"bar{number}", "1.0.0", [f"foo{number} ^1.0.0"]), publish(f"foo{number}", "1.0.0"))]
+
+
 class Batches(unittest.TestCase):
+    def test_budgets_around_the_conflicts_that_there_are(self):
+        # of requests that are answered together none is spared a conflict by another one
+        asked = [(count, budget) for count in (2, 5, 9, PAIRS) for budget in range(max(count - 2, 0), count + 2)]
+        lines = [resolve(*(f"foo{number} >=1.0.0" for number in range(count)), budget=budget) for count, budget in asked]
+        selected = ['"selected":[' + ",".join(sorted(f'["foo{number}","1.0.0"]' for number in range(count))) + "]}" for count, _ in asked]
+        for workers in WORKERS:
+            replies = served(workers, [*PAIRED, *lines])[len(PAIRED):]
+            for (count, budget), found, reply in zip(asked, selected, replies, strict=True):
+                with self.subTest(workers=workers, count=count, budget=budget):
+                    self.assertTrue(reply.endswith(found) if budget >= count else '"name":"BudgetSpent"' in reply, reply)
+
     def test_tables_by_any_number_of_workers(self):
         tables = tables_under("lines")
         for table in tables:

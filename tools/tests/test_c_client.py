@@ -7,6 +7,7 @@ import time
 import unittest
 
 from library import CLIENT, FOLDER, TESTS, linked, linked_with_sources, needs_library
+from processes import is_running
 from program import PATIENCE, PROGRAM, resolve, skip_without
 from test_durable_replies import HOPELESS, holes
 
@@ -34,7 +35,7 @@ class Client(unittest.TestCase):
 
     def do(self, *words):
         """Runs a command in the test's folder, which has to succeed without a word on standard error."""
-        done = subprocess.run(words, cwd=self.folder, stdout=subprocess.PIPE, stderr=subprocess.PIPE, timeout=100, check=False)
+        done = subprocess.run(words, cwd=self.folder, stdout=subprocess.PIPE, stderr=subprocess.PIPE, timeout=300, check=False)
         self.assertEqual((done.returncode, done.stderr), (0, b""), done.stdout)
         return done.stdout
 
@@ -93,15 +94,6 @@ class Client(unittest.TestCase):
         while is_running(program):
             self.assertLess(time.monotonic(), limit, "the program has outlived its caller")
             time.sleep(0.01)
-
-
-def is_running(process):
-    """Whether a process is there, and more than what is left of one that has ended."""
-    try:
-        with open(f"/proc/{process}/stat", encoding="utf-8", errors="replace") as file:
-            return file.read().rpartition(")")[2].split()[0] != "Z"
-    except OSError:
-        return False
 
 
 if __name__ == "__main__":

@@ -202,6 +202,27 @@ class Worked(Judged):
                 changed = json.loads(derivation.replace(old, new, 1))
                 self.judge(0 if harmless else 1, lines, asked(request), changed, f"{name}: {change}")
 
+    def test_each_fault_is_told(self):
+        lines, request, derivation = CHAIN
+        for old, new, told in (('"within":[1]', '"within":[0]', 'line 1: a version of baz that meets "^3.0.0" is left out'),
+                               ('{"line":1}', '{"line":2}', "line 2: line 2 does not stand above it"),
+                               ('"index":1', '"index":2', "line 2: the request has no need with index 2"),
+                               ('"versions":[0]', '"versions":[1]', 'line 1: a premise on bar has no versions, or one that does not need baz "^3.0.0"'),
+                               ('"pivot":"bar"', '"pivot":"zzz"', "line 1: neither cause speaks of the pivot"),
+                               ('["baz",false,[1]]', '["baz",false,[0]]', "line 1: the conclusion is not what the causes give on bar"),
+                               ('["foo",true,[0]],["baz"', '["baz",false,[1]],["foo"', "line 1: terms out of package order, or on no package"),
+                               ('"within":[1]', '"within":[1,1]', "line 1: a cause of no known form"),
+                               (derivation, "[]", "there is no derivation of the right form"),
+                               (derivation, derivation[:derivation.rindex(',{"causes"')] + "]", "the last line does not say that the request can't be met")):
+            printed = self.judge(1, lines, asked(request), json.loads(derivation.replace(old, new, 1)), told)
+            self.assertEqual(printed, f"request 5: the refusal at revision 4 does not follow: {told}\n")
+        for (lines, request, derivation), more, old, new, told in (
+                (UNKNOWN, [], "[]", '[["",true,[0]]]', "line 1: the conclusion is not what the causes give on the request"),
+                (YANKED, [], '"name":"a"', '"name":"b"', "line 1: there is no package b"),
+                (YANKED, [unyank("a", "1.0.0")], "", "", "line 1: of a these ordinals are allowed: [0]")):
+            printed = self.judge(1, [*lines, *more], asked(request), json.loads(derivation.replace(old, new, 1)), told)
+            self.assertTrue(printed.endswith(f" does not follow: {told}\n"), printed)
+
     def test_lines_that_only_lack_sense(self):
         # each stands before the lines of the chain, and concludes what its causes would give
         lines, request, derivation = CHAIN
@@ -444,6 +465,10 @@ class Files(unittest.TestCase):
             for commands in (requests[:-1], more):
                 words = ("--journal", self.journal(commands), self.file("asked", requests[-1:]), self.file("told", told[-1:]))
                 self.assertEqual(self.tool(*words)[0], status)
+        # what was learnt takes no revision
+        learnt = self.journal([*requests[:2], {"derivation": json.loads(CHAIN[2])[:1], "op": "learn"}, *requests[2:-1]])
+        self.assertEqual(self.tool("--journal", learnt, self.file("asked", requests[-1:]), self.file("told", replies[-1:])),
+                         (0, "request 1: the refusal at revision 4 follows\n"))
         # at a later revision it no longer follows, and then once more it does at the earlier one, in a race's replies too
         several = [replies[-1], {**replies[-1], "revision": 5}, {**replies[-1], "place": 9, "seat": 2}]
         words = ("--journal", self.journal(more), self.file("asked", requests[-1:] * 3), self.file("told", several))
@@ -462,6 +487,9 @@ class Files(unittest.TestCase):
                  ["registry-journal 1", *commands[:3], "nothing", "end 4"], []]
         for number, lines in enumerate(texts):
             self.assertEqual(self.main("--journal", self.file(f"journal{number}", lines), asked_file, told_file)[0], 2, lines)
+        for place, told in ((4, "a cut journal"), (5, "the journal has a command that the rules refuse"), (6, "reply 1 is not of revision 3")):
+            self.assertEqual(self.main("--journal", os.path.join(self.folder.name, f"journal{place}"), asked_file, told_file),
+                             (2, f"there is no judging it: {told}\n"))
         self.assertEqual(self.main("--journal", self.file("cut", ["registry-journal 1", *commands, "end 4"], ended=False),
                                    asked_file, told_file)[0], 2)
 

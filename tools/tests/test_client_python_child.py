@@ -7,12 +7,12 @@ import sys
 import threading
 import time
 import unittest
-from pathlib import Path
 from unittest import mock
 
-from client_python import PYTHON, SECONDS, Case, other, pigeons, registryd
+from client_python import PYTHON, SECONDS, SOON, Case, other, pigeons, registryd
+from processes import is_running
 from program import PROGRAM, heed_signals
-from registryd import Accepted, Ended, List, Listing, Publish, Registry, Selection
+from registryd import Accepted, BudgetSpent, Ended, List, Listing, NoSelection, Publish, Registry, Selection
 
 
 class Child(Case):
@@ -28,20 +28,23 @@ class Child(Case):
 
     def test_a_short_line_comes_behind_a_long_text(self):
         with Registry(PROGRAM) as registry:
-            stdin = registry._session._process.stdin
+            stdin, written = registry._session._process.stdin, []
 
             def write(text):
-                time.sleep(0.2)  # as a thread that gets no processor
+                if not written:
+                    comes(lambda: registry._session._unwritten > 1)  # as a thread that gets no processor until then
+                written.append(text)
                 return stdin.write(text)
 
             slow = mock.Mock(wraps=stdin, write=write)
             with mock.patch.object(registry._session._process, "stdin", slow):
                 registry.many(Publish("a", f"{number}.0.0") for number in range(300))
                 self.assertEqual(registry.resolve({"a": "*"}), Selection(300, {"a": "299.0.0"}))
-                # now that nothing waits it is written at once
-                begun = time.monotonic()
+                self.assertTrue(comes(lambda: not registry._session._unwritten))
+                # now that nothing waits it is written at once, not by that thread
+                self.assertEqual(len(written), 2)
                 self.assertEqual(registry.resolve({"a": "^7"}).selected, {"a": "7.0.0"})
-                self.assertLess(time.monotonic() - begun, 0.2)
+                self.assertEqual(len(written), 2)
 
     def test_what_is_called_back(self):
         told = []
@@ -78,6 +81,36 @@ class Child(Case):
             Registry(self.path("none"))
         self.assertEqual(self.ends("registryd: bad words", lambda: Registry(PROGRAM, workers=0)), 2)
         self.assertEqual(self.ends("registryd: bad words", lambda: Registry(PROGRAM, journal=self.path("a"), load=self.path("b"))), 2)
+        self.assertEqual(self.ends("registryd: bad words", lambda: Registry(PROGRAM, budget=1 << 32)), 2)
+
+    def test_a_budget_of_requests_that_name_none(self):
+        needs = {"zed": "*"}  # which no package meets: that takes one conflict
+        for budget in (0, 1, (1 << 32) - 1):
+            with Registry(PROGRAM, budget=budget) as registry:
+                if budget:
+                    self.assertEqual(registry.resolve(needs), NoSelection(0))
+                else:
+                    with self.assertRaises(BudgetSpent):
+                        registry.resolve(needs)
+                # one that names its own has that
+                self.assertEqual(registry.resolve(needs, budget=1), NoSelection(0))
+        for options in ({"embedded": True}, {"connect": self.path("socket")}):
+            with self.assertRaises(ValueError):
+                Registry(budget=0, **options)
+
+    def test_closing_has_a_limit_where_the_program_is_stopped(self):
+        for is_asked in (False, True):
+            registry = Registry(PROGRAM)
+            hard = pigeons(registry) if is_asked else None
+            futures = [registry.ask(hard)] if is_asked else []
+            os.kill(registry._session._process.pid, signal.SIGSTOP)
+            # more than a pipe holds
+            futures += registry.many([registryd.Line(b'{"op":"list"}' + b" " * 10_000)] * 100 if is_asked else [])
+            begun = time.monotonic()
+            self.ends("the program was killed, since it had not ended 0.5 seconds after the session was closed", lambda: registry.close(0.5))
+            self.assertLess(time.monotonic() - begun, SOON)
+            for future in futures:
+                self.assertIsInstance(future.exception(SECONDS), Ended)
 
     def test_a_program_that_is_killed(self):
         with self.assertRaises(Ended):
@@ -103,11 +136,15 @@ class Child(Case):
             self.ends("the program wrote no reply", lambda: future.result(SECONDS))
             self.ends("the program wrote no reply", registry.close)
 
-    @mock.patch.object(registryd, "WAITED", 0.05)
-    def test_a_program_that_writes_part_of_a_reply_or_one_too_many(self):
+    def test_a_program_that_writes_part_of_a_reply(self):
         registry = other("sys.stdin.readline()\nprint('{\"ok\":true,\"rev', end='', flush=True)")
+        # it has ended when no more comes, or does so in a moment
+        self.enterContext(mock.patch.object(registryd, "WAITED", SECONDS))
         self.ends("the program ended with status 0", lambda: registry.ask(List()).result(SECONDS))
         self.ends("the program ended", registry.close)
+
+    @mock.patch.object(registryd, "WAITED", 0.05)
+    def test_a_program_that_writes_one_reply_too_many(self):
         registry = other("print('{\"ok\":true,\"revision\":1}', flush=True)\ntime.sleep(100)")
         registry._session._threads[2].join(SECONDS)
         self.ends("the program wrote no reply", registry.list)
@@ -125,13 +162,17 @@ class Child(Case):
             self.ends("the program ended", lambda: future.result(SECONDS))
             self.ends("the program ended", registry.close)
 
-    @mock.patch.object(registryd, "WAITED", 0.05)
+    @mock.patch.object(registryd, "WAITED", 2)
     def test_a_program_whose_standard_error_stays_open(self):
-        registry = other("import subprocess\nsubprocess.Popen(['sleep', '5'], stdin=subprocess.DEVNULL, stdout=subprocess.DEVNULL, start_new_session=True)")
+        registry = other("import subprocess\nholds = subprocess.Popen(['sleep', '60'], stdin=subprocess.DEVNULL, stdout=subprocess.DEVNULL, "
+                         "start_new_session=True)\nprint(holds.pid, file=sys.stderr)")
         begun = time.monotonic()
-        self.ends("the program ended with status 0", registry.list)
-        self.ends("the program ended with status 0", registry.close)
-        self.assertLess(time.monotonic() - begun, 4)
+        told = "the program ended with status 0: [0-9]+$"
+        self.ends(told, registry.list)
+        with self.assertRaisesRegex(Ended, told) as caught:
+            registry.close()
+        os.kill(int(str(caught.exception).split()[-1]), signal.SIGKILL)
+        self.assertLess(time.monotonic() - begun, SOON)
 
     def test_a_session_that_is_closed_in_time(self):
         path = self.path("journal")
@@ -147,7 +188,7 @@ class Child(Case):
         future = registry.ask(pigeons(registry))
         begun = time.monotonic()
         self.assertEqual(self.ends("killed, since it had not ended 0.2 seconds after", lambda: registry.close(0.2)), -signal.SIGKILL)
-        self.assertLess(time.monotonic() - begun, 2)
+        self.assertLess(time.monotonic() - begun, SOON)
         self.ends("by signal 9", lambda: future.result(SECONDS))
         registry.close()
         # nothing that was told is lost
@@ -172,7 +213,7 @@ class Child(Case):
         self.addCleanup(parent.communicate)
         self.addCleanup(parent.kill)
         program = int(parent.stdout.readline())
-        self.assertTrue(runs(program))
+        self.assertTrue(is_running(program))
         parent.stdin.write("\n")
         parent.stdin.flush()
         return parent, program
@@ -182,12 +223,12 @@ class Child(Case):
         for before in ("", "os.close(0)"):
             parent, program = self.begun("future.result()", before)
             parent.kill()
-            self.assertTrue(comes(lambda: not runs(program)))
+            self.assertTrue(comes(lambda: not is_running(program)))
 
     def test_no_program_outlives_a_parent_that_ends(self):
         parent, program = self.begun("os._exit(3)")
         self.assertEqual(parent.wait(SECONDS), 3)
-        self.assertTrue(comes(lambda: not runs(program)))
+        self.assertTrue(comes(lambda: not is_running(program)))
 
     def test_a_program_goes_on_where_the_thread_has_ended_that_began_it(self):
         begun = []
@@ -204,17 +245,9 @@ class Child(Case):
         begun = time.monotonic()
         parent.send_signal(signal.SIGINT)
         _, told = parent.communicate(timeout=SECONDS)
-        self.assertLess(time.monotonic() - begun, 5)
+        self.assertLess(time.monotonic() - begun, SOON)
         self.assertEqual(told.splitlines()[-1], "KeyboardInterrupt")
-        self.assertFalse(runs(program))
-
-
-def runs(process):
-    """Whether a process is there and has not ended."""
-    try:
-        return Path(f"/proc/{process}/stat").read_text(encoding="utf-8").rpartition(")")[2].split()[0] not in "ZX"
-    except FileNotFoundError:
-        return False
+        self.assertFalse(is_running(program))
 
 
 def comes(condition):

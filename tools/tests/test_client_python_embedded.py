@@ -9,7 +9,7 @@ import time
 import unittest
 from unittest import mock
 
-from client_python import PYTHON, SECONDS, Case, registryd
+from client_python import PYTHON, SECONDS, SOON, Case, registryd
 from library import LIBRARY, needs_library
 from program import TOP
 from registryd import Accepted, Ended, List, Listing, NoSelection, Publish, Registry, Resolve
@@ -143,12 +143,13 @@ import os, threading, time, registryd
 from client_python import pigeons
 registry = registryd.Registry(embedded=True, library={LIBRARY!r}, journal="a.journal")
 threading.Thread(target=registry.ask, args=[pigeons(registry)], daemon=True).start()
-time.sleep(0.3)
+while not registry._session._lock.locked():
+    time.sleep(0.01)
 begun = time.monotonic()
 try:
     registry.close(0.2)
 except TimeoutError as told:
-    print(time.monotonic() - begun < 2, told, flush=True)
+    print(time.monotonic() - begun < {SOON}, told, flush=True)
 """
         given = {**PYTHON, "PYTHONPATH": os.pathsep.join([PYTHON["PYTHONPATH"], os.path.dirname(__file__)])}
         done = subprocess.run([sys.executable, "-c", script], cwd=self.folder, env=given, stdout=subprocess.PIPE, text=True, timeout=SECONDS)

@@ -5,6 +5,7 @@ import os
 import sys
 import tempfile
 import unittest
+from unittest import mock
 
 from program import TOP
 
@@ -12,12 +13,12 @@ sys.path.insert(0, os.path.join(TOP, "tools"))
 import try_edits  # noqa: E402
 import try_rounds  # noqa: E402
 from edit_files import CRATES, EDITS, Edit, Function, changes, edits_of, functions, functions_of, put_in_place  # noqa: E402
-from try_rounds import BAD, BY_CLAUSE, BY_NAME, NOT_REFUSED, judged, judged_alone, listed, make_holes, try_in_rounds  # noqa: E402
+from try_rounds import BAD, BY_CLAUSE, BY_NAME, BY_PROOF, NOT_REFUSED, judged, judged_alone, listed, make_holes, try_in_rounds  # noqa: E402
 
 # An edit of a limit's number, which is refused by the law that says what it is.
 OF_A_LIMIT = "limits_in_numbers-"
 # How many each run of the tests tries.
-LISTED = 55
+LISTED = 73
 SOURCE = """\
 pub struct Room<'a> {
     door: &'a u32,
@@ -65,10 +66,17 @@ pub extern "C" fn doors() -> u32 {
     1
 }
 """
-LATER = "./proofs/a/late/Answers.antt:3:7: error: `returns`: as printed, the two types differ"
+# Errors as the prover words them: with values against what is wanted, and without.
+LATER = ("./proofs/a/late/Answers.antt:3:7: error: `returns`: `omega`: the goal does not follow from what it read. All of that holds, and the goal "
+         "fails, at `length c.result.now` = 0")
+UNFIT = ("./proofs/a/late/Answers.antt:3:7: error: `returns-clause-good`: as printed, the two types differ only where one has `c.args.line.causes.1`",
+         "  (expected), right after `IsGood`, and the other has `c.args.line.causes.0` (found)")
 GONE = "./proofs/a/late/Answers.antt:3:7: error: `returns`: record `G` has no field `in-Some`"
 OTHER = "./proofs/Lemmas.antt:3:7: error: `lemma`: as printed, the two types differ"
-IN_SOURCE = "note: src/a.rt:12:1: it is not proved that what the function ensures holds when it returns"
+IN_SOURCE = ("note: src/a.rt:12:1: it is not proved that what the function ensures holds when it returns (`returns`); the facts known there allow "
+             "values at which this goal is false")
+UNPROVED = "note: src/a.rt:22:1: it is not proved that what the function ensures holds when it returns (`returns`); `search` gave up at one of its limits"
+OF_A_FIELD = "note: src/a.rt:22:5: `search` found no proof (`invariant_of-self`)"
 HINT = "note: src/a.rt:12:1: rattle found no values"
 LATE, EARLY = Function("a::late", 20, 30), Function("a::Room::early", 10, 15)
 LATE_STANDS = "fn crate::a::late: depends on a hole in `a`"
@@ -168,6 +176,20 @@ class Verdicts(unittest.TestCase):
         of_a_cycle = LATER.replace("late", "+late")
         self.assertEqual(self.among([of_a_cycle]), (BY_CLAUSE, of_a_cycle))
 
+    def test_only_values_show_that_a_clause_refuses_it(self):
+        number = "./proofs/a/late/Answers.antt:3:7: error: `returns`: computed as far as they go, the two types first differ where one has %s (expected) and the other has %s (found)"
+        wrapped = [UNFIT[0], "  computed as far as they go, the two types differ only where one has `2` (expected)", "  and the other has `3` (found)"]
+        for lines in ([LATER], [number % ("`1`", "`5`")], [number % ("`mathlib.Core.Bool.true`", "`mathlib.Core.Bool.false`")], [IN_SOURCE.replace(":12:", ":22:")], wrapped,
+                      [UNPROVED, LATER], [*UNFIT, LATER], [GONE, LATER]):
+            self.assertEqual(self.among(lines)[0], BY_CLAUSE, lines)
+            self.assertEqual(self.alone(*lines, "only=1 holes=1")[0], BY_CLAUSE, lines)
+        for lines in ([UNPROVED], [*UNFIT], [UNPROVED, GONE], [number % ("`1`", "`c.args.count`")], [number % ("`n`", "`5`")],
+                      [UNPROVED.partition(";")[0], "  the facts that it knows:", "another line", "  allow values at which this goal is false"]):
+            self.assertEqual(self.among(lines), (BY_PROOF, " ".join(line.strip() for line in lines[:2]) if len(lines) > 3 or lines == [*UNFIT] else lines[0]), lines)
+            self.assertEqual(self.alone(*lines, "only=1 holes=1")[0], BY_PROOF, lines)
+        # values against another function's clause say nothing of this one
+        self.assertEqual(self.among([IN_SOURCE, UNPROVED])[0], BY_PROOF)
+
     def test_a_harmless_one_is_seen_beside_one_that_is_refused(self):
         self.assertEqual(self.among([LATER, "fn crate::a::late: not proved", EARLY_STANDS], EARLY)[0], NOT_REFUSED)
         self.assertEqual(self.among([IN_SOURCE, "fn crate::a::Room::early: no proof", LATE_STANDS])[0], NOT_REFUSED)
@@ -179,6 +201,11 @@ class Verdicts(unittest.TestCase):
         for place in ("./proofs/a/later/Answers.antt:3:7", "./proofs/b/late/Answers.antt:3:7", "src/a.rt:31:1", "src/b.rt:21:1"):
             self.assertIsNone(self.among([f"{place}: error: wrong"]), place)
 
+    def test_an_invariant_that_is_not_proved_refuses_too(self):
+        self.assertEqual(self.among([OF_A_FIELD]), (BY_PROOF, OF_A_FIELD))
+        of_values = OF_A_FIELD + "; the facts known there allow values at which this goal is false"
+        self.assertEqual(self.among([of_values]), (BY_CLAUSE, of_values))
+
     def test_no_verdict_says_nothing(self):
         self.assertIsNone(judged([LATER], "crate", "src/a.rt", LATE))
         self.assertIsNone(judged([LATE_STANDS, "rattle: no verdict"], "crate", "src/a.rt", LATE))
@@ -187,7 +214,7 @@ class Verdicts(unittest.TestCase):
         last = "only=1 holes=1"
         self.assertEqual(self.alone(LATER, GONE, last), (BY_CLAUSE, LATER))
         self.assertEqual(self.alone(GONE, last), (BY_NAME, GONE))
-        self.assertEqual(self.alone(OTHER, GONE, last), (BY_CLAUSE, OTHER))
+        self.assertEqual(self.alone(OTHER, GONE, last), (BY_PROOF, OTHER))
         self.assertEqual(self.alone(LATE_STANDS, last)[0], NOT_REFUSED)
         for line in ("src/f.rt:1:1: error: no such name", "rattle: no verdict", "", last):
             self.assertEqual(self.alone(line)[0], BAD)
@@ -231,6 +258,34 @@ class Rounds(unittest.TestCase):
     def test_a_bad_one_spoils_no_other(self):
         self.assertEqual(self.kinds("early", "late_bad"), {"early": BY_CLAUSE, "late_bad": BAD})
         self.assertEqual(self.asked, [["early", "late_bad"], ["early"], ["late_bad"]])
+
+
+class ByTheKit(unittest.TestCase):
+    """What the kit tells of the edits of whole crates; it is a script here."""
+
+    def test_each_kind_by_its_words(self):
+        told = {"values": ("refused, as it must be: src/a.rt:1:1: not proved; the facts known there allow values at which this goal is false", BY_CLAUSE),
+                "proof": ("refused, as it must be: ./proofs/a/Answers.antt:1:1: error: as printed, the two types differ", BY_PROOF),
+                "nothing": ("refused, as it must be", BY_PROOF), "name": (try_edits.WORDS[BY_NAME] + " names what is gone)", BY_NAME),
+                "limit": (try_edits.WORDS[try_edits.BY_LIMIT] + " of the prover)", try_edits.BY_LIMIT), "not": ("NOT REFUSED: it is proved", NOT_REFUSED),
+                "bad": ("BAD EDIT: no", BAD), "untried": ("NOT TRIED: no", try_edits.NOT_TRIED), "silent": (None, try_edits.NOT_TRIED)}
+        with tempfile.TemporaryDirectory() as folder:
+            script = os.path.join(folder, "rt")
+            with open(script, "w", encoding="utf-8") as file:
+                file.write("#!/bin/sh\ncat <<'END'\n" + "".join(f"rt: must-fail crate/{name}: {said}\n" for name, (said, _) in told.items() if said) + "END\n")
+            os.chmod(script, 0o755)
+            with mock.patch.dict(os.environ, PATH=f"{folder}:{os.environ['PATH']}"), mock.patch.object(try_edits, "copy_with_edits"), \
+                    contextlib.redirect_stdout(io.StringIO()):
+                kinds = try_edits.try_whole([Edit("crate", name, None, ()) for name in told])
+        self.assertEqual({name: kinds["crate", name] for name in told}, {name: kind for name, (_, kind) in told.items()})
+
+    def test_the_counts(self):
+        kinds = dict.fromkeys(try_edits.KINDS, 1)
+        with mock.patch.object(try_edits, "count", lambda names: {name: kinds for name in names}), contextlib.redirect_stdout(io.StringIO()) as said:
+            # not refused, bad and not tried are no pass
+            self.assertEqual(try_edits.edits(["versions"]), (4, 3))
+        self.assertIn("1 refused by a clause, 1 refused only because a name is gone", said.getvalue())
+        self.assertIn("1 refused only because a proof no longer fits", said.getvalue())
 
 
 class Whole(unittest.TestCase):

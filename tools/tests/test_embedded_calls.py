@@ -9,7 +9,7 @@ from library import TESTS, linked, linked_with_sources, needs_library
 from program import PROGRAM, skip_without
 
 CALLS = os.path.join(TESTS, "c_embedded_calls.c")
-PATIENCE = 100
+PATIENCE = 300  # seconds, under valgrind and on a busy machine too
 ADDRESS = ["-g", "-fsanitize=address,undefined", "-fno-sanitize-recover"]
 THREADS = ["-g", "-fsanitize=thread"]
 # What the archive keeps of a session that a forked process forsakes is no leak of the process itself.

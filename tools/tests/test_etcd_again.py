@@ -12,6 +12,9 @@ sys.path.insert(0, os.path.join(TOP, "tools"))
 import etcd_histories
 
 
+LEAST, MOST = 3, 30  # histories
+
+
 def not_kept(number):
     return f"registryd-etcd: line {number} of w {fronts.NOT_KEPT}\n"
 
@@ -78,12 +81,15 @@ class Dropped(Case):
 class Histories(unittest.TestCase):
     def test_histories_whose_fronts_are_killed_and_whose_cells_are_dropped(self):
         forgotten = 0
-        for seed in (2, 5, 8):
+        for seed in range(2, 2 + 3 * MOST, 3):
             members = SmallMember()
             self.addCleanup(members.close)
             history = etcd_histories.History(members, seed, 3, 2.0, 10)
             self.assertIsNone(history.run())
             forgotten += history.done["replies no longer kept"]
+            # when fronts are killed hangs on how fast the machine is
+            if forgotten and seed >= 2 + 3 * LEAST:
+                break
         self.assertGreater(forgotten, 0)
 
 

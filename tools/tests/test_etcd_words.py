@@ -8,6 +8,7 @@ import sys
 import tempfile
 import time
 import unittest
+from unittest import mock
 
 import fronts
 import program
@@ -16,6 +17,7 @@ from over_small_etcd import A1, Case, accepted
 from program import LIST, PROGRAM, TOP, skip_without
 
 sys.path.insert(0, os.path.join(TOP, "tools"))
+from etcd import gateway
 from etcd.gateway import Endpoint, Fault, Gateway, endpoints
 
 SEE = ": see registryd-etcd --help\n"
@@ -159,8 +161,32 @@ class OverSmallEtcd(Case):
             self.assertEqual(told.read(), b"")
 
 
+class Silence:
+    """A clock in the place of the system's, and members that say nothing, or are not there: who waits for them waits by that clock."""
+
+    def __init__(self, is_there):
+        self.is_there, self.now, self.timeout, self.sock = is_there, 0.0, 0.0, None
+
+    def monotonic(self):
+        return self.now
+
+    def sleep(self, seconds):
+        self.now += seconds
+
+    def request(self, *_):
+        if not self.is_there:
+            raise ConnectionRefusedError("not there")
+
+    def getresponse(self):
+        self.sleep(self.timeout)
+        raise TimeoutError("timed out")
+
+    def close(self):
+        """Nothing is open."""
+
+
 class Patience(unittest.TestCase):
-    """Who waits for members that don't answer gives up within a second of when it should."""
+    """Who waits for members that don't answer gives up when it should."""
 
     def setUp(self):
         self.enterContext(program.in_time(100))
@@ -173,13 +199,24 @@ class Patience(unittest.TestCase):
             taken.listen()
         return f"127.0.0.1:{taken.getsockname()[1]}"
 
+    def gives_up(self, members, timeout, patience):
+        with self.assertRaisesRegex(Fault, rf"\Ano member of etcd answers, for {patience} seconds now: ."):
+            Gateway(endpoints(members), timeout=timeout, patience=patience).insist("/v3/kv/range", {})
+
+    def test_when_who_waits_gives_up(self):
+        for is_there, timeout, patience in ((True, 3, 2), (True, 3, 4), (True, 3.5, 4), (True, 60, 2), (True, 1, 7), (False, 3, 3)):
+            silence = Silence(is_there)
+            with mock.patch.object(gateway, "time", silence), mock.patch.object(Gateway, "connect", lambda _: silence):
+                self.gives_up("a,b", timeout, patience)
+            self.assertAlmostEqual(silence.now, patience, 1, (is_there, timeout, patience))
+
     def test_members_that_say_nothing_or_are_not_there(self):
         silent, missing = ",".join([self.opened(True), self.opened(True)]), self.opened(False)
-        for members, timeout, patience in ((silent, 3, 2), (silent, 3, 4), (silent, 3.5, 4), (silent, 60, 2), (missing, 3, 3)):
+        for members, timeout, patience in ((silent, 3, 2), (silent, 3, 4), (silent, 60, 2), (missing, 3, 3)):
             begun = time.monotonic()
-            with self.assertRaisesRegex(Fault, rf"\Ano member of etcd answers, for {patience} seconds now: ."):
-                Gateway(endpoints(members), timeout=timeout, patience=patience).insist("/v3/kv/range", {})
-            self.assertLess(abs(time.monotonic() - begun - patience), 1, (members, timeout, patience))
+            self.gives_up(members, timeout, patience)
+            # a busy machine may let it wait longer
+            self.assertTrue(patience - 0.1 < time.monotonic() - begun < patience + 20, (members, timeout, patience))
 
     def test_a_front_that_begins(self):
         begun = time.monotonic()
@@ -198,7 +235,7 @@ class PatienceOfAFront(Case):
             while is_silent and path != "/v3/watch":
                 time.sleep(0.05)
         gate = self.opened(hook)
-        front = fronts.Front([gate.url], 1, "--timeout", "2", "--patience", "3")
+        front = fronts.Front([gate.url], 1, "--timeout", "3", "--patience", "4")
         front.begin()
         front.ask(LIST)
         is_silent.append(True)
@@ -206,9 +243,10 @@ class PatienceOfAFront(Case):
         self.assertIsNone(front.send([A1]))
         took = time.monotonic() - begun
         is_silent.clear()
-        self.assertLess(abs(took - 3), 1)
+        # not 7 seconds, on a busy machine either
+        self.assertTrue(3.9 < took < 6.9, took)
         status, said = front.end()
-        self.assertEqual((status, said[:60]), (1, "registryd-etcd: no member of etcd answers, for 3 seconds now"))
+        self.assertEqual((status, said[:60]), (1, "registryd-etcd: no member of etcd answers, for 4 seconds now"))
 
     def test_a_pause_between_two_lines_is_no_waiting(self):
         # a call in vain in the end of one line does not count for the next
@@ -220,12 +258,12 @@ class PatienceOfAFront(Case):
             if lost and path != "/v3/watch":
                 time.sleep(0.05)
         gate = self.opened(hook)
-        front = fronts.Front([gate.url], 1, "--timeout", "1", "--patience", "1", "--compact-every", "1")
+        front = fronts.Front([gate.url], 1, "--timeout", "3", "--patience", "3", "--compact-every", "1")
         front.begin()
         self.addCleanup(self.ended, front)
         lost.append(True)
         self.assertEqual(front.ask(A1), [accepted(1)])
-        time.sleep(1.5)
+        time.sleep(3.5)
         self.assertEqual(front.ask(program.yank("a", "1.0.0")), [accepted(2)])
 
 

@@ -1,5 +1,6 @@
 """A test that waits for a program fails where the program never replies, in place of hanging all tests."""
 import os
+import signal
 import subprocess
 import sys
 import tempfile
@@ -15,8 +16,10 @@ import test_broken_streams
 import test_client_python
 import test_program
 from program import children, in_time
+from services import wait_for
 
 SECONDS = 0.3
+LATEST = 30  # seconds in which a test has failed that waits no longer than those, on a busy machine too
 # Programs that never reply: one waits for all lines before it would, one reads nothing, one writes without an end and no line.
 READS = f"exec {sys.executable} -c 'import sys; print(len(sys.stdin.read()))'"
 LATE = {"waits for all lines": READS, "reads nothing": "exec sleep 1000", "writes no line": "exec cat /dev/zero"}
@@ -24,6 +27,11 @@ LATE = {"waits for all lines": READS, "reads nothing": "exec sleep 1000", "write
 ENDS = "read line; exit 0"
 WAITING = [test_program.Program("test_a_client_that_waits_gets_each_reply"), test_batches.Batches("test_who_asks_and_waits_is_answered"),
            test_batches.Batches("test_a_client_has_its_answer_before_that_is_learnt"), test_client_python.WithProgram("test_each_call")]
+
+
+def alarm():
+    """What is done after how many seconds, again and again."""
+    return signal.getsignal(signal.SIGALRM), signal.getitimer(signal.ITIMER_REAL)[1]
 
 
 class Waiting(unittest.TestCase):
@@ -36,11 +44,12 @@ class Waiting(unittest.TestCase):
             before, result, begun = set(children()), unittest.TestResult(), time.monotonic()
             with mock.patch.object(program, "PROGRAM", stub), mock.patch.object(program, "PATIENCE", SECONDS), \
                     mock.patch.object(test_client_python.WithProgram, "program", stub), mock.patch.object(client_python, "SECONDS", SECONDS), \
-                    in_time(10):
+                    in_time(LATEST):
                 test(result)
             self.assertEqual((result.testsRun, result.wasSuccessful(), result.skipped), (1, False, []))
-            self.assertLess(time.monotonic() - begun, 9)
-            self.assertEqual(set(children()) - before, set())
+            self.assertLess(time.monotonic() - begun, LATEST - 1)
+            # what was killed has ended in a moment
+            wait_for(lambda: not set(children()) - before)
         return (result.failures + result.errors)[0][1]
 
     def test_a_program_that_never_replies(self):
@@ -62,10 +71,18 @@ class Waiting(unittest.TestCase):
                 self.assertNotIn("it was not answered", self.fails_soon(test, ENDS))
 
     def test_what_is_in_time_is_left_alone(self):
-        with in_time(0.2), subprocess.Popen(["sleep", "0"]) as quick:
+        before = alarm()
+        with in_time(LATEST), subprocess.Popen(["sleep", "0"]) as quick:
+            self.assertNotEqual(alarm(), before)
             self.assertEqual(quick.wait(), 0)
-        with subprocess.Popen(["sleep", "1"]) as later:
-            self.assertEqual(later.wait(), 0)
+        # nothing comes later, but for a limit that there was before
+        self.assertEqual(alarm(), before)
+
+    def test_what_a_test_has_started_is_ended(self):
+        with subprocess.Popen(["sleep", "1000"]) as running:
+            with self.assertRaisesRegex(AssertionError, "in 0.3 seconds"), in_time(0.3):
+                running.wait()
+            self.assertEqual(running.wait(LATEST), -signal.SIGKILL)
 
     def test_a_limit_within_another_leaves_that_as_it_was(self):
         with self.assertRaisesRegex(AssertionError, "in 0.3 seconds"), in_time(0.3):

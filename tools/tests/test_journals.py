@@ -12,7 +12,7 @@ from reference import Registry
 from test_reuse import lines_of, session_of
 
 sys.path.insert(0, os.path.join(TOP, "tools"))
-from limits import MOST_COMMANDS, MOST_LEARNT, MOST_STORED, MOST_VERSIONS
+from limits import MOST_COMMANDS, MOST_LEARNT, MOST_LINE_BYTES, MOST_STORED, MOST_VERSIONS
 
 SEEDS = 20
 # a needs b, and b needs c, of which there is one version
@@ -39,6 +39,8 @@ def journal(lines, form=2, end=None):
     return "".join(f"{line}\n" for line in [f"registry-journal {form}", *lines, f"end {len(lines) if end is None else end}"]).encode()
 
 
+# How many packages a version needs of which a line that is too long to be written tells.
+ROWS = 56
 CHAIN_LEARNT = journal([*CHAIN, learn(0)])
 
 
@@ -214,6 +216,20 @@ class Loading(Sessions):
         self.assertEqual(self.session([request], self.saved), ['{"revision":3,"selected":[["foo","1.0.0"]]}'])
         self.assertEqual(self.load(journal(CONFLICT), [request]), ['{"error":22,"name":"BudgetSpent","revision":3}'])
 
+    def test_what_is_stored_once_a_journal_is_loaded(self):
+        # by a budget of no conflict: what the search would find by one is known, or was ended by a later version of bar
+        request, more = resolve("foo >=1.0.0", budget=0), resolve("foo >=1.0.0")
+        self.session([*CONFLICT, more], save=self.saved)
+        *commands, learnt = self.read(self.saved).decode().split("\n")[1:-2]
+        self.assertEqual(commands, [journal_line(line) for line in CONFLICT])
+        newer, other = publish("bar", "1.1.0", ["foo ^1.0.0"]), publish("z", "1.0.0", ["bar ^2.0.0"])
+        for behind, is_known in (([], True), ([other], True), ([newer], False), ([newer, other], False)):
+            text, revision = journal([*CONFLICT, learnt, *behind]), 3 + len(behind)
+            found, spent = ('{"revision":%d,"selected":[["foo","1.0.0"]]}' % revision, '{"error":22,"name":"BudgetSpent","revision":%d}' % revision)
+            self.assertEqual(self.load(text, [request, more]), [found if is_known else spent, found])
+            self.write(self.saved, text)
+            self.assertEqual(run([*SERVE, "--journal", self.saved], f"{request}\n".encode()).stdout.decode(), (found if is_known else spent) + "\n")
+
     def test_a_journal_at_fault(self):
         a = publish("a", "1.0.0")
         for form in (1, 2):
@@ -282,6 +298,8 @@ class Limits(Sessions):
         self.assertEqual(self.load(journal(lines[:most]), [lines[most], yank("p0", "1.0.0")]), [full, full])
         self.fault(journal(lines), most + 2)
         self.fault(journal([*lines[:most], yank("p0", "1.0.0"), unyank("p0", "1.0.0")], 1), most + 2)
+        # a line that is of no journal is told before one too many
+        self.fault(journal([*lines, lines[0]]), most + 3)
 
     def test_what_is_learnt_in_a_session(self):
         """Each version of c ends all that was learnt before it, which is as much as a store may have."""
@@ -299,6 +317,29 @@ class Limits(Sessions):
         self.fault(journal([*lines, learn(*range(versions))]), len(lines) + 2)
         # one more than a store may have is at fault itself
         self.fault(journal([*CHAIN, *(learn(0, 100 + number) for number in range(MOST_STORED + 1))]), MOST_STORED + 5)
+
+    def test_what_was_learnt_by_too_long_a_line_is_left_out(self):
+        ((other, line), _), (many, then) = (self.learnt_of(versions) for versions in (4, MOST_VERSIONS))
+        # the one line speaks of no version of p, and the other one has each of its ordinals dozens of times
+        ordinals = ",".join(map(str, range(MOST_VERSIONS)))
+        self.assertGreater(line.count('"name":"p"') * len(ordinals), MOST_LINE_BYTES)
+        self.assertEqual(many, [other])
+        # the session knows what it does not write, and the next one doesn't
+        self.assertEqual(then, '{"refused":true,"revision":%d}' % (ROWS * 4 + MOST_VERSIONS))
+        self.assertIn("BudgetSpent", *self.session([resolve("p *", budget=1)], self.saved))
+
+    def learnt_of(self, versions):
+        """The learn lines that a session leaves in which no version of p can be had, since each needs all of some packages, of which
+        each is in the way of one version of z; and what is answered then under a budget of one conflict."""
+        lines = [line for number in range(ROWS) for line in (
+            publish(f"c{number}", "1.0.0"), publish(f"c{number}", "2.0.0"), publish(f"t{number}", "1.0.0", [f"c{number} ^1"]),
+            publish("z", f"1.{number}.0", [f"c{number} ^2"]))]
+        lines += [publish("p", f"1.{number}.0", ["z *", *(f"t{row} ^1" for row in range(ROWS))]) for number in range(versions)]
+        told = self.session([*lines, resolve("p *"), LIST, resolve("p *", budget=1)], save=self.saved)
+        text = self.read(self.saved).decode().split("\n")
+        learnt = [line for line in text if line.startswith('{"derivation"')]
+        self.assertEqual((text[:len(lines) + 1], text[-2]), (["registry-journal 2", *map(journal_line, lines)], f"end {len(lines) + len(learnt)}"))
+        return learnt, told[-1]
 
     def test_the_versions_of_a_package(self):
         lines = [publish("a", f"1.{v}.0") for v in range(MOST_VERSIONS + 1)]

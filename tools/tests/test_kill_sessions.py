@@ -32,7 +32,7 @@ ssize_t write(int file, const void *bytes, size_t count) {
         return count;
     }
     ssize_t done = syscall(SYS_write, file, bytes, count);
-    usleep(2000);
+    usleep(20000);
     let_go();
     return done;
 }

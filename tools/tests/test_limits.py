@@ -25,15 +25,11 @@ STATED = [
     *((f"clients/{file}", pattern, name) for file in ("python/registryd.py", "rust/src/refusal.rs") for pattern, name in (
         (r"More than (\d+) dependencies or needs", "MOST_NEEDS"), (r"dependencies or needs, or ([\d,]+) lock lines", "MOST_LOCK_LINES"),
         (r"has more than (\d+) lines", "MOST_DERIVATION_LINES"))),
-    ("docs/REGISTRY.md", r"A package name is 1 to (\d+) bytes", "MOST_NAME_BYTES"),
-    ("docs/REGISTRY.md", r"A version text and a requirement text have at most (\d+) bytes", "MOST_VERSION_BYTES"),
-    ("docs/REGISTRY.md", r"\| more than (\d+) dependencies or needs", "MOST_NEEDS"), ("docs/REGISTRY.md", r"the package has ([\d,]+) versions", "MOST_VERSIONS"),
-    ("docs/REGISTRY.md", r"more than ([\d,]+) names would be numbered", "MOST_PACKAGES"), ("docs/REGISTRY.md", r"([\d,]+) commands are accepted", "MOST_COMMANDS"),
-    ("docs/REGISTRY.md", r"of what is to be learnt ([\d,]+);", "MOST_LEARNT"), ("docs/REGISTRY.md", r"\| ([\d,]+) are stored", "MOST_STORED"),
-    ("docs/REGISTRY.md", r"what one search offers has at most ([\d,]+) lines", "MOST_OFFERED_LINES"),
-    ("docs/REGISTRY.md", r"is one to (\d+) lines of which each cause", "MOST_DERIVATION_LINES"),
     ("docs/FORMATS.md", r"of at most ([\d,]+) bytes without its line feed", "MOST_LINE_BYTES"), ("docs/FORMATS.md", r"at most N threads, 1 to (\d+)", "MOST_WORKERS"),
-    ("docs/FORMATS.md", r"takes 1 to (\d+) files", "MOST_FILES"), ("docs/IMPORTING.md", r"\*\*More than a session takes\*\*, ([\d,]+) lines", "MOST_COMMANDS"),
+    ("docs/FORMATS.md", r"line has more than (\d+) needs", "MOST_NEEDS"), ("docs/FORMATS.md", r"more than ([\d,]+) pairs", "MOST_LOCK_LINES"),
+    ("docs/FORMATS.md", r"in lines of at most ([\d,]+) bytes", "MOST_LINE_BYTES"), ("docs/FORMATS.md", r"command beyond ([\d,]+)", "MOST_COMMANDS"),
+    ("docs/FORMATS.md", r"learnt line beyond ([\d,]+)", "MOST_LEARNT"), ("docs/FORMATS.md", r"takes 1 to (\d+) files", "MOST_FILES"),
+    ("docs/IMPORTING.md", r"\*\*More than a session takes\*\*, ([\d,]+) lines", "MOST_COMMANDS"),
     ("docs/lines.schema.json", r"a line has at most ([\d,]+) bytes", "MOST_LINE_BYTES"),
     ("docs/SCALE.md", r"\| ([\d,]+) names a journal", "MOST_PACKAGES"), ("docs/SCALE.md", r"\| ([\d,]+) versions a package", "MOST_VERSIONS"),
 ]
@@ -72,6 +68,12 @@ class Limits(unittest.TestCase):
         rows = [row.groups() for row in ROW.finditer(read("docs/REGISTRY.md").partition("## Limits")[2])]
         self.assertEqual({name: number(most) for _, most, _, _, _, name in rows}, listed())
         self.assertEqual(len(rows), len(listed()))
+
+    def test_the_page_states_each_limit_in_its_table_alone(self):
+        before, _, table = read("docs/REGISTRY.md").partition("## Limits")
+        numbers = {text: [number(it) for it in re.findall(r"\d[\d,]*", text)] for text in (before, table)}
+        self.assertEqual([it for it in numbers[before] if it in listed().values()], [])
+        self.assertLessEqual({*listed().values()}, {*numbers[table]})
 
     def test_the_program_has_each_limit(self):
         told = {(path, constant): name for _, _, _, constant, path, name in ROW.findall(read("docs/REGISTRY.md"))}

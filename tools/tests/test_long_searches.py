@@ -4,9 +4,11 @@ import itertools
 import os
 import select
 import tempfile
+import time
 import unittest
 
-from program import publish, read_lines, resolve, talking
+from processes import used_by_thread
+from program import PATIENCE, publish, read_lines, resolve, talking
 
 # By so many workers, of a session that keeps a journal and of one that keeps none.
 SESSIONS = list(itertools.product(("1", "2", "7"), (False, True)))
@@ -30,6 +32,11 @@ def said(client, lines):
 def is_silent(client):
     """Whether a program writes nothing for some time."""
     return not select.select([client.stdout], [], [], PAUSE)[0]
+
+
+def that_worked(client, before):
+    """The threads of a program that have used time since."""
+    return [thread for thread, ticks in used_by_thread(client.pid).items() if ticks > before.get(thread, 0)]
 
 
 @contextlib.contextmanager
@@ -73,6 +80,20 @@ class LongSearches(unittest.TestCase):
                 told = read_lines(client, len(lines)).decode().splitlines()
                 self.assertEqual(['"error":22' in line for line in told], [True, False] * len(budgets))
                 self.assertEqual([ANSWER in line for line in told], [False, True] * len(budgets))
+
+    def test_as_many_searches_go_on_at_once_as_there_are_workers_or_requests(self):
+        for workers, requests in ((1, 5), (2, 5), (3, 2), (4, 6)):
+            with self.subTest(workers=workers, requests=requests), session(str(workers), False) as client:
+                said(client, [resolve(*LONG, f"hole{number} *") for number in range(requests)])
+                wanted, until = min(workers, requests), time.monotonic() + PATIENCE
+                # the first time what reads the lines may have used some, too
+                for _ in range(2):
+                    before = used_by_thread(client.pid)
+                    while len(that_worked(client, before)) < wanted and time.monotonic() < until:
+                        time.sleep(0.05)
+                # one too many would have its time, too
+                time.sleep(PAUSE)
+                self.assertEqual(len(that_worked(client, before)), wanted)
 
 
 if __name__ == "__main__":

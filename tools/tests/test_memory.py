@@ -10,7 +10,7 @@ import unittest
 from plain_race import stamped, unstamped
 from plain_search import Published
 from preloaded import REFUSE_MEMORY, built, each_refused
-from program import LIST, PROGRAM, SERVE, check, journal_line, publish, resolve, serve, unyank, yank
+from program import LIST, PROGRAM, SERVE, check, journal_line, publish, resolve, unyank, yank
 from reference import Registry
 from refuter import Known
 from test_check_derivation import said_of
@@ -84,9 +84,13 @@ REQUIREMENTS = ["^1.0.0", ">=1.0.0, <2.0.0-rc.1", "*", ">=1.0.0-alpha", *SINCE]
 
 
 @functools.cache
-def with_ample_memory(accepted, line):
-    """The reply to a line after these commands, where no memory is refused."""
-    return serve([*accepted, line])[-1]
+def verdict(accepted, line):
+    """The reply to a check line after these commands: its derivation is judged as that of a refusal of its request."""
+    commands, asked, revision = list(map(json.loads, accepted)), json.loads(line), len(accepted)
+    refusal = {"derivation": asked["derivation"], "explanation": [], "refused": True, "revision": revision}
+    before = [{"ok": True, "revision": number} for number in range(1, revision + 1)]
+    status, _ = said_of([*commands, {"op": "resolve", "needs": asked["needs"], "lock": asked.get("lock", []), "explain": True}], [*before, refusal])
+    return f'{{"follows":{json.dumps(status == 0)},"revision":{revision}}}'
 
 
 @functools.cache
@@ -104,8 +108,7 @@ def answers(accepted, line):
     """The lawful replies to a line that asks for no explanation, after these commands."""
     request = json.loads(line)
     if request["op"] == "check":
-        # the tests of derivations say that these are right
-        return [with_ample_memory(accepted, line)]
+        return [verdict(accepted, line)]
     if request["op"] == "resolve":
         return selections(accepted, line)
     return [copy.deepcopy(registry_after(accepted)).answer(request, REQUIREMENTS)]

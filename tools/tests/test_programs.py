@@ -1,14 +1,17 @@
 """Which program `./registryd` takes, what it tells of it, and when it builds one: over a small checkout with a kit of scripts."""
 import os
+import select
 import shlex
 import signal
 import subprocess
 import tempfile
-import time
 import unittest
 from pathlib import Path
 
 from fake_tree import COMPILED, NONE, OLDER, PROVED, UNCHECKED, Case
+from processes import is_gone
+from program import PATIENCE, in_time
+from services import wait_for
 
 
 class Version(Case):
@@ -173,13 +176,22 @@ class Starts(Case):
         self.assertEqual(len(self.tree.compilations()), 1)
 
     def test_two_first_starts_at_once(self):
-        self.tree.make_kit(seconds="1")
+        # the compilation of the first ends once the second waits for it
+        waits = self.tree.log.with_name("waits")
+        self.tree.make_kit(seconds=f"0; while [ ! -e {waits} ]; do sleep 0.05; done")
         both = [self.tree.begin("registryd", "a") for _ in range(2)]
-        said = [running.communicate(timeout=60) for running in both]
-        for out, wrong in said:
-            self.assertEqual(out.splitlines(), ["checked", "registryd a", "low a"], wrong)
+        told = [b"", b""]
+        with in_time():
+            while b"waits for its end" not in b"".join(told):
+                for number, running in enumerate(both):
+                    if select.select([running.stderr], [], [], 0.05)[0]:
+                        told[number] += os.read(running.stderr.fileno(), 4_096)
+        waits.touch()
+        for running, before in zip(both, told):
+            out, wrong = running.communicate(timeout=PATIENCE)
+            self.assertEqual(out.splitlines(), ["checked", "registryd a", "low a"], before.decode() + wrong)
         self.assertEqual(len(self.tree.compilations()), 1)
-        self.assertEqual(sorted("waits for its end" in wrong for _, wrong in said), [False, True])
+        self.assertEqual(sorted(b"waits for its end" in it for it in told), [False, True])
 
     def test_one_that_cannot_write_starts_what_stands(self):
         self.says()
@@ -270,14 +282,14 @@ class Failures(Case):
         for sent, status in ((signal.SIGINT, 130), (signal.SIGTERM, 143), (signal.SIGHUP, 129)):
             self.tree.make_kit(seconds="30")
             running = self.tree.begin("tools/build")
-            while not self.tree.compilations():
-                time.sleep(0.02)
+            wait_for(self.tree.compilations)
             running.send_signal(sent)
-            out, wrong = running.communicate(timeout=10)
+            out, wrong = running.communicate(timeout=PATIENCE)
             self.assertEqual((running.returncode, out), (status, ""), wrong)
             self.assertEqual(self.tree.left(), [])
             # what it began has ended too, or does so now
-            self.assertTrue(in_time(lambda: not is_running(*self.tree.compilations())))
+            (compilation,) = self.tree.compilations()
+            self.assertTrue(is_gone(int(compilation)))
             self.tree.log.unlink()
         self.tree.make_kit()
         self.says()
@@ -302,22 +314,6 @@ class Failures(Case):
                 said = self.tree.run("tools/build", "--compiled")
                 self.assertEqual(said[0], 1)
                 self.assertRegex(said[2], f"registryd: this kit cannot compile it without a proof; tools/build --proved builds it: .*{why}")
-
-
-def is_running(process):
-    """Whether a process is there that has not ended, waited for or not."""
-    try:
-        return Path("/proc", process, "stat").read_text(encoding="ascii").rpartition(")")[2].split()[0] != "Z"
-    except FileNotFoundError:
-        return False
-
-
-def in_time(is_so, seconds=10):
-    """Whether something comes to be so within some seconds."""
-    until = time.monotonic() + seconds
-    while not is_so() and time.monotonic() < until:
-        time.sleep(0.02)
-    return is_so()
 
 
 if __name__ == "__main__":

@@ -6,10 +6,11 @@ import sys
 import tempfile
 import threading
 import unittest
+from concurrent.futures import ThreadPoolExecutor
 from types import SimpleNamespace
 from unittest import mock
 
-from program import TOP
+from program import PATIENCE, TOP
 
 sys.path.insert(0, os.path.join(TOP, "tools"))
 import prove_program
@@ -25,9 +26,14 @@ class Order(unittest.TestCase):
         """Runs it; answers whether all was well, and what was begun, each with its jobs and by how much it gives way."""
         begun, proved, lock, now, most = [], set(), threading.Lock(), [0], [0]
 
+        class Noting(ThreadPoolExecutor):
+            """What is begun, in the order in which it is: threads may come to it in another one."""
+            def submit(self, call, *given):
+                begun.append(given)
+                return super().submit(call, *given)
+
         def prove(name, jobs, gives_way_by):
             with lock:
-                begun.append((name, jobs, gives_way_by))
                 now[0] += 1
                 most[0] = max(most[0], now[0])
             self.assertLessEqual(BELOW[name], proved)
@@ -36,7 +42,8 @@ class Order(unittest.TestCase):
                 proved.add(name)
             return name not in failing
 
-        is_well = side_by_side(BELOW, WEIGHTS, processors, at_once or processors, prove)
+        with mock.patch.object(prove_program, "ThreadPoolExecutor", Noting):
+            is_well = side_by_side(BELOW, WEIGHTS, processors, at_once or processors, prove)
         self.assertLessEqual(most[0], at_once or processors)
         return is_well, begun
 
@@ -82,7 +89,7 @@ class Order(unittest.TestCase):
         def prove(name, jobs, gives_way_by):
             asked.append((name, jobs, gives_way_by))
             if name == "long":
-                ended.wait(10)
+                ended.wait(PATIENCE)
             if name == "behind":
                 ended.set()
             return True

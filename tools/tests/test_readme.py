@@ -29,7 +29,7 @@ def answers(folder, lines):
     typed = re.sub(r"\./registry\b", os.path.join(TOP, "registry"), typed)
     variables = {**os.environ, "REGISTRY_PROGRAM": PROGRAM, "NO_COLOR": "1"}
     variables.pop("REGISTRY_JOURNAL", None)
-    done = subprocess.run(["sh", "-c", typed], cwd=folder, env=variables, stdin=subprocess.DEVNULL, stdout=subprocess.PIPE, text=True, timeout=60)
+    done = subprocess.run(["sh", "-c", typed], cwd=folder, env=variables, stdin=subprocess.DEVNULL, stdout=subprocess.PIPE, text=True, timeout=300)
     return done.stdout.splitlines(), done.returncode
 
 

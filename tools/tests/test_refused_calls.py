@@ -14,10 +14,14 @@ import generated_rows_store
 from preloaded import REFUSE_MEMORY, built, each_refused
 from program import TOP
 from public_calls import that_take_memory
+from row_calls import RowCalls
 from row_tables import BEGIN, generated, probe, tables_in
+from source_calls import sources_below
 
 ROWS = os.path.join(TOP, "rows", "refused")
 SHORT = {"refused": 18}
+# The library that makes the calls of each file's rows.
+LIBRARIES = {"low": "low", "search": "low", "texts": "texts", "high": "high"}
 
 
 class Session:
@@ -65,6 +69,32 @@ def is_in_part(answer, ample):
 def tables_of(file):
     with open(os.path.join(ROWS, file), encoding="utf-8") as text:
         return tables_in(text.read(), os.path.join("rows", "refused", file))
+
+
+def journals_at_fault():
+    """Of the rows of `rows/texts/loading.rows` that tell a line at fault each fifth of those whose journal is short: each takes as many
+    runs as it has requests."""
+    with open(os.path.join(TOP, "rows", "texts", "loading.rows"), encoding="utf-8") as text:
+        rows = [row for table in tables_in(text.read(), "loading.rows") for row in table.rows]
+    return [row for row in rows if isinstance(row.wanted, dict) and "line" in row.wanted and journal_length(row) < 400][::5]
+
+
+def journal_length(row):
+    """How long the journal of a row is, which is written as text, or as texts with how often each stands."""
+    text = json.loads(row.asked)["text"]
+    return len(text) if isinstance(text, str) else sum(len(part) * times for part, times in text)
+
+
+def refused_rows():
+    """The library, the title and the call of each table whose call is refused memory."""
+    for file in sorted(os.listdir(ROWS)):
+        for table in tables_of(file):
+            rows = [json.loads(row.asked) for row in table.rows]
+            yield f"calls_{LIBRARIES[file.removesuffix('.rows')]}", table.title, next(row for row in rows if row.get("refuse"))
+    for title, rows in generated_rows.refused_beyond_the_kept_sets():
+        named, colon, _ = title.partition(": ")
+        if colon:
+            yield "calls_low", named, next(row for row in rows if row.get("refuse"))
 
 
 class RefusedCalls(unittest.TestCase):
@@ -124,8 +154,31 @@ class RefusedCalls(unittest.TestCase):
         named = {name for file in sorted(os.listdir(ROWS)) for table in tables_of(file)
                   for name in table.title.split(", ")}
         named |= {name for table in generated(generated_rows.refused_beyond_the_kept_sets())
-                  for name, colon, _ in [table.title.partition(": ")] if colon}
+                  for names, colon, _ in [table.title.partition(": ")] if colon for name in names.split(", ")}
         self.assertEqual(named, that_take_memory())
+
+    def test_each_table_makes_the_calls_of_its_title(self):
+        calls, count = RowCalls(sources_below(TOP)), 0
+        for library, title, row in refused_rows():
+            made, *others = title.split(", ")
+            self.assertTrue(calls.makes(library, row, made), f"{title}: the row does not call {made}")
+            for name in others:
+                self.assertTrue(calls.makes(library, row, name) or calls.leads_to(library, row, name), f"{title}: the row does not come to {name}")
+            count += 1
+        self.assertGreater(count, 90)
+
+    def test_a_call_that_another_row_makes_is_none_of_a_row(self):
+        calls = RowCalls(sources_below(TOP))
+        for of, call, name, more in (("term", "and", "terms::Term::or", {}), ("set", "copy", "terms::Term::copy", {"a": [1]}),
+                                     ("set", "copy", "terms::VSet::single", {"a": [1]}), ("set", "single", "terms::VSet::of", {"k": 1}),
+                                     ("registry", "apply", "registry::Registry::shared", {"do": "publish"}),
+                                     ("registry", "reserve", "registry::Registry::apply", {"do": "publish"})):
+            self.assertFalse(calls.makes("calls_low", {"of": of, "call": call, **more}, name), name)
+        self.assertFalse(calls.makes("calls_texts", {"of": "journals", "call": "end_text"}, "journals::load_journal"))
+        for of, call, name, more in (("jobs", "take", "pool::answer_lent", {}), ("solver", "solve", "solver::solve_with", {}),
+                                     ("pool", "answer_all", "pool::answer_all_with", {}),
+                                     ("chronicle", "steps", "chronicle::Seat::unyank", {"steps": [[1, "yank", {}]]})):
+            self.assertFalse(calls.makes("calls_high", {"of": of, "call": call, **more}, name), name)
 
     def test_the_last_requests_of_a_row_that_ends_behind_a_segment(self):
         self.refuse_last(generated_rows_chronicle.a_row_that_ends_behind_a_segment(), 150, 3)
@@ -138,6 +191,17 @@ class RefusedCalls(unittest.TestCase):
         for table in generated(generated_rows.refused_beyond_the_kept_sets()):
             with self.subTest(table.title):
                 self.assertGreater(self.refuse_each(session, table), 0, f"{table.title}: no request was refused")
+
+    def test_each_request_of_the_loading_of_a_journal_at_fault(self):
+        # want of memory is never told as a fault, and a fault never as want of memory
+        session, count, refused = Session(probe("texts"), self.library), 0, 0
+        for row in journals_at_fault():
+            table, = generated([("journals::load_journal", [{**json.loads(row.asked), "refuse": True, "gives": row.wanted}])])
+            with self.subTest(row.place):
+                refused += self.refuse_each(session, table)
+                count += 1
+        self.assertTrue(count > 10 and refused > 100, (count, refused))
+        print(f"({count} journals, {refused} times answered want of memory) ", end="")
 
     def test_each_request_of_each_call(self):
         count = refused = 0

@@ -6,7 +6,7 @@ import sys
 import unittest
 
 from program import TOP, publish
-from registry_folder import Folder
+from registry_folder import Folder, at_terminal
 
 sys.path.insert(0, os.path.join(TOP, "tools"))
 import fuzz_check
@@ -132,6 +132,17 @@ class Command(Folder):
         status, printed, _ = self.check(path)
         self.assertEqual((status, printed), (1, "long.lines:2:1: error 19 BadLine: the line has more than 1,048,576 bytes\n"
                                                 'long.lines:4:7: error 19 BadLine: there is no op "lists"; did you mean "list"?\n'))
+
+    def test_a_text_that_is_open_where_its_line_ends(self):
+        status, printed, _ = self.check(self.path("open.lines", '{"op":"list\n{"op":"list"}\n'))
+        self.assertEqual((status, printed), (1, "open.lines:1:7: error 19 BadLine: this text has no closing quote\n"))
+
+    def test_in_colour(self):
+        path = self.path("some.lines", '{"op":"lists"}\n')
+        status, shown = at_terminal([os.path.join(TOP, "registry"), "check", path], {"NO_COLOR": ""})
+        self.assertEqual((status, shown.replace(self.folder + os.sep, "").splitlines()), (1, [
+            '\x1b[1msome.lines:1:7:\x1b[0m \x1b[31merror 19 BadLine:\x1b[0m there is no op "lists"; did you mean "list"?',
+            "registry: some.lines: 1 of 1 line would be refused"]))
 
     def test_a_file_that_is_not_there(self):
         self.assertEqual(self.check(self.path("none.lines")), (3, "", "registry: none.lines: No such file or directory\n"))

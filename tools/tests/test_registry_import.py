@@ -335,6 +335,11 @@ class Published(Folder):
         told = serve([*FOG, *IO, *MAKER, *PAD, *Q, *SOLITARY, LIST])[-1]
         self.assertEqual(json.loads(told), json.loads(serve_loaded(self.journal, LIST)))
 
+    def test_counts_as_json(self):
+        status, said, _ = self.registry("import", "crates-io", CRATES_IO, "--json")
+        told = json.loads(said)
+        self.assertEqual((status, told["accepted"], told["passed_over"], told["refused"], told["revision"]), (0, 14, 0, 0, 14))
+
     def test_what_is_there_already_is_passed_over(self):
         self.registry("import", "crates-io", CRATES_IO, "--from", "io")
         status, said, counts = self.registry("import", "crates-io", CRATES_IO)

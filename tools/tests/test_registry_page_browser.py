@@ -137,11 +137,13 @@ class Resolving(InBrowser):
 
     def test_what_can_t_be_answered(self):
         lines, needs = pigeons(14)
-        self.show("#/resolve?need=log%40nonsense", *WORKED, *lines, seconds=1)
+        self.show("#/resolve?need=log%40nonsense", *WORKED, *lines)
         self.browser.until("document.querySelector('.fault')")
         self.assertIn('"nonsense"', self.texts(".fault")[0])
+        self.shown.seconds = 1
         self.browser.open(self.server.address + "#/resolve?" + urlencode({"need": needs}, doseq=True))
         self.browser.until("document.querySelector('.fault')?.textContent === 'no answer was found in 1 second, and the search was ended.'")
+        self.shown.seconds = 60
         self.browser.open(self.server.address + "#/resolve?need=zlib")
         self.browser.until("document.querySelectorAll('tbody tr').length === 1")
 

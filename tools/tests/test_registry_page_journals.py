@@ -97,15 +97,16 @@ class Searches(Served):
         self.assertEqual((answers[0][0], json.loads(answers[0][2])), (503, {"error": "another request came from the same page"}))
 
     def test_another_page_waits_and_all_else_is_answered(self):
-        self.serve(*self.lines, seconds=3)
+        self.serve(*self.lines, seconds=5)
         answers, thread = self.begun("one")
+        self.shown.seconds = 60  # of those that come now
         with in_time():
             self.assertEqual(self.told("search", text="easy")["found"], 1)
             self.assertEqual(self.told("status")["revision"], len(self.lines))
             self.assertTrue(self.shown.running and not answers)
             self.assertEqual(len(self.told("resolve", need="easy", page="two")["selected"]), 1)
             thread.join()
-        self.assertEqual((answers[0][0], json.loads(answers[0][2])["error"]), (503, "no answer was found in 3 seconds, and the search was ended"))
+        self.assertEqual((answers[0][0], json.loads(answers[0][2])["error"]), (503, "no answer was found in 5 seconds, and the search was ended"))
 
 
 class Command(Served):

@@ -13,6 +13,8 @@ import time
 import unittest
 from unittest import mock
 
+from preloaded import built
+from processes import is_idle
 from program import PROGRAM, TOP, publish, yank
 from registry_folder import Folder  # it finds the package
 from registry.failures import Refused
@@ -198,7 +200,7 @@ class Typed(Folder):
             shell.answer("publish log 1.0.0")
             child = shell.child()
             shell.type("resolve " + " ".join(needs) + "\n")
-            time.sleep(0.5)
+            self.assertFalse(is_idle(*child))  # it has the request
             shell.type("\x03")
             self.assertIn("registry: interrupted\n", shell.read("registry> "))
             self.assertEqual(shell.answer("show log").splitlines()[:2], ["log", "  1.0.0"])
@@ -223,6 +225,22 @@ class Typed(Folder):
                 self.assertEqual(shell.running.wait(timeout=SECONDS), status)
                 self.assertFalse(os.path.exists(f"/proc/{child}/exe"))
         self.assertIn("end 2", self.text("registry.journal"))
+
+    def test_a_shell_that_is_ended_amid_a_search(self):
+        lines, needs = pigeons(14)
+        self.hold(*lines)
+        with self.terminal() as shell:
+            shell.answer("publish log 1.0.0")
+            (child,) = shell.child()
+            shell.type("resolve " + " ".join(needs) + "\n")
+            self.assertFalse(is_idle(child))  # it has the request
+            shell.running.send_signal(signal.SIGTERM)
+            self.assertEqual(shell.running.wait(timeout=SECONDS), 143)
+            self.assertFalse(os.path.exists(f"/proc/{child}/exe"))
+
+    def test_a_signal_just_before_the_wait_for_a_key(self):
+        with self.terminal(LD_PRELOAD=built(type(self), os.path.join("tests", "signal_before_select.c"))) as shell:
+            self.assertEqual(shell.running.wait(timeout=SECONDS), 143)
 
 
 class Piped(Folder):

@@ -326,6 +326,7 @@ def drawn(picture):
     """The texts, with their places, of a picture, and how far it goes."""
     top = ElementTree.fromstring(picture)
     texts = [(it.text, float(it.get("x")), float(it.get("y"))) for it in top.iter(SVG + "text")]
+    assert len({(x, y) for _, x, y in texts}) == len(texts), "two texts stand at one place"
     wide, high = float(top.get("width")), float(top.get("height"))
     assert top.get("viewBox") == f"0 0 {wide:.0f} {high:.0f}", "a picture that can't be shown at another size"
     return top, texts, (wide, high)
@@ -370,8 +371,18 @@ class Pictures(unittest.TestCase):
             self.assertFalse([(one, other) for one, other in zip(pieces, pieces[1:]) if one[0] == other[0] and other[1] < one[2]])
         self.assertGreater(len(steps), 180)
 
+    def test_reasons_of_several_rows(self):
+        one, other = "a" * 60, "b" * 60
+        lines, request = [publish(one, "1.0.0", [f"{other} ^2"]), publish(other, "1.0.0")], resolve(f"{one} ^1")
+        reply = json.loads(serve([*lines, json.dumps({**json.loads(request), "explain": True})])[-1])
+        top, texts, _ = drawn(drawing.draw_derivation(Derivation(registry_of(map(json.loads, lines)), json.loads(request), reply["derivation"]), "asked"))
+        (box, *_), rows = [it for it in top.iter(SVG + "rect") if it.get("rx")], [(y, said) for said, _, y in texts if other in said]
+        self.assertGreater(len({y for y, _ in rows}), 1)
+        self.assertTrue(all(float(box.get("y")) < y for y, _ in rows))
+
     def dots(self, lines, request):
-        """Of the picture of a selection: what each dot tells, with the names that its line and its column lead to."""
+        """Compares what each dot of a selection's picture tells, with the names that its line and its column lead to, with what there
+        is; answers the selection and what else is written there."""
         *_, reply = serve([*lines, request])
         selected, registry = dict(json.loads(reply)["selected"]), registry_of(map(json.loads, lines))
         top, texts, _ = drawn(drawing.draw_selection(registry, asked(request), selected, "what was asked"))
@@ -390,16 +401,24 @@ class Pictures(unittest.TestCase):
         named = {name: said for said, name in labels.items()}
         wanted = [(f"{named[name]} needs {target} {need}", name, target) for name, row in needs.items() for target, need in row]
         self.assertEqual(sorted(found), sorted(wanted))
-        return selected
+        return selected, [said for said, _, _ in texts if said not in labels]
 
     def test_selections(self):
         lines, requests = workloads.lockfile(90)
-        self.assertGreaterEqual(len(self.dots(lines, requests[0])), 60)
+        selected, said = self.dots(lines, requests[0])
+        self.assertGreaterEqual(len(selected), 60)
+        self.assertEqual([it.split(" ", 2)[:2] for it in said if it != "what was asked"], [["From", "a"]] * 2)
+
+    def test_a_selection_of_what_is_not_published(self):
+        registry = registry_of([json.loads(publish("a", "1.0.0"))])
+        for selected, needs, told in (({"a": "2.0.0"}, ["a *"], "a 2.0.0 was selected and is not published"), ({}, ["a *"], "the selection lacks what it needs")):
+            with self.assertRaisesRegex(ValueError, told):
+                drawing.draw_selection(registry, asked(resolve(*needs)), selected, "what was asked")
 
     def test_packages_that_need_each_other(self):
         lines = [publish("a", "1.0.0", ["b *"]), publish("b", "1.0.0", ["c *", "d *"]), publish("c", "1.0.0", ["a *", "b *"]), publish("d", "1.0.0", ["d-2 *"]),
                  publish("d-2", "1.0.0")]
-        self.dots(lines, resolve("a *", "c *"))
+        self.assertIn("A red line leads back up, where packages need each other.", self.dots(lines, resolve("a *", "c *"))[1])
 
 
 ASKED = [publish("app", "1.0.0", ["log ^1"]), publish("app", "1.1.0", ["log ^2"]), publish("tiny", "1.0.0"),
@@ -498,9 +517,21 @@ class Typed(unittest.TestCase):
         unpublished = "Because the request depends on a ^1 and no version of a is published, resolving failed.\n"
         self.assertEqual(self.why("--journal", journal, "--asked", files[1], "--told", self.file("told", done[1:3])),
                          (0, "request 2, a ^1: refused at revision 1\n  " + unmet, ""))
+        # what the other file was told, as if this one had asked it: the revision is the journal's
+        self.assertEqual(self.why("--journal", journal, "--asked", files[0], "--told", self.file("told", done[2:3])),
+                         (0, "request 1, a ^1: refused at revision 1\n  " + unmet, ""))
         revision = json.loads(done[0])["revision"]
         self.assertEqual(self.why("--journal", journal, "--asked", files[0], "--told", self.file("told", done[:1])),
                          (0, f"request 1, a ^1: refused at revision {revision}\n  " + (unmet if revision else unpublished), ""))
+
+    def test_a_budget_that_was_spent_is_no_answer(self):
+        asked_for = [publish("a", "1.0.0", ["none ^1"]), resolve("a *", budget=0), resolve("a *")]
+        files = self.session(asked_for)
+        self.assertEqual(json.loads(serve(asked_for)[1])["error"], 22)
+        status, said, _ = self.why(*files)
+        self.assertEqual((status, said.partition("\n")[0]), (0, "request 3, a *: refused at revision 1"))
+        status, said, fault = self.why(*files, "--request", "2")
+        self.assertEqual((status, said, fault), (1, "", "registry: request 2 is no request with a selection or a refusal\n"))
 
     def test_not_this_version(self):
         journal = self.journal(ASKED)

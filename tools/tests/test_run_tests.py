@@ -24,6 +24,10 @@ FILES = {
                             "@unittest.skip('no cargo')\nclass Other(unittest.TestCase):\n    def test_j(self):\n        self.fail()\n",
     "test_skips_all.py": HEAD + "    @classmethod\n    def setUpClass(cls):\n        raise unittest.SkipTest('no rustc')\n"
                                 "    def test_k(self):\n        self.fail()\n",
+    "test_waits.py": HEAD + "    def test_m(self):\n        import subprocess\n        subprocess.run(['sleep', '1000'])\n"
+                            "    def test_n(self):\n        pass\n",
+    "test_waits_before.py": HEAD + "    @classmethod\n    def setUpClass(cls):\n        import threading\n        threading.Event().wait()\n"
+                                   "    def test_o(self):\n        pass\n",
     "test_broken.py": "import no_such_module\n",
     "test_ends.py": HEAD + "    def test_f(self):\n        import os\n        os._exit(3)\n",
     "test_empty.py": "",
@@ -37,7 +41,7 @@ REASONS = ["skipped: test_skips.Case.test_h: no etcd", "skipped: test_skips.Othe
 class Counted(unittest.TestCase):
     """`./test --tools` in a folder of its own, with these files as its tests."""
 
-    def run_these(self, *names, options=(), last=None):
+    def run_these(self, *names, options=(), last=None, **variables):
         with tempfile.TemporaryDirectory() as top:
             tests = os.path.join(top, "tools", "tests")
             os.makedirs(tests)
@@ -50,9 +54,9 @@ class Counted(unittest.TestCase):
                 with open(os.path.join(tests, name), "w", encoding="utf-8") as file:
                     file.write(last if last and name == "test_written_lines.py" else FILES[name])
             # these tests ask no program
-            given = {**os.environ, "REGISTRYD": "none", "PROBE": "none"}
+            given = {**os.environ, "REGISTRYD": "none", "PROBE": "none", "EMBEDDED": "none", **variables}
             done = subprocess.run([sys.executable, os.path.join(top, "test"), *options, "--tools"], env=given, stdout=subprocess.PIPE,
-                                  stderr=subprocess.PIPE, text=True, timeout=60)
+                                  stderr=subprocess.PIPE, text=True, timeout=300)
             self.assertEqual(done.stderr, "")
             return done.stdout, done.returncode
 
@@ -73,6 +77,13 @@ class Counted(unittest.TestCase):
         self.assertIn("it could not be run", said)
         # the last one fails too: nothing was noted
         self.assertEqual((said.splitlines()[-1], status), ("0 passed, 2 failed, 0 skipped", 1), said)
+
+    def test_a_test_that_waits_for_ever_fails(self):
+        said, status = self.run_these("test_waits.py", "test_waits_before.py", last=PASSING, TEST_SECONDS="2")
+        self.assertIn("it was not answered in 2.0 seconds", said)
+        self.assertIn("it was not answered in 6.0 seconds", said)
+        # passed: n and the last file's
+        self.assertEqual((said.splitlines()[-1], status), ("2 passed, 2 failed, 0 skipped", 1), said)
 
     def test_what_could_not_run_is_skipped_and_told(self):
         said, status = self.run_these("test_skips.py", "test_skips_all.py", last=PASSING)

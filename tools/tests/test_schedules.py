@@ -138,6 +138,31 @@ class Judging(unittest.TestCase):
         with self.assertRaisesRegex(plain_race.RaceFault, "at place 4 a command is told as accepted, and what was learnt stands there"):
             plain_race.judge(self.files, self.told(*accepted, journal=[*entries[:3], learn(0)]))
 
+    def test_each_fault_is_told(self):
+        line, other = publish("a", "1.0.0"), publish("b", "1.0.0")
+        entry, before = journal_line(line), '{"packages":[],"place":0,"revision":0,"seat":1}'
+        own, second = ('{"ok":true,"place":1,"revision":1,"seat":%d}' % seat for seat in (1, 2))
+        right = self.told(own, journal=[entry])
+        yanked = journal_line(yank("a", "1.0.0"))
+        for files, printed, told in (
+                ([line], right[:-1], "the last line is not ended"),
+                ([line], "", "a line has no reply"),
+                ([line], own + "\n", "a journal is printed as [] .. []"),
+                ([line], right.replace("journal 2", "journal 1"), "a journal is printed as ['registry-journal 1'] .. ['end 1']"),
+                ([line], right.replace("end 1", "end 2"), "a journal is printed as ['registry-journal 2'] .. ['end 2']"),
+                *(([line], self.told(reply, journal=[entry]), f"seat 1 is told {reply}") for reply in (
+                    '{"ok":true,"revision":1,"seat":1}', '{"ok":true,"place":true,"revision":1,"seat":1}', second, "[1]")),
+                ([line, other], self.told(own, second, journal=[entry]), "two commands are accepted at place 1"),
+                ([line], right.replace('"place":1', '"place":2'), "a reply is of a place behind the journal's end"),
+                ([line], self.told(own, journal=[yanked]), f"entry 1 is at fault: {yanked}"),
+                ([LIST], self.told(before, journal=[entry]), "no seat was told that its command stands at place 1"),
+                ([line], self.told(own, journal=[journal_line(other)]), f"at place 1 stands {journal_line(other)}, told {line}"),
+                ([LIST], self.told(before.replace('"revision":0', '"revision":1'), journal=[]),
+                 f'seat 1 at place 0: {LIST}\n answered {{"packages":[],"revision":1}}\n ')):
+            with self.assertRaises(plain_race.RaceFault, msg=printed) as caught:
+                plain_race.judge([[it.encode()] for it in files], printed)
+            self.assertTrue(str(caught.exception) == told or told.endswith("\n ") and str(caught.exception).startswith(told), str(caught.exception))
+
     def test_an_accepted_command_that_is_told_as_want_of_memory(self):
         def short(line):
             told = json.loads(line) if '"ok"' in line else {}

@@ -8,7 +8,7 @@ import threading
 import unittest
 
 from made_lines import Maker
-from program import LIST, SERVE, publish, resolve, run, yank
+from program import LIST, PATIENCE, SERVE, publish, resolve, run, yank
 from services import Case, Client, wait_for
 from tables import tables_under
 
@@ -48,7 +48,7 @@ class Order(Case):
         for number, (one, other) in enumerate(zip(told, wanted)):
             self.assertEqual(plain(one), plain(other), f"line {number + 1}: {lines[number:number + 1]}")
         self.assertEqual(len(told), len(wanted))
-        self.assertEqual(service.end(), (0, ""))
+        self.ends_well(service)
 
     def test_the_lines_of_all_tables(self):
         lines = without_budget(line for table in tables_under("lines") for line, _, _ in table.rows)
@@ -78,7 +78,7 @@ class Order(Case):
         for it in threads:
             it.join()
         self.assertEqual(faults, [])
-        self.assertEqual(service.end(), (0, ""))
+        self.ends_well(service)
         self.assertEqual(len(service.commands()), 20 * 30)
 
     def talk(self, service, number):
@@ -108,7 +108,7 @@ class Bounds(Case):
                            (good, listed), (LIST, listed), ("", b""), ("\n", bad), ("\n\n" + LIST, bad + bad + listed), (LIST + "\r\n", listed)):
             with self.subTest(text.replace(" " * 1_000, "")[:100]), service.client() as client:
                 self.assertEqual(client.finish(text.encode()), told)
-        self.assertEqual(service.end(), (0, ""))
+        self.ends_well(service)
 
     def test_lines_in_pieces(self):
         service, told = self.begin(), []
@@ -145,6 +145,7 @@ class Bounds(Case):
                         sent += idle.socket.send((LIST + "\n").encode() * 1_000)
                 self.assertEqual(busy.ask(LIST)[0]["revision"], 200)
                 wait_for(lambda: "registryd_clients_cut_off_total 1\n" in service.get("/metrics")[1])
+                idle.socket.settimeout(PATIENCE)
                 read = idle.rest()
             self.assertTrue(read.startswith(b'{"packages":[["log",[["1.0.0",false],'))
             self.assertLess(read.count(b"\n"), 100_000)
@@ -163,17 +164,19 @@ class Bounds(Case):
         with service.client() as client:
             # whoever comes after is answered
             self.assertIn("packages", client.ask(LIST)[0])
-        self.assertEqual(service.end(), (0, ""))
+        self.ends_well(service)
         commands = service.commands()
         self.assertEqual([json.loads(it)["version"] for it in commands], [f"1.{minor}.0" for minor in range(len(commands))])
 
     def test_what_a_page_in_a_browser_sends_is_no_request(self):
         """A page from elsewhere can have a browser send any text behind a head of HTTP."""
         service = self.begin("--port", 0)
-        for method in ("POST", "PUT", "OPTIONS"):
-            text = f"{method} / HTTP/1.1\r\nHost: localhost\r\nContent-Length: 60\r\n\r\n{publish('log', '1.0.0')}\n"
-            with Client(service.address()) as client:
-                self.assertIn(b" 405 Method Not Allowed\r\n", client.finish(text.encode()))
+        for method, path, status in (("POST", "/", b"405 Method Not Allowed"), ("PUT", "/", b"405 Method Not Allowed"),
+                                     ("OPTIONS", "/", b"405 Method Not Allowed"), ("POST", "/" + "a" * (MOST_LINE_BYTES - 100), b"405 Method Not Allowed"),
+                                     ("POST", "/" + "a" * 3_000_000, b"400 Bad Request"), ("POST", "/ HTTP/1.1", b"400 Bad Request")):
+            text = f"{method} {path} HTTP/1.1\r\nHost: localhost\r\nContent-Length: 60\r\n\r\n{publish('log', '1.0.0')}\n"
+            with self.subTest(text[:20]), Client(service.address()) as client:
+                self.assertIn(b"HTTP/1.1 " + status + b"\r\n", client.finish(text.encode()))
         with service.client() as client:
             self.assertEqual(client.ask(LIST)[0]["revision"], 0)
 

@@ -12,7 +12,7 @@ from pathlib import Path
 from unittest import mock
 
 from called import registry
-from program import TOP, publish, yank
+from program import PATIENCE, TOP, publish, yank
 from services import Case
 
 sys.path.insert(0, os.path.join(TOP, "tools"))
@@ -46,7 +46,7 @@ class Same(Case):
         copy = os.path.join(self.folder, "copy.journal")
         shutil.copy(service.journal, copy)
         self.assertEqual(told, self.answers("--journal", copy))
-        self.assertEqual(service.end(), (0, ""))
+        self.ends_well(service)
 
     def test_what_is_written(self):
         service, journal = self.begin("--port", 0), os.path.join(self.folder, "other.journal")
@@ -54,7 +54,7 @@ class Same(Case):
         for words in (["publish", "log", "1.0.0"], ["publish", "log", "1.0.0"], ["publish", "app", "1.0.0", "log@^1", "lgo"], ["yank", "log", "1.0.0"],
                       ["yank", "log", "1.0.0"], ["unyank", "log", "1.0.0"], ["publish", "log", "1"]):
             self.assertEqual(registry(*words, "--connect", f"{host}:{port}"), registry(*words, "--journal", journal), words)
-        self.assertEqual(service.end(), (0, ""))
+        self.ends_well(service)
         self.assertEqual(service.journal.read_text(), Path(journal).read_text())
 
     def test_an_index_is_imported(self):
@@ -63,7 +63,7 @@ class Same(Case):
         one, other = (registry("import", "debian", index, *where) for where in (["--connect", service.socket], ["--journal", journal]))
         self.assertEqual(one, other)
         self.assertEqual(one[0], 0)
-        self.assertEqual(service.end(), (0, ""))
+        self.ends_well(service)
         self.assertEqual(service.journal.read_text(), Path(journal).read_text())
 
     def test_the_environment_and_wrong_words(self):
@@ -87,7 +87,7 @@ class Same(Case):
         status, told, noted = registry("shell", "--connect", service.socket, given=lines)
         self.assertEqual((status, noted), (0, ""))
         self.assertEqual(told.splitlines()[:4], ["published log 1.0.0 (revision 1)", "published app 1.0.0 (revision 2)", "app 1.0.0", "└── log 1.0.0"])
-        self.assertEqual(service.end(), (0, ""))
+        self.ends_well(service)
 
 
 class Again(Case):
@@ -103,6 +103,7 @@ class Again(Case):
         return service
 
     def test_each_command_is_carried_out_once(self):
+        self.enterContext(mock.patch.object(connected, "PATIENCE", PATIENCE))  # so long a begin may take on a busy machine
         service = self.begin()
         commands = [{"op": "publish", "name": "log", "version": f"1.{minor}.0", "needs": []} for minor in range(600)]
         replies, faults = [], []

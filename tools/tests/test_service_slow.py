@@ -1,17 +1,22 @@
 """A request that takes long holds up nobody: others are answered meanwhile, and it is ended after its seconds."""
 import json
-import os
-import signal
+import select
 import time
 import unittest
 
+from processes import is_idle
 from program import LIST, publish, resolve
 from registry_folder import pigeons
-from services import Case, wait_for
+from services import Case, kill, wait_for
 
 LINES, NEEDS = pigeons(15)
 HARD = resolve(*(f"{it} *" for it in NEEDS))
 SPENT = b'{"error":22,"name":"BudgetSpent","revision":%d}'
+
+
+def has_replies(client):
+    """Whether a client was answered what it has not read."""
+    return bool(client.read or select.select([client.socket], [], [], 0)[0])
 
 
 class Slow(Case):
@@ -23,23 +28,20 @@ class Slow(Case):
         return service
 
     def test_others_are_answered_meanwhile_and_its_seconds_end_it(self):
-        service = self.begin_full("--seconds", 2)
+        service = self.begin_full("--seconds", 4)
         with service.client() as hard, service.client() as other:
             begun = time.monotonic()
             hard.send(HARD, LIST)
-            longest, revision = 0, len(LINES)
-            while time.monotonic() < begun + 1.5:
-                asked = time.monotonic()
+            revision = len(LINES)
+            while time.monotonic() < begun + 1.5 or revision < len(LINES) + 10:
                 accepted, found, refused = other.ask(publish("log", f"1.{revision}.0"), resolve("log *"), resolve("missing *"))
-                longest = max(longest, time.monotonic() - asked)
                 revision += 1
                 self.assertEqual((accepted, found), ({"ok": True, "revision": revision}, {"revision": revision, "selected": [["log", f"1.{revision - 1}.0"]]}))
                 self.assertEqual(refused, {"refused": True, "revision": revision})
-            self.assertLess(longest, 1)
-            self.assertGreater(revision, len(LINES) + 10)
+            self.assertFalse(has_replies(hard))
             # it is told at the revision at which it was asked, as is what stood behind it
             self.assertEqual(hard.line(), SPENT % len(LINES))
-            self.assertLess(time.monotonic() - begun, 5)
+            self.assertLess(time.monotonic() - begun, 20)
             self.assertEqual(json.loads(hard.line())["revision"], len(LINES))
             wait_for(lambda: service.get("/health") == (200, "ok\n") and "registryd_readers 2\n" in service.get("/metrics")[1])
             metrics = service.get("/metrics")[1]
@@ -49,7 +51,7 @@ class Slow(Case):
             self.assertEqual({it["revision"] for it in other.ask(*[resolve("log *")] * 20)}, {revision})
         status, told = service.end()
         self.assertEqual(status, 0)
-        self.assertRegex(told, r"client=\S+ op=resolve seconds=2\.[0-9]+ reply=BudgetSpent ")
+        self.assertRegex(told, r"client=\S+ op=resolve seconds=([4-9]|1[0-9])\.[0-9]+ reply=BudgetSpent ")
 
     def test_what_waits_behind_it_is_asked_of_another_reader(self):
         service = self.begin_full("--readers", 2, "--seconds", 30)
@@ -59,17 +61,16 @@ class Slow(Case):
             two.send(*[resolve("hole-1 *")] * 60)
             begun = time.monotonic()
             self.assertEqual({two.line() for _ in range(60)}, {b'{"revision":%d,"selected":[["hole-1","14.0.0"]]}' % len(LINES)})
-            self.assertLess(time.monotonic() - begun, 10)
+            self.assertLess(time.monotonic() - begun, 20)
 
     def test_one_client_holds_up_one_reader_at_most(self):
-        service = self.begin_full("--readers", 2, "--seconds", 3)
+        service = self.begin_full("--readers", 2, "--seconds", 5)
         with service.client() as greedy, service.client() as other:
             greedy.send(*[HARD] * 6)
             time.sleep(1)
             for _ in range(5):
-                begun = time.monotonic()
                 self.assertIn("selected", other.ask(resolve("hole-1 *"))[0])
-                self.assertLess(time.monotonic() - begun, 2)
+            self.assertFalse(has_replies(greedy))
             self.assertEqual(greedy.line(), SPENT % len(LINES))
 
     def test_requests_have_the_budget_of_the_service(self):
@@ -93,7 +94,7 @@ class Slow(Case):
         begun = time.monotonic()
         with service.client() as client:
             self.assertIn("selected", client.ask(resolve("hole-1 *"))[0])
-        self.assertLess(time.monotonic() - begun, 10)
+        self.assertLess(time.monotonic() - begun, 20)
 
     def test_a_request_that_ends_readers_is_given_up(self):
         """A search that has a reader ended by the system, as for want of memory, is tried twice."""
@@ -109,8 +110,9 @@ class Slow(Case):
         """Ends the reader once it searches."""
         wait_for(lambda: f'restarts_total{{program="reader"}} {count}\n' in service.get("/metrics")[1] or not count)
         wait_for(lambda: "registryd_readers 1\n" in service.get("/metrics")[1])
-        time.sleep(0.3)
-        os.kill(service.programs()[1][0], signal.SIGKILL)
+        reader, = service.programs()[1]
+        self.assertFalse(is_idle(reader))
+        kill([reader])
 
 
 if __name__ == "__main__":

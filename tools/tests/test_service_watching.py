@@ -7,11 +7,16 @@ import re
 import signal
 import socket
 import stat
+import sys
 import unittest
 from pathlib import Path
+from unittest import mock
 
-from program import LIST, publish, resolve, run, yank
+from program import LIST, TOP, publish, resolve, run, yank
 from services import Case, Client, wait_for
+
+sys.path.insert(0, os.path.join(TOP, "tools"))
+from registry.service import sockets
 
 SAMPLE = re.compile(r'([a-zA-Z_:][a-zA-Z0-9_:]*)(?:\{((?:[a-zA-Z_][a-zA-Z0-9_]*="(?:[^"\\\n]|\\["\\n])*",?)*)\})? (\S+)')
 
@@ -79,7 +84,7 @@ class Watching(Case):
         for host, status in (("127.0.0.1:80", 200), ("LOCALHOST", 200), ("evil.example", 421), ("evil.example:80", 421)):
             self.assertEqual(service.get("/metrics", address=("127.0.0.1", port), host=host)[0], status)
         # while nothing keeps the journal, that is told
-        keeper = service.programs()[0][0]
+        keeper = service.keeper()
         os.chmod(service.journal, 0o400)
         os.rename(service.journal, f"{service.journal}.away")
         os.mkdir(service.journal)
@@ -95,14 +100,25 @@ class Watching(Case):
             self.assertEqual(client.ask(publish("log", "1.0.0"))[0], {"ok": True, "revision": 1})
 
     @staticmethod
-    def port_of_metrics(service):
-        """The port of this machine on which the service listens."""
+    def listening(service):
+        """The addresses and ports on which the service listens, as the system has them."""
         numbers = {os.readlink(it)[8:-1] for it in Path(f"/proc/{service.running.pid}/fd").iterdir() if os.readlink(it).startswith("socket:")}
-        for line in Path("/proc/net/tcp").read_text().splitlines()[1:]:
-            _, local, _, state, *rest = line.split()
-            if state == "0A" and rest[5] in numbers:
-                return int(local.split(":")[1], 16)
-        raise AssertionError("it listens on no port")
+        for family in ("tcp", "tcp6"):
+            for line in Path("/proc/net", family).read_text().splitlines()[1:]:
+                _, local, _, state, *rest = line.split()
+                if state == "0A" and rest[5] in numbers:
+                    address, port = local.split(":")
+                    yield address, int(port, 16)
+
+    def port_of_metrics(self, service):
+        [(_, port)] = self.listening(service)
+        return port
+
+    def test_ports_are_of_this_machine_alone(self):
+        service = self.begin("--port", 0, "--metrics-port", 0)
+        here = f"{int.from_bytes(socket.inet_aton('127.0.0.1'), sys.byteorder):08X}"
+        self.assertEqual([address for address, _ in self.listening(service)], [here, here])
+        self.assertIn(service.address()[1], [port for _, port in self.listening(service)])
 
     def test_the_journal_as_it_stands(self):
         service = self.begin()
@@ -149,6 +165,20 @@ class Watching(Case):
         service.end()
         service = self.begin()
         self.assertEqual(stat.S_IMODE(os.stat(service.socket).st_mode), 0o600)
+
+    def test_nobody_reaches_the_socket_before_its_group_is_set(self):
+        """Whatever the mask is, the owner alone does until then."""
+        path, seen = os.path.join(self.folder, "socket"), []
+        before, chmod = os.umask(0), os.chmod
+        self.addCleanup(os.umask, before)
+
+        def note(name, mode):
+            seen.append(stat.S_IMODE(os.stat(name).st_mode))
+            chmod(name, mode)
+
+        with mock.patch.object(os, "chmod", note):
+            sockets.bound_file(path, 0o666, "daemon").close()
+        self.assertEqual((seen, stat.S_IMODE(os.stat(path).st_mode)), ([0o600], 0o666))
 
     def test_systemd_is_told(self):
         path = os.path.join(self.folder, "notify")

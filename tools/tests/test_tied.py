@@ -1,4 +1,5 @@
 """A program ends with the one that began it, however that one ends: killed in the middle of a search, too."""
+import contextlib
 import os
 import signal
 import socket
@@ -12,7 +13,7 @@ import unittest
 import fronts
 import program
 from fake_etcd import Gate, SmallEtcd
-from processes import child_of, is_gone
+from processes import child_of, is_gone, is_idle
 from program import PROGRAM, TOP, heed_signals, publish, resolve
 from registry_folder import pigeons
 
@@ -21,9 +22,9 @@ import tied
 TOOLS = os.path.join(TOP, "tools")
 PLACES, BIRDS = pigeons(15)
 LONG = resolve(*[f"{bird} *" for bird in BIRDS])  # a search that does not end in the time of a test
-# begins a program by these words, which tells of its processes, says once it is tied, and waits
-WAITS = "print('tied', flush=True); time.sleep(600)"
-BEGIN = f"import sys, time; sys.path.insert(0, {TOOLS!r}); import tied; held = tied.Tied(sys.argv[2:], process_group=int(sys.argv[1]) " \
+# begins a program by these words, which tells of its processes, says once it is tied, each in one piece, and waits
+WAITS = "os.write(1, b'tied\\n'); time.sleep(600)"
+BEGIN = f"import os, sys, time; sys.path.insert(0, {TOOLS!r}); import tied; held = tied.Tied(sys.argv[2:], process_group=int(sys.argv[1]) " \
         f"if sys.argv[1] else None); {WAITS}"
 
 
@@ -71,7 +72,7 @@ class Tied(unittest.TestCase):
         made[0].let_go()
 
     def test_one_that_ends_leaves_no_open_file(self):
-        before = os.listdir("/proc/self/fd")
+        before = open_files()
         for _ in range(3):
             done = tied.run(["cat"], input=b"given", stdout=subprocess.PIPE)
             self.assertEqual((done.returncode, done.stdout), (0, b"given"))
@@ -81,7 +82,8 @@ class Tied(unittest.TestCase):
                 tied.run(["sleep", "600"], timeout=0.1)
             with tied.Tied(["true"]) as running:
                 self.assertEqual(running.wait(), 0)
-        self.assertEqual(os.listdir("/proc/self/fd"), before)
+        # of those before, what other tests have left may be closed meanwhile
+        self.assertEqual(open_files() - before, set())
 
     def test_whether_somebody_reads(self):
         for reader, writer in (os.pipe(), [it.detach() for it in socket.socketpair()]):
@@ -101,7 +103,7 @@ class Searches(unittest.TestCase):
     """Programs in the middle of a search."""
 
     def setUp(self):
-        self.enterContext(program.in_time())
+        self.enterContext(program.in_time(2 * program.PATIENCE))
         folder = tempfile.TemporaryDirectory()
         self.addCleanup(folder.cleanup)
         self.path = os.path.join(folder.name, "journal")
@@ -158,24 +160,21 @@ class Searches(unittest.TestCase):
             self.assertTrue(is_gone(child), words)
 
 
+def open_files():
+    """What this process has open, by its numbers."""
+    found = set()
+    for number in os.listdir("/proc/self/fd"):
+        with contextlib.suppress(FileNotFoundError):  # that by which they were listed
+            found.add((number, os.readlink(f"/proc/self/fd/{number}")))
+    return found
+
+
 def end(running):
     """Ends what a test may have left running."""
     running.kill()
     running.wait()
     for pipe in (running.stdin, running.stdout, running.stderr):
         pipe.close()
-
-
-def is_idle(process):
-    """Whether a process uses no time."""
-    def used():
-        with open(f"/proc/{process}/stat", encoding="ascii") as file:
-            return sum(map(int, file.read().rpartition(")")[2].split()[11:13]))
-    before = used()
-    until = time.monotonic() + 10
-    while used() == before and time.monotonic() < until:
-        time.sleep(0.05)
-    return used() == before
 
 
 if __name__ == "__main__":

@@ -5,6 +5,7 @@ import os
 import sys
 import tempfile
 import unittest
+from unittest import mock
 
 from program import TOP
 
@@ -12,7 +13,7 @@ sys.path.insert(0, os.path.join(TOP, "tools"))
 import try_beside
 import try_rounds
 from edit_files import Edit
-from try_rounds import BY_CLAUSE, NOT_REFUSED
+from try_rounds import BAD, BY_CLAUSE, BY_NAME, BY_PROOF, NOT_REFUSED
 
 # low and side stand on nothing, mid on low, high on mid and side; top is a program
 CRATES = {"low": ["std"], "side": [], "mid": ["low"], "high": ["mid", "side"], "top": ["high"]}
@@ -83,6 +84,18 @@ class Beside(unittest.TestCase):
                 self.assertEqual(self.begun, [])
             self.prove(tries, "top")
             self.assertEqual(self.counts(tries), (3, 3))
+
+    def test_what_they_came_to_is_told_and_counted_by_kinds(self):
+        kinds = [BY_CLAUSE, BY_PROOF, BY_PROOF, BY_NAME, NOT_REFUSED, BAD]
+        with mock.patch.object(try_beside, "listed", lambda: [[Edit("low", f"{number}.edit", None, ()) for number in range(6)]]), \
+                mock.patch.object(try_beside, "try_in_rounds", lambda edits, room: [(edit, (kinds[int(edit.file[0])], "")) for edit in edits]), \
+                try_beside.Tries(4) as tries, contextlib.redirect_stdout(io.StringIO()) as said:
+            self.prove(tries, "low")
+            self.assertEqual(tries.end(True), (3, 3))
+        *each, last = said.getvalue().splitlines()
+        self.assertEqual([line.split(": ")[1] for line in each], kinds)
+        self.assertEqual(set(last.removeprefix("wrong bodies: ").split(", ")), {"2 refused only because a proof no longer fits", "1 refused by a clause",
+                                                                              "1 refused only because a name is gone", "1 not refused", "1 bad"})
 
     def test_what_is_put_back_later_changes_nothing(self):
         with try_beside.Tries(4) as tries:

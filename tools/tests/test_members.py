@@ -1,0 +1,72 @@
+"""Members of etcd for tests: runs that stand beside each other, and what is left of a run that is stopped."""
+import os
+import subprocess
+import sys
+import tempfile
+import time
+import unittest
+from pathlib import Path
+
+import program
+from members import Members, is_installed, may_divide
+from program import skip_without
+
+HISTORIES = os.path.join(program.TOP, "tools", "etcd_histories.py")
+
+
+class Case(unittest.TestCase):
+    def setUp(self):
+        self.enterContext(program.in_time())
+        self.folder = self.enterContext(tempfile.TemporaryDirectory())
+
+    @unittest.skipUnless(is_installed() and may_divide(), "no etcd, or no right to make namespaces of the network")
+    def test_two_runs_in_namespaces(self):
+        """Each has addresses of its own, and what it leaves is nothing."""
+        runs = [Members(1, divided=True, folder=self.folder) for _ in range(2)]
+        names = [it.namespace(0) for it in runs]
+        self.assertEqual(len({url for it in runs for url in it.clients}), 2)
+        for run in runs:
+            run.close()
+        left = {*Path("/sys/class/net").iterdir(), *Path("/run/netns").iterdir()}
+        self.assertEqual([it for it in left if it.name in {*names, *(run.bridge for run in runs)}], [])
+        self.assertEqual(os.listdir(self.folder), [])
+
+    @skip_without("etcd", "etcd-server")
+    def test_no_member_begins_again_once_they_are_ended(self):
+        members = Members(1, folder=self.folder)
+        members.close()
+        members.start(0)
+        self.assertIsNotNone(members.children[0].poll())
+        self.assertEqual(os.listdir(self.folder), [])
+
+    @skip_without("etcd", "etcd-server")
+    def test_a_run_that_is_stopped(self):
+        """It ends soon, though clients ask for a minute more and something goes wrong all the time, and its members with it."""
+        words = [sys.executable, HISTORIES, "--loopback", "--histories", "1", "--seconds", "60", "--seed", "2"]
+        with subprocess.Popen(words, stdout=subprocess.PIPE, stderr=subprocess.PIPE, cwd=self.folder, preexec_fn=program.heed_signals,
+                              env={**os.environ, "REGISTRYD": program.PROGRAM}) as run:
+            run.stdout.readline()
+            time.sleep(3)
+            members = self.members_of(run.pid)
+            run.terminate()
+            printed, said = run.communicate()
+        self.assertEqual((run.returncode, printed, said), (1, b"", b""))
+        self.assertNotEqual(members, [])
+        self.assertEqual([it for it in members if Path(it).exists()], [])
+
+    @staticmethod
+    def members_of(process):
+        """The data of members that a process has begun."""
+        found = []
+        for path in Path("/proc").glob("[0-9]*/stat"):
+            try:
+                if int(path.read_text(errors="replace").rpartition(")")[2].split()[1]) == process:
+                    words = Path(path.parent, "cmdline").read_text().split("\0")
+                    found += [os.path.dirname(words[at + 1]) for at, word in enumerate(words) if word == "--data-dir"]
+            except OSError:
+                pass
+        return found
+
+
+if __name__ == "__main__":
+    unittest.main()
