@@ -1,4 +1,5 @@
 """What a service answers is what the program answers: the same bytes in the order of each client's lines, however many there are."""
+import itertools
 import json
 import os
 import random
@@ -6,9 +7,11 @@ import re
 import socket
 import threading
 import unittest
+from collections import deque
 
 from made_lines import Maker
 from program import LIST, PATIENCE, SERVE, publish, resolve, run, yank
+from registry.service.child import Child
 from services import Case, Client, wait_for
 from tables import tables_under
 
@@ -179,6 +182,19 @@ class Bounds(Case):
                 self.assertIn(b"HTTP/1.1 " + status + b"\r\n", client.finish(text.encode()))
         with service.client() as client:
             self.assertEqual(client.ask(LIST)[0]["revision"], 0)
+
+
+class Pieces(unittest.TestCase):
+    def test_replies_that_come_in_pieces(self):
+        """Of a program, cut at each set of places."""
+        text, told = b"ab\n\ncde\nf", [b"ab", b"", b"cde"]
+        for cuts in range(2 ** (len(text) - 1)):
+            places = [0, *(at for at in range(1, len(text)) if cuts >> (at - 1) & 1), len(text)]
+            child, said = Child.__new__(Child), []
+            child.waiting, child.pieces, child.is_killed = deque([said.append] * len(told)), [], False
+            for begin, end in itertools.pairwise(places):
+                child.data_received(text[begin:end])
+            self.assertEqual((said, b"".join(child.pieces)), (told, b"f"), places)
 
 
 if __name__ == "__main__":

@@ -139,7 +139,7 @@ class Fed(unittest.TestCase):
     def test_a_reader_that_refuses_what_was_accepted_answers_nothing_more(self):
         """Else what came from it together with the refusal would be answered without that command."""
         made, told = child.Child.__new__(child.Child), []
-        made.rest, made.is_killed, made.process = b"", False, SimpleNamespace(kill=lambda: None)
+        made.pieces, made.is_killed, made.process = [], False, SimpleNamespace(kill=lambda: None)
         reader = reader_with(Pool())
         reader.child = made
         made.input, made.waiting = SimpleNamespace(is_closing=lambda: False, write=lambda line: None), deque()

@@ -18,7 +18,8 @@ class Child(asyncio.Protocol):
     """A program over a journal, begun with these words. `gone` is a future with the reason why it has ended."""
 
     def __init__(self, path, words, handed=()):
-        self.path, self.waiting, self.rest, self.is_killed = path, deque(), b"", False
+        self.path, self.waiting, self.is_killed = path, deque(), False
+        self.pieces = []  # of the line that has not come whole: it may be long
         self.input, self.early = None, []  # what is to be written before the pipe is connected
         # in a group of its own: a key that interrupts the service leaves its programs to it
         self.process = Tied([*program(), "serve", *words], stdin=PIPE, stdout=PIPE, stderr=PIPE, pass_fds=handed, process_group=0)
@@ -46,7 +47,12 @@ class Child(asyncio.Protocol):
             self.input.write(line + b"\n")
 
     def data_received(self, data):
-        *lines, self.rest = (self.rest + data).split(b"\n")
+        first, *others = data.split(b"\n")
+        self.pieces.append(first)
+        if not others:
+            return
+        *lines, last = b"".join(self.pieces), *others
+        self.pieces = [last]
         for line in lines:
             if not self.is_killed:  # what it had is given up then, by a reply before this one too
                 self.waiting.popleft()(line)
