@@ -25,3 +25,4 @@ pub mod Thinning
 pub mod Finding
 pub mod Moving
 pub mod Wanting
+pub mod Holding

@@ -4,8 +4,9 @@ use Rattle.terms.specs.Incompats.{Follows}
 use Rattle.registry.specs.Registry.{Packages}
 use Rattle.registry.specs.Requests.{Wanted}
 use Rattle.registry.specs.Step as registry
+use Rattle.registry.specs.Selections.{Choices, Meets, with_root}
 use Rattle.registry.specs.Step.{Change}
-use Rattle.derivations.specs.Facts.{Holds, Stands, Terms, premise_terms}
+use Rattle.derivations.specs.Facts.{AllTrue, Holds, Stands, Terms, premise_terms}
 use Rattle.derivations.specs.Derivations.{AreDerived, IsDerivation, IsRefuted, NoSelection, last_conclusion}
 use Rattle.derivations.specs.Known.{AreLawful, AreOrdered, EndsAt}
 use Rattle.derivations.specs.Learning.{AllStand, IsLearnt}
@@ -38,6 +39,11 @@ EmptyIsNoFact = (packages : Packages) (wanted : Wanted) (known : List Known) (en
 abbrev pub KeptLinesRefute : Type 0
 KeptLinesRefute = (packages : Packages) (wanted : Wanted) (known : List Known) (end : ℕ) (line : Known) → AreLawful packages wanted known → AreOrdered known
     → slice_get known end ≡ Some line → line.conclusion ≡ [] → IsRefuted packages wanted
+
+-- no selection that meets the request makes all terms of a line true, where the lines are facts or follow from lines before them
+abbrev pub KeptLinesHold : Type 0
+KeptLinesHold = (packages : Packages) (wanted : Wanted) (known : List Known) → AreLawful packages wanted known → AreOrdered known
+    → (s : Choices) → Meets packages wanted s → (k : ℕ) (line : Known) → slice_get known k ≡ Some line → AllTrue line.conclusion (with_root s) → ⊥
 
 -- ---- what is stored
 

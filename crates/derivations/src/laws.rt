@@ -1,6 +1,6 @@
 // Laws: why derivations and what is learnt can be trusted.
 
-ghost use Rattle.derivations.specs.Laws.{CommandsKeep, CommandsKeepLearnt, DerivationsRefute, EmptyIsNoFact, KeptLinesRefute, LearningKeeps, LearntHolds, PremisesHold, ResolventsHold};
+ghost use Rattle.derivations.specs.Laws.{CommandsKeep, CommandsKeepLearnt, DerivationsRefute, EmptyIsNoFact, KeptLinesHold, KeptLinesRefute, LearningKeeps, LearntHolds, PremisesHold, ResolventsHold};
 
 use registry::{matching_is_what_meets, numbers_last};
 
@@ -37,6 +37,14 @@ pub fn empty_is_no_fact()
 /// from them, and so no selection meets the request. It does nothing when it runs.
 pub fn kept_lines_refute()
     ensures { KeptLinesRefute }
+{
+    matching_is_what_meets();
+}
+
+/// No selection that meets the request makes all terms of a line of a search true. It does nothing when
+/// it runs.
+pub fn kept_lines_hold()
+    ensures { KeptLinesHold }
 {
     matching_is_what_meets();
 }

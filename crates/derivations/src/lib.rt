@@ -32,8 +32,8 @@ pub use derivation::{Derivation, check};
 pub use facts::{Cause, Premise};
 pub use index::{Index, Link};
 pub use laws::{
-    commands_keep, derivations_refute, empty_is_no_fact, kept_lines_refute, learning_keeps,
-    learnt_holds, premises_hold, resolvents_hold,
+    commands_keep, derivations_refute, empty_is_no_fact, kept_lines_hold, kept_lines_refute,
+    learning_keeps, learnt_holds, premises_hold, resolvents_hold,
 };
 pub use learnt::{LINE_LIMIT, Learnt};
 pub use limits::limits_in_numbers;
