@@ -72,7 +72,8 @@ pub struct NamedLine {
     pub pivot: Option<Name>,
 }
 
-/// A derivation by names.
+/// A derivation as request lines and replies have it: packages by their names, so that it is the same for every
+/// registry.
 #[derive(Drop)]
 pub struct NamedDerivation {
     lines: Vec<NamedLine>,

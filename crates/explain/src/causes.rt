@@ -84,7 +84,7 @@ fn put_need(
     put_matching(alloc, text, registry, &need.0, &need.1)
 }
 
-/// Puts a cause.
+/// Puts why a cause holds: a fact in words, or an earlier line by its number.
 pub fn put_cause(
     alloc: Global,
     text: &mut String,

@@ -180,7 +180,7 @@ fn room(alloc: Global) -> Result<Vec<u8>, AllocError>
     vec![in alloc; 0; LINE_LIMIT + READ_SIZE]
 }
 
-// Where the first line feed stands.
+/// The index of the first line feed, if there is one. Linear in the bytes before it.
 pub fn find_feed(bytes: &[u8]) -> Option<usize>
     ensures none { IfNone result (HasNoFeed bytes.now) }
     ensures within { IfSome result (λ k. k < length bytes.now) }

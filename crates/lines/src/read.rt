@@ -7,10 +7,11 @@ use crate::retry::{is_interrupted, too_many_tries};
 use std::io;
 use std::io::{ErrorKind, Read};
 
-// The most bytes that one read gives.
+/// The most bytes that one read gives.
 pub const READ_SIZE: usize = 65_536;
 
-// Reads once, into the places from `at` on, and answers how many bytes came: 0 at the reader's end.
+/// Reads once, into the places from `at` on, and answers how many bytes came: 0 at the reader's end. A read that a
+/// signal interrupts is made again; any other error is the reader's.
 pub fn read_at<R: Read>(reader: &mut R, held: &mut Vec<u8>, at: usize) -> io::Result<usize>
     requires { at + READ_SIZE ≤ vec_len held.old }
     ensures front { take at held.new.items ≡ take at held.old.items }

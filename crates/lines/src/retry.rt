@@ -5,14 +5,14 @@ ghost use Rattle.std.specs.IoError.{error_kind};
 use std::io;
 use std::io::ErrorKind;
 
-// Whether a signal broke off a call, which then has moved no byte.
+/// Whether a signal interrupted a call, which then has moved no byte.
 pub fn is_interrupted(error: &io::Error) -> bool
     ensures { IsTrue result ↔ (error_kind error.now ≡ ErrorKind.Interrupted) }
 {
     error.kind() == ErrorKind::Interrupted
 }
 
-// The end of a loop of tries, which no run lives to see.
+/// The error behind the last of 2^64 - 1 tries, which no program runs long enough to see.
 pub fn too_many_tries() -> io::Error
     ensures { error_kind result ≡ ErrorKind.TimedOut }
 {

@@ -41,7 +41,8 @@ pub fn write_texts<W: Write>(writer: &mut W, texts: &[&[u8]]) -> io::Result<()>
     Ok(())
 }
 
-// Has the writer hand on what it keeps back itself.
+/// Has the writer pass on the bytes that it has kept back. A call that a signal interrupts is made again; any other
+/// error is the writer's.
 pub fn flush<W: Write>(writer: &mut W) -> io::Result<()>
     ensures kept { Keeps (W.contents writer.old) (W.contents writer.new) }
     ensures retried { IfErr result (λ e. error_kind e ≢ ErrorKind.Interrupted) }

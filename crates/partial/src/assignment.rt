@@ -1,4 +1,4 @@
-// Assignments: what a solver has settled so far, one step at a time.
+//! Assignments: what a solver has settled so far, one step at a time.
 
 use terms::{Pkg, Term};
 

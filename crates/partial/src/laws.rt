@@ -1,4 +1,4 @@
-// Laws of partial solutions.
+//! Laws of partial solutions.
 
 ghost use Rattle.partial.specs.Assignments.{LevelsCountDecisions, UndecidedIsSelected};
 ghost use Rattle.partial.specs.Satisfying.{BeginningsLeaveChoices, OneStanding, PackageByPackage};

@@ -1,4 +1,4 @@
-// The assignments, kept in order and by package.
+//! The assignments, kept in order and by package.
 
 ghost use Rattle.std.specs.Prelude.{◌≡◌, ◌≤◌, ◌<◌, ◌++◌, ◌∷◌, ℕ, [], None, Option, Some, false, true, nat_eq, slice_get, take, length, IfOk, OnErr, OnOk};
 ghost use Rattle.terms.specs.Terms.{true_of};

@@ -1,4 +1,4 @@
-// The satisfier of an incompatibility, and the previous level.
+//! The satisfier of an incompatibility, and the previous level.
 
 ghost use Rattle.std.specs.Prelude.{◌≡◌, ◌≤◌, ◌<◌, ◌+◌, ◌||◌, Option, Some, ℕ, length, not, take, true, false, IfNone, IfOk, IfSome};
 ghost use Rattle.terms.specs.Incompats.{IsIncompat};

@@ -1,4 +1,4 @@
-// The partial solution.
+//! The partial solution.
 
 ghost use Rattle.std.specs.Prelude.{◌≡◌, ◌+◌, ◌<◌, ◌++◌, ◌∷◌, ℕ, [], Option, None, Some, false, true, length, take, IfNone, IfOk, IfSome, OnErr, OnOk};
 ghost use Rattle.std.specs.List.Sorted.{IsStrictlyIncreasing};

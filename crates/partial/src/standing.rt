@@ -1,4 +1,4 @@
-// How an incompatibility stands to a partial solution.
+//! How an incompatibility stands to a partial solution.
 
 ghost use Rattle.std.specs.Prelude.{List};
 ghost use Rattle.terms.specs.Incompats.{IsIncompat};

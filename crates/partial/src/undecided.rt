@@ -1,4 +1,4 @@
-// The packages that are still to be decided.
+//! The packages that are still to be decided.
 
 ghost use Rattle.std.specs.Prelude.{◌≡◌, ℕ, None, not, IfOk};
 ghost use Rattle.std.specs.List.Sorted.{IsStrictlyIncreasing};

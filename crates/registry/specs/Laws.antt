@@ -8,7 +8,7 @@ use Rattle.registry.specs.Preference.{IsPreferredSelection}
 use Rattle.registry.specs.Registry.{Package, Packages, Publication, is_published, matching, meets_at, number_of, package_at, publication_at, versions_or_none}
 use Rattle.registry.specs.Requests.{Wanted, is_allowed}
 use Rattle.registry.specs.Selections.{Choices}
-use Rattle.registry.specs.Step.{with_listed}
+use Rattle.registry.specs.Step.{Change, after, refusal_of, with_listed}
 
 -- the ordinals below the count of a package's versions are published
 abbrev pub PublishedBelow : Type 0
@@ -52,6 +52,10 @@ NumbersLast = (packages : Packages) (added : List Text) (name : Text) (n : ℕ) 
 -- there is one preferred selection at most
 abbrev pub OnePreferredSelection : Type 0
 OnePreferredSelection = (packages : Packages) (wanted : Wanted) (s t : Choices) → IsPreferredSelection packages wanted s → IsPreferredSelection packages wanted t → (p : ℕ) → s p ≡ t p
+
+-- an accepted command leaves what holds of every registry
+abbrev pub RegistriesStayLawful : Type 0
+RegistriesStayLawful = (packages : Packages) (change : Change) → IsRegistry packages → refusal_of packages change ≡ None → IsRegistry (after packages change)
 
 -- ---- requests
 

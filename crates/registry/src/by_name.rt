@@ -1,4 +1,4 @@
-// Lines that begin with a name: whether a name comes twice, and the line of a name.
+//! Lines that begin with a name: whether a name comes twice, and the line of a name.
 
 ghost use Rattle.std.specs.Prelude.{◌≡◌, false, IfOk};
 ghost use Rattle.std.specs.List.{range_with_len};

@@ -1,4 +1,4 @@
-// Commands.
+//! Commands.
 
 ghost use Rattle.std.specs.Prelude.{◌≡◌, IfErr, IfOk};
 
@@ -35,7 +35,8 @@ impl Clone for Command {
 }
 
 impl Command {
-    /// An equal command, which shares its texts and its list of dependencies with this one.
+    /// An equal command, which shares its texts and its list of dependencies with this one. The only error is
+    /// [`Refusal::NoMemory`].
     pub fn copy(&self) -> Result<Command, Refusal>
         ensures same { IfOk result (λ command. command ≡ self.now) }
         ensures only { IfErr result (λ e. e ≡ Refusal.NoMemory) }

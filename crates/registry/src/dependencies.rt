@@ -1,4 +1,4 @@
-// What a version depends on.
+//! What a version depends on.
 
 ghost use Rattle.std.specs.Prelude.{◌≡◌, ◌≢◌, ◌↔◌, ◌∷◌, ℕ, List, IfNone, IfOk, IfSome, IsTrue};
 ghost use Rattle.registry.specs.Needs.{has_name, repeats_name};

@@ -1,4 +1,4 @@
-// The two columns of the registry, names and lists of publications, grow together.
+//! The two columns of the registry, names and lists of publications, grow together.
 
 ghost use Rattle.std.specs.Prelude.{◌≡◌, ◌<◌, ◌≤◌, ◌+◌, [], count_by, not, length, slice_index, position, Some, vec_len, vec_capacity};
 ghost use Rattle.std.specs.List.{list_any};

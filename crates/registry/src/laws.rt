@@ -1,6 +1,8 @@
 //! Laws: what holds of each registry, whatever commands made it.
 
-ghost use Rattle.registry.specs.Laws.{AllowedIsPublished, HighestIsOne, MatchingIsWhatMeets, NamesHaveTheirNumbers, NeedsAreNumbered, NumbersLast, OnePreferredSelection, PublicationsAreLawful, PublishedBelow, PublishedIsNumbered, UnpublishedFrom};
+ghost use Rattle.registry.specs.Laws.{AllowedIsPublished, HighestIsOne, MatchingIsWhatMeets, NamesHaveTheirNumbers, NeedsAreNumbered, NumbersLast, OnePreferredSelection, PublicationsAreLawful, PublishedBelow, PublishedIsNumbered, RegistriesStayLawful, UnpublishedFrom};
+ghost use Rattle.registry.specs.Lawful.{IsRegistry};
+ghost use Rattle.std.specs.Prelude.{[]};
 
 use versions::{equal_precedence_is_an_equivalence, precedence_is_a_total_preorder};
 
@@ -41,6 +43,15 @@ pub fn the_highest_is_one()
 pub fn numbers_last()
     ensures { NumbersLast }
 {}
+
+/// What holds of every registry holds of the empty one, and is kept by each accepted command. It does nothing when it
+/// runs.
+pub fn registries_stay_lawful()
+    ensures empty { IsRegistry [] }
+    ensures kept { RegistriesStayLawful }
+{
+    equal_precedence_is_an_equivalence();
+}
 
 /// There is one preferred selection at most. It does nothing when it runs.
 pub fn one_preferred_selection()

@@ -18,7 +18,7 @@ pub use dependencies::Dependencies;
 pub use laws::{
     allowed_is_published, matching_is_what_meets, names_have_their_numbers, numbers_last,
     one_preferred_selection, ordinals_are_below_the_count, publications_are_lawful,
-    the_highest_is_one,
+    registries_stay_lawful, the_highest_is_one,
 };
 pub use limits::limits_in_numbers;
 pub use registry::{Facts, NEED_LIMIT, PACKAGE_LIMIT, Registry, VERSION_LIMIT};

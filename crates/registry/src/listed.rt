@@ -1,4 +1,4 @@
-// Needs in a list, and where a registry keeps their names and requirements.
+//! Needs in a list, and where a registry keeps their names and requirements.
 
 ghost use Rattle.std.specs.Prelude.{◌≡◌, ◌∷◌, ◌++◌, [], IfOk, OnOk};
 
@@ -23,6 +23,7 @@ fn kept(place: usize) -> u32 {
 }
 
 impl Place {
+    /// Two indexes, each kept in 32 bits: one that needs more is the highest of these.
     pub fn new(name: usize, need: usize) -> Place {
         Place {
             name: kept(name),
@@ -30,10 +31,12 @@ impl Place {
         }
     }
 
+    /// Where the name may stand in the registry, as an index of its packages.
     pub fn name(self) -> usize {
         self.name as usize
     }
 
+    /// Where the requirement may stand, as an index of those named on the package.
     pub fn need(self) -> usize {
         self.need as usize
     }

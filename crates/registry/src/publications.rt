@@ -1,4 +1,4 @@
-// The publications of one package.
+//! The publications of one package.
 
 ghost use Rattle.std.specs.Prelude.{◌≡◌, ◌↔◌, ◌<◌, ◌+◌, ◌∷◌, ◌++◌, [], ℕ, false, length, slice_get, None, Some, IfErr, IfNone, IfOk, IfSome, IsOk, IsTrue, OnOk, is_some, true};
 ghost use Rattle.std.specs.Option.{option_copied};
@@ -253,7 +253,8 @@ pub fn count(publications: Option<&Publications>) -> usize
     }
 }
 
-/// Whether a version can be yanked, or why not: by whether the one of equal precedence is yanked.
+/// Whether a version can be yanked, by whether the one of equal precedence is: [`Refusal::NoSuchVersion`] if there is none,
+/// [`Refusal::AlreadyYanked`] if it is.
 pub fn check_yank(yank: Option<bool>) -> Result<(), Refusal>
     ensures accepted { OnOk result (yank_refusal yank ≡ None) }
     ensures refused { IfErr result (λ e. yank_refusal yank ≡ Some e) }
@@ -265,7 +266,8 @@ pub fn check_yank(yank: Option<bool>) -> Result<(), Refusal>
     }
 }
 
-/// Whether the yank of a version can be undone, or why not.
+/// Whether the yank of a version can be undone: [`Refusal::NoSuchVersion`] if there is none, [`Refusal::NotYanked`] if it
+/// is not yanked.
 pub fn check_unyank(yank: Option<bool>) -> Result<(), Refusal>
     ensures accepted { OnOk result (unyank_refusal yank ≡ None) }
     ensures refused { IfErr result (λ e. unyank_refusal yank ≡ Some e) }

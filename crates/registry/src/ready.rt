@@ -1,4 +1,4 @@
-// What is made ready for a publication, so that it takes no memory.
+//! What is made ready for a publication, so that it takes no memory.
 
 ghost use Rattle.std.specs.Prelude.{◌≡◌, ◌<◌, ◌≤◌, ◌-◌, ◌↔◌, ◌≢◌, ◌∷◌, ◌++◌, [], length, vec_capacity, vec_len, None, Some, IfOk, IfSome, IsTrue, OnOk, is_some, position};
 ghost use Rattle.std.specs.List.{list_any};

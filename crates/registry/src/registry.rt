@@ -1,4 +1,4 @@
-// The registry.
+//! The registry.
 
 ghost use Rattle.std.specs.Prelude.{◌≡◌, ◌↔◌, ◌<◌, ◌≤◌, ◌+◌, ◌^◌, [], ℕ, false, length, nat_lt, None, Some, IfErr, IfNone, IfOk, IfSome, IsOk, IsTrue, OnErr, OnOk, is_some, slice_get, true};
 ghost use Rattle.std.specs.Option.{option_copied, option_map};
@@ -224,7 +224,7 @@ impl Registry {
     }
 
     /// The ordinals of the published versions of a package that meet a requirement; none of one that
-    /// is not numbered. Want of memory is refused by its number.
+    /// is not numbered. The only error is [`Refusal::NoMemory`].
     pub fn matching(&self, pkg: Pkg, need: &Need) -> Result<VSet, Refusal>
         ensures members { IfOk result (λ set. (k : ℕ) → has set k ≡ meets_at self.now.packages pkg k need.now) }
         ensures ascending { IfOk result IsAscending }

@@ -1,4 +1,4 @@
-// Requests.
+//! Requests.
 
 ghost use Rattle.std.specs.Prelude.{◌≡◌, None};
 ghost use Rattle.std.specs.Map.{lookup};
@@ -41,7 +41,9 @@ impl Model for Request {
 }
 
 impl Request {
-    /// A request of these needs under this lock. The cost grows with n log n of the needs and lines.
+    /// A request of these needs under this lock: [`Refusal::RepeatedDependency`] if either names a package twice,
+    /// [`Refusal::TooManyDependencies`] beyond [`NEED_LIMIT`](crate::NEED_LIMIT) needs or [`LOCK_LIMIT`] lines. The cost
+    /// grows with n log n of the needs and lines.
     pub fn new(
         alloc: Global,
         needs: Vec<(Name, Need)>,

@@ -39,7 +39,7 @@ impl Matching<'_> {
         }
     }
 
-    /// The set.
+    /// A set of its own. A kept one is copied; of a tested one each version is asked.
     pub fn set(&self, alloc: Global) -> Result<VSet, AllocError>
         ensures same { IfOk result (λ set. set ≡ ordinals_of self.now) }
         ensures ascending { IfOk result IsAscending }

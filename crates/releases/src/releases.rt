@@ -1,4 +1,4 @@
-// The releases of a package.
+//! The releases of a package.
 
 ghost use Rattle.std.specs.Prelude.{◌≡◌, ◌<◌, ◌≤◌, ◌^◌, ◌∷◌, ◌++◌, [], ℕ, true, false, is_some, length, slice_get, Some, IfNone, IfOk, IfSome, IsOk, OnErr, OnOk};
 ghost use Rattle.terms.specs.Sets.{has};

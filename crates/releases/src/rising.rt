@@ -1,4 +1,4 @@
-// The ordinals of versions in rising precedence.
+//! The ordinals of versions in rising precedence.
 
 ghost use Rattle.std.specs.Prelude.{◌≡◌, ◌<◌, ◌≤◌, ◌+◌, ◌^◌, ◌∷◌, ◌++◌, [], ℕ, true, false, length, slice_index, vec_capacity, vec_len, IfNone, IfSome};
 ghost use Rattle.releases.specs.Releases.{has_version, version_at, versions_of};

@@ -250,7 +250,7 @@ fn line_json(alloc: Global, line: &NamedLine) -> Result<Value, AllocError>
     Ok(Value::Object(members))
 }
 
-/// A derivation as JSON.
+/// The value that replies have as `derivation`. Linear in its lines.
 pub fn derivation_json(alloc: Global, derivation: &NamedDerivation) -> Result<Value, AllocError>
     ensures { IfOk result (λ v. view v ≡ derivation_json derivation.now) }
 {
@@ -270,7 +270,7 @@ pub fn derivation_text(alloc: Global, derivation: &NamedDerivation) -> Result<St
     Ok(text)
 }
 
-/// Texts as JSON.
+/// The array that replies have as `explanation`.
 pub fn texts_json(alloc: Global, texts: &[String]) -> Result<Value, AllocError>
     ensures { IfOk result (λ v. view v ≡ texts_json (map (λ t. string_bytes t) texts.now)) }
 {

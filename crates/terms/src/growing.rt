@@ -1,4 +1,4 @@
-// Sets that grow, with room made beforehand.
+//! Sets that grow, with room made beforehand.
 
 ghost use Rattle.std.specs.Prelude.{◌≡◌, ◌<◌, ◌≤◌, ◌+◌, [], IfOk, IsOk, OnErr, OnOk};
 ghost use Rattle.terms.specs.Sets.{has, AddsOrdinal, IsAscending};

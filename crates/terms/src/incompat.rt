@@ -1,4 +1,4 @@
-// Incompatibilities: terms that may not all hold.
+//! Incompatibilities: terms that may not all hold.
 
 ghost use Rattle.std.specs.Prelude.{◌≡◌, ◌≢◌, ◌<◌, ◌↔◌, ◌++◌, IfOk, IfSome, IsSome, IsTrue, OnOk};
 ghost use Rattle.std.specs.Bool.{OnTrue};

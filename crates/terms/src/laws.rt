@@ -1,4 +1,4 @@
-// What is told by membership alone: sets, terms and incompatibilities that say the same are equal.
+//! What is told by membership alone: sets, terms and incompatibilities that say the same are equal.
 
 ghost use Rattle.terms.specs.Incompats.{SameIncompat, SameResolvent};
 ghost use Rattle.terms.specs.Sets.{SameSet};

@@ -1,4 +1,4 @@
-// Two sets read side by side, word by word.
+//! Two sets read side by side, word by word.
 //
 // Most sets have one word. Where two such meet, what is left of a function here are a few steps, so
 // it is inlined, and the rule is known where it is called.

@@ -1,4 +1,4 @@
-// The ordinals of a set, one after another.
+//! The ordinals of a set, one after another.
 
 ghost use Rattle.std.specs.Prelude.{◌≡◌, ◌<◌, ◌∷◌, [], IfNone, IfSome};
 ghost use Rattle.std.specs.Iterator.{YieldsFirst, item_count};

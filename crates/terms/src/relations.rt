@@ -1,4 +1,4 @@
-// How one term can stand to another.
+//! How one term can stand to another.
 
 /// How one term stands to another. Where it both satisfies and contradicts it, as a term that no
 /// choice makes true does, the answer is `Satisfies`.

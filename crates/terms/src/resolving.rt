@@ -1,4 +1,4 @@
-// The incompatibility that follows from two on a pivot.
+//! The incompatibility that follows from two on a pivot.
 
 ghost use Rattle.std.specs.Prelude.{◌≡◌, ℕ, Option, IfOk, IfSome};
 ghost use Rattle.std.specs.Option.{option_copied};

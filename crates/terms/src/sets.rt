@@ -1,4 +1,4 @@
-// Finite sets of ordinals.
+//! Finite sets of ordinals.
 
 ghost use Rattle.std.specs.Prelude.{◌≡◌, ◌↔◌, ◌∷◌, [], count_by, find, length, reverse, true, IfNone, IfOk, IfSome, IsTrue, OnErr, OnOk};
 ghost use Rattle.terms.specs.Merges.{keeps, IsKept, IsWithinFirst};
@@ -41,7 +41,7 @@ impl VSet {
         }
     }
 
-    /// The set of one ordinal.
+    /// The set with this member alone. It takes no memory of the heap.
     pub fn single(alloc: Global, ordinal: u32) -> Result<VSet, AllocError>
         ensures { IfOk result (λ set. set ≡ ordinal ∷ []) }
     {

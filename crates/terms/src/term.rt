@@ -1,4 +1,4 @@
-// Terms: what is said of one package's choice.
+//! Terms: what is said of one package's choice.
 
 ghost use Rattle.std.specs.Prelude.{◌≡◌, ◌↔◌, ◌&&◌, ◌||◌, not, ℕ, Option, Some, true, false, count_by, find, reverse, IfNone, IfOk, IfSome, IsTrue};
 ghost use Rattle.terms.specs.Sets.{has};

@@ -1,4 +1,4 @@
-// Terms by package as an incompatibility stores them.
+//! Terms by package as an incompatibility stores them.
 
 ghost use Rattle.std.specs.Prelude.{◌≡◌, IfOk};
 ghost use Rattle.terms.specs.TermLists.{listed};
@@ -28,6 +28,7 @@ impl TermList {
         TermList::Two([first, second])
     }
 
+    /// The terms, in order of packages. Costs a look at which form it has.
     #[inline(always)]
     pub fn as_slice(&self) -> &[(Pkg, Term)]
         ensures { result.now ≡ listed self.now }

@@ -1,4 +1,4 @@
-// The words of a set: where one stands, and how an ordinal comes in.
+//! The words of a set: where one stands, and how an ordinal comes in.
 
 ghost use Rattle.std.specs.Prelude.{◌≡◌, ◌↔◌, ◌<◌, ◌≤◌, ◌+◌, ◌*◌, ◌/◌, ◌%◌, ◌^◌, [], length, IfOk, IsOk, IsTrue, OnErr, OnOk};
 ghost use Rattle.smallvec.specs.SmallVec.{small_vec_len};

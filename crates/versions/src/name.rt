@@ -152,7 +152,8 @@ impl Name {
         self.text.as_str()
     }
 
-    /// The same name once more, for the cost of a count.
+    /// The same name once more. Costs a count, and takes no memory for the text. The only error is
+    /// [`Refusal::NoMemory`].
     pub fn copy(&self) -> Result<Name, Refusal>
         ensures same { IfOk result (λ name. name ≡ self.now) }
         ensures only { IfErr result (λ e. e ≡ Refusal.NoMemory) }

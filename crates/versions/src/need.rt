@@ -84,7 +84,8 @@ impl Clone for Need {
 }
 
 impl Need {
-    /// Reads a requirement and keeps its text.
+    /// Reads a requirement and keeps its text. Any other text is [`Refusal::BadRequirement`], also one above
+    /// [`REQUIREMENT_LIMIT`] bytes.
     pub fn read(alloc: Global, text: &str) -> Result<Need, Refusal>
         ensures gives { Gives (λ need. need) result (need_in text.now) }
         ensures refused { (result ≡ Err Refusal.BadRequirement) ↔ (is_requirement text.now ≡ false) }
@@ -113,7 +114,8 @@ impl Need {
         self.kept.text.as_str()
     }
 
-    /// The same requirement once more, for the cost of a count.
+    /// The same requirement once more. Costs a count, and takes no memory for the text. The only error is
+    /// [`Refusal::NoMemory`].
     pub fn copy(&self) -> Result<Need, Refusal>
         ensures same { IfOk result (λ need. need ≡ self.now) }
         ensures only { IfErr result (λ e. e ≡ Refusal.NoMemory) }

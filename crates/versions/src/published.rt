@@ -53,7 +53,8 @@ impl Clone for Published {
 }
 
 impl Published {
-    /// Reads a version and keeps its text.
+    /// Reads a version and keeps its text. Any other text is [`Refusal::BadVersion`], also one above
+    /// [`VERSION_LIMIT`] bytes.
     pub fn read(alloc: Global, text: &str) -> Result<Published, Refusal>
         ensures gives { Gives (λ version. version) result (version_in text.now) }
         ensures refused { (result ≡ Err Refusal.BadVersion) ↔ (is_version text.now ≡ false) }
@@ -80,7 +81,8 @@ impl Published {
         self.kept.text.as_str()
     }
 
-    /// The same version once more, for the cost of a count.
+    /// The same version once more. Costs a count, and takes no memory for the text. The only error is
+    /// [`Refusal::NoMemory`].
     pub fn copy(&self) -> Result<Published, Refusal>
         ensures same { IfOk result (λ version. version ≡ self.now) }
         ensures only { IfErr result (λ e. e ≡ Refusal.NoMemory) }

@@ -19,6 +19,7 @@ pub struct PremiseShape<'v> {
     pub within: OrdinalItems<'v>,
 }
 
+/// A cause as it stands in a request line, once its members have the right types.
 #[derive(Drop)]
 pub enum CauseShape<'v> {
     Line(u32),

@@ -120,7 +120,7 @@ fn line_in(alloc: Global, line: &LineShape<'_>) -> Result<NamedLine, Refusal>
     })
 }
 
-/// The derivation that these lines are, if the requirement of each premise is one.
+/// The derivation that these lines are. A premise whose requirement is none is [`Refusal::BadRequirement`].
 pub fn derivation_in(alloc: Global, lines: &Lines<'_>) -> Result<NamedDerivation, Refusal>
     ensures { Gives (λ d. d) result (checked (list_all is_requirement (premise_requirements lines.now)) lines.now BadRequirement) }
 {

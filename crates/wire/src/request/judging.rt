@@ -104,7 +104,7 @@ fn checking(
     })
 }
 
-/// The names of these needs or lock lines.
+/// The names of these needs or lock lines. A text that is none is [`Refusal::BadName`].
 pub fn names_in(alloc: Global, pairs: &Pairs<'_>) -> Result<Vec<Name>, Refusal>
     ensures { Gives (λ v. v.items) result (checked (list_all is_name (names_of pairs.now)) (names_of pairs.now) BadName) }
 {
@@ -133,7 +133,7 @@ fn needs_in(
     Ok(read)
 }
 
-/// The lock lines with these names, which are theirs.
+/// The lock lines with these names, which are theirs. A text that is no version is [`Refusal::BadVersion`].
 pub fn lock_in(
     alloc: Global,
     names: Vec<Name>,

@@ -10,6 +10,7 @@ use super::term_shapes::{NameText, TermItems, terms_at, whose_at};
 use serde_json::Value;
 use std::marker::Model;
 
+/// A line of a derivation as it stands in a request line, once its members have the right types.
 #[derive(Drop)]
 pub struct LineShape<'v> {
     pub causes: (CauseShape<'v>, CauseShape<'v>),

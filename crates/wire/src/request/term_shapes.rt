@@ -29,7 +29,7 @@ impl<'v> Model for NameText<'v> {
 }
 
 impl<'v> NameText<'v> {
-    /// The name that it is.
+    /// A name of its own, for a value that outlives the line. The only error is [`Refusal::NoMemory`].
     pub fn read(&self, alloc: Global) -> Result<Name, Refusal>
         ensures same { IfOk result (λ name. name ≡ self.now) }
         ensures only { IfErr result (λ e. e ≡ Refusal.NoMemory) }
