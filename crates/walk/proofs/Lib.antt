@@ -12,4 +12,6 @@ pub mod Better
 pub mod Wholes
 pub mod Entries
 pub mod OneListing
+pub mod Orders
+pub mod Bests
 pub mod PreferredNewest

@@ -109,7 +109,7 @@ module _ (packages : Packages) (found : List (ℕ × ℕ)) where
 
 -- ---- a visit
 
-pushed_at : (xs : List (ℕ × ℕ)) (x : ℕ × ℕ) (i : ℕ) (e : ℕ × ℕ) → slice_get (xs ++ x ∷ []) i ≡ Some e → (slice_get xs i ≡ Some e) ⊎ ((i ≡ length xs) × (x ≡ e))
+pub pushed_at : (xs : List (ℕ × ℕ)) (x : ℕ × ℕ) (i : ℕ) (e : ℕ × ℕ) → slice_get (xs ++ x ∷ []) i ≡ Some e → (slice_get xs i ≡ Some e) ⊎ ((i ≡ length xs) × (x ≡ e))
 pushed_at [] x zero e at = inr (refl, same_Some x e at)
 pushed_at [] x (suc i) e at = absurd (none-some e at)
 pushed_at (y ∷ xs) x zero e at = inl at

@@ -23,6 +23,7 @@ use Rattle.walk.specs.Newest.{Has, IsNewest, dependencies_of, first_new, in_name
 use Rattle.walk.proofs.NewestLaws.{ahead, dependencies_met, both, each, entry, met_by, ordered, published}
 use Rattle.walk.specs.Choosing.{choice_of}
 use Rattle.walk.proofs.Lists.{choice-entry}
+use Rattle.walk.proofs.Preferring.{passing-all}
 use Rattle.walk.proofs.Publications.{is_allowed-published, publication_at-package}
 
 -- ---- bools
@@ -75,21 +76,6 @@ find-filter t q (x ∷ xs) = elim (cases_Bool (t x)) [
 ]
 
 module _ {A : Type 0} where
-  passing-all : (f g : A → Bool) (n : ℕ) (xs : List A) (j : ℕ) (y : A) → list_all (λ (c : ℕ × A). g c.1) (filter (λ (c : ℕ × A). f c.1) (enumerate_from n xs)) ≡ true
-      → slice_get xs j ≡ Some y → f y ≡ true → g y ≡ true
-  passing-all f g n [] j y all at t = absurd (none-some y at)
-  passing-all f g n (x ∷ xs) zero y all at t =
-      let same : x ≡ y = same_Some x y at in
-      let here : f x ≡ true = ap f same ∙ t in
-      let parts = both_true (g x) (list_all (λ (c : ℕ × A). g c.1) (filter (λ (c : ℕ × A). f c.1) (enumerate_from (n + 1) xs))) (rw here at all) in
-      ap g (sym same) ∙ parts.0
-  passing-all f g n (x ∷ xs) (suc j) y all at t = elim (cases_Bool (f x)) [
-    | inl e ↦
-        let parts = both_true (g x) (list_all (λ (c : ℕ × A). g c.1) (filter (λ (c : ℕ × A). f c.1) (enumerate_from (n + 1) xs))) (rw e at all) in
-        passing-all f g (n + 1) xs j y parts.1 at t
-    | inr e ↦ passing-all f g (n + 1) xs j y (rw e at all) at t
-  ]
-
   -- what is found passes, and stands at its place
   found-passes : (f : ℕ × A → Bool) (n : ℕ) (xs : List A) (c : ℕ × A) → find f (enumerate_from n xs) ≡ Some c → (f c ≡ true) × ((i : ℕ) × (c.0 ≡ n + i) × (slice_get xs i ≡ Some c.1))
   found-passes f n [] c e = absurd (none-some c e)

@@ -65,7 +65,7 @@ module _ {A : Type 0} where
         | inr e ↦ rw e rest
       ]
 
-  passing-all : (f g : A → Bool) (n : ℕ) (xs : List A) (j : ℕ) (y : A) → list_all (λ (c : ℕ × A). g c.1) (filter (λ (c : ℕ × A). f c.1) (enumerate_from n xs)) ≡ true
+  pub passing-all : (f g : A → Bool) (n : ℕ) (xs : List A) (j : ℕ) (y : A) → list_all (λ (c : ℕ × A). g c.1) (filter (λ (c : ℕ × A). f c.1) (enumerate_from n xs)) ≡ true
       → slice_get xs j ≡ Some y → f y ≡ true → g y ≡ true
   passing-all f g n [] j y all at t = absurd (none-some y at)
   passing-all f g n (x ∷ xs) zero y all at t =

@@ -5,4 +5,5 @@ pub mod Preferring
 pub mod Names
 pub mod Newest
 pub mod PlainlyNewest
+pub mod Best
 pub mod Listing

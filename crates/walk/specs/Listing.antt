@@ -1,5 +1,5 @@
 -- Packages as the walk comes to them, by versions that are given, and the package that comes next.
-use Rattle.std.specs.Prelude.{◌≡◌, ◌<◌, ◌≤◌, ◌++◌, ◌⊎◌, ℕ, Bool, true, false, List, [], ◌∷◌, length, map, insert, slice_get, slice_index_or, take, Option, None, Some}
+use Rattle.std.specs.Prelude.{◌≡◌, ◌<◌, ◌≤◌, ◌++◌, ◌⊎◌, ℕ, zero, suc, Bool, true, false, List, [], ◌∷◌, length, map, insert, slice_get, slice_index_or, take, Option, None, Some}
 use Rattle.std.specs.List.{AllByRecursion}
 use Rattle.versions.specs.Words.{Text}
 use Rattle.registry.specs.Registry.{Packages, needs_of, number_of}
@@ -9,6 +9,7 @@ use Rattle.walk.specs.Choosing.{Follows, choice_of}
 use Rattle.walk.specs.Newest.{in_name_order, insert_by_name, next_package}
 use Rattle.walk.specs.declared.listing.Listed.{Listed}
 use Rattle.walk.specs.declared.listing.Next.{Next}
+use Rattle.walk.specs.declared.order.Order.{Order}
 use Rattle.walk.specs.declared.reached.Asker.{Asker}
 use Rattle.walk.specs.declared.reached.Asker.TheVariants as asker
 
@@ -90,6 +91,29 @@ ArePassed packages found lines i = (j : ℕ) (line : Text × Text) → j < i →
 pub record IsPassedTo (packages : Packages) (needs : List (Text × Text)) (found : List (ℕ × ℕ)) (i : ℕ) : Type 0 where
   pub asked : AllPassed packages found (in_name_order needs)
   pub before : (j : ℕ) (e : ℕ × ℕ) → j < i → slice_get found j ≡ Some e → AllPassed packages found (needs_of packages e.0 e.1)
+
+-- the stage was come to: the needs were passed, and the versions at the places before
+abbrev pub IsStage : Packages → List (Text × Text) → List (ℕ × ℕ) → ℕ → Type 0
+IsStage packages needs found zero = Unit {0}
+IsStage packages needs found (suc place) = IsPassedTo packages needs found place
+
+-- the packages stand in the order of the walk, each with the stage in which it was found, whatever versions are chosen now
+pub record IsOrder (packages : Packages) (needs : List (Text × Text)) (order : Order) : Type 0 where
+  pub walked : (i : ℕ) (e : ℕ × ℕ) → slice_get order.found.entries i ≡ Some e → next_package packages needs (take i order.found.entries) ≡ Some e.0
+  pub noted : length order.stages.items ≡ length order.found.entries
+  pub stages : (i stage : ℕ) → slice_get order.stages.items i ≡ Some stage → IsStage packages needs (take i order.found.entries) stage
+  pub come : IsStage packages needs order.found.entries order.stage
+
+-- each has the version that is chosen
+abbrev pub AreChosen : Choices → List (ℕ × ℕ) → Type 0
+AreChosen chooses found = (i : ℕ) (e : ℕ × ℕ) → slice_get found i ≡ Some e → chooses e.0 ≡ Some e.1
+
+-- each package has a stage, and what was noted last is the stage that was come to
+pub record NotesStage (old new : Order) : Type 0 where
+  pub found : new.found ≡ old.found
+  pub stage : new.stage ≡ old.stage
+  pub noted : length old.stages.items ≤ length old.found.entries → length new.stages.items ≡ length old.found.entries
+  pub stages : (i stage : ℕ) → slice_get new.stages.items i ≡ Some stage → (slice_get old.stages.items i ≡ Some stage) ⊎ ((length old.stages.items ≤ i) × (stage ≡ old.stage))
 
 -- the package was there, or comes last with its choice; or it was not there and nothing is chosen of it
 abbrev pub Visits : Choices → ℕ → List (ℕ × ℕ) → List (ℕ × ℕ) → Bool → Type 0

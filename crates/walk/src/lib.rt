@@ -6,15 +6,18 @@
 //! the preferred versions it answers the preferred selection, wherever that meets the request.
 #![tactic(auto)]
 
+mod best;
 mod chooser;
 mod laws;
 mod listing;
 mod names;
 mod newest;
+mod order;
 mod preferred;
 mod reached;
 mod walking;
 
+pub use best::choose_newest;
 pub use chooser::Chooser;
 pub use laws::{
     a_list_in_order_is_its_selection, ahead_is_locked_or_higher, plainly_newest_is_newest,
@@ -24,6 +27,7 @@ pub use laws::{
 pub use listing::{Listed, Next, list_in_order};
 pub use names::sort_by_name;
 pub use newest::is_plainly_newest;
+pub use order::Order;
 pub use preferred::{Preferred, locked_ordinal, preferred_version, reach_preferred};
 pub use reached::{Asker, Reached};
 pub use walking::reach;

@@ -3,12 +3,14 @@
 ghost use Rattle.std.specs.Prelude.{◌≡◌, ◌<◌, ◌≤◌, ◌+◌, [], length, map, slice_get, Some, IfNone, IfOk, IfSome, OnOk};
 ghost use Rattle.std.specs.List.{AllByRecursion};
 ghost use Rattle.registry.specs.Registry.{needs_of};
-ghost use Rattle.walk.specs.Listing.{need_at, AllPassed, AreInOrder, EndsWith, GoesAt, IsListed, IsListing, IsNext, IsPassedTo, PassesAt, Visits};
+ghost use Rattle.walk.specs.Listing.{need_at, AllPassed, AreInOrder, GoesAt, IsListed, IsListing, IsNext, IsPassedTo, PassesAt, Visits};
 ghost use Rattle.walk.specs.Newest.{in_name_order};
+ghost use Rattle.walk.specs.Walks.{Grows};
 
 use crate::chooser::Chooser;
+use crate::order::Order;
 use crate::reached::Asker;
-use crate::walking::{ROOM, entries_of, entry_at};
+use crate::walking::{entries_of, entry_at};
 use indexmap::IndexMap;
 use registry::{Pkg, Registry, Request};
 use std::alloc::{AllocError, Global};
@@ -53,7 +55,10 @@ fn place_among(needs: &[(Name, Need)], places: &[usize], own: usize) -> usize
 
 /// The places of the needs in the order of their names. The cost grows with the square of their
 /// number, of which a request has few.
-fn places_in_order(alloc: Global, needs: &[(Name, Need)]) -> Result<Vec<usize>, AllocError>
+pub(crate) fn places_in_order(
+    alloc: Global,
+    needs: &[(Name, Need)],
+) -> Result<Vec<usize>, AllocError>
     ensures { IfOk result (λ places. AreInOrder needs.now places.items) }
 {
     let mut places = Vec::with_capacity(alloc, needs.len())?;
@@ -131,15 +136,16 @@ fn pass_dependency<C: Chooser>(
 // ---- the walk
 
 /// Visits the packages of the needs, up to one of which no version is chosen; it is answered.
-fn pass_needs<C: Chooser>(
+pub(crate) fn pass_needs<C: Chooser>(
     alloc: Global,
     registry: &Registry,
     request: &Request,
     chooser: &C,
     found: &mut IndexMap<Pkg, u32>,
 ) -> Result<Option<Next>, AllocError>
-    requires { found.old.entries ≡ [] }
+    requires { IsListing registry.now.packages request.now.needs (C.chooses chooser.now) found.old.entries }
     ensures listing { OnOk result (IsListing registry.now.packages request.now.needs (C.chooses chooser.now) found.new.entries) }
+    ensures grown { OnOk result (Grows found.old.entries found.new.entries) }
     ensures passed { IfOk result (λ next. IfNone next (AllPassed registry.now.packages found.new.entries (in_name_order request.now.needs))) }
     ensures next { IfOk result (λ next. IfSome next (IsNext registry.now.packages request.now.needs (C.chooses chooser.now) found.new.entries)) }
 {
@@ -157,7 +163,7 @@ fn pass_needs<C: Chooser>(
 
 /// Visits the packages that the version at a place depends on, up to one of which no version is
 /// chosen; it is answered.
-fn pass_dependencies<C: Chooser>(
+pub(crate) fn pass_dependencies<C: Chooser>(
     registry: &Registry,
     request: &Request,
     chooser: &C,
@@ -167,6 +173,7 @@ fn pass_dependencies<C: Chooser>(
     requires within { place < length found.old.entries }
     requires listing { IsListing registry.now.packages request.now.needs (C.chooses chooser.now) found.old.entries }
     requires passed { IsPassedTo registry.now.packages request.now.needs found.old.entries place }
+    ensures grown { OnOk result (Grows found.old.entries found.new.entries) }
     ensures listing { OnOk result (IsListing registry.now.packages request.now.needs (C.chooses chooser.now) found.new.entries) }
     ensures passed { IfOk result (λ next. IfNone next (IsPassedTo registry.now.packages request.now.needs found.new.entries (place + 1))) }
     ensures next { IfOk result (λ next. IfSome next (IsNext registry.now.packages request.now.needs (C.chooses chooser.now) found.new.entries)) }
@@ -206,36 +213,10 @@ pub fn list_in_order<C: Chooser>(
 ) -> Result<Listed, AllocError>
     ensures { IfOk result (IsListed registry.now.packages request.now.needs (C.chooses chooser.now)) }
 {
-    let mut found = IndexMap::with_capacity(alloc, ROOM)?;
-    let next = list_into(alloc, registry, request, chooser, &mut found)?;
+    let mut order = Order::new(alloc);
+    let next = order.go_on(alloc, registry, request, chooser)?;
     Ok(Listed {
-        found: entries_of(alloc, &found)?,
+        found: entries_of(alloc, &order.found)?,
         next,
     })
-}
-
-/// As [`list_in_order`]; what is found goes into an empty map, and the package that comes next is
-/// answered.
-fn list_into<C: Chooser>(
-    alloc: Global,
-    registry: &Registry,
-    request: &Request,
-    chooser: &C,
-    found: &mut IndexMap<Pkg, u32>,
-) -> Result<Option<Next>, AllocError>
-    requires { found.old.entries ≡ [] }
-    ensures listing { OnOk result (IsListing registry.now.packages request.now.needs (C.chooses chooser.now) found.new.entries) }
-    ensures ends { IfOk result (EndsWith registry.now.packages request.now.needs (C.chooses chooser.now) found.new.entries) }
-{
-    if let Some(next) = pass_needs(alloc, registry, request, chooser, found)? {
-        return Ok(Some(next));
-    }
-    let mut place = 0;
-    'walk: while place < found.len() {
-        if let Some(next) = pass_dependencies(registry, request, chooser, place, found)? {
-            return Ok(Some(next));
-        }
-        place += 1;
-    }
-    Ok(None)
 }

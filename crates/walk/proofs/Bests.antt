@@ -1,0 +1,451 @@
+-- Choosing the best versions in the order of the walk: what is kept of packages, and what is asked.
+use Rattle.std.proofs.Common.{◌≡◌, ◌<◌, ◌≤◌, ◌+◌, ◌∙◌, ◌⊎◌, ℕ, zero, suc, refl, sym, ap, subst, arith, Bool, true, false, true≢false, ◌&&◌, if◌then◌else◌, List, [], ◌∷◌, ◌++◌, length, take, drop, map, get_or, inl, inr, nat_eq}
+use Rattle.std.proofs.lemmas.Bool.{cases_Bool, cases_eq, eq-eqb}
+use Rattle.std.proofs.Math.Seq.{take-append_seam}
+use Rattle.std.proofs.lemmas.Option.{none-some, same_Some, slice_get_within, get_or_from_slice_get}
+use Rattle.std.proofs.lemmas.List.{append_assoc, append-nil, take_all, take-append-le}
+use Rattle.std.specs.Prelude.{IfSome, None, Option, Some, Contains, is_some, slice_get, slice_set}
+use Rattle.versions.specs.Words.{Text, precedence}
+use Rattle.terms.specs.Sets.{has}
+use Rattle.terms.specs.Terms.{true_of}
+use Rattle.terms.specs.declared.term.Term.{Term}
+use Rattle.terms.specs.declared.term.Term.TheVariants.{In}
+use Rattle.std.specs.declared.cmp.Ordering.TheVariants.{Less}
+use Rattle.versions.specs.Precedence.{PrecedenceIsATotalPreorder}
+use Rattle.registry.specs.Dependencies.{IsDependency}
+use Rattle.registry.specs.Highest.{IsHighest}
+use Rattle.std.specs.Option.{option_and_then}
+use Rattle.registry.specs.Registry.{Package, Packages, Publication, Repeats, is_published, meets_at, needs_of, number_of, package_at, publication_at, versions_or_none}
+use Rattle.registry.specs.Requests.{Wanted, is_allowed}
+use Rattle.registry.specs.Selections.{Choices, IsMet, Meets}
+use Rattle.walk.specs.Best.{AreAlike, AreBest, AreLeft, AreNeeded, ArePassed, AreTargets, AskAlike, AsksOf, AsksOne, Holds, IsBest, IsChoosing, IsOf, IsOut, MeetsOf, Narrows, OfEach}
+use Rattle.walk.specs.Choosing.{Follows, choice_of}
+use Rattle.walk.specs.PlainlyNewest.{IsLocked, NoneLocked}
+use Rattle.walk.specs.Newest.{Has, IsAhead, IsNewest, dependencies_of, first_new, in_name_order, new_or_later, next_package}
+use Rattle.walk.specs.declared.best.Choosing.{Choosing}
+use Rattle.walk.specs.declared.best.Needed.{Needed}
+use Rattle.walk.proofs.Better.{ahead_cases}
+use Rattle.walk.proofs.Listings.{pushed_at}
+use Rattle.walk.proofs.Lists.{choice-left, choice-push_here, get-contains}
+use Rattle.walk.proofs.NewestLaws.{is_new}
+use Rattle.walk.proofs.OneListing.{list-selects}
+use Rattle.walk.proofs.Orders.{get-some}
+use Rattle.walk.proofs.Publications.{listed_at, own}
+
+-- ---- lists
+
+get-cases : {A : Type 0} (xs : List A) (y : A) (i : ℕ) (x : A) → slice_get (xs ++ y ∷ []) i ≡ Some x → (slice_get xs i ≡ Some x) ⊎ (y ≡ x)
+get-cases [] y zero x h = inr (same_Some y x h)
+get-cases [] y (suc i) x h = absurd (none-some x h)
+get-cases (z ∷ xs) y zero x h = inl h
+get-cases (z ∷ xs) y (suc i) x h = get-cases xs y i x h
+
+map-append : {A B : Type 0} (f : A → B) (xs ys : List A) → map f (xs ++ ys) ≡ map f xs ++ map f ys
+map-append f [] ys = refl
+map-append f (x ∷ xs) ys = ap (λ l. f x ∷ l) (map-append f xs ys)
+
+take_one : (xs : List (Text × Text)) (i : ℕ) (x : Text × Text) → slice_get xs i ≡ Some x → take (i + 1) xs ≡ take i xs ++ x ∷ []
+take_one xs i x at = let s : i + 1 ≡ suc i = omega arith in ap (λ n. take n xs) s ∙ one xs i at
+  where
+    one : (ys : List (Text × Text)) (j : ℕ) → slice_get ys j ≡ Some x → take (suc j) ys ≡ take j ys ++ x ∷ []
+    one [] j h = absurd (none-some x h)
+    one (y ∷ ys) zero h = ap (λ z. z ∷ []) (same_Some y x h)
+    one (y ∷ ys) (suc j) h = ap (λ zs. y ∷ zs) (one ys j h)
+
+-- ---- versions that depend alike
+
+pub alike_more : (packages : Packages) (p at : ℕ) → ((k : ℕ) → k < at → needs_of packages p k ≡ needs_of packages p 0) → Repeats packages p at → (k : ℕ) → k < at + 1 → needs_of packages p k ≡ needs_of packages p 0
+alike_more packages p at before repeats k lt = elim (cases_eq k at) [
+  | inl same ↦ ap (needs_of packages p) same ∙ repeats.3 ∙ before repeats.1 (omega (arith, repeats.2))
+  | inr apart ↦ before k (omega (arith, lt, apart))
+]
+
+pub alike_one : (packages : Packages) (p k : ℕ) → k < 1 → needs_of packages p k ≡ needs_of packages p 0
+alike_one packages p zero lt = refl
+alike_one packages p (suc k) lt = absurd (omega (arith, lt))
+
+pub published_within : (packages : Packages) (p k : ℕ) → is_published packages p k ≡ true → k < length (versions_or_none (package_at packages p))
+unfolding publication_at
+published_within packages p k e = by (package_at packages p) e
+  where
+    by : (o : Option Package) → is_some (option_and_then (λ (pack : Package). slice_get pack.versions k) o) ≡ true → k < length (versions_or_none o)
+    by None e = absurd (true≢false (sym e))
+    by (Some pack) e = here (slice_get pack.versions k) refl e
+      where
+        here : (v : Option Publication) → slice_get pack.versions k ≡ v → is_some v ≡ true → k < length pack.versions
+        here None at e = absurd (true≢false (sym e))
+        here (Some v) at e = slice_get_within pack.versions k v at
+
+-- ---- what holds of selections
+
+module _ (packages : Packages) (wanted : Wanted) where
+  pub each_more : (found more : List (ℕ × ℕ)) (P : Choices → Type 0) → OfEach packages wanted found P → OfEach packages wanted (found ++ more) P
+  each_more found more P h t meets has = h t meets (λ p k e. has p k (choice-left found more p k e))
+
+  -- where more is chosen
+  pub holds_more : (old new : Choosing) (more : List (ℕ × ℕ)) → new.found.entries ≡ old.found.entries ++ more → new.needed ≡ old.needed → new.fresh ≡ old.fresh → Holds packages wanted old → Holds packages wanted new
+  holds_more old new more grown needed fresh h = record {
+    left = λ i e at.
+        subst (λ (xs : List (ℕ × ℕ)). OfEach packages wanted xs (λ t. true_of e.left (t e.pkg) ≡ true)) (sym grown)
+        (each_more old.found.entries more (λ t. true_of e.left (t e.pkg) ≡ true) (h.left i e (ap (λ v. slice_get v.items i) (sym needed) ∙ at)));
+    fresh = λ i q at.
+        subst (λ (xs : List (ℕ × ℕ)). OfEach packages wanted xs (λ t. (k : ℕ) × (t q ≡ Some k))) (sym grown)
+        (each_more old.found.entries more (λ t. (k : ℕ) × (t q ≡ Some k)) (h.fresh i q (ap (λ v. slice_get v.items i) (sym fresh) ∙ at)));
+  }
+
+  -- a version that one of these selections has depends on what they have
+  pub dependency_of : (found : List (ℕ × ℕ)) (p k index target : ℕ) (ordinals : List ℕ) → AskAlike packages wanted found p k → IsDependency packages p k index target ordinals → OfEach packages wanted found (λ t. IsOf ordinals (t target))
+  dependency_of found p k index target ordinals asks d t meets has =
+      let here = asks t meets has in
+      let among : Contains (needs_of packages p here.0) (d.name, d.need) = subst (λ lines. Contains lines (d.name, d.need)) (sym here.2) (get-contains _ index (d.name, d.need) d.at) in
+      let met = meets.closed p here.0 d.name d.need here.1 among in
+      let same : met.target ≡ target = same_Some met.target target (sym met.numbered ∙ d.number) in
+      (met.ordinal, ap t (sym same) ∙ met.selected, d.members met.ordinal ∙ ap (λ q. meets_at packages q met.ordinal d.need) (sym same) ∙ met.meeting)
+
+  -- and what the request needs
+  pub need_of : (found : List (ℕ × ℕ)) (name need : Text) (target : ℕ) (ordinals : List ℕ) → Contains wanted.needs (name, need) → number_of packages name ≡ Some target → ((k : ℕ) → has ordinals k ≡ meets_at packages target k need)
+      → OfEach packages wanted found (λ t. IsOf ordinals (t target))
+  need_of found name need target ordinals among numbered members t meets has =
+      let met = meets.needs name need among in
+      let same : met.target ≡ target = same_Some met.target target (sym met.numbered ∙ numbered) in
+      (met.ordinal, ap t (sym same) ∙ met.selected, members met.ordinal ∙ ap (λ q. meets_at packages q met.ordinal need) (sym same) ∙ met.meeting)
+
+is_of-true : (set : List ℕ) (choice : Option ℕ) → IsOf set choice → true_of (In set) choice ≡ true
+is_of-true set choice h = ap (λ c. true_of (In set) c) h.1 ∙ h.2
+
+-- ---- what is left of a package
+
+pub narrows_same : (set : List ℕ) (p : ℕ) (c : Choosing) → Narrows set p c c
+narrows_same set p c = record { found = refl; asked = refl; holds = λ packages wanted each h. h }
+
+pub narrows_added : (set : List ℕ) (p : ℕ) (old new : Choosing) → new.found ≡ old.found → new.asked ≡ old.asked → new.needed.items ≡ old.needed.items ++ record { pkg = p; left = In set } ∷ [] → new.fresh.items ≡ old.fresh.items ++ p ∷ []
+    → Narrows set p old new
+narrows_added set p old new found asked needed fresh = record {
+  found = found;
+  asked = ap (λ v. v.items) asked;
+  holds = λ packages wanted each h. record {
+    left = λ i e at.
+        subst (λ m. OfEach packages wanted m.entries (λ t. true_of e.left (t e.pkg) ≡ true)) (sym found)
+        (elim (get-cases old.needed.items (record { pkg = p; left = In set }) i e (ap (λ xs. slice_get xs i) (sym needed) ∙ at)) [
+          | inl before ↦ h.left i e before
+          | inr last ↦ λ t meets has. subst (λ (x : Needed). true_of x.left (t x.pkg) ≡ true) last (is_of-true set (t p) (each t meets has))
+        ]);
+    fresh = λ i q at.
+        subst (λ m. OfEach packages wanted m.entries (λ t. (k : ℕ) × (t q ≡ Some k))) (sym found)
+        (elim (get-cases old.fresh.items p i q (ap (λ xs. slice_get xs i) (sym fresh) ∙ at)) [
+          | inl before ↦ h.fresh i q before
+          | inr last ↦ λ t meets has. let one = each t meets has in (one.0, ap t (sym last) ∙ one.1)
+        ]);
+  };
+}
+
+set-cases : {A : Type 0} (xs : List A) (i : ℕ) (x : A) (j : ℕ) (y : A) → slice_get (slice_set xs i x) j ≡ Some y → (x ≡ y) ⊎ (slice_get xs j ≡ Some y)
+set-cases [] i x j y h = inr h
+set-cases (z ∷ xs) zero x zero y h = inl (same_Some x y h)
+set-cases (z ∷ xs) zero x (suc j) y h = inr h
+set-cases (z ∷ xs) (suc i) x zero y h = inr h
+set-cases (z ∷ xs) (suc i) x (suc j) y h = set-cases xs i x j y h
+
+both_from : (a b : Bool) → a ≡ true → b ≡ true → (a && b) ≡ true
+both_from true b h g = g
+both_from false b h g = absurd (true≢false (sym h))
+
+pub narrows_less : (set : List ℕ) (p place : ℕ) (both : Term) (e : Needed) (old new : Choosing) → slice_get old.needed.items place ≡ Some e → e.pkg ≡ p → ((c : Option ℕ) → true_of both c ≡ (true_of e.left c && true_of (In set) c))
+    → new.found ≡ old.found → new.asked ≡ old.asked → new.fresh ≡ old.fresh → new.needed.items ≡ slice_set old.needed.items place (record { pkg = p; left = both }) → Narrows set p old new
+narrows_less set p place both e old new at own exact found asked fresh needed = record {
+  found = found;
+  asked = ap (λ v. v.items) asked;
+  holds = λ packages wanted each h. record {
+    left = λ i f here.
+        subst (λ m. OfEach packages wanted m.entries (λ t. true_of f.left (t f.pkg) ≡ true)) (sym found)
+        (elim (set-cases old.needed.items place (record { pkg = p; left = both }) i f (ap (λ xs. slice_get xs i) (sym needed) ∙ here)) [
+          | inl this ↦ λ t meets has.
+              subst (λ (x : Needed). true_of x.left (t x.pkg) ≡ true) this
+              (exact (t p) ∙ both_from (true_of e.left (t p)) (true_of (In set) (t p)) (ap (λ q. true_of e.left (t q)) (sym own) ∙ h.left place e at t meets has) (is_of-true set (t p) (each t meets has)))
+          | inr other ↦ h.left i f other
+        ]);
+    fresh = λ i q here.
+        subst (λ m. OfEach packages wanted m.entries (λ t. (k : ℕ) × (t q ≡ Some k))) (sym found) (h.fresh i q (ap (λ v. slice_get v.items i) (sym fresh) ∙ here));
+  };
+}
+
+-- ---- lines that are met
+
+pub asks_more : (packages : Packages) (lines : List (Text × Text)) (index target : ℕ) (line : Text × Text) (is_chosen : Bool) (old mid new : List ℕ) → slice_get lines index ≡ Some line → number_of packages line.0 ≡ Some target
+    → AsksOf packages (take index lines) is_chosen old mid → AsksOne target is_chosen mid new → AsksOf packages (take (index + 1) lines) is_chosen old new
+asks_more packages lines index target line false old mid new at numbered before one = one ∙ before
+asks_more packages lines index target line true old mid new at numbered before one = (
+  before.0 ++ target ∷ [],
+  one ∙ ap (λ xs. xs ++ target ∷ []) before.1 ∙ append_assoc old before.0 (target ∷ []),
+  ap (map (λ (l : Text × Text). number_of packages l.0)) (take_one lines index line at) ∙ map-append (λ (l : Text × Text). number_of packages l.0) (take index lines) (line ∷ [])
+      ∙ ap (λ xs. xs ++ number_of packages line.0 ∷ []) before.2 ∙ ap (λ o. map Some before.0 ++ o ∷ []) numbered ∙ sym (map-append Some before.0 (target ∷ [])),
+)
+
+pub asks_none : (packages : Packages) (lines : List (Text × Text)) (is_chosen : Bool) (old : List ℕ) → AsksOf packages (take 0 lines) is_chosen old old
+asks_none packages lines true old = ([], sym (append-nil old), refl)
+asks_none packages lines false old = refl
+
+pub asks_all : (packages : Packages) (lines : List (Text × Text)) (index : ℕ) (is_chosen : Bool) (old new : List ℕ) → length lines ≤ index → AsksOf packages (take index lines) is_chosen old new → AsksOf packages lines is_chosen old new
+asks_all packages lines index is_chosen old new all h = subst (λ (ls : List (Text × Text)). AsksOf packages ls is_chosen old new) (take_all index lines all) h
+
+-- one more line of what each selection depends on
+pub meets_more : (packages : Packages) (p k index target : ℕ) (ordinals : List ℕ) (old mid asked new : Choosing) → IsDependency packages p k index target ordinals → MeetsOf packages p k old mid
+    → asked.found ≡ mid.found → asked.needed ≡ mid.needed → asked.fresh ≡ mid.fresh → Narrows ordinals target asked new → MeetsOf packages p k old new
+meets_more packages p k index target ordinals old mid asked new d before found needed fresh narrows = record {
+  found = narrows.found ∙ found ∙ before.found;
+  holds = λ wanted asks h.
+      let here = before.holds wanted asks h in
+      let there = holds_more packages wanted mid asked [] (ap (λ m. m.entries) found ∙ sym (append-nil mid.found.entries)) needed fresh here in
+      let same : asked.found.entries ≡ old.found.entries = ap (λ m. m.entries) (found ∙ before.found) in
+      narrows.holds packages wanted (subst (λ (xs : List (ℕ × ℕ)). OfEach packages wanted xs (λ t. IsOf ordinals (t target))) (sym same) (dependency_of packages wanted old.found.entries p k index target ordinals asks d)) there;
+}
+
+pub meets_none : (packages : Packages) (p k : ℕ) (c : Choosing) → MeetsOf packages p k c c
+meets_none packages p k c = record { found = refl; holds = λ wanted asks h. h }
+
+-- ---- versions that are not to be had
+
+module _ (packages : Packages) (wanted : Wanted) (found : List (ℕ × ℕ)) where
+  pub odds_chosen : (p k index target chosen : ℕ) (ordinals : List ℕ) → IsDependency packages p k index target ordinals → choice_of found target ≡ Some chosen → has ordinals chosen ≡ false → IsOut packages wanted found p k
+  odds_chosen p k index target chosen ordinals d there out t meets has is =
+      let met = meets.closed p k d.name d.need is (get-contains _ index (d.name, d.need) d.at) in
+      let same : met.target ≡ target = same_Some met.target target (sym met.numbered ∙ d.number) in
+      let version : met.ordinal ≡ chosen = same_Some met.ordinal chosen (sym met.selected ∙ ap t same ∙ has target chosen there) in
+      true≢false (sym (ap (λ q. meets_at packages q met.ordinal d.need) (sym same) ∙ met.meeting) ∙ sym (d.members met.ordinal) ∙ ap (has_of ordinals) version ∙ out)
+    where
+      has_of : List ℕ → ℕ → Bool
+      has_of set n = true_of (In set) (Some n)
+
+  pub odds_left : (p k index target : ℕ) (ordinals : List ℕ) (left : Term) → IsDependency packages p k index target ordinals → OfEach packages wanted found (λ t. true_of left (t target) ≡ true)
+      → ((j : ℕ) → is_published packages target j ≡ true → true_of left (Some j) ≡ true → true_of (In ordinals) (Some j) ≡ true → ⊥) → IsOut packages wanted found p k
+  odds_left p k index target ordinals left d each apart t meets has is =
+      let met = meets.closed p k d.name d.need is (get-contains _ index (d.name, d.need) d.at) in
+      let same : met.target ≡ target = same_Some met.target target (sym met.numbered ∙ d.number) in
+      let chosen : t target ≡ Some met.ordinal = ap t (sym same) ∙ met.selected in
+      apart met.ordinal (meets.selection target met.ordinal chosen) (ap (true_of left) (sym chosen) ∙ each t meets has) (d.members met.ordinal ∙ ap (λ q. meets_at packages q met.ordinal d.need) (sym same) ∙ met.meeting)
+
+-- ---- packages that are newly needed
+
+left_of : {A : Type 0} (xs ys : List A) (i : ℕ) (x : A) → slice_get xs i ≡ Some x → slice_get (xs ++ ys) i ≡ Some x
+left_of [] ys i x h = absurd (none-some x h)
+left_of (z ∷ xs) ys zero x h = h
+left_of (z ∷ xs) ys (suc i) x h = left_of xs ys i x h
+
+pub holds_popped : (packages : Packages) (wanted : Wanted) (old new : Choosing) (rest : List ℕ) → new.found ≡ old.found → new.needed ≡ old.needed → old.fresh.items ≡ new.fresh.items ++ rest → Holds packages wanted old → Holds packages wanted new
+holds_popped packages wanted old new rest found needed fresh h = record {
+  left = λ i e at. subst (λ m. OfEach packages wanted m.entries (λ t. true_of e.left (t e.pkg) ≡ true)) (sym found) (h.left i e (ap (λ v. slice_get v.items i) (sym needed) ∙ at));
+  fresh = λ i q at.
+      subst (λ m. OfEach packages wanted m.entries (λ t. (k : ℕ) × (t q ≡ Some k))) (sym found)
+      (h.fresh i q (ap (λ xs. slice_get xs i) fresh ∙ left_of new.fresh.items rest i q at));
+}
+
+-- the one that is taken out is needed
+pub popped_needed : (packages : Packages) (wanted : Wanted) (old : Choosing) (rest : List ℕ) (p : ℕ) → old.fresh.items ≡ rest ++ p ∷ [] → Holds packages wanted old → OfEach packages wanted old.found.entries (λ t. (k : ℕ) × (t p ≡ Some k))
+popped_needed packages wanted old rest p fresh h = h.fresh (length rest) p (ap (λ xs. slice_get xs (length rest)) fresh ∙ last rest)
+  where
+    last : (xs : List ℕ) → slice_get (xs ++ p ∷ []) (length xs) ≡ Some p
+    last [] = refl
+    last (x ∷ xs) = last xs
+
+-- each selection that has a package depends on what all its versions do
+pub ask_alike : (packages : Packages) (wanted : Wanted) (found : List (ℕ × ℕ)) (p : ℕ) → AreAlike packages p → OfEach packages wanted found (λ t. (k : ℕ) × (t p ≡ Some k)) → AskAlike packages wanted found p 0
+ask_alike packages wanted found p alike each t meets has = let here = each t meets has in (here.0, here.1, alike here.0 (meets.selection p here.0 here.1))
+
+-- ---- targets
+
+pub targets_more : (packages : Packages) (lines : List (Text × Text)) (index target : ℕ) (line : Text × Text) (old new : List ℕ) → slice_get lines index ≡ Some line → number_of packages line.0 ≡ Some target → AreTargets packages (take index lines) old
+    → new ≡ old ++ target ∷ [] → AreTargets packages (take (index + 1) lines) new
+targets_more packages lines index target line old new at numbered before one =
+    ap (map (λ (l : Text × Text). number_of packages l.0)) (take_one lines index line at) ∙ map-append (λ (l : Text × Text). number_of packages l.0) (take index lines) (line ∷ [])
+    ∙ ap (λ xs. xs ++ number_of packages line.0 ∷ []) before ∙ ap (λ o. map Some old ++ o ∷ []) numbered ∙ sym (map-append Some old (target ∷ [])) ∙ ap (map Some) (sym one)
+
+pub targets_both : (packages : Packages) (xs ys : List (Text × Text)) (old more new : List ℕ) → AreTargets packages xs old → AreTargets packages ys more → new ≡ old ++ more → AreTargets packages (xs ++ ys) new
+targets_both packages xs ys old more new one two is =
+    map-append (λ (l : Text × Text). number_of packages l.0) xs ys ∙ ap (λ l. l ++ map (λ (l : Text × Text). number_of packages l.0) ys) one ∙ ap (λ l. map Some old ++ l) two ∙ sym (map-append Some old more) ∙ ap (map Some) (sym is)
+
+pub dependencies_more : (packages : Packages) (found : List (ℕ × ℕ)) (p k : ℕ) → dependencies_of packages (found ++ (p, k) ∷ []) ≡ dependencies_of packages found ++ needs_of packages p k
+dependencies_more packages [] p k = append-nil (needs_of packages p k)
+dependencies_more packages (e ∷ found) p k = ap (λ l. needs_of packages e.0 e.1 ++ l) (dependencies_more packages found p k) ∙ sym (append_assoc (needs_of packages e.0 e.1) (dependencies_of packages found) (needs_of packages p k))
+
+-- the first target that was not found comes next
+pub first_target : (packages : Packages) (found : List (ℕ × ℕ)) (lines : List (Text × Text)) (asked : List ℕ) (at p : ℕ) → AreTargets packages lines asked → slice_get asked at ≡ Some p
+    → ((j q : ℕ) → j < at → slice_get asked j ≡ Some q → (k : ℕ) × (choice_of found q ≡ Some k)) → choice_of found p ≡ None → first_new packages found lines ≡ Some p
+first_target packages found lines [] at p targets here passed none = absurd (none-some p here)
+first_target packages found [] (q ∷ asked) at p targets here passed none = absurd (zero_suc (ap length targets))
+  where
+    zero_suc : 0 ≡ suc (length (map (λ (n : ℕ). Some n) asked)) → ⊥
+    zero_suc e = omega (arith, e)
+first_target packages found (line ∷ lines) (q ∷ asked) zero p targets here passed none =
+    ap (λ o. new_or_later found o (first_new packages found lines)) (first_of targets ∙ here) ∙ ap (λ (o : Option ℕ). if is_some o then first_new packages found lines else Some p) none
+  where
+    first_of : map (λ (l : Text × Text). number_of packages l.0) (line ∷ lines) ≡ map Some (q ∷ asked) → number_of packages line.0 ≡ Some q
+    first_of e = same_Some (number_of packages line.0) (Some q) (ap (λ xs. slice_get xs 0) e)
+first_target packages found (line ∷ lines) (q ∷ asked) (suc at) p targets here passed none =
+    let was = passed 0 q (omega arith) refl in
+    let rest : map (λ (l : Text × Text). number_of packages l.0) lines ≡ map Some asked = ap (drop 1) targets in
+    ap (λ o. new_or_later found o (first_new packages found lines)) (same_Some (number_of packages line.0) (Some q) (ap (λ xs. slice_get xs 0) targets))
+    ∙ ap (λ (o : Option ℕ). if is_some o then first_new packages found lines else Some q) was.1
+    ∙ first_target packages found lines asked at p rest here (λ j r lt at_j. passed (suc j) r (omega (arith, lt)) at_j) none
+
+-- ---- the best version
+
+module _ (packages : Packages) (wanted : Wanted) (found : List (ℕ × ℕ)) (p : ℕ) where
+  highest_open : (k : ℕ) (Gives : ℕ → Bool → Type 0) → IsHighest Gives (versions_or_none (package_at packages p)) k → ((j : ℕ) → Gives j false → IsOut packages wanted found p j)
+      → (j : ℕ) (a : IsAhead packages wanted p j k) → precedence a.other.version a.one.version ≡ Less → IsOut packages wanted found p j
+  highest_open k Gives h out j a less = out j (h.fails j a.other a.one (listed_at packages p k a.other a.second) (listed_at packages p j a.one a.first) less)
+
+  pub best_unlocked : (k : ℕ) (Gives : ℕ → Bool → Type 0) → NoneLocked packages wanted p → IsHighest Gives (versions_or_none (package_at packages p)) k → ((j : ℕ) → Gives j false → IsOut packages wanted found p j) → IsBest packages wanted found p k
+  best_unlocked k Gives none h out j a = elim (ahead_cases packages wanted p k j a) [
+    | inl locked ↦ absurd (true≢false (sym locked.0 ∙ none j))
+    | inr above ↦ highest_open k Gives h out j a above.1
+  ]
+
+  pub best_other : (k q : ℕ) (Gives : ℕ → Bool → Type 0) → IsLocked packages wanted p q → IsOut packages wanted found p q → IsHighest Gives (versions_or_none (package_at packages p)) k → ((j : ℕ) → Gives j false → IsOut packages wanted found p j)
+      → IsBest packages wanted found p k
+  best_other k q Gives there gone h out j a = elim (ahead_cases packages wanted p k j a) [
+    | inl locked ↦ subst (λ i. IsOut packages wanted found p i) (sym (there.only j locked.0)) gone
+    | inr above ↦ highest_open k Gives h out j a above.1
+  ]
+
+  pub best_locked : (k : ℕ) → PrecedenceIsATotalPreorder → IsLocked packages wanted p k → IsBest packages wanted found p k
+  best_locked k total here j a = elim (ahead_cases packages wanted p k j a) [
+    | inl locked ↦ absurd (true≢false (sym here.locked ∙ locked.1))
+    | inr above ↦ elim above.0 [
+      | inl locked ↦
+          let place : j ≡ k = here.only j locked in
+          let same : a.one ≡ a.other = same_Some a.one a.other (sym a.first ∙ ap (publication_at packages p) place ∙ a.second) in
+          absurd (own total a.other.version (ap (λ (v : Publication). precedence a.other.version v.version) (sym same) ∙ above.1))
+      | inr unlocked ↦ absurd (true≢false (sym here.locked ∙ unlocked))
+    ]
+  ]
+
+-- ---- one more that is chosen
+
+pub best_none : (packages : Packages) (wanted : Wanted) (found : List (ℕ × ℕ)) → found ≡ [] → AreBest packages wanted found
+best_none packages wanted found empty = record {
+  walked = λ i e at. absurd (none-some e (sym (ap (λ (xs : List (ℕ × ℕ)). slice_get xs i) empty) ∙ at));
+  best = λ i e at. absurd (none-some e (sym (ap (λ (xs : List (ℕ × ℕ)). slice_get xs i) empty) ∙ at));
+}
+
+pub best_push : (packages : Packages) (wanted : Wanted) (found : List (ℕ × ℕ)) (p k : ℕ) → AreBest packages wanted found → next_package packages wanted.needs found ≡ Some p → IsBest packages wanted found p k → AreBest packages wanted (found ++ (p, k) ∷ [])
+best_push packages wanted found p k h next best = record {
+  walked = λ i e at. elim (pushed_at found (p, k) i e at) [
+    | inl before ↦
+        let lt = slice_get_within found i e before in
+        ap (next_package packages wanted.needs) (take-append-le i found ((p, k) ∷ []) (omega (arith, lt))) ∙ h.walked i e before
+    | inr last ↦
+        ap (next_package packages wanted.needs) (ap (λ n. take n (found ++ (p, k) ∷ [])) last.0 ∙ take-append_seam found ((p, k) ∷ []))
+        ∙ next ∙ ap (λ (x : ℕ × ℕ). Some x.0) last.1
+  ];
+  best = λ i e at. elim (pushed_at found (p, k) i e at) [
+    | inl before ↦
+        let lt = slice_get_within found i e before in
+        subst (λ (xs : List (ℕ × ℕ)). IsBest packages wanted xs e.0 e.1) (sym (take-append-le i found ((p, k) ∷ []) (omega (arith, lt)))) (h.best i e before)
+    | inr last ↦
+        let whole : take i (found ++ (p, k) ∷ []) ≡ found = ap (λ n. take n (found ++ (p, k) ∷ [])) last.0 ∙ take-append_seam found ((p, k) ∷ []) in
+        subst (λ (xs : List (ℕ × ℕ)). IsBest packages wanted xs e.0 e.1) (sym whole) (subst (λ (x : ℕ × ℕ). IsBest packages wanted found x.0 x.1) last.1 best)
+  ];
+}
+
+-- what was chosen of a package is what each selection depends on that has it
+pub ask_own : (packages : Packages) (wanted : Wanted) (found : List (ℕ × ℕ)) (p k : ℕ) → choice_of found p ≡ None → AskAlike packages wanted (found ++ (p, k) ∷ []) p k
+ask_own packages wanted found p k none t meets has = (k, has p k (choice-push_here found p k none), refl)
+
+-- ---- the selection
+
+-- a list in the order of the walk, each the best, selects the newest selection, if a selection that meets the request follows it
+pub best_newest : (packages : Packages) (wanted : Wanted) (found : List (ℕ × ℕ)) (s : Choices) → AreBest packages wanted found → ((i : ℕ) (e : ℕ × ℕ) → slice_get found i ≡ Some e → choice_of found e.0 ≡ Some e.1)
+    → Follows (choice_of found) s → Meets packages wanted s → IsNewest packages wanted s
+best_newest packages wanted found s h own follows meets = record {
+  found = found;
+  selects = λ i p. list-selects packages wanted (choice_of found) s found (record { walked = h.walked; chosen = own }) (λ p k from e. e) follows meets p i;
+  meets = meets;
+  walked = h.walked;
+  best = λ i j e at ahead t others has chosen. h.best i e at j ahead t others has chosen;
+}
+
+pub some_then : {A : Type 0} {P Q : A → Type 0} (o : Option A) → IfSome o P → ((x : A) → P x → Q x) → IfSome o Q
+some_then None h f = tt
+some_then (Some x) h f = f x h
+
+-- what is left of a package, as it is read
+pub left_read : (packages : Packages) (wanted : Wanted) (c : Choosing) (place p : ℕ) (e x : Needed) → Holds packages wanted c → slice_get c.needed.items place ≡ Some e → e.pkg ≡ p → x ≡ get_or c.needed.items place x
+    → OfEach packages wanted c.found.entries (λ t. true_of x.left (t p) ≡ true)
+left_read packages wanted c place p e x h at own read t meets has =
+    let same : e ≡ x = sym (get_or_from_slice_get c.needed.items place e x at) ∙ sym read in
+    subst (λ (y : Needed). true_of y.left (t p) ≡ true) same (ap (λ q. true_of e.left (t q)) (sym own) ∙ h.left place e at t meets has)
+
+-- ---- a choice
+
+module _ (packages : Packages) (wanted : Wanted) (old mid met new : Choosing) (p k : ℕ) (h : IsChoosing packages wanted old) (none : choice_of old.found.entries p ≡ None) (grown : mid.found.entries ≡ old.found.entries ++ (p, k) ∷ [])
+    (meets : MeetsOf packages p k mid met) (found : new.found ≡ met.found) where
+  pub chosen_found : new.found.entries ≡ old.found.entries ++ (p, k) ∷ []
+  chosen_found = ap (λ m. m.entries) (found ∙ meets.found) ∙ grown
+
+  module _ (asked : mid.asked ≡ old.asked) (asks : AsksOf packages (needs_of packages p k) true mid.asked.items met.asked.items) (same : new.asked.items ≡ met.asked.items) where
+    pub chosen_asked : (more : List ℕ) × (new.asked.items ≡ old.asked.items ++ more)
+    chosen_asked = (asks.0, same ∙ asks.1 ∙ ap (λ v. v.items ++ asks.0) asked)
+
+    pub chosen_choosing : mid.needed ≡ old.needed → mid.fresh ≡ old.fresh → next_package packages wanted.needs old.found.entries ≡ Some p → IsBest packages wanted old.found.entries p k → (Holds packages wanted met → Holds packages wanted new)
+        → IsChoosing packages wanted new
+    chosen_choosing needed fresh next best keeps = record {
+      best = subst (λ (xs : List (ℕ × ℕ)). AreBest packages wanted xs) (sym chosen_found) (best_push packages wanted old.found.entries p k h.best next best);
+      targets =
+          let lines : in_name_order wanted.needs ++ dependencies_of packages new.found.entries ≡ (in_name_order wanted.needs ++ dependencies_of packages old.found.entries) ++ needs_of packages p k =
+          ap (λ (xs : List (ℕ × ℕ)). in_name_order wanted.needs ++ dependencies_of packages xs) chosen_found ∙ ap (λ l. in_name_order wanted.needs ++ l) (dependencies_more packages old.found.entries p k)
+          ∙ sym (append_assoc (in_name_order wanted.needs) (dependencies_of packages old.found.entries) (needs_of packages p k)) in
+          subst (λ (ls : List (Text × Text)). AreTargets packages ls new.asked.items) (sym lines)
+          (targets_both packages (in_name_order wanted.needs ++ dependencies_of packages old.found.entries) (needs_of packages p k) old.asked.items asks.0 new.asked.items h.targets asks.2 (same ∙ asks.1 ∙ ap (λ v. v.items ++ asks.0) asked));
+      holds = keeps (meets.holds wanted (subst (λ (xs : List (ℕ × ℕ)). AskAlike packages wanted xs p k) (sym grown) (ask_own packages wanted old.found.entries p k none)) (holds_more packages wanted old mid ((p, k) ∷ []) grown needed fresh h.holds));
+    }
+
+pub choosing_first : (packages : Packages) (wanted : Wanted) (start met new : Choosing) → start.found.entries ≡ [] → met.found ≡ start.found → new.found ≡ met.found → AreTargets packages (in_name_order wanted.needs) met.asked.items → new.asked.items ≡ met.asked.items
+    → Holds packages wanted new → IsChoosing packages wanted new
+choosing_first packages wanted start met new empty one two targets asked holds =
+    let none : new.found.entries ≡ [] = ap (λ m. m.entries) (two ∙ one) ∙ empty in
+    let lines : in_name_order wanted.needs ++ dependencies_of packages new.found.entries ≡ in_name_order wanted.needs =
+    ap (λ (xs : List (ℕ × ℕ)). in_name_order wanted.needs ++ dependencies_of packages xs) none ∙ append-nil (in_name_order wanted.needs) in
+    record {
+      best = best_none packages wanted new.found.entries none;
+      targets = subst (λ (ls : List (Text × Text)). AreTargets packages ls new.asked.items) (sym lines) (subst (λ xs. AreTargets packages (in_name_order wanted.needs) xs) (sym asked) targets);
+      holds = holds;
+    }
+
+-- ---- what was passed
+
+pub passed_here : (c : Choosing) (at p k : ℕ) → ArePassed c at → slice_get c.asked.items at ≡ Some p → choice_of c.found.entries p ≡ Some k → ArePassed c (at + 1)
+passed_here c at p k before here chosen j q lt at_j = elim (cases_eq j at) [
+  | inl same ↦
+      let is : p ≡ q = same_Some p q (sym here ∙ ap (slice_get c.asked.items) (sym same) ∙ at_j) in
+      (k, ap (choice_of c.found.entries) (sym is) ∙ chosen)
+  | inr apart ↦ before j q (omega (arith, lt, apart)) at_j
+]
+
+pub passed_more : (old new : Choosing) (at p k : ℕ) (more : List ℕ) → ArePassed old at → slice_get old.asked.items at ≡ Some p → choice_of old.found.entries p ≡ None → new.found.entries ≡ old.found.entries ++ (p, k) ∷ []
+    → new.asked.items ≡ old.asked.items ++ more → ArePassed new (at + 1)
+passed_more old new at p k more before here none found asked j q lt at_j = elim (cases_eq j at) [
+  | inl same ↦
+      let there : slice_get new.asked.items at ≡ Some p = ap (λ xs. slice_get xs at) asked ∙ left_of old.asked.items more at p here in
+      let is : p ≡ q = same_Some p q (sym there ∙ ap (slice_get new.asked.items) (sym same) ∙ at_j) in
+      (k, ap (choice_of new.found.entries) (sym is) ∙ ap (λ (xs : List (ℕ × ℕ)). choice_of xs p) found ∙ choice-push_here old.found.entries p k none)
+  | inr apart ↦
+      let low : j < at = omega (arith, lt, apart) in
+      let was = get-some old.asked.items j (omega (arith, low, slice_get_within old.asked.items at p here)) in
+      let is : was.0 ≡ q = same_Some was.0 q (sym (left_of old.asked.items more j was.0 was.1) ∙ ap (λ xs. slice_get xs j) (sym asked) ∙ at_j) in
+      let passed = before j was.0 low was.1 in
+      (passed.0, ap (choice_of new.found.entries) (sym is) ∙ ap (λ (xs : List (ℕ × ℕ)). choice_of xs was.0) found ∙ choice-left old.found.entries ((p, k) ∷ []) was.0 passed.0 passed.1)
+]
+
+-- each version stands once in the walk
+pub own_choice : (packages : Packages) (wanted : Wanted) (found : List (ℕ × ℕ)) → AreBest packages wanted found → (i : ℕ) (e : ℕ × ℕ) → slice_get found i ≡ Some e → choice_of found e.0 ≡ Some e.1
+own_choice packages wanted found h i e at = choice-at found i e at (is_new packages (take i found) (in_name_order wanted.needs ++ dependencies_of packages (take i found)) e.0 (h.walked i e at))
+  where
+    choice-at : (xs : List (ℕ × ℕ)) (n : ℕ) (x : ℕ × ℕ) → slice_get xs n ≡ Some x → choice_of (take n xs) x.0 ≡ None → choice_of xs x.0 ≡ Some x.1
+    choice-at [] n x here new = absurd (none-some x here)
+    choice-at (y ∷ xs) zero x here new =
+        let same : y ≡ x = same_Some y x here in
+        subst (λ (z : ℕ × ℕ). choice_of (z ∷ xs) x.0 ≡ Some x.1) (sym same) (rw (eq-eqb x.0 x.0 refl) refl)
+    choice-at (y ∷ xs) (suc n) x here new = elim (cases_Bool (nat_eq x.0 y.0)) [
+      | inl t ↦ absurd (none-some y.1 (sym (rw t at new)))
+      | inr f ↦ rw f (choice-at xs n x here (rw f at new))
+    ]

@@ -1,0 +1,29 @@
+use Rattle.std.proofs.Common.{◌≡◌, ◌∙◌, ap, refl, rules}
+use Rattle.walk.specs.declared.best.Choosing.{Choosing}
+use Rattle.walk.proofs.Bests.{holds_popped, popped_needed}
+use Rattle.walk.proofs.best.Choosing.meet_alike.Goals as goal
+
+pub returns-in_default-clause-holds : goal.returns-in_default-clause-holds
+returns-in_default-clause-holds c = λ wanted h.
+    holds_popped c.args.registry.now.packages wanted c.loop.self _ _ refl refl c.pop.ensures.items (c.loop.invariant.holds wanted h)
+
+pub returns-then-not-branch-clause-holds : goal.returns-then-not-branch-clause-holds
+returns-then-not-branch-clause-holds c = λ wanted h.
+    let packages = c.args.registry.now.packages in
+    let old = c.loop.self in
+    let mid : Choosing = record { found = old.found; asked = old.asked; needed = old.needed; numbers = old.numbers; fresh = c.pop.new.self } in
+    let here = c.loop.invariant.holds wanted h in
+    c.in_ok-meet_if_alike.ensures.holds wanted (popped_needed packages wanted old c.pop.new.self.items c.in-Some.pkg (rw c.in-Some.is at c.pop.ensures.items) here) (holds_popped packages wanted old mid _ refl refl c.pop.ensures.items here)
+
+pub loop-preserved : goal.loop-preserved
+loop-preserved c =
+    let packages = c.args.registry.now.packages in
+    let old = c.loop.self in
+    let mid : Choosing = record { found = old.found; asked = old.asked; needed = old.needed; numbers = old.numbers; fresh = c.pop.new.self } in
+    record {
+      found = c.in_ok-meet_if_alike.ensures.found ∙ c.loop.invariant.found;
+      asked = c.in_ok-meet_if_alike.ensures.asked (search rules) ∙ c.loop.invariant.asked;
+      holds = λ wanted h.
+          let here = c.loop.invariant.holds wanted h in
+          c.in_ok-meet_if_alike.ensures.holds wanted (popped_needed packages wanted old c.pop.new.self.items c.in-Some.pkg (rw c.in-Some.is at c.pop.ensures.items) here) (holds_popped packages wanted old mid _ refl refl c.pop.ensures.items here);
+    }

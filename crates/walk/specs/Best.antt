@@ -1,0 +1,98 @@
+-- The best versions in the order of the walk, and what is left of packages.
+use Rattle.std.specs.Prelude.{◌≡◌, ◌<◌, ◌++◌, ℕ, Bool, true, false, List, [], ◌∷◌, map, slice_get, take, Option, Some}
+use Rattle.versions.specs.Words.{Text}
+use Rattle.terms.specs.Sets.{has}
+use Rattle.terms.specs.Terms.{true_of}
+use Rattle.terms.specs.declared.term.Term.{Term}
+use Rattle.registry.specs.Registry.{Packages, is_published, needs_of, number_of}
+use Rattle.registry.specs.Requests.{Wanted}
+use Rattle.registry.specs.Selections.{Choices, Meets}
+use Rattle.walk.specs.Choosing.{choice_of}
+use Rattle.walk.specs.Newest.{Has, IsAhead, dependencies_of, in_name_order, next_package}
+use Rattle.walk.specs.declared.best.Choosing.{Choosing}
+use Rattle.walk.specs.declared.best.Needed.{Needed}
+
+-- so it is of each selection that meets the request and has these versions
+abbrev pub OfEach : Packages → Wanted → List (ℕ × ℕ) → (Choices → Type 0) → Type 0
+OfEach packages wanted found P = (t : Choices) → Meets packages wanted t → Has t found → P t
+
+-- it is a version of this set
+abbrev pub IsOf : List ℕ → Option ℕ → Type 0
+IsOf set choice = (k : ℕ) × (choice ≡ Some k) × (has set k ≡ true)
+
+-- no such selection has this version of the package
+abbrev pub IsOut : Packages → Wanted → List (ℕ × ℕ) → ℕ → ℕ → Type 0
+IsOut packages wanted found p j = OfEach packages wanted found (λ t. t p ≡ Some j → ⊥)
+
+-- nor one that is preferred to this one
+abbrev pub IsBest : Packages → Wanted → List (ℕ × ℕ) → ℕ → ℕ → Type 0
+IsBest packages wanted found p k = (j : ℕ) → IsAhead packages wanted p j k → IsOut packages wanted found p j
+
+-- they stand in the order of the walk, and each is the best with those before
+pub record AreBest (packages : Packages) (wanted : Wanted) (found : List (ℕ × ℕ)) : Type 0 where
+  pub walked : (i : ℕ) (e : ℕ × ℕ) → slice_get found i ≡ Some e → next_package packages wanted.needs (take i found) ≡ Some e.0
+  pub best : (i : ℕ) (e : ℕ × ℕ) → slice_get found i ≡ Some e → IsBest packages wanted (take i found) e.0 e.1
+
+-- these are the packages that the lines name, one after the other
+abbrev pub AreTargets : Packages → List (Text × Text) → List ℕ → Type 0
+AreTargets packages lines asked = map (λ (line : Text × Text). number_of packages line.0) lines ≡ map Some asked
+
+-- each of these selections has a version of the package that is left
+abbrev pub AreLeft : Packages → Wanted → List (ℕ × ℕ) → List Needed → Type 0
+AreLeft packages wanted found needed = (i : ℕ) (e : Needed) → slice_get needed i ≡ Some e → OfEach packages wanted found (λ t. true_of e.left (t e.pkg) ≡ true)
+
+-- each has a version of each of these packages
+abbrev pub AreNeeded : Packages → Wanted → List (ℕ × ℕ) → List ℕ → Type 0
+AreNeeded packages wanted found pkgs = (i q : ℕ) → slice_get pkgs i ≡ Some q → OfEach packages wanted found (λ t. (k : ℕ) × (t q ≡ Some k))
+
+-- what is kept of packages holds of each selection that meets the request and has what is chosen
+pub record Holds (packages : Packages) (wanted : Wanted) (c : Choosing) : Type 0 where
+  pub left : AreLeft packages wanted c.found.entries c.needed.items
+  pub fresh : AreNeeded packages wanted c.found.entries c.fresh.items
+
+-- nothing is chosen or asked, and what holds goes on to hold, where each selection has a version of the set
+pub record Narrows (set : List ℕ) (p : ℕ) (old new : Choosing) : Type 0 where
+  pub found : new.found ≡ old.found
+  pub asked : new.asked.items ≡ old.asked.items
+  pub holds : (packages : Packages) (wanted : Wanted) → OfEach packages wanted old.found.entries (λ t. IsOf set (t p)) → Holds packages wanted old → Holds packages wanted new
+
+-- each of these selections has a version of the package that depends on what this one does
+abbrev pub AskAlike : Packages → Wanted → List (ℕ × ℕ) → ℕ → ℕ → Type 0
+AskAlike packages wanted found p k = OfEach packages wanted found (λ t. (v : ℕ) × (t p ≡ Some v) × (needs_of packages p v ≡ needs_of packages p k))
+
+-- nothing is chosen, and what holds goes on to hold, where each selection depends on what the version does
+pub record MeetsOf (packages : Packages) (p k : ℕ) (old new : Choosing) : Type 0 where
+  pub found : new.found ≡ old.found
+  pub holds : (wanted : Wanted) → AskAlike packages wanted old.found.entries p k → Holds packages wanted old → Holds packages wanted new
+
+-- the packages of these lines are asked for, where that is wanted, and else none
+abbrev pub AsksOf : Packages → List (Text × Text) → Bool → List ℕ → List ℕ → Type 0
+AsksOf packages lines true old new = (more : List ℕ) × (new ≡ old ++ more) × AreTargets packages lines more
+AsksOf packages lines false old new = new ≡ old
+
+-- one package is asked for, where that is wanted
+abbrev pub AsksOne : ℕ → Bool → List ℕ → List ℕ → Type 0
+AsksOne p true old new = new ≡ old ++ p ∷ []
+AsksOne p false old new = new ≡ old
+
+-- those of what the version depends on
+abbrev pub AsksFor : Packages → ℕ → ℕ → Bool → List ℕ → List ℕ → Type 0
+AsksFor packages p k asks old new = AsksOf packages (needs_of packages p k) asks old new
+
+-- all versions of the package depend on what its first one does
+abbrev pub AreAlike : Packages → ℕ → Type 0
+AreAlike packages p = (k : ℕ) → is_published packages p k ≡ true → needs_of packages p k ≡ needs_of packages p 0
+
+-- the package of the need at an index is asked for
+abbrev pub AsksNeed : Packages → List (Text × Text) → ℕ → List ℕ → List ℕ → Type 0
+AsksNeed packages needs index old new = (line : Text × Text) × (target : ℕ) × (slice_get needs index ≡ Some line) × (number_of packages line.0 ≡ Some target) × (new ≡ old ++ target ∷ [])
+
+-- the first packages that were asked for are chosen
+abbrev pub ArePassed : Choosing → ℕ → Type 0
+ArePassed c at = (j q : ℕ) → j < at → slice_get c.asked.items j ≡ Some q → (k : ℕ) × (choice_of c.found.entries q ≡ Some k)
+
+-- what is asked are the lines of the walk, each version is the best, and what is kept holds
+pub record IsChoosing (packages : Packages) (wanted : Wanted) (c : Choosing) : Type 0 where
+  pub best : AreBest packages wanted c.found.entries
+  pub targets : AreTargets packages (in_name_order wanted.needs ++ dependencies_of packages c.found.entries) c.asked.items
+  pub holds : Holds packages wanted c
