@@ -196,8 +196,22 @@ impl Agenda {
         Ok(())
     }
 
-    /// Takes back what was noted above the level to which the search has jumped back, where it used the
-    /// line at a place, which concludes this.
+    /// Takes back what was noted above the level to which the search has gone back.
+    pub fn go_back(
+        &mut self,
+        question: &Question<'_>,
+        partial: &Partial,
+    ) -> Result<(), AllocError> {
+        let level = partial.level();
+        self.left.back_to(level);
+        self.queue
+            .backjump(question, &mut self.occurrences, partial)?;
+        self.used.clear();
+        self.occurrences.backjump(&mut self.spent, level);
+        self.late.backjump(level)
+    }
+
+    /// As `go_back`, where the search has jumped back by the line at a place, which concludes this.
     pub fn backjump(
         &mut self,
         question: &Question<'_>,
@@ -205,15 +219,10 @@ impl Agenda {
         conclusion: &Incompat,
         at: usize,
     ) -> Result<(), AllocError> {
-        let level = partial.level();
-        self.left.back_to(level);
         self.end_conflict(question, partial, conclusion)?;
-        self.queue
-            .backjump(question, &mut self.occurrences, partial)?;
-        self.used.clear();
-        self.occurrences.backjump(&mut self.spent, level);
+        self.go_back(question, partial)?;
+        let level = partial.level();
         self.spent.add(at, level)?;
-        self.late.backjump(level)?;
         self.late.note(partial, conclusion, at, level)
     }
 }

@@ -98,6 +98,7 @@ pub fn answer_soon(
     let few = Options {
         budget: Some(FEW),
         explain: options.explain,
+        newest: options.newest,
     };
     match solve_with(alloc, registry, request, store, few) {
         Ok(outcome) => Some(Ok(outcome)),

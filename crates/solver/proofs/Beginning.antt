@@ -1,5 +1,5 @@
 -- The start of a search.
-use Rattle.std.proofs.Common.{◌≡◌, ◌∙◌, ℕ, zero, suc, [], ◌∷◌, refl, sym, subst, arith, true, true≢false, ◌&&◌, take}
+use Rattle.std.proofs.Common.{◌≡◌, ◌∙◌, ℕ, zero, suc, Bool, List, [], ◌∷◌, refl, sym, subst, arith, true, false, true≢false, ◌&&◌, take}
 use Rattle.std.proofs.lemmas.Bool.{and_parts, ne_eqb}
 use Rattle.std.proofs.lemmas.Option.{none-some, same_Some}
 use Rattle.std.specs.Prelude.{Option, None, Some, slice_get}
@@ -14,6 +14,7 @@ use Rattle.derivations.specs.Known.{IsBefore, StandsBy}
 use Rattle.derivations.specs.declared.facts.Cause.TheVariants as cause
 use Rattle.derivations.specs.declared.cutting.Known.{Known}
 use Rattle.derivations.specs.declared.cutting.Reason.TheVariants.{Fact}
+use Rattle.solver.specs.Deciding.{IsPlaced}
 use Rattle.solver.specs.Lines.{root_terms}
 use Rattle.solver.specs.Searching.{IsCausedBy, IsSearch}
 
@@ -31,8 +32,13 @@ only_zero None h = absurd (true≢false (sym h))
 only_zero (Some zero) h = refl
 only_zero (Some (suc n)) h = absurd (true≢false (sym h ∙ rw (ne_eqb 0 (suc n) (λ e. omega (arith, e))) refl))
 
-pub start_search : (packages : Packages) (wanted : Wanted) → IsSearch packages wanted (root_derived ∷ root_decided ∷ []) (root_known ∷ [])
-start_search packages wanted = record {
+-- the root's decision is in its place
+pub root_placed : (in_order : Bool) (packages : Packages) (wanted : Wanted) (before : List Assignment) → IsPlaced in_order packages wanted before 0 0
+root_placed true packages wanted before = refl
+root_placed false packages wanted before = tt
+
+pub start_search : (in_order : Bool) (packages : Packages) (wanted : Wanted) → IsSearch in_order packages wanted (root_derived ∷ root_decided ∷ []) (root_known ∷ [])
+start_search in_order packages wanted = record {
   lines = record {
     lawful = λ k line at. lawful k line at;
     ordered = λ k line at. ordered k line at;
@@ -59,9 +65,9 @@ start_search packages wanted = record {
     both : (c : Option ℕ) → says (root_derived ∷ root_decided ∷ []) 0 c ≡ true → true_of (In (0 ∷ [])) c ≡ true
     both c h = (and_parts (true_of (In (0 ∷ [])) c) (true_of (In (0 ∷ [])) c && true) h).0
 
-    caused : (i : ℕ) (a : Assignment) → slice_get (root_derived ∷ root_decided ∷ []) i ≡ Some a → IsCausedBy (root_known ∷ []) (take i (root_derived ∷ root_decided ∷ [])) a a.why
+    caused : (i : ℕ) (a : Assignment) → slice_get (root_derived ∷ root_decided ∷ []) i ≡ Some a → IsCausedBy in_order packages wanted (root_known ∷ []) (take i (root_derived ∷ root_decided ∷ [])) a a.why
     caused zero a at =
-        subst (λ (x : Assignment). IsCausedBy (root_known ∷ []) [] x x.why) (same_Some root_derived a at)
+        subst (λ (x : Assignment). IsCausedBy in_order packages wanted (root_known ∷ []) [] x x.why) (same_Some root_derived a at)
         (record { line = root_known; at = refl; on_package = refl; negation = λ c. refl; others = λ p c apart said. rw (ne_eqb 0 p (λ e. apart (sym e))) refl })
-    caused (suc zero) a at = subst (λ (x : Assignment). IsCausedBy (root_known ∷ []) (root_derived ∷ []) x x.why) (same_Some root_decided a at) tt
+    caused (suc zero) a at = subst (λ (x : Assignment). IsCausedBy in_order packages wanted (root_known ∷ []) (root_derived ∷ []) x x.why) (same_Some root_decided a at) (root_placed in_order packages wanted (root_derived ∷ []))
     caused (suc (suc i)) a at = absurd (none-some a at)

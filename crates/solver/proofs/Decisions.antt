@@ -1,5 +1,5 @@
 -- Decisions, and what comes of lines that speak against a package.
-use Rattle.std.proofs.Common.{◌≡◌, ◌<◌, ◌∙◌, ℕ, List, [], ◌∷◌, ◌++◌, refl, sym, ap, subst, true, false, true≢false, ◌&&◌, inl, inr, length, get_or}
+use Rattle.std.proofs.Common.{◌≡◌, ◌<◌, ◌∙◌, ℕ, List, [], ◌∷◌, ◌++◌, refl, sym, ap, subst, true, false, true≢false, ◌&&◌, inl, inr, length, get_or, Bool}
 use Rattle.std.proofs.lemmas.Bool.{cases_eq, cases_lt, and_parts, eq-eqb, ne_eqb}
 use Rattle.std.proofs.lemmas.Option.{get_or_from_slice_get, none-some, same_Some}
 use Rattle.std.specs.Prelude.{Option, None, Some, IfNone, IfSome, Contains, slice_get}
@@ -26,6 +26,7 @@ use Rattle.solver.specs.declared.acting.Acted.{Acted}
 use Rattle.solver.specs.declared.acting.Acted.TheVariants as acted
 use Rattle.solver.specs.Picking.{is_choosable, AreBarred, IsWithin}
 use Rattle.solver.specs.Pushing.{SaysAt}
+use Rattle.solver.specs.Deciding.{IsPlaced}
 use Rattle.solver.specs.Searching.{ActsBy, IsSearch, IsUnused}
 use Rattle.solver.proofs.Kept.{IsSearch-push}
 use Rattle.solver.proofs.Publishing.{count}
@@ -102,16 +103,16 @@ not_neither_alone made p versions left n = elim (cases_eq p n.pkg) [
 ]
 
 -- a decision goes on
-pub decided_search : (packages : Packages) (wanted : Wanted) (made new : List Assignment) (known : List Known) (p k level : ℕ) → IsSearch packages wanted made known
-    → new ≡ made ++ record { pkg = p; term = In (k ∷ []); level = level; why = Decided k } ∷ [] → IsSearch packages wanted new known
-decided_search packages wanted made new known p k level h is =
-    rw is (IsSearch-push packages wanted made known (record { pkg = p; term = In (k ∷ []); level = level; why = Decided k }) h tt)
+pub decided_search : {in_order : Bool} (packages : Packages) (wanted : Wanted) (made new : List Assignment) (known : List Known) (p k level : ℕ) → IsPlaced in_order packages wanted made p k → IsSearch in_order packages wanted made known
+    → new ≡ made ++ record { pkg = p; term = In (k ∷ []); level = level; why = Decided k } ∷ [] → IsSearch in_order packages wanted new known
+decided_search {in_order} packages wanted made new known p k level placed h is =
+    rw is (IsSearch-push packages wanted made known (record { pkg = p; term = In (k ∷ []); level = level; why = Decided k }) h placed)
 
 -- a decision after lines were added and none could be used
-pub decided_goes : (packages : Packages) (wanted : Wanted) (made mid new : List Assignment) (known after : List Known) (p k level : ℕ) → mid ≡ made → after ≡ known → IsSearch packages wanted made known
-    → new ≡ mid ++ record { pkg = p; term = In (k ∷ []); level = level; why = Decided k } ∷ [] → rank new < rank mid → IsSearch packages wanted new after × (rank new < rank made)
-decided_goes packages wanted made mid new known after p k level same kept h is falls = (
-  rw kept (decided_search packages wanted made new known p k level h (is ∙ ap (λ xs. xs ++ record { pkg = p; term = In (k ∷ []); level = level; why = Decided k } ∷ []) same)),
+pub decided_goes : {in_order : Bool} (packages : Packages) (wanted : Wanted) (made mid new : List Assignment) (known after : List Known) (p k level : ℕ) → IsPlaced in_order packages wanted made p k → mid ≡ made → after ≡ known → IsSearch in_order packages wanted made known
+    → new ≡ mid ++ record { pkg = p; term = In (k ∷ []); level = level; why = Decided k } ∷ [] → rank new < rank mid → IsSearch in_order packages wanted new after × (rank new < rank made)
+decided_goes {in_order} packages wanted made mid new known after p k level placed same kept h is falls = (
+  rw kept (decided_search packages wanted made new known p k level placed h (is ∙ ap (λ xs. xs ++ record { pkg = p; term = In (k ∷ []); level = level; why = Decided k } ∷ []) same)),
   subst (λ xs. rank new < rank xs) same falls,
 )
 

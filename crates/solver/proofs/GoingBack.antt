@@ -1,5 +1,5 @@
 -- What going back leads to.
-use Rattle.std.proofs.Common.{◌≡◌, ◌<◌, ◌∙◌, ℕ, refl, sym, ap, subst, List, length, get_or}
+use Rattle.std.proofs.Common.{◌≡◌, ◌<◌, ◌∙◌, ℕ, refl, sym, ap, subst, List, length, get_or, Bool}
 use Rattle.std.proofs.lemmas.Option.{slice_get_read, get_or_from_slice_get}
 use Rattle.std.specs.Prelude.{Some, slice_get}
 use Rattle.partial.specs.declared.assignment.Assignment.{Assignment}
@@ -28,8 +28,8 @@ module _ (old now : List Assignment) (known : List Known) (at level : ℕ) (back
   pub back_place : slice_get known at ≡ Some x
   back_place = back.1 ∙ ap Some same_line
 
-  pub back_search : (packages : Packages) (wanted : Wanted) → IsPartial old → IsSearch packages wanted old known → IsSearch packages wanted now known
-  back_search packages wanted h s = subst (λ xs. IsSearch packages wanted xs known) (sym is_now) (IsSearch-upto packages wanted level old known h here.above_root s)
+  pub back_search : {in_order : Bool} (packages : Packages) (wanted : Wanted) → IsPartial old → IsSearch in_order packages wanted old known → IsSearch in_order packages wanted now known
+  back_search {in_order} packages wanted h s = subst (λ xs. IsSearch in_order packages wanted xs known) (sym is_now) (IsSearch-upto packages wanted level old known h here.above_root s)
 
   pub not_satisfied : Satisfied now x.conclusion → ⊥
   not_satisfied s = here.not_yet (subst (λ xs. Satisfied xs x.conclusion) is_now s)

@@ -58,9 +58,9 @@ AreLines-push packages wanted known line h stands = record {
   root = (h.root.0, get-left known (line ∷ []) 0 h.root.0 h.root.1, h.root.2);
 }
 
-caused_later : (known more : List Known) (before : List Assignment) (a : Assignment) (why : Why) → IsCausedBy known before a why → IsCausedBy (known ++ more) before a why
-caused_later known more before a (Decided ordinal) h = tt
-caused_later known more before a (Derived k) h = record {
+caused_later : (in_order : Bool) (packages : Packages) (wanted : Wanted) (known more : List Known) (before : List Assignment) (a : Assignment) (why : Why) → IsCausedBy in_order packages wanted known before a why → IsCausedBy in_order packages wanted (known ++ more) before a why
+caused_later in_order packages wanted known more before a (Decided ordinal) h = h
+caused_later in_order packages wanted known more before a (Derived k) h = record {
   line = h.line;
   at = get-left known more k h.line h.at;
   on_package = h.on_package;
@@ -68,19 +68,19 @@ caused_later known more before a (Derived k) h = record {
   others = h.others;
 }
 
-pub IsSearch-line : (packages : Packages) (wanted : Wanted) (made : List Assignment) (known : List Known) (line : Known) → IsSearch packages wanted made known
-    → StandsBy packages wanted known line.conclusion line.reason → IsSearch packages wanted made (known ++ line ∷ [])
-IsSearch-line packages wanted made known line h stands = record {
+pub IsSearch-line : {in_order : Bool} (packages : Packages) (wanted : Wanted) (made : List Assignment) (known : List Known) (line : Known) → IsSearch in_order packages wanted made known
+    → StandsBy packages wanted known line.conclusion line.reason → IsSearch in_order packages wanted made (known ++ line ∷ [])
+IsSearch-line {in_order} packages wanted made known line h stands = record {
   lines = AreLines-push packages wanted known line h.lines stands;
   begins = h.begins;
-  caused = λ i a at. caused_later known (line ∷ []) (take i made) a a.why (h.caused i a at);
+  caused = λ i a at. caused_later in_order packages wanted known (line ∷ []) (take i made) a a.why (h.caused i a at);
 }
 
 -- ---- assignments
 
-pub IsSearch-push : (packages : Packages) (wanted : Wanted) (made : List Assignment) (known : List Known) (a : Assignment) → IsSearch packages wanted made known → IsCausedBy known made a a.why
-    → IsSearch packages wanted (made ++ a ∷ []) known
-IsSearch-push packages wanted made known a h new = record {
+pub IsSearch-push : {in_order : Bool} (packages : Packages) (wanted : Wanted) (made : List Assignment) (known : List Known) (a : Assignment) → IsSearch in_order packages wanted made known → IsCausedBy in_order packages wanted known made a a.why
+    → IsSearch in_order packages wanted (made ++ a ∷ []) known
+IsSearch-push {in_order} packages wanted made known a h new = record {
   lines = h.lines;
   begins =
       let front : take 2 (made ++ a ∷ []) ≡ take 2 made = take-append-le 2 made (a ∷ []) h.begins.two in
@@ -97,7 +97,7 @@ IsSearch-push packages wanted made known a h new = record {
         rw (take-append-le i made (a ∷ []) (omega (arith, lt))) (h.caused i x e)
     | inr e ↦
         let front : take i (made ++ a ∷ []) ≡ made = take-append-le i made (a ∷ []) (omega (arith, e.0)) ∙ take_all i made (omega (arith, e.0)) in
-        rw front (subst (λ y. IsCausedBy known made y y.why) e.1 new)
+        rw front (subst (λ y. IsCausedBy in_order packages wanted known made y y.why) e.1 new)
   ];
 }
 
@@ -109,9 +109,9 @@ upto-two b (x ∷ y ∷ made) h two one le =
     let second : nat_le y.level b ≡ true = le-leb y.level b (omega (arith, h.1.0, one)) in
     rw (first, second) (omega arith, refl)
 
-pub IsSearch-upto : (packages : Packages) (wanted : Wanted) (b : ℕ) (made : List Assignment) (known : List Known) → IsPartial made → 1 ≤ b → IsSearch packages wanted made known
-    → IsSearch packages wanted (upto b made) known
-IsSearch-upto packages wanted b made known partial le h =
+pub IsSearch-upto : {in_order : Bool} (packages : Packages) (wanted : Wanted) (b : ℕ) (made : List Assignment) (known : List Known) → IsPartial made → 1 ≤ b → IsSearch in_order packages wanted made known
+    → IsSearch in_order packages wanted (upto b made) known
+IsSearch-upto {in_order} packages wanted b made known partial le h =
     let front = upto-beginning b 0 made partial.levels in
     let two = upto-two b made partial.levels h.begins.two h.begins.opened le in
     record {
@@ -151,9 +151,9 @@ module _ (made : List Assignment) (known : List Known) (at pkg : ℕ) (term : Te
   pub derive_takes_away : TakesAway made pkg term
   derive_takes_away = let w = here.can_be_true in (w.0, w.1, w.2, negated w.0 ∙ ap not w.3)
 
-  pub derive_search : (packages : Packages) (wanted : Wanted) → IsSearch packages wanted made known
-      → IsSearch packages wanted (made ++ record { pkg = pkg; term = term; level = decisions made; why = Derived at } ∷ []) known
-  derive_search packages wanted h =
+  pub derive_search : {in_order : Bool} (packages : Packages) (wanted : Wanted) → IsSearch in_order packages wanted made known
+      → IsSearch in_order packages wanted (made ++ record { pkg = pkg; term = term; level = decisions made; why = Derived at } ∷ []) known
+  derive_search {in_order} packages wanted h =
       IsSearch-push packages wanted made known (record { pkg = pkg; term = term; level = decisions made; why = Derived at }) h
       (record {
         line = line;

@@ -17,3 +17,8 @@ pub mod Naming
 pub mod Obstacles
 pub mod Listing
 pub mod Refusing
+pub mod Best
+pub mod InOrder
+pub mod Restarting
+pub mod Newest
+pub mod OneList

@@ -23,6 +23,8 @@ use Rattle.derivations.specs.Facts.{need_terms, need_terms_at}
 use Rattle.walk.specs.Choosing.{IsUnmet}
 use Rattle.walk.specs.Walks.{IsUnmetAt}
 use Rattle.derivations.specs.declared.cutting.Known.{Known}
+use Rattle.solver.specs.Deciding.{IsTurnAt, IsTurnOf}
+use Rattle.solver.proofs.InOrder.{turn_kept}
 use Rattle.solver.specs.Lines.{AtLine}
 use Rattle.solver.specs.declared.task.Task.{Task}
 use Rattle.solver.specs.Picking.{IsToDecide}
@@ -43,7 +45,7 @@ only_in k (Some j) h = elim (cases_Bool (nat_eq k j)) [
   | inr e ↦ absurd (true≢false (sym h ∙ rw e refl))
 ]
 
-exact_only : (why : Why) (term : Term) (k : ℕ) (c : Option ℕ) → IsExact why term → decided_by why ≡ Some k → true_of term c ≡ true → c ≡ Some k
+pub exact_only : (why : Why) (term : Term) (k : ℕ) (c : Option ℕ) → IsExact why term → decided_by why ≡ Some k → true_of term c ≡ true → c ≡ Some k
 exact_only (Decided j) term k c exact e h =
     let same : j ≡ k = same_Some j k e in
     only_in j c (ap (λ t. true_of t c) (sym exact) ∙ h) ∙ ap Some same
@@ -187,6 +189,9 @@ module _ (packages : Packages) (made : List Assignment) (p v i : ℕ) (publicati
       subst (λ (x : Text × Text). Contains (needs_of packages p v) x) read
       (entry_used packages p v publication i r at (slice_get_within publication.needs i (unmet.name, unmet.need) asked) read)
 
+  pub entry_at : slice_get (needs_of packages p v) i ≡ Some (get_or publication.needs i r)
+  entry_at = unmet.at ∙ ap Some (sym (get_or_from_slice_get publication.needs i (unmet.name, unmet.need) r asked))
+
   pub entry_unmet : IsUnmet packages (decided made) (get_or publication.needs i r).0 (get_or publication.needs i r).1
   entry_unmet =
       subst (λ (x : Text × Text). IsUnmet packages (decided made) x.0 x.1) (sym (get_or_from_slice_get publication.needs i (unmet.name, unmet.need) r asked)) unmet.unmet
@@ -226,3 +231,7 @@ module _ (task : Task) (made : List Assignment) (known : List Known) (at i : ℕ
   need_decides matched new q h numbered same =
       let blame = need_blames matched task.registry.now.packages made r.0 r.1 q begins numbered need_unmet in
       subst (λ (m : List Assignment). IsToDecide task m q) (sym same) (blamed_decides task made (need_terms task.registry.now.packages r.0 r.1) r.0 q h numbered blame need_neither)
+
+  -- and it is its target's turn, where it is the turn of what it names
+  pub need_turn : IsTurnAt task made needs i → (new : List Assignment) (q : ℕ) → number_of task.registry.now.packages r.0 ≡ Some q → new ≡ made → is_decided new q ≡ false → IsTurnOf task new q
+  need_turn turn new q numbered same undecided = turn_kept task made new needs i q r turn (place.asked ∙ ap Some need_is) numbered same undecided

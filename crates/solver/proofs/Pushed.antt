@@ -1,5 +1,5 @@
 -- Facts as lines.
-use Rattle.std.proofs.Common.{◌≡◌, ◌≢◌, ◌↔◌, ◌∙◌, ℕ, List, [], ◌∷◌, ◌++◌, length, refl, sym, ap, true≢false}
+use Rattle.std.proofs.Common.{◌≡◌, ◌≢◌, ◌↔◌, ◌∙◌, ℕ, List, [], ◌∷◌, ◌++◌, length, refl, sym, ap, true≢false, Bool}
 use Rattle.std.specs.Prelude.{Contains, IsTrue, Some}
 use Rattle.versions.specs.Words.{Text}
 use Rattle.terms.specs.Sets.{has}
@@ -18,8 +18,8 @@ use Rattle.solver.proofs.Lists.{get-last}
 use Rattle.solver.proofs.Kept.{IsSearch-line}
 
 -- a fact behind the lines
-pub fact_extends : (packages : Packages) (wanted : Wanted) (old new : List Known) (cause : Cause) (terms : Terms) → IsFact packages wanted cause terms
-    → new ≡ old ++ record { conclusion = terms; reason = Fact cause } ∷ [] → (made : List Assignment) → IsSearch packages wanted made old → IsSearch packages wanted made new
+pub fact_extends : {in_order : Bool} (packages : Packages) (wanted : Wanted) (old new : List Known) (cause : Cause) (terms : Terms) → IsFact packages wanted cause terms
+    → new ≡ old ++ record { conclusion = terms; reason = Fact cause } ∷ [] → (made : List Assignment) → IsSearch in_order packages wanted made old → IsSearch in_order packages wanted made new
 fact_extends packages wanted old new cause terms fact is made search =
     rw is (IsSearch-line packages wanted made old (record { conclusion = terms; reason = Fact cause }) search fact)
 

@@ -1,5 +1,5 @@
 -- What is taken from the store is lawful.
-use Rattle.std.proofs.Common.{◌≡◌, ◌∙◌, ◌+◌, ◌≤◌, ◌||◌, ℕ, zero, suc, drop, true, List, [], ◌∷◌, ◌++◌, length, get_or, refl, sym, ap, subst, arith, inl, inr, length-append}
+use Rattle.std.proofs.Common.{◌≡◌, ◌∙◌, ◌+◌, ◌≤◌, ◌||◌, ℕ, zero, suc, drop, true, List, [], ◌∷◌, ◌++◌, length, get_or, refl, sym, ap, subst, arith, inl, inr, length-append, Bool}
 use Rattle.std.proofs.lemmas.List.{get_or_append_left, get_or_push}
 use Rattle.std.proofs.lemmas.Option.{none-some, same_Some, slice_get_within}
 use Rattle.std.specs.Prelude.{Some, slice_get}
@@ -79,7 +79,7 @@ module _ (packages : Packages) (wanted : Wanted) (old half both new : List Known
   pub line_place : (at : ℕ) → at ≡ length both → SaysAt new line.conclusion at
   line_place at place = rw (is, place) (record { conclusion = terms; reason = Resolved i j line.pivot }, get-last both (record { conclusion = terms; reason = Resolved i j line.pivot }), same)
 
-  pub line_extends : (made : List Assignment) → IsSearch packages wanted made both → IsSearch packages wanted made new
+  pub line_extends : {in_order : Bool} (made : List Assignment) → IsSearch in_order packages wanted made both → IsSearch in_order packages wanted made new
   line_extends made search = rw is (IsSearch-line packages wanted made both (record { conclusion = terms; reason = Resolved i j line.pivot }) search line_follows)
 
 -- ---- all lines of a member

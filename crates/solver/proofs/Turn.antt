@@ -1,5 +1,5 @@
 -- One turn of conflict resolution.
-use Rattle.std.proofs.Common.{◌≡◌, ◌<◌, ◌≤◌, ◌∙◌, ℕ, sym, ap, subst, true, List, [], ◌∷◌, ◌++◌, length, take, get_or}
+use Rattle.std.proofs.Common.{◌≡◌, ◌<◌, ◌≤◌, ◌∙◌, ℕ, sym, ap, subst, true, List, [], ◌∷◌, ◌++◌, length, take, get_or, Bool}
 use Rattle.std.proofs.lemmas.Option.{same_Some, slice_get_within, get_or_from_slice_get}
 use Rattle.std.specs.Prelude.{Some, slice_get}
 use Rattle.terms.specs.Incompats.{has_term, Follows, IsIncompat}
@@ -21,7 +21,7 @@ use Rattle.solver.proofs.Says.{says-take}
 use Rattle.solver.proofs.Back.{prior_before, so_far, decision_above, root_only}
 use Rattle.solver.proofs.Kept.{AreLines-push, IsSearch-line}
 
-module _ (packages : Packages) (wanted : Wanted) (made : List Assignment) (known : List Known) (at bound : ℕ) (m : IsResolving packages wanted made known at bound) where
+module _ {in_order : Bool} (packages : Packages) (wanted : Wanted) (made : List Assignment) (known : List Known) (at bound : ℕ) (m : IsResolving in_order packages wanted made known at bound) where
   pub at_within : at < length known
   at_within = slice_get_within known at m.here.0 m.here.1
 
@@ -66,7 +66,7 @@ module _ (packages : Packages) (wanted : Wanted) (made : List Assignment) (known
           decision_above made line.conclusion index level a h m.search.begins found (satisfier_at a is) behind (ap (λ w. is_some (decided_by w)) why)
 
       cause_of : (a : Assignment) (cause : ℕ) → a ≡ get_or made index a → a.why ≡ Derived cause → IsCaused known (take index made) a cause
-      cause_of a cause is why = subst (λ w. IsCausedBy known (take index made) a w) why (m.search.caused index a (satisfier_at a is))
+      cause_of a cause is why = subst (λ w. IsCausedBy in_order packages wanted known (take index made) a w) why (m.search.caused index a (satisfier_at a is))
 
       pub cause_second : (a : Assignment) (cause : ℕ) → a ≡ get_or made index a → a.why ≡ Derived cause → AtLine known cause (λ l. has_term l.conclusion a.pkg ≡ true)
       cause_second a cause is why = let by = cause_of a cause is why in (by.line, by.at, by.on_package)
@@ -76,7 +76,7 @@ module _ (packages : Packages) (wanted : Wanted) (made : List Assignment) (known
         stands : StandsBy packages wanted known next.conclusion next.reason
         stands = subst (λ r. StandsBy packages wanted known next.conclusion r) (sym reason) follows
 
-        pub next_search : IsSearch packages wanted made (known ++ next ∷ [])
+        pub next_search : IsSearch in_order packages wanted made (known ++ next ∷ [])
         next_search = IsSearch-line packages wanted made known next m.search stands
 
         first_is : follows.one ≡ line
@@ -102,7 +102,7 @@ module _ (packages : Packages) (wanted : Wanted) (made : List Assignment) (known
               };
             }
 
-        pub turn : (a : Assignment) → a ≡ get_or made index a → a.why ≡ Derived cause → pivot ≡ a.pkg → IsResolving packages wanted made (known ++ next ∷ []) (length known) index
+        pub turn : (a : Assignment) → a ≡ get_or made index a → a.why ≡ Derived cause → pivot ≡ a.pkg → IsResolving in_order packages wanted made (known ++ next ∷ []) (length known) index
         turn a is why on =
             let by : IsCaused known (take index made) a cause = cause_of a cause is why in
             let cause_is : by.line ≡ follows.two = same_Some by.line follows.two (sym by.at ∙ follows.two_at) in

@@ -9,6 +9,7 @@ use Rattle.partial.specs.Satisfying.{SatisfiedBut}
 use Rattle.registry.specs.Selections.{Meets}
 use Rattle.derivations.specs.Facts.{Terms}
 use Rattle.walk.specs.Choosing.{choice_of}
+use Rattle.walk.specs.Newest.{IsNewest}
 use Rattle.solver.specs.declared.task.Task.{Task}
 use Rattle.solver.specs.declared.search.Search.{Search}
 use Rattle.solver.specs.declared.turns.Turned.{Turned}
@@ -25,15 +26,21 @@ pub record IsBlame (made : List Assignment) (terms : Terms) (target : ℕ) : Typ
   pub none : true_at terms target None ≡ true
   pub chosen : (k : ℕ) → decided made target ≡ Some k → true_at terms target (Some k) ≡ true
 
--- what the list selects meets the request, and each package stands once
+-- what the list selects meets the request, and is the newest selection where that is asked for; and each package stands once
 pub record IsAnswer (task : Task) (list : List (ℕ × ℕ)) : Type 0 where
   pub meets : Meets task.registry.now.packages task.request.now (choice_of list)
   pub once : IsDistinct nat_eq (keys_of list)
+  pub newest : task.newest ≡ true → IsNewest task.registry.now.packages task.request.now (choice_of list)
 
 -- the search went on or was refused, or ended with a selection and is still one
 abbrev pub TurnsBy : Task → Search → Search → Turned → Type 0
 TurnsBy task old new (turned.Acted a) = ActsBy task old new ⊥ a
 TurnsBy task old new (turned.Selected list) = Searches task new × IsAnswer task list.items
+
+-- the search is still one, and there is a selection that meets the request, or the place of a line that shows that none does
+abbrev pub StopsBy : Task → Search → Ended → Type 0
+StopsBy task search (ended.Selected list) = Searches task search × IsAnswer task list.items
+StopsBy task search (ended.Refused end) = Refuses task search.known.items end
 
 -- a selection that meets the request, with lawful lines, or the place of a line that shows that none does
 abbrev pub EndsBy : Task → List Known → Ended → Type 0

@@ -1,6 +1,8 @@
 -- What a search finds, before it is told.
-use Rattle.std.specs.Prelude.{◌≡◌, All}
-use Rattle.registry.specs.Selections.{Choices}
+use Rattle.std.specs.Prelude.{◌≡◌, ℕ, All, List, nat_eq}
+use Rattle.std.specs.List.{IsDistinct}
+use Rattle.std.specs.Map.{keys_of}
+use Rattle.registry.specs.Selections.{Choices, Meets}
 use Rattle.derivations.specs.Learning.{AllStand}
 use Rattle.walk.specs.Choosing.{choice_of}
 use Rattle.solver.specs.declared.task.Task.{Task}
@@ -13,6 +15,11 @@ use Rattle.solver.specs.Searching.{Refuses}
 abbrev pub IsFound : Task → Found → Type 0
 IsFound task (found.Selected list offered) = IsAnswer task list.items × All (AllStand task.registry.now.packages) offered.items
 IsFound task (found.Refused known end offered) = Refuses task known.items end × All (AllStand task.registry.now.packages) offered.items
+
+-- a selection that meets the task's request, each package once, whichever it is
+pub record IsFirstAnswer (task : Task) (list : List (ℕ × ℕ)) : Type 0 where
+  pub meets : Meets task.registry.now.packages task.request.now (choice_of list)
+  pub once : IsDistinct nat_eq (keys_of list)
 
 -- it is this selection
 abbrev pub Finds : Choices → Found → Type 0

@@ -12,6 +12,7 @@ use Rattle.derivations.specs.Derivations.{IsDerivation, IsRefuted, NoSelection}
 use Rattle.derivations.specs.Learning.{AllStand}
 use Rattle.walk.specs.Choosing.{choice_of}
 use Rattle.walk.specs.Names.{by_name, name_of}
+use Rattle.walk.specs.Newest.{IsNewest}
 pub use Rattle.walk.specs.Preferring.{IfPreferredServes}
 use Rattle.solver.specs.declared.solving.Outcome.{Outcome}
 use Rattle.solver.specs.declared.solving.Outcome.TheVariants as outcome
@@ -49,6 +50,18 @@ abbrev pub Answers : Packages → Choices → Outcome → Type 0
 Answers packages s (outcome.Selection list offered) = Tells packages s list.items
 Answers packages s (outcome.NoSelection offered) = ⊥
 Answers packages s (outcome.Refused derivation offered) = ⊥
+
+-- the list tells the newest selection of the request
+pub record TellsNewest (packages : Packages) (wanted : Wanted) (list : List (Text × Text)) : Type 0 where
+  pub selection : Choices
+  pub newest : IsNewest packages wanted selection
+  pub tells : Tells packages selection list
+
+-- what is selected is the newest selection
+abbrev pub SelectsNewest : Packages → Wanted → Outcome → Type 0
+SelectsNewest packages wanted (outcome.Selection list offered) = TellsNewest packages wanted list.items
+SelectsNewest packages wanted (outcome.NoSelection offered) = Unit {0}
+SelectsNewest packages wanted (outcome.Refused derivation offered) = Unit {0}
 
 -- ---- what may be refused
 

@@ -1,13 +1,18 @@
 -- Which version of a package may be decided.
 use Rattle.std.specs.Prelude.{◌≡◌, ◌<◌, ℕ, ◌&&◌, Bool, true, false, List, Option, None, Some, IsSome, length}
+use Rattle.std.specs.declared.cmp.Ordering.TheVariants.{Less}
+use Rattle.versions.specs.Words.{precedence}
 use Rattle.terms.specs.Terms.{is_in, true_of}
 use Rattle.terms.specs.declared.term.Term.{Term}
 use Rattle.partial.specs.declared.assignment.Assignment.{Assignment}
 use Rattle.partial.specs.Assignments.{says, is_decided}
 use Rattle.registry.specs.Highest.{IsHighest}
-use Rattle.registry.specs.Registry.{is_published, package_at, versions_or_none}
+use Rattle.registry.specs.Registry.{Publication, is_published, package_at, publication_at, versions_or_none}
 use Rattle.registry.specs.Requests.{is_allowed}
 use Rattle.derivations.specs.Derivations.{NoneAllowed}
+use Rattle.walk.specs.Newest.{IsAhead}
+use Rattle.walk.specs.PlainlyNewest.{IsLocked, is_locked_at}
+use Rattle.solver.specs.Deciding.{IsBestLeft}
 use Rattle.solver.specs.declared.task.Task.{Task}
 use Rattle.solver.specs.declared.picking.Picked.{Picked}
 use Rattle.solver.specs.declared.picking.Picked.TheVariants as picked
@@ -29,13 +34,33 @@ pub record IsWithin (task : Task) (pkg : ℕ) (said : Term) (k : ℕ) : Type 0 w
   pub published : is_published task.registry.now.packages pkg k ≡ true
   pub within : true_of said (Some k) ≡ true
 
+-- it is within the term, and each version of higher precedence is not allowed or not within the term
+pub record IsBestWithin (task : Task) (pkg : ℕ) (said : Term) (k : ℕ) : Type 0 where
+  pub within : IsWithin task pkg said k
+  pub fails : (j : ℕ) (one other : Publication) → publication_at task.registry.now.packages pkg j ≡ Some one → publication_at task.registry.now.packages pkg k ≡ Some other
+      → precedence other.version one.version ≡ Less → is_choosable task pkg said j ≡ false
+
+-- the lock names it, and it is within the term
+pub record IsLockedWithin (task : Task) (pkg : ℕ) (said : Term) (k : ℕ) : Type 0 where
+  pub within : IsWithin task pkg said k
+  pub locked : IsLocked task.registry.now.packages task.request.now pkg k
+
+-- what the lock names is not allowed or not within the term
+abbrev pub NoneLockedWithin : Task → ℕ → Term → Type 0
+NoneLockedWithin task pkg said = (j : ℕ) → is_locked_at task.registry.now.packages task.request.now pkg j ≡ true → is_choosable task pkg said j ≡ false
+
+-- it is within the term, and each version that is preferred to it is not allowed or not within the term
+pub record IsBestOf (task : Task) (pkg : ℕ) (said : Term) (k : ℕ) : Type 0 where
+  pub within : IsWithin task pkg said k
+  pub best : (j : ℕ) → IsAhead task.registry.now.packages task.request.now pkg j k → is_choosable task pkg said j ≡ false
+
 -- no version within the term is allowed
 abbrev pub AreBarred : Task → ℕ → Term → Type 0
 AreBarred task pkg said = (k : ℕ) → true_of said (Some k) ≡ true → is_allowed task.registry.now.packages task.request.now pkg k ≡ false
 
--- a published version within what the assignments say, or all that they leave, of which none is allowed
+-- a published version within what the assignments say, the best that they leave, or all that they leave, of which none is allowed
 abbrev pub PicksBy : Task → List Assignment → ℕ → Picked → Type 0
-PicksBy task made pkg (picked.Version k) = (is_published task.registry.now.packages pkg k ≡ true) × (says made pkg (Some k) ≡ true)
+PicksBy task made pkg (picked.Version k) = (is_published task.registry.now.packages pkg k ≡ true) × (says made pkg (Some k) ≡ true) × IsBestLeft task.registry.now.packages task.request.now made pkg k
 PicksBy task made pkg (picked.Barred versions) = ((choice : Option ℕ) → is_in versions choice ≡ says made pkg choice) × NoneAllowed task.registry.now.packages task.request.now pkg versions
 
 -- the package is numbered and not decided, and each choice that is left selects it

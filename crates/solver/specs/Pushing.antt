@@ -12,7 +12,7 @@ use Rattle.solver.specs.Searching.{IsSearch}
 
 -- whatever was assigned, the new lines serve the search as the old ones do
 abbrev pub Extends : Task → List Known → List Known → Type 0
-Extends task old new = (made : List Assignment) → IsSearch task.registry.now.packages task.request.now made old → IsSearch task.registry.now.packages task.request.now made new
+Extends task old new = (made : List Assignment) → IsSearch task.newest task.registry.now.packages task.request.now made old → IsSearch task.newest task.registry.now.packages task.request.now made new
 
 -- the line at this place says this
 abbrev pub SaysAt : List Known → Terms → ℕ → Type 0

@@ -1,5 +1,5 @@
 -- What a search keeps, and what an attempt to go on did.
-use Rattle.std.specs.Prelude.{◌≡◌, ◌≤◌, ◌<◌, ◌⊎◌, ℕ, true, not, List, take, length, slice_get, Option, None, Some}
+use Rattle.std.specs.Prelude.{◌≡◌, ◌≤◌, ◌<◌, ◌⊎◌, ℕ, Bool, true, not, List, take, length, slice_get, Option, None, Some}
 use Rattle.versions.specs.declared.refusal.Refusal.{Refusal}
 use Rattle.versions.specs.declared.refusal.Refusal.TheVariants as refusal
 use Rattle.terms.specs.Terms.{true_of}
@@ -19,6 +19,7 @@ use Rattle.solver.specs.declared.acting.Acted.{Acted}
 use Rattle.solver.specs.declared.acting.Acted.TheVariants as acted
 use Rattle.solver.specs.declared.conflict.Resolution.{Resolution}
 use Rattle.solver.specs.declared.conflict.Resolution.TheVariants as resolution
+use Rattle.solver.specs.Deciding.{IsPlaced}
 use Rattle.solver.specs.Lines.{AreLines, AtLine, IsRefusal}
 
 -- ---- what a search keeps
@@ -31,10 +32,10 @@ pub record IsCaused (known : List Known) (before : List Assignment) (a : Assignm
   pub negation : (choice : Option ℕ) → true_at line.conclusion a.pkg choice ≡ not (true_of a.term choice)
   pub others : SatisfiedBut before line.conclusion a.pkg
 
--- a decision needs no cause
-abbrev pub IsCausedBy : List Known → List Assignment → Assignment → Why → Type 0
-IsCausedBy known before a (Decided ordinal) = Unit {0}
-IsCausedBy known before a (Derived k) = IsCaused known before a k
+-- a decision needs no cause, but has its place in the order of the walk where that is asked
+abbrev pub IsCausedBy : Bool → Packages → Wanted → List Known → List Assignment → Assignment → Why → Type 0
+IsCausedBy in_order packages wanted known before a (Decided ordinal) = IsPlaced in_order packages wanted before a.pkg ordinal
+IsCausedBy in_order packages wanted known before a (Derived k) = IsCaused known before a k
 
 -- the root's derivation and decision come first
 pub record BeginsWithRoot (made : List Assignment) : Type 0 where
@@ -44,15 +45,15 @@ pub record BeginsWithRoot (made : List Assignment) : Type 0 where
   pub only : (choice : Option ℕ) → says (take 2 made) 0 choice ≡ true → choice ≡ Some 0
   pub alone : (pkg : ℕ) (choice : Option ℕ) → (pkg ≡ 0 → ⊥) → says (take 2 made) pkg choice ≡ true
 
--- the lines are lawful, the root comes first, and each derivation is caused by a line
-pub record IsSearch (packages : Packages) (wanted : Wanted) (made : List Assignment) (known : List Known) : Type 0 where
+-- the lines are lawful, the root comes first, each derivation is caused by a line, and decisions are placed in the order of the walk where that is asked
+pub record IsSearch (in_order : Bool) (packages : Packages) (wanted : Wanted) (made : List Assignment) (known : List Known) : Type 0 where
   pub lines : AreLines packages wanted known
   pub begins : BeginsWithRoot made
-  pub caused : (i : ℕ) (a : Assignment) → slice_get made i ≡ Some a → IsCausedBy known (take i made) a a.why
+  pub caused : (i : ℕ) (a : Assignment) → slice_get made i ≡ Some a → IsCausedBy in_order packages wanted known (take i made) a a.why
 
 -- the search is one for the task
 abbrev pub Searches : Task → Search → Type 0
-Searches task search = IsSearch task.registry.now.packages task.request.now search.partial search.known.items
+Searches task search = IsSearch task.newest task.registry.now.packages task.request.now search.partial search.known.items
 
 -- no selection meets the task's request, as the line at this place shows
 abbrev pub Refuses : Task → List Known → ℕ → Type 0
@@ -61,8 +62,8 @@ Refuses task known end = IsRefusal task.registry.now.packages task.request.now k
 -- ---- what a conflict ends in
 
 -- the line of a conflict, which the assignments before `bound` satisfy
-pub record IsResolving (packages : Packages) (wanted : Wanted) (made : List Assignment) (known : List Known) (at bound : ℕ) : Type 0 where
-  pub search : IsSearch packages wanted made known
+pub record IsResolving (in_order : Bool) (packages : Packages) (wanted : Wanted) (made : List Assignment) (known : List Known) (at bound : ℕ) : Type 0 where
+  pub search : IsSearch in_order packages wanted made known
   pub here : AtLine known at (λ line. Satisfied (take bound made) line.conclusion)
 
 -- a line that a jump back to the level leaves almost satisfied, or a line without terms

@@ -41,9 +41,9 @@ fn derive_by(
     at: usize,
     pkg: Pkg,
 ) -> Result<(), AllocError>
-    requires search { IsSearch task.now.registry.now.packages task.now.request.now partial.old known.now }
+    requires search { IsSearch task.now.newest task.now.registry.now.packages task.now.request.now partial.old known.now }
     requires almost { AtLine known.now at (λ line. AlmostSatisfied partial.old line.conclusion pkg) }
-    ensures search { OnOk result (IsSearch task.now.registry.now.packages task.now.request.now partial.new known.now) }
+    ensures search { OnOk result (IsSearch task.now.newest task.now.registry.now.packages task.now.request.now partial.new known.now) }
     ensures falls { OnOk result (rank partial.new < rank partial.old) }
     ensures falls_back { OnOk result (FallsBack partial.old partial.new) }
 {

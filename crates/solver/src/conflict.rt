@@ -50,9 +50,9 @@ pub(crate) fn resolve_conflict(
     first: usize,
     stride: usize,
 ) -> Result<Resolution, AllocError>
-    requires search { IsSearch task.now.registry.now.packages task.now.request.now partial.now known.old.items }
+    requires search { IsSearch task.now.newest task.now.registry.now.packages task.now.request.now partial.now known.old.items }
     requires satisfied { AtLine known.old.items first (λ line. Satisfied partial.now line.conclusion) }
-    ensures search { OnOk result (IsSearch task.now.registry.now.packages task.now.request.now partial.now known.new.items) }
+    ensures search { OnOk result (IsSearch task.now.newest task.now.registry.now.packages task.now.request.now partial.now known.new.items) }
     ensures resolved { IfOk result (ResolvesBy task.now partial.now known.new.items) }
     ensures lawful { IsPartial partial.now }
 {

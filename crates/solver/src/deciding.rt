@@ -5,6 +5,7 @@ ghost use Rattle.registry.specs.Registry.{is_published, package_at};
 ghost use Rattle.terms.specs.Terms.{is_in};
 ghost use Rattle.derivations.specs.Derivations.{NoneAllowed};
 ghost use Rattle.partial.specs.Assignments.{is_decided, says};
+ghost use Rattle.solver.specs.Deciding.{IsPlaced, IsTurnOf};
 ghost use Rattle.solver.specs.Picking.{IsToDecide};
 ghost use Rattle.solver.specs.Searching.{ActsBy, MayRefuse, Searches};
 
@@ -52,6 +53,7 @@ fn decide_for(
     requires published { is_published task.now.registry.now.packages pkg ordinal ≡ true }
     requires undecided { is_decided search.old.partial pkg ≡ false }
     requires within { says search.old.partial pkg (Some ordinal) ≡ true }
+    requires placed { IsPlaced task.now.newest task.now.registry.now.packages task.now.request.now search.old.partial pkg ordinal }
     ensures acts { IfOk result (ActsBy task.now search.old search.new ⊥) }
     ensures only { IfErr result (MayRefuse task.now.budget) }
 {
@@ -78,6 +80,7 @@ pub(crate) fn decide_on(
 ) -> Result<Acted, Refusal>
     requires search { Searches task.now search.old }
     requires decide { IsToDecide task.now search.old.partial pkg }
+    requires turn { IsTurnOf task.now search.old.partial pkg }
     ensures acts { IfOk result (ActsBy task.now search.old search.new ⊥) }
     ensures only { IfErr result (MayRefuse task.now.budget) }
 {

@@ -1,6 +1,6 @@
 // What a greedy search finds, validated by the walk.
 
-ghost use Rattle.std.specs.Prelude.{IfOk, IfSome};
+ghost use Rattle.std.specs.Prelude.{◌≡◌, false, IfOk, IfSome};
 ghost use Rattle.walk.specs.Choosing.{choice_of};
 ghost use Rattle.solver.specs.Answering.{IsAnswer};
 
@@ -42,6 +42,7 @@ fn selection_of(
     task: &Task<'_>,
     decided: &IndexMap<Pkg, u32>,
 ) -> Result<Option<Vec<(Pkg, u32)>>, AllocError>
+    requires { task.now.newest ≡ false }
     ensures { IfOk result (λ found. IfSome found (λ list. IsAnswer task.now list.items)) }
 {
     let chooser = Decisions { decided };
@@ -57,6 +58,7 @@ pub(crate) fn search_greedily(
     task: &Task<'_>,
     obstacle: Option<Obstacle>,
 ) -> Result<(Option<Vec<(Pkg, u32)>>, usize), AllocError>
+    requires { task.now.newest ≡ false }
     ensures { IfOk result (λ found. IfSome found.0 (λ list. IsAnswer task.now list.items)) }
 {
     let attempt = decide_greedily(&task.question(), obstacle)?;

@@ -9,7 +9,7 @@
 //! | `found.rt` | what a search found, before it is told | | `IsFound` |
 //! | `greedy.rt` | what a greedy search finds, validated by the walk | | `IsAnswer` |
 //! | `starting.rt` | the root, and the needs of the request | The Algorithm | `Searches` |
-//! | `turns.rt` | propagation, else a decision, else the walk, until there is an answer | The Algorithm | `TurnsBy`, `EndsBy` |
+//! | `turns.rt` | propagation, else a decision, else the walk, until there is an answer | The Algorithm | `TurnsBy`, `StopsBy` |
 //! | `propagating.rt` | the lines that name what changed | Unit Propagation | `ActsBy` |
 //! | `acting.rt` | one line: a derivation, or a conflict and the jump back | Unit Propagation, Conflict Resolution | `ActsBy` |
 //! | `conflict.rt` | from satisfier to satisfier | Conflict Resolution | `ResolvesBy` |
@@ -35,6 +35,7 @@ mod entering;
 mod facts;
 mod found;
 mod greedy;
+mod laws;
 mod lines;
 mod meeting;
 mod offering;
@@ -48,4 +49,5 @@ mod task;
 mod turns;
 mod worklist;
 
+pub use laws::there_is_one_newest_list;
 pub use solving::{Options, Outcome, solve, solve_with, solve_within};

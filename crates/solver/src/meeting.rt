@@ -3,10 +3,12 @@
 // Each obstacle is a line that is satisfied, or almost satisfied, or whose target is to be decided; so
 // whatever propagation left out, the search goes on.
 
-ghost use Rattle.std.specs.Prelude.{◌≡◌, IfErr, IfOk};
+ghost use Rattle.std.specs.Prelude.{◌≡◌, IfErr, IfOk, OnOk};
 ghost use Rattle.partial.specs.Assignments.{decided};
 ghost use Rattle.registry.specs.Registry.{needs_of};
 ghost use Rattle.walk.specs.Walks.{IsChosen, IsForbidden, IsUnmetAt, ReachesBy};
+ghost use Rattle.walk.specs.Listing.{EndsWith, IsListing, IsOrder};
+ghost use Rattle.solver.specs.Deciding.{IsTurnAt};
 ghost use Rattle.solver.specs.Searching.{ActsBy, MayRefuse, Searches};
 
 use crate::acting::{Acted, act};
@@ -21,7 +23,7 @@ use registry::{matching_is_what_meets, publications_are_lawful};
 use std::alloc::AllocError;
 use terms::{Pkg, VSet};
 use versions::Refusal;
-use walk::{Chooser, Reached, reach};
+use walk::{Chooser, Next, Order, Reached, reach};
 
 /// Chooses what is decided.
 #[derive(Clone, Copy)]
@@ -45,6 +47,22 @@ pub(crate) fn walk_decided(task: &Task<'_>, partial: &Partial) -> Result<Reached
     reach(task.alloc, task.registry, task.request, &chooser)
 }
 
+/// The package that comes next in the order of the walk after what is decided, which is found again from where the
+/// order was come to.
+pub(crate) fn next_in_order(
+    task: &Task<'_>,
+    partial: &Partial,
+    order: &mut Order,
+) -> Result<Option<Next>, AllocError>
+    requires { IsOrder task.now.registry.now.packages task.now.request.now.needs order.old }
+    ensures order { OnOk result (IsOrder task.now.registry.now.packages task.now.request.now.needs order.new) }
+    ensures listing { OnOk result (IsListing task.now.registry.now.packages task.now.request.now.needs (decided partial.now) order.new.found.entries) }
+    ensures ends { IfOk result (EndsWith task.now.registry.now.packages task.now.request.now.needs (decided partial.now) order.new.found.entries) }
+{
+    let chooser = Decided { partial };
+    order.go_on(task.alloc, task.registry, task.request, &chooser)
+}
+
 /// Uses a need that the decisions don't meet.
 pub(crate) fn meet_need(
     task: &Task<'_>,
@@ -54,6 +72,7 @@ pub(crate) fn meet_need(
 ) -> Result<Acted, Refusal>
     requires search { Searches task.now search.old }
     requires unmet { IsUnmetAt task.now.registry.now.packages (decided search.old.partial) task.now.request.now.needs index }
+    requires turn { IsTurnAt task.now search.old.partial task.now.request.now.needs index }
     ensures acts { IfOk result (ActsBy task.now search.old search.new ⊥) }
     ensures only { IfErr result (MayRefuse task.now.budget) }
 {
@@ -84,6 +103,7 @@ pub(crate) fn meet_dependency(
     requires search { Searches task.now search.old }
     requires chosen { decided search.old.partial pkg ≡ Some ordinal }
     requires unmet { IsUnmetAt task.now.registry.now.packages (decided search.old.partial) (needs_of task.now.registry.now.packages pkg ordinal) index }
+    requires turn { IsTurnAt task.now search.old.partial (needs_of task.now.registry.now.packages pkg ordinal) index }
     ensures acts { IfOk result (ActsBy task.now search.old search.new ⊥) }
     ensures only { IfErr result (MayRefuse task.now.budget) }
 {

@@ -5,15 +5,16 @@ ghost use Rattle.registry.specs.Registry.{package_at};
 ghost use Rattle.terms.specs.Terms.{true_of};
 ghost use Rattle.terms.specs.declared.term.Term.TheVariants.{In};
 ghost use Rattle.partial.specs.Assignments.{is_decided, says};
-ghost use Rattle.solver.specs.Picking.{is_choosable, AreBarred, IsHighestChoosable, IsToDecide, IsWithin, NoneChoosable, PicksBy};
+ghost use Rattle.solver.specs.Picking.{is_choosable, AreBarred, IsBestOf, IsBestWithin, IsHighestChoosable, IsLockedWithin, IsToDecide, NoneChoosable, NoneLockedWithin, PicksBy};
 
 use crate::task::Task;
 use crate::worklist::Worklist;
-use heuristics::locked_version;
 use partial::Partial;
 use registry::{allowed_is_published, ordinals_are_below_the_count};
 use std::alloc::AllocError;
 use terms::{Pkg, Term, VSet};
+use versions::precedence_is_a_total_preorder;
+use walk::{ahead_is_locked_or_higher, locked_ordinal};
 
 // ---- the package
 
@@ -49,7 +50,7 @@ pub(crate) fn is_open(partial: &Partial, pkg: Pkg) -> bool
 }
 
 /// Whether a package is to be decided.
-fn is_to_decide(task: &Task<'_>, partial: &Partial, pkg: Pkg) -> bool
+pub(crate) fn is_to_decide(task: &Task<'_>, partial: &Partial, pkg: Pkg) -> bool
     ensures { result ≡ true → IsToDecide task.now partial.now pkg }
 {
     is_package(task, pkg) && is_open(partial, pkg)
@@ -87,11 +88,11 @@ pub(crate) enum Picked {
 
 /// The version that the lock names, if it is allowed and within a term.
 fn locked_within(task: &Task<'_>, pkg: Pkg, said: &Term) -> Option<u32>
-    ensures { IfSome result (IsWithin task.now pkg said.now) }
+    ensures some { IfSome result (IsLockedWithin task.now pkg said.now) }
+    ensures none { IfNone result (NoneLockedWithin task.now pkg said.now) }
 {
     allowed_is_published();
-    let locked = locked_version(&task.question(), pkg)?;
-    let ordinal = task.registry.find(pkg, locked)?;
+    let ordinal = locked_ordinal(task.registry, task.request, pkg)?;
     if is_choosable(task, pkg, said, ordinal) {
         Some(ordinal)
     } else {
@@ -118,7 +119,7 @@ fn highest_within(task: &Task<'_>, pkg: Pkg, said: &Term) -> Option<u32>
 
 /// The highest version of a set, where it is not asked which are allowed.
 fn highest_in(task: &Task<'_>, pkg: Pkg, versions: &VSet) -> Option<u32>
-    ensures some { IfSome result (IsWithin task.now pkg (In versions.now)) }
+    ensures some { IfSome result (IsBestWithin task.now pkg (In versions.now)) }
     ensures none { IfNone result (AreBarred task.now pkg (In versions.now)) }
 {
     ordinals_are_below_the_count();
@@ -127,7 +128,7 @@ fn highest_in(task: &Task<'_>, pkg: Pkg, versions: &VSet) -> Option<u32>
 
 /// The highest version that is allowed and within a term, if one is.
 fn best_within(task: &Task<'_>, pkg: Pkg, said: &Term) -> Option<u32>
-    ensures some { IfSome result (IsWithin task.now pkg said.now) }
+    ensures some { IfSome result (IsBestWithin task.now pkg said.now) }
     ensures none { IfNone result (AreBarred task.now pkg said.now) }
 {
     ordinals_are_below_the_count();
@@ -140,9 +141,11 @@ fn best_within(task: &Task<'_>, pkg: Pkg, said: &Term) -> Option<u32>
 
 /// The version to decide for: the lock's, else the highest that is allowed and within a term.
 fn version_within(task: &Task<'_>, pkg: Pkg, said: &Term) -> Option<u32>
-    ensures some { IfSome result (IsWithin task.now pkg said.now) }
+    ensures some { IfSome result (IsBestOf task.now pkg said.now) }
     ensures none { IfNone result (AreBarred task.now pkg said.now) }
 {
+    ahead_is_locked_or_higher();
+    precedence_is_a_total_preorder();
     match locked_within(task, pkg, said) {
         Some(ordinal) => Some(ordinal),
         None => best_within(task, pkg, said),

@@ -8,17 +8,18 @@ ghost use Rattle.registry.specs.Registry.{is_published};
 ghost use Rattle.registry.specs.Selections.{Choices, IsSelection};
 ghost use Rattle.walk.specs.Choosing.{choice_of};
 ghost use Rattle.walk.specs.Preferring.{IfPreferredServes};
-ghost use Rattle.solver.specs.Finding.{Finds, IsFound};
-ghost use Rattle.solver.specs.Outcomes.{told, Answers, IsLawful, MayStop, Tells};
+ghost use Rattle.solver.specs.Answering.{EndsBy, IsAnswer};
+ghost use Rattle.solver.specs.Finding.{Finds, IsFirstAnswer, IsFound};
+ghost use Rattle.solver.specs.Outcomes.{told, SelectsNewest, Answers, IsLawful, MayStop, Tells};
 ghost use Rattle.solver.specs.Reusing.{StoreStands};
-ghost use Rattle.solver.specs.Searching.{MayRefuse};
+ghost use Rattle.solver.specs.Searching.{IsSearch, MayRefuse};
 
 use crate::found::{Found, found_of};
 use crate::greedy::{obstacle_in, search_greedily};
 use crate::search::Search;
-use crate::starting::start;
+use crate::starting::{restart, start};
 use crate::task::Task;
-use crate::turns::run;
+use crate::turns::{Ended, run};
 use crate::worklist::Worklist;
 use derivations::{Derivation, Learnt, Store, cut, kept_lines_refute};
 use heuristics::Obstacle;
@@ -26,7 +27,10 @@ use registry::{Registry, Request, ordinals_are_below_the_count};
 use std::alloc::{AllocError, Global};
 use terms::Pkg;
 use versions::{Name, Published, Refusal};
-use walk::{Reached, reach_preferred, sort_by_name};
+use walk::{
+    Reached, choose_newest, is_plainly_newest, reach_preferred, sort_by_name,
+    the_preferred_is_the_newest,
+};
 
 /// What a request is answered, and what may be learnt of it.
 #[derive(Drop)]
@@ -46,6 +50,8 @@ pub struct Options {
     pub budget: Option<u32>,
     /// Whether a refusal comes with its derivation.
     pub explain: bool,
+    /// Whether a selection is to be the newest one.
+    pub newest: bool,
 }
 
 /// A version by its package's name and its own text.
@@ -93,14 +99,76 @@ fn tell(
     Ok(named_all(alloc, registry, &list)?)
 }
 
-/// Searches for an answer from the start of a search on, with backjumps and with room for so many packages.
-fn search_from(task: &Task<'_>, worklist: &mut Worklist, room: usize) -> Result<Found, Refusal>
+/// Whether a selection that was found is what is asked for: any is, unless the newest one is asked for.
+fn suffices(task: &Task<'_>, list: &[(Pkg, u32)]) -> Result<bool, AllocError>
+    ensures { IfOk result (λ answer. answer ≡ true → IsFirstAnswer task.now list.now → IsAnswer task.now list.now) }
+{
+    if !task.newest {
+        return Ok(true);
+    }
+    is_plainly_newest(task.alloc, task.registry, task.request, list)
+}
+
+/// Goes on with a search that has started, in any order or in that of the walk. Where a selection is found in any
+/// order that can't be seen to be the newest, which is asked for, the search begins again, in the order of the
+/// walk and over the lines that it knows: most of what rules better versions out was learnt already.
+fn search_on(
+    task: &Task<'_>,
+    in_order: bool,
+    search: &mut Search,
+    worklist: &mut Worklist,
+) -> Result<Ended, Refusal>
+    requires search { IsSearch in_order task.now.registry.now.packages task.now.request.now search.old.partial search.old.known.items }
+    requires stored { StoreStands task.now }
+    ensures ends { IfOk result (EndsBy task.now search.new.known.items) }
+    ensures only { IfErr result (MayRefuse task.now.budget) }
+{
+    let first = Task {
+        alloc: task.alloc,
+        registry: task.registry,
+        request: task.request,
+        store: task.store,
+        budget: task.budget,
+        newest: in_order,
+    };
+    match run(&first, search, worklist)? {
+        Ended::Refused(end) => Ok(Ended::Refused(end)),
+        Ended::Selected(list) => {
+            if in_order {
+                return Ok(Ended::Selected(list));
+            }
+            if suffices(task, &list)? {
+                return Ok(Ended::Selected(list));
+            }
+            drop(list);
+            restart(task, search, worklist)?;
+            Ok(run(task, search, worklist)?)
+        }
+    }
+}
+
+/// Searches for an answer from the start on, in any order first or in that of the walk at once, with backjumps
+/// and with room for so many packages.
+fn search_from(
+    task: &Task<'_>,
+    in_order: bool,
+    worklist: &mut Worklist,
+    room: usize,
+) -> Result<Found, Refusal>
     requires { StoreStands task.now }
     ensures found { IfOk result (IsFound task.now) }
     ensures only { IfErr result (MayRefuse task.now.budget) }
 {
-    let mut search = start(task, worklist, room)?;
-    match run(task, &mut search, worklist) {
+    let first = Task {
+        alloc: task.alloc,
+        registry: task.registry,
+        request: task.request,
+        store: task.store,
+        budget: task.budget,
+        newest: in_order,
+    };
+    let mut search = start(&first, worklist, room)?;
+    match search_on(task, in_order, &mut search, worklist) {
         Ok(ended) => {
             let Search { partial, known, .. } = search;
             drop(partial);
@@ -113,31 +181,60 @@ fn search_from(task: &Task<'_>, worklist: &mut Worklist, room: usize) -> Result<
     }
 }
 
-/// Searches for an answer, with backjumps and with room for so many packages. What conflicts led to is
-/// offered to be learnt.
-fn search_fully(task: &Task<'_>, room: usize) -> Result<Found, Refusal>
+/// As [`search_from`]. What conflicts led to is offered to be learnt, in whichever order it was met.
+fn search_fully(task: &Task<'_>, in_order: bool, room: usize) -> Result<Found, Refusal>
     requires { StoreStands task.now }
     ensures found { IfOk result (IsFound task.now) }
     ensures only { IfErr result (MayRefuse task.now.budget) }
 {
     let mut worklist = Worklist::new(task.alloc, room)?;
-    let found = search_from(task, &mut worklist, room);
+    let found = search_from(task, in_order, &mut worklist, room);
     // By a call, so that what dropping it does stands in no proof here.
     drop(worklist);
     found
 }
 
-/// Finds what answers a task by a search, first by the one that does not jump back, which minds an obstacle.
+/// Finds what answers a task by a search: by the one that does not jump back, which minds an obstacle, else by
+/// the one that does. Where that finds no selection that is seen to be the newest, and this is asked for, no
+/// conflict was met, and so nothing is known that a search in the order of the walk could begin with.
+fn search_in_turn(task: &Task<'_>, obstacle: Option<Obstacle>) -> Result<Found, Refusal>
+    requires { StoreStands task.now }
+    ensures found { IfOk result (IsFound task.now) }
+    ensures only { IfErr result (MayRefuse task.now.budget) }
+{
+    let any = Task {
+        alloc: task.alloc,
+        registry: task.registry,
+        request: task.request,
+        store: task.store,
+        budget: task.budget,
+        newest: false,
+    };
+    let (found, room) = search_greedily(&any, obstacle)?;
+    match found {
+        None => Ok(search_fully(task, false, room)?),
+        Some(list) => {
+            if suffices(task, &list)? {
+                return Ok(Found::Selected(list, Vec::new(task.alloc)));
+            }
+            Ok(search_fully(task, true, list.len())?)
+        }
+    }
+}
+
+/// Finds what answers a task that the preferred selection doesn't: the newest selection, where that is asked for
+/// and it is chosen without going back; else by searches.
 fn search_for(task: &Task<'_>, obstacle: Option<Obstacle>) -> Result<Found, Refusal>
     requires { StoreStands task.now }
     ensures found { IfOk result (IsFound task.now) }
     ensures only { IfErr result (MayRefuse task.now.budget) }
 {
-    let (found, room) = search_greedily(task, obstacle)?;
-    match found {
-        Some(list) => Ok(Found::Selected(list, Vec::new(task.alloc))),
-        None => Ok(search_fully(task, room)?),
+    if task.newest {
+        if let Some(list) = choose_newest(task.alloc, task.registry, task.request)? {
+            return Ok(Found::Selected(list, Vec::new(task.alloc)));
+        }
     }
+    Ok(search_in_turn(task, obstacle)?)
 }
 
 /// Finds what answers a task: the preferred selection where it serves, else by a search.
@@ -148,6 +245,9 @@ fn find(task: &Task<'_>) -> Result<Found, Refusal>
     ensures unspent { IfPreferredServes task.now.registry.now.packages task.now.request.now (λ s. IfErr result (λ e. e ≡ Refusal.NoMemory)) }
     ensures only { IfErr result (MayRefuse task.now.budget) }
 {
+    the_preferred_is_the_newest();
+    let _revision = task.registry.revision();
+    let _needs = task.request.needs();
     match reach_preferred(task.alloc, task.registry, task.request)? {
         Reached::Selection(list) => Ok(Found::Selected(list, Vec::new(task.alloc))),
         Reached::Unmet(asker, index) => {
@@ -164,6 +264,7 @@ fn outcome_of(task: &Task<'_>, found: Found, explain: bool) -> Result<Outcome, R
     requires { IsFound task.now found }
     ensures lawful { IfOk result (IsLawful task.now.registry.now.packages task.now.request.now explain) }
     ensures answers { (s : Choices) → Finds s found → IfOk result (Answers task.now.registry.now.packages s) }
+    ensures newest { task.now.newest ≡ true → IfOk result (SelectsNewest task.now.registry.now.packages task.now.request.now) }
     ensures only { IfErr result (λ e. e ≡ Refusal.NoMemory) }
 {
     kept_lines_refute();
@@ -189,6 +290,9 @@ fn outcome_of(task: &Task<'_>, found: Found, explain: bool) -> Result<Outcome, R
 /// Under a budget at most so many conflicts are met: at the next one the answer is 22, and nothing is offered. Under
 /// every budget, 0 included, the preferred selection is the answer where it exists and meets the request.
 ///
+/// Where the newest selection is asked for, a selection that is answered is that one, whatever was learnt before.
+/// Two searches may be made then, and a budget counts the conflicts of both together.
+///
 /// A search that jumps back uses of the store what acts on the packages that it comes to, each with its
 /// lines, so that a derivation carries them. It asks as many members as its own size allows, and what
 /// the store says of other packages costs it nothing. What is offered to be learnt, the last part of
@@ -205,6 +309,7 @@ pub fn solve_with(
     requires stored { All (AllStand registry.now.packages) store.now.members }
     ensures lawful { IfOk result (IsLawful registry.now.packages request.now options.explain) }
     ensures preferred { IfPreferredServes registry.now.packages request.now (λ s. IfOk result (Answers registry.now.packages s)) }
+    ensures newest { options.newest ≡ true → IfOk result (SelectsNewest registry.now.packages request.now) }
     ensures unspent { IfPreferredServes registry.now.packages request.now (λ s. IfErr result (λ e. e ≡ Refusal.NoMemory)) }
     ensures only { IfErr result (MayStop registry.now.packages request.now options.budget) }
 {
@@ -214,6 +319,7 @@ pub fn solve_with(
         request,
         store,
         budget: options.budget,
+        newest: options.newest,
     };
     let found = find(&task)?;
     outcome_of(&task, found, options.explain)
@@ -234,6 +340,7 @@ pub fn solve(
     let options = Options {
         budget: None,
         explain: true,
+        newest: false,
     };
     solve_with(alloc, registry, request, store, options)
 }
@@ -255,6 +362,7 @@ pub fn solve_within(
     let options = Options {
         budget: Some(budget),
         explain: true,
+        newest: false,
     };
     solve_with(alloc, registry, request, store, options)
 }

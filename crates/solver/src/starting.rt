@@ -1,9 +1,9 @@
-// The start of a search: the root, and the needs of the request.
+// The start of a search: the root, and the needs of the request; and its start again.
 
-ghost use Rattle.std.specs.Prelude.{◌≡◌, [], IfOk, OnOk};
+ghost use Rattle.std.specs.Prelude.{◌≡◌, [], false, IfOk, OnOk};
 ghost use Rattle.solver.specs.Lines.{root_terms};
 ghost use Rattle.solver.specs.Pushing.{Extends};
-ghost use Rattle.solver.specs.Searching.{Searches};
+ghost use Rattle.solver.specs.Searching.{IsSearch, Searches};
 
 use crate::facts::push_need;
 use crate::search::Search;
@@ -93,4 +93,21 @@ pub(crate) fn start(
             Err(error)
         }
     }
+}
+
+/// Begins a search in any order again: over the lines that it knows, from what follows from the request alone.
+pub(crate) fn restart(
+    task: &Task<'_>,
+    search: &mut Search,
+    worklist: &mut Worklist,
+) -> Result<(), AllocError>
+    requires { IsSearch false task.now.registry.now.packages task.now.request.now search.old.partial search.old.known.items }
+    ensures { OnOk result (Searches task.now search.new) }
+{
+    let _made = search.partial.assignments();
+    search.stride = 1;
+    // The root's decision opens level 1. The needs stand there, and what was derived from them.
+    search.partial.back_to(1);
+    worklist.restart(task, &search.partial)?;
+    Ok(())
 }

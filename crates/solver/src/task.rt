@@ -5,8 +5,8 @@ use heuristics::Question;
 use registry::{Registry, Request};
 use std::alloc::Global;
 
-/// A request to a registry, with what is stored of earlier ones, and how many conflicts may be met, where
-/// there is a budget of them.
+/// A request to a registry, with what is stored of earlier ones, how many conflicts may be met, where
+/// there is a budget of them, and whether the newest selection is asked for.
 #[derive(Clone, Copy)]
 pub(crate) struct Task<'a> {
     pub alloc: Global,
@@ -14,6 +14,7 @@ pub(crate) struct Task<'a> {
     pub request: &'a Request,
     pub store: &'a Store,
     pub budget: Option<u32>,
+    pub newest: bool,
 }
 
 impl<'a> Task<'a> {

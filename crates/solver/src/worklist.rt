@@ -43,6 +43,18 @@ impl Worklist {
         })
     }
 
+    /// Begins again at the level to which the search has gone back: each package is changed of which something
+    /// is settled there, so that nothing is left out that follows from the lines.
+    pub fn restart(&mut self, task: &Task<'_>, partial: &Partial) -> Result<(), AllocError> {
+        self.changed.clear();
+        for (place, made) in partial.assignments().iter().enumerate() {
+            if partial.last_on(made.pkg) == Some(place) {
+                self.changed.push(made.pkg)?;
+            }
+        }
+        self.agenda.go_back(&task.question(), partial)
+    }
+
     /// Notes the line at a place with each package that it names.
     pub fn note(&mut self, alloc: Global, known: &[Known], at: usize) -> Result<(), AllocError>
         ensures { self.new.changed.items ≡ self.old.changed.items }

@@ -1,10 +1,15 @@
 use Rattle.std.proofs.Common.{◌∙◌}
 use Rattle.std.proofs.lemmas.Result.{IfOk-from_err, err_from_is_err_and}
+use Rattle.solver.proofs.InOrder.{placed}
 use Rattle.solver.proofs.Refusing.{may_lack_memory}
 use Rattle.solver.proofs.deciding.decide_on.Goals as goal
 
 pub bar-requires-clause-left : goal.bar-requires-clause-left
 bar-requires-clause-left c choice h = (rw c.in-Barred.is at c.in_ok-ordinal.ensures).0 choice ∙ h
+
+pub decide_for-requires-clause-placed : goal.decide_for-requires-clause-placed
+decide_for-requires-clause-placed c =
+    placed c.args.task.now c.args.search.now.partial c.args.pkg c.in-Version.ordinal c.requires.decide.numbered c.requires.turn (rw c.in-Version.is at c.in_ok-ordinal.ensures).2
 
 -- where it is refused
 

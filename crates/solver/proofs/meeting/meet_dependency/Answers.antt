@@ -3,8 +3,10 @@ use Rattle.std.proofs.lemmas.Option.{none-some, slice_get_within}
 use Rattle.std.proofs.lemmas.Result.{IfOk-from_err, err_from_is_err_and}
 use Rattle.solver.proofs.Refusing.{may_lack_memory}
 use Rattle.solver.proofs.Decisions.{acts_as}
+use Rattle.registry.specs.Registry.{needs_of}
+use Rattle.solver.proofs.InOrder.{turn_kept}
 use Rattle.solver.proofs.Naming.{dependency_apart, dependency_numbered}
-use Rattle.solver.proofs.Obstacles.{dependency_decides, entry_contained, entry_unmet}
+use Rattle.solver.proofs.Obstacles.{dependency_decides, entry_at, entry_contained, entry_unmet}
 use Rattle.solver.proofs.Pushed.{exactly_dependents}
 use Rattle.solver.proofs.meeting.meet_dependency.Goals as goal
 
@@ -39,6 +41,15 @@ decide_on-requires-clause-decide c =
     let here = (c.in_ok-versions.ensures c.args.ordinal).1 used in
     dependency_decides c.args.task.now made c.act.new.search.partial c.push_dependency.new.known.items c.in_ok-at.at c.args.pkg c.args.ordinal c.in-Some.target _ c.in_ok-versions.versions c.in_ok-within.within c.assignments-made.ensures.lawful
     (dependency_apart c.publications_are_lawful.ensures.lawful packages c.args.pkg c.args.ordinal c.in-Some.target _ c.packages-packages.ensures.reachable used numbered) c.requires.chosen here numbered unmet c.in_ok-within.ensures.members c.in_ok-at.ensures.place unused.0.0 unused.1
+
+pub decide_on-requires-clause-turn : goal.decide_on-requires-clause-turn
+decide_on-requires-clause-turn c =
+    let packages = c.args.task.now.registry.now.packages in
+    let made = c.args.search.now.partial in
+    let unused = rw c.in-Neither.is at c.in_ok-acted.ensures.acts in
+    let at = entry_at packages made c.args.pkg c.args.ordinal c.args.index _ c.index-facts-index.result c.facts-facts.ensures c.requires.unmet c.index-facts-index.is in
+    turn_kept c.args.task.now made c.act.new.search.partial (needs_of packages c.args.pkg c.args.ordinal) c.args.index c.in-Some.target _ c.requires.turn at
+    (sym c.number.ensures ∙ c.in-Some.is) unused.0.0 (decide_on-requires-clause-decide c).undecided
 
 pub act-requires-clause-search : goal.act-requires-clause-search
 act-requires-clause-search c = c.in_ok-at.ensures.extends c.args.search.now.partial c.requires.search

@@ -4,7 +4,7 @@ use Rattle.std.proofs.lemmas.Option.{slice_get_within}
 use Rattle.std.proofs.lemmas.Result.{IfOk-from_err, err_from_is_err_and}
 use Rattle.solver.proofs.Refusing.{may_lack_memory}
 use Rattle.solver.proofs.Decisions.{acts_as}
-use Rattle.solver.proofs.Obstacles.{need_decides, need_numbered}
+use Rattle.solver.proofs.Obstacles.{need_decides, need_numbered, need_turn}
 use Rattle.solver.proofs.meeting.meet_need.Goals as goal
 
 pub unreachable-requires : goal.unreachable-requires
@@ -20,6 +20,13 @@ decide_on-requires-clause-decide c =
     need_decides c.args.task.now c.args.search.now.partial c.push_need.new.known.items c.in_ok-at.at c.args.index c.args.task.now.request.now.needs c.index-needs-index.result c.requires.search.begins
     c.in_ok-at.ensures.place c.requires.unmet unused.1 (subst (λ (ns : List (Text × Text)). c.index-needs-index.result ≡ get_or ns c.args.index c.index-needs-index.result) c.needs.ensures.needs c.index-needs-index.is)
     c.matching_is_what_meets.ensures c.act.new.search.partial c.in-Some.target c.assignments-made.ensures.lawful (sym c.number.ensures ∙ c.in-Some.is) unused.0.0
+
+pub decide_on-requires-clause-turn : goal.decide_on-requires-clause-turn
+decide_on-requires-clause-turn c =
+    let unused = rw c.in-Neither.is at c.in_ok-acted.ensures.acts in
+    need_turn c.args.task.now c.args.search.now.partial c.push_need.new.known.items c.in_ok-at.at c.args.index c.args.task.now.request.now.needs c.index-needs-index.result c.requires.search.begins
+    c.in_ok-at.ensures.place c.requires.unmet unused.1 (subst (λ (ns : List (Text × Text)). c.index-needs-index.result ≡ get_or ns c.args.index c.index-needs-index.result) c.needs.ensures.needs c.index-needs-index.is)
+    c.requires.turn c.act.new.search.partial c.in-Some.target (sym c.number.ensures ∙ c.in-Some.is) unused.0.0 (decide_on-requires-clause-decide c).undecided
 
 pub push_need-requires : goal.push_need-requires
 push_need-requires c = slice_get_within c.args.task.now.request.now.needs c.args.index (c.requires.unmet.name, c.requires.unmet.need) c.requires.unmet.at

@@ -1,12 +1,22 @@
 use Rattle.std.proofs.Common.{ap, arith, length, refl}
 use Rattle.std.proofs.lemmas.Result.{IfOk-from_err, err_from_is_err_and}
+use Rattle.solver.proofs.Newest.{locked_once}
 use Rattle.solver.proofs.Refusing.{may_lack_memory}
 use Rattle.solver.proofs.solving.find.Goals as goal
 
 pub returns-in-Selection-clause-found : goal.returns-in-Selection-clause-found
 returns-in-Selection-clause-found c =
     let reached = rw c.in-Selection.is at c.in_ok-list.ensures.reaches in
-    (record { meets = reached.meets; once = reached.once }, λ k d lt. absurd (omega (arith, ap length c.new.ensures.items, lt)))
+    let packages = c.args.task.now.registry.now.packages in
+    let wanted = c.args.task.now.request.now in
+    let preferred = rw c.in-Selection.is at c.in_ok-list.ensures.preferred in (
+      record {
+        meets = reached.meets;
+        once = reached.once;
+        newest = λ asked. c.the_preferred_is_the_newest.ensures.preferred packages wanted _ c.revision-revision.ensures.reachable (locked_once wanted c.needs-needs.ensures.lawful) preferred reached.meets;
+      },
+      λ k d lt. absurd (omega (arith, ap length c.new.ensures.items, lt)),
+    )
 
 pub returns-in-Selection-clause-preferred : goal.returns-in-Selection-clause-preferred
 returns-in-Selection-clause-preferred c s preferred meets = rw c.in-Selection.is at c.in_ok-list.ensures.exactly s preferred meets

@@ -25,7 +25,18 @@ returns-in_ok-derivation-in-Refused-clause-lawful c =
     let found = rw c.in-Refused.is at c.requires in
     (c.if-not-explain.false, c.in_ok-derivation-in-Refused.ensures.derived c.args.task.now.registry.now.packages c.args.task.now.request.now found.0.lawful, found.1)
 
+pub returns-in_ok-pairs-in-Selected-clause-newest : goal.returns-in_ok-pairs-in-Selected-clause-newest
+returns-in_ok-pairs-in-Selected-clause-newest c asked =
+    let found = rw c.in-Selected.is at c.requires in
+    record { selection = _; newest = found.0.newest asked; tells = c.in_ok-pairs-in-Selected.ensures }
+
 -- where memory is refused
+
+pub returns-in_err-derivation-in-Refused-clause-newest : goal.returns-in_err-derivation-in-Refused-clause-newest
+returns-in_err-derivation-in-Refused-clause-newest c = λ asked. IfOk-from_err c.from_residual-in_err-derivation-in-Refused.result _ c.from_residual-in_err-derivation-in-Refused.ensures.0
+
+pub returns-in_err-pairs-in-Selected-clause-newest : goal.returns-in_err-pairs-in-Selected-clause-newest
+returns-in_err-pairs-in-Selected-clause-newest c = λ asked. IfOk-from_err c.from_residual.result _ c.from_residual.ensures.0
 
 pub returns-in_err-derivation-in-Refused-clause-lawful : goal.returns-in_err-derivation-in-Refused-clause-lawful
 returns-in_err-derivation-in-Refused-clause-lawful c = IfOk-from_err c.from_residual-in_err-derivation-in-Refused.result _ c.from_residual-in_err-derivation-in-Refused.ensures.0

@@ -1,9 +1,13 @@
 use Rattle.partial.specs.Rank.{rank}
+use Rattle.walk.specs.Listing.{IsOrder}
 use Rattle.solver.specs.Searching.{Searches}
 use Rattle.solver.proofs.turns.run.Given as goal
 
 abbrev pub invariant-search : goal.invariant-search
-invariant-search l = Searches l.task l.search
+invariant-search l = record {
+  search : Searches l.task l.search;
+  order : IsOrder l.task.registry.now.packages l.task.request.now.needs l.order;
+}
 
 -- each turn lowers the rank
 abbrev pub decreases-search : goal.decreases-search

@@ -12,14 +12,5 @@ returns-in-Refused-clause-turns c = rw c.in-Refused.is at c.in_ok-propagate.ensu
 
 -- where memory is refused
 
-pub returns-in_err-decide_on-in-Some-clause-turns : goal.returns-in_err-decide_on-in-Some-clause-turns
-returns-in_err-decide_on-in-Some-clause-turns c = IfOk-from_err c.from_residual-in_err-decide_on-in-Some.result _ c.from_residual-in_err-decide_on-in-Some.ensures.0
-
-pub returns-in_err-finish-in-None-clause-turns : goal.returns-in_err-finish-in-None-clause-turns
-returns-in_err-finish-in-None-clause-turns c = IfOk-from_err c.from_residual-in_err-finish-in-None.result _ c.from_residual-in_err-finish-in-None.ensures.0
-
-pub returns-in_err-pkg-in-Neither-clause-turns : goal.returns-in_err-pkg-in-Neither-clause-turns
-returns-in_err-pkg-in-Neither-clause-turns c = IfOk-from_err c.from_residual-in_err-pkg-in-Neither.result _ c.from_residual-in_err-pkg-in-Neither.ensures.0
-
 pub returns-in_err-propagate-clause-turns : goal.returns-in_err-propagate-clause-turns
 returns-in_err-propagate-clause-turns c = IfOk-from_err c.from_residual.result _ c.from_residual.ensures.0

@@ -1,0 +1,95 @@
+-- The best version that is left of a package: the lock's, else the highest.
+use Rattle.std.proofs.Common.{◌≡◌, ◌∙◌, ◌⊎◌, ◌&&◌, ℕ, refl, sym, ap, inl, inr, Bool, true, false, true≢false, List}
+use Rattle.std.proofs.lemmas.Option.{none-some, same_Some}
+use Rattle.std.specs.Prelude.{None, Option, Some, slice_get}
+use Rattle.std.specs.Option.{option_and_then}
+use Rattle.std.specs.Ordering.{ordering_reverse}
+use Rattle.std.specs.declared.cmp.Ordering.{Ordering}
+use Rattle.std.specs.declared.cmp.Ordering.TheVariants.{Less, Equal, Greater}
+use Rattle.terms.specs.Sets.{has}
+use Rattle.terms.specs.Terms.{true_of}
+use Rattle.terms.specs.declared.term.Term.{Term}
+use Rattle.terms.specs.declared.term.Term.TheVariants.{In}
+use Rattle.versions.specs.Precedence.{PrecedenceIsATotalPreorder}
+use Rattle.versions.specs.Words.{Text, precedence}
+use Rattle.partial.specs.declared.assignment.Assignment.{Assignment}
+use Rattle.partial.specs.Assignments.{says}
+use Rattle.registry.specs.Highest.{IsHighest}
+use Rattle.registry.specs.Laws.{PublishedBelow}
+use Rattle.registry.specs.Registry.{Package, Packages, Publication, package_at, publication_at, versions_or_none}
+use Rattle.registry.specs.Requests.{is_allowed}
+use Rattle.walk.specs.Newest.{IsAhead}
+use Rattle.walk.specs.PlainlyNewest.{AheadIsLockedOrHigher}
+use Rattle.solver.specs.declared.task.Task.{Task}
+use Rattle.solver.specs.Deciding.{IsBestLeft}
+use Rattle.solver.specs.Picking.{IsBestOf, IsBestWithin, IsLockedWithin, NoneLockedWithin, is_choosable}
+use Rattle.solver.proofs.Decisions.{highest_is_in, highest_is_within}
+
+listed_at : (packages : Packages) (p k : ℕ) (v : Publication) → publication_at packages p k ≡ Some v → slice_get (versions_or_none (package_at packages p)) k ≡ Some v
+unfolding publication_at
+listed_at packages p k v e = by (package_at packages p) refl
+  where
+    by : (o : Option Package) → package_at packages p ≡ o → slice_get (versions_or_none (package_at packages p)) k ≡ Some v
+    by None at = absurd (none-some v (sym (ap (λ (o : Option Package). option_and_then (λ (pack : Package). slice_get pack.versions k) o) at) ∙ e))
+    by (Some pack) at =
+        ap (λ (o : Option Package). slice_get (versions_or_none o) k) at
+        ∙ sym (ap (λ (o : Option Package). option_and_then (λ (q : Package). slice_get q.versions k) o) at) ∙ e
+
+not_lower_itself : PrecedenceIsATotalPreorder → (a : Text) → precedence a a ≡ Less → ⊥
+not_lower_itself total a e = cc (sym e ∙ total.antisymm a a ∙ ap ordering_reverse e)
+
+-- ---- the highest
+
+pub highest_is_best : PublishedBelow → (task : Task) (p : ℕ) (said : Term) (k : ℕ) → IsHighest (λ j b. is_choosable task p said j ≡ b) (versions_or_none (package_at task.registry.now.packages p)) k → IsBestWithin task p said k
+highest_is_best published task p said k h = record {
+  within = highest_is_within published task p said k h;
+  fails = λ j one other at_j at_k less. h.fails j other one (listed_at task.registry.now.packages p k other at_k) (listed_at task.registry.now.packages p j one at_j) less;
+}
+
+pub highest_is_best_in : PublishedBelow → (task : Task) (p : ℕ) (versions : List ℕ) (k : ℕ) → IsHighest (λ j b. has versions j ≡ b) (versions_or_none (package_at task.registry.now.packages p)) k
+    → IsBestWithin task p (In versions) k
+highest_is_best_in published task p versions k h = record {
+  within = highest_is_in published task p versions k h;
+  fails = λ j one other at_j at_k less.
+      let out : has versions j ≡ false = h.fails j other one (listed_at task.registry.now.packages p k other at_k) (listed_at task.registry.now.packages p j one at_j) less in
+      ap (λ b. b && is_allowed task.registry.now.packages task.request.now p j) out;
+}
+
+-- ---- the best
+
+module _ (law : AheadIsLockedOrHigher) (task : Task) (p : ℕ) (said : Term) (k : ℕ) where
+  pub best_locked : PrecedenceIsATotalPreorder → IsLockedWithin task p said k → IsBestOf task p said k
+  best_locked total l = record {
+    within = l.within;
+    best = λ j a. elim (law task.registry.now.packages task.request.now p k j a) [
+      | inl alone ↦ absurd (true≢false (sym l.locked.locked ∙ alone.1))
+      | inr above ↦ elim above.0 [
+        | inl locked ↦
+            let place : j ≡ k = l.locked.only j locked in
+            let same : a.one ≡ a.other = same_Some a.one a.other (sym a.first ∙ ap (publication_at task.registry.now.packages p) place ∙ a.second) in
+            absurd (not_lower_itself total a.other.version (ap (λ (v : Publication). precedence a.other.version v.version) (sym same) ∙ above.1))
+        | inr unlocked ↦ absurd (true≢false (sym l.locked.locked ∙ unlocked))
+      ]
+    ];
+  }
+
+  pub best_unlocked : NoneLockedWithin task p said → IsBestWithin task p said k → IsBestOf task p said k
+  best_unlocked none h = record {
+    within = h.within;
+    best = λ j a. elim (law task.registry.now.packages task.request.now p k j a) [
+      | inl alone ↦ none j alone.0
+      | inr above ↦ h.fails j a.one a.other a.first a.second above.1
+    ];
+  }
+
+either_false : (a b : Bool) → (a && b) ≡ false → (b ≡ false) ⊎ (a ≡ false)
+either_false true b e = inl e
+either_false false b e = inr refl
+
+-- what the assignments say of the package together is the term
+pub best_left : (task : Task) (made : List Assignment) (p : ℕ) (said : Term) (k : ℕ) → ((choice : Option ℕ) → true_of said choice ≡ says made p choice) → IsBestOf task p said k
+    → IsBestLeft task.registry.now.packages task.request.now made p k
+best_left task made p said k same b j a = elim (either_false (true_of said (Some j)) (is_allowed task.registry.now.packages task.request.now p j) (b.best j a)) [
+  | inl barred ↦ inl barred
+  | inr out ↦ inr (sym (same (Some j)) ∙ out)
+]
