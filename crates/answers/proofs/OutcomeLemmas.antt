@@ -10,7 +10,7 @@ use Rattle.registry.specs.Selections.{Choices, Meets}
 use Rattle.derivations.specs.Laws.{DerivationsRefute}
 use Rattle.derivations.specs.Derivations.{IsDerivation}
 use Rattle.derivations.specs.declared.line.Line.{Line}
-use Rattle.solver.specs.Outcomes.{Tells, TellsOne}
+use Rattle.solver.specs.Outcomes.{Tells, TellsNewest, TellsOne}
 use Rattle.explain.specs.Explanations.{explanation}
 use Rattle.solver.specs.Outcomes.{MayStop}
 use Rattle.by_name.specs.Named.{IsNumbered}
@@ -21,11 +21,11 @@ use Rattle.answers.specs.Outcomes.{IsAnswer, IsRefuted, TellsFound, TellsNone, T
 -- ---- what is found
 
 -- a selection that answers
-pub found_selection : (packages : Packages) (wanted : Wanted) (explain : Bool) (list : List (Text × Text)) → TellsOne packages wanted list
+pub found_selection : (packages : Packages) (wanted : Wanted) (explain newest : Bool) (list : List (Text × Text)) → TellsOne packages wanted list
     → ((s : Choices) → IsPreferredSelection packages wanted s → Meets packages wanted s → Tells packages s list)
-    → TellsFound packages wanted explain (selected list)
-found_selection packages wanted explain list lawful preferred =
-    let answer : IsAnswer packages wanted list = record { lawful = lawful; preferred = preferred } in
+    → (newest ≡ true → TellsNewest packages wanted list) → TellsFound packages wanted explain newest (selected list)
+found_selection packages wanted explain newest list lawful preferred is_newest =
+    let answer : IsAnswer packages wanted newest list = record { lawful = lawful; preferred = preferred; is_newest = is_newest } in
     inl (list, answer, refl)
 
 -- a derivation that there is none

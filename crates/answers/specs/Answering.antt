@@ -1,5 +1,5 @@
 -- What a line is read as, and what an answer leads to before it is told.
-use Rattle.std.specs.Prelude.{ℕ, List, Option, Result}
+use Rattle.std.specs.Prelude.{ℕ, List, Result}
 use Rattle.versions.specs.Refusals.{Gives}
 use Rattle.versions.specs.declared.refusal.Refusal.{Refusal}
 use Rattle.wire.specs.Asked.{asked_of}
@@ -11,14 +11,15 @@ use Rattle.answers.specs.Lawful.{LearnsSome, Ways, asked_within, reply_at}
 use Rattle.answers.specs.Outcomes.{MayTell, TellsListing}
 use Rattle.answers.specs.declared.answer.Answer.{Answer}
 use Rattle.answers.specs.declared.answer.Answer.TheVariants as answer
+use Rattle.answers.specs.declared.settings.Settings.{Settings}
 
 -- It is read as what the line asks, or as its fault, unless memory ran out.
 abbrev pub IsRead : Result Asked Refusal → List ℕ → Type 0
 IsRead read line = Gives asked_of read (request_of line)
 
--- The same by the budget of each request that names none, if there is one.
-abbrev pub IsReadWithin : Option ℕ → Result Asked Refusal → List ℕ → Type 0
-IsReadWithin budget read line = Gives asked_of read (asked_within budget line)
+-- The same within these settings, whose budget is that of each request that names none, if there is one.
+abbrev pub IsReadWithin : Settings → Result Asked Refusal → List ℕ → Type 0
+IsReadWithin settings read line = Gives asked_of read (asked_within settings.budget line)
 
 -- Each reply that tells this answer where the ledger stands is such a reply, and leaves it so: of a search, once some of what it offers is learnt.
 abbrev pub LeadsTo : {S : Type 0} → Ways S → (Reply → S → Type 0) → Answer → S → Type 0

@@ -1,14 +1,15 @@
 //! The answer to one line, of a session and of a seat of a race alike.
-ghost use Rattle.std.specs.Prelude.{◌⊎◌, ℕ, List, IfErr, IfOk, None, Option};
+ghost use Rattle.std.specs.Prelude.{◌⊎◌, Bool, ℕ, List, IfErr, IfOk};
 ghost use Rattle.registry.specs.Commands.{change_of};
 ghost use Rattle.solver.specs.Outcomes.{MayStop};
 ghost use Rattle.wire.specs.Shapes as shapes;
 ghost use Rattle.replies.specs.Replied.{body_of};
 ghost use Rattle.answers.specs.Answering.{IsRead, IsReadWithin, LeadsTo};
-ghost use Rattle.answers.specs.Lawful.{IsLawful, IsLawfulWithin, IsStopped, MayAnswer};
+ghost use Rattle.answers.specs.Lawful.{IsLawfulWithin, IsStopped, MayAnswer};
 ghost use Rattle.answers.specs.Outcomes.{TellsFound};
 
 use crate::ledger::Ledger;
+use crate::settings::Settings;
 use crate::told::{told_of, verdict_on};
 use book::Item;
 use by_name::NamedDerivation;
@@ -31,21 +32,23 @@ pub enum Answer {
     Listing,
 }
 
-/// Answers a line.
+/// Answers a line, as the settings say where it does not.
 pub fn answer_line<L: Ledger>(
     alloc: Global,
     ledger: &mut L,
     intake: &mut Intake,
     line: &[u8],
+    settings: Settings,
 ) -> Answer
-    ensures { LeadsTo L.ways (IsLawful L.ways line.now ledger.old) result ledger.new }
+    ensures { LeadsTo L.ways (IsLawfulWithin settings L.ways line.now ledger.old) result ledger.new }
 {
-    answer_read(alloc, ledger, intake.read(alloc, line))
+    let read = within(intake.read(alloc, line), settings);
+    answer_read(alloc, ledger, read, settings)
 }
 
-/// What was read of a line, with this budget where it asks to resolve and names none.
-pub fn within(read: Result<Asked, Refusal>, limit: Option<u32>) -> Result<Asked, Refusal>
-    ensures { (line : List ℕ) → IsRead read line → IsReadWithin limit result line }
+/// What was read of a line, with the budget of the settings where it asks to resolve and names none.
+pub fn within(read: Result<Asked, Refusal>, settings: Settings) -> Result<Asked, Refusal>
+    ensures { (line : List ℕ) → IsRead read line → IsReadWithin settings result line }
 {
     match read {
         Ok(
@@ -57,16 +60,21 @@ pub fn within(read: Result<Asked, Refusal>, limit: Option<u32>) -> Result<Asked,
         ) => Ok(Asked::Resolve {
             request,
             explain,
-            budget: budget.or(limit),
+            budget: budget.or(settings.budget),
         }),
         Ok(asked) => Ok(asked),
         Err(fault) => Err(fault),
     }
 }
 
-/// Answers a line of which this was read, also by a budget of each request that names none.
-pub fn answer_read<L: Ledger>(alloc: Global, ledger: &mut L, read: Result<Asked, Refusal>) -> Answer
-    ensures { (limit : Option ℕ) (line : List ℕ) → IsReadWithin limit read line → LeadsTo L.ways (IsLawfulWithin limit L.ways line ledger.old) result ledger.new }
+/// Answers a line of which this was read within the settings.
+pub fn answer_read<L: Ledger>(
+    alloc: Global,
+    ledger: &mut L,
+    read: Result<Asked, Refusal>,
+    settings: Settings,
+) -> Answer
+    ensures { (line : List ℕ) → IsReadWithin settings read line → LeadsTo L.ways (IsLawfulWithin settings L.ways line ledger.old) result ledger.new }
 {
     match read {
         Ok(Asked::Command(command)) => enter(ledger, command),
@@ -76,7 +84,16 @@ pub fn answer_read<L: Ledger>(alloc: Global, ledger: &mut L, read: Result<Asked,
                 explain,
                 budget,
             },
-        ) => resolve(alloc, ledger, &request, Options { budget, explain }),
+        ) => resolve(
+            alloc,
+            ledger,
+            &request,
+            Options {
+                budget,
+                explain,
+                newest: settings.newest,
+            },
+        ),
         Ok(
             Asked::Check {
                 request,
@@ -90,7 +107,7 @@ pub fn answer_read<L: Ledger>(alloc: Global, ledger: &mut L, read: Result<Asked,
 
 /// Enters a command. The answer takes no memory, so that an accepted one is never told as 18.
 fn enter<L: Ledger>(ledger: &mut L, command: Command) -> Answer
-    ensures { LeadsTo L.ways (MayAnswer L.ways (shapes.command (change_of command)) ledger.old) result ledger.new }
+    ensures { (newest : Bool) → LeadsTo L.ways (MayAnswer L.ways newest (shapes.command (change_of command)) ledger.old) result ledger.new }
 {
     match ledger.enter(Item::Command(command)) {
         Ok(()) => Answer::Told(Body::Accepted),
@@ -100,7 +117,7 @@ fn enter<L: Ledger>(ledger: &mut L, command: Command) -> Answer
 
 /// Answers a request, after a look, with what the solver answers.
 fn resolve<L: Ledger>(alloc: Global, ledger: &mut L, request: &Request, options: Options) -> Answer
-    ensures { LeadsTo L.ways (MayAnswer L.ways (shapes.resolve request.now options.explain options.budget) ledger.old) result ledger.new }
+    ensures { LeadsTo L.ways (MayAnswer L.ways options.newest (shapes.resolve request.now options.explain options.budget) ledger.old) result ledger.new }
 {
     match found_by(alloc, ledger, request, options) {
         Ok((told, offered)) => Answer::Found(told, offered),
@@ -115,7 +132,7 @@ fn judge<L: Ledger>(
     request: &Request,
     derivation: &NamedDerivation,
 ) -> Answer
-    ensures { LeadsTo L.ways (MayAnswer L.ways (shapes.check request.now derivation.now) ledger.old) result ledger.new }
+    ensures { (newest : Bool) → LeadsTo L.ways (MayAnswer L.ways newest (shapes.check request.now derivation.now) ledger.old) result ledger.new }
 {
     match ledger.look() {
         Ok(()) => Answer::Told(verdict_on(alloc, ledger.registry(), request, derivation)),
@@ -125,7 +142,7 @@ fn judge<L: Ledger>(
 
 /// Lists what is published, after a look.
 fn list<L: Ledger>(ledger: &mut L) -> Answer
-    ensures { LeadsTo L.ways (MayAnswer L.ways shapes.listing ledger.old) result ledger.new }
+    ensures { (newest : Bool) → LeadsTo L.ways (MayAnswer L.ways newest shapes.listing ledger.old) result ledger.new }
 {
     match ledger.look() {
         Ok(()) => Answer::Listing,
@@ -141,7 +158,7 @@ fn found_by<L: Ledger>(
     options: Options,
 ) -> Result<(Body<'static>, Vec<Learnt>), Refusal>
     ensures looks { L.ways.looks ledger.old ledger.new }
-    ensures told { IfOk result (λ r. TellsFound (L.ways.packages ledger.new) request.now options.explain (body_of r.0)) }
+    ensures told { IfOk result (λ r. TellsFound (L.ways.packages ledger.new) request.now options.explain options.newest (body_of r.0)) }
     ensures only { IfErr result (λ e. IsStopped L.ways ledger.new e ⊎ MayStop (L.ways.packages ledger.new) request.now options.budget e) }
 {
     ledger.look()?;
@@ -155,10 +172,10 @@ fn found_here<L: Ledger>(
     request: &Request,
     options: Options,
 ) -> Result<(Body<'static>, Vec<Learnt>), Refusal>
-    ensures told { IfOk result (λ r. TellsFound (L.ways.packages ledger.now) request.now options.explain (body_of r.0)) }
+    ensures told { IfOk result (λ r. TellsFound (L.ways.packages ledger.now) request.now options.explain options.newest (body_of r.0)) }
     ensures only { IfErr result (MayStop (L.ways.packages ledger.now) request.now options.budget) }
 {
     let registry = ledger.registry();
     let outcome = solve_with(alloc, registry, request, ledger.store(), options)?;
-    Ok(told_of(alloc, registry, request, options.explain, outcome)?)
+    Ok(told_of(alloc, registry, request, options, outcome)?)
 }

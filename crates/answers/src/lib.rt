@@ -8,6 +8,7 @@
 //! | `told` | what is told of what the solver found, and of a derivation |
 //! | `reasons` | why no selection meets a request, by names and with its explanation |
 //! | `put` | the lines of replies |
+//! | `settings` | how requests are answered, as far as their lines do not say |
 //! | `fault` | why lines are answered no further |
 //! | `laws` | what one may build on lawful replies |
 #![tactic(auto)]
@@ -18,11 +19,13 @@ mod laws;
 mod ledger;
 mod put;
 mod reasons;
+mod settings;
 mod told;
 
 pub use answer::{Answer, answer_line, answer_read, within};
 pub use fault::RunFault;
-pub use laws::lawful_replies_add_up;
+pub use laws::{lawful_replies_add_up, one_selection_is_told};
 pub use ledger::{Ledger, learn_all};
 pub use put::{put_listing, put_told, send_told};
+pub use settings::Settings;
 pub use told::{Standing, told_of};

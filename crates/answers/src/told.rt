@@ -1,7 +1,7 @@
 //! What is told in reply to a line, by a session and by the seats of a race alike.
-ghost use Rattle.std.specs.Prelude.{◌≡◌, IfOk};
+ghost use Rattle.std.specs.Prelude.{◌≡◌, IfOk, true};
 ghost use Rattle.walk.specs.Preferring.{IfPreferredServes};
-ghost use Rattle.solver.specs.Outcomes.{Answers, IsLawful};
+ghost use Rattle.solver.specs.Outcomes.{Answers, IsLawful, SelectsNewest};
 ghost use Rattle.replies.specs.Replied.{body_of, reply_of};
 ghost use Rattle.answers.specs.Outcomes.{MayTell, TellsFound, TellsVerdict};
 ghost use Rattle.answers.specs.Told.{reply_from};
@@ -11,7 +11,7 @@ use by_name::NamedDerivation;
 use derivations::{Learnt, derivations_refute};
 use registry::{Registry, Request};
 use replies::{Body, Reply, Spot};
-use solver::Outcome;
+use solver::{Options, Outcome};
 use std::alloc::{AllocError, Global};
 use versions::Refusal;
 
@@ -37,17 +37,18 @@ impl Standing {
     }
 }
 
-/// What is told of a request for which the solver found this, and what it offers to be learnt.
+/// What is told of a request for which the solver found this by these options, and what it offers to be learnt.
 pub fn told_of(
     alloc: Global,
     registry: &Registry,
     request: &Request,
-    explain: bool,
+    options: Options,
     outcome: Outcome,
 ) -> Result<(Body<'static>, Vec<Learnt>), AllocError>
-    requires lawful { IsLawful registry.now.packages request.now explain outcome }
+    requires lawful { IsLawful registry.now.packages request.now options.explain outcome }
     requires preferred { IfPreferredServes registry.now.packages request.now (λ s. Answers registry.now.packages s outcome) }
-    ensures { IfOk result (λ r. TellsFound registry.now.packages request.now explain (body_of r.0)) }
+    requires newest { options.newest ≡ true → SelectsNewest registry.now.packages request.now outcome }
+    ensures { IfOk result (λ r. TellsFound registry.now.packages request.now options.explain options.newest (body_of r.0)) }
 {
     derivations_refute();
     match outcome {

@@ -5,8 +5,8 @@ use Rattle.answers.proofs.told.told_of.Goals as goal
 pub returns-in-Selection : goal.returns-in-Selection
 returns-in-Selection c =
     let lawful = rw c.in-Selection.is at c.requires.lawful in
-    found_selection c.args.registry.now.packages c.args.request.now c.args.explain c.in-Selection.list.items lawful.0
-    (λ s is meets. rw c.in-Selection.is at (c.requires.preferred s is meets))
+    found_selection c.args.registry.now.packages c.args.request.now c.args.options.explain c.args.options.newest c.in-Selection.list.items lawful.0
+    (λ s is meets. rw c.in-Selection.is at (c.requires.preferred s is meets)) (λ on. rw c.in-Selection.is at (c.requires.newest on))
 
 pub returns-in-NoSelection : goal.returns-in-NoSelection
 returns-in-NoSelection c = let lawful = rw c.in-NoSelection.is at c.requires.lawful in rw lawful.0 (inr (lawful.1, refl))
