@@ -15,14 +15,16 @@ use Rattle.clap.specs.Faults.{check_fault, entered_fault, fault_of, level_fault,
 use Rattle.clap.specs.declared.builder.action.ArgAction.{ArgAction}
 use Rattle.clap.specs.declared.builder.action.ArgAction.TheVariants as action
 use Rattle.clap.specs.declared.builder.ValueParser.TheVariants.{Unsigned}
+use Rattle.clap.specs.declared.builder.ValueParser.TheVariants as parser
 use Rattle.clap.specs.declared.builder.value_parser.Reading.{Reading}
 use Rattle.clap.specs.declared.builder.value_parser.Reading.TheVariants.{AsWritten}
 use Rattle.clap.specs.declared.error.ErrorKind.{ErrorKind}
 use Rattle.clap.specs.declared.error.ErrorKind.TheVariants as kind
 use Rattle.clap.specs.declared.parser.matches.ValueSource.{ValueSource}
-use Rattle.command_line.specs.CommandLine.{program_app, serve_app, race_app, workers_rule, budget_rule, files_rule, option_rule}
+use Rattle.clap.specs.declared.parser.matches.ValueSource.TheVariants.{DefaultValue}
+use Rattle.command_line.specs.CommandLine.{program_app, serve_app, race_app, workers_rule, budget_rule, files_rule, flag_rule, option_rule}
 use Rattle.command_line.specs.declared.words.TheConstants.{MOST_CONFLICTS, MOST_WORKERS}
-use Rattle.command_line.specs.Words.{HasBudget, HasFiles, HasWorkers, IsGiven}
+use Rattle.command_line.specs.Words.{HasBudget, HasFiles, HasFlag, HasFlags, HasWorkers, IsGiven}
 use Rattle.command_line.proofs.CommandWalk.{Keeps, no_fault, walk_keeps, settle_keeps}
 
 append_all : {X : Type 0} (P : X → Type 0) (xs ys : List X) → AllByRecursion P xs → AllByRecursion P ys → AllByRecursion P (xs ++ ys)
@@ -72,6 +74,12 @@ module _ (id : Text) (test : Text → Bool) where
   used_good action.HelpLong which how values rows other good first = good
   used_good action.Version which how values rows other good first = good
 
+  -- an argument that was not used gets its default values
+  default_good : (which : Text) (how : Reading) (v : Text) (vs : List Text) (rows : List Row) → Good rows → (bytes_eq which id ≡ true → FirstPasses (v ∷ vs) how) → (has : Bool)
+      → Good (cond has rows (default_rows which how (v ∷ vs) rows))
+  default_good which how v vs rows good first true = good
+  default_good which how v vs rows good first false = with_values_good which how DefaultValue (v ∷ vs) rows good first
+
   -- a row that was given has such a value
   pub given_first : (rows : List Row) → Good rows → is_given id rows ≡ true
       → (r : Row) × (find (λ r. bytes_eq r.id id) rows ≡ Some r) × FirstPasses r.values r.reading
@@ -119,13 +127,20 @@ with_default_none rows a none =
     elim (has_row a.id rows) as (λ b. cond b rows (default_rows a.id (reading_by a) a.defaults rows) ≡ rows)
     [ true ↦ refl | false ↦ ap (λ values. default_rows a.id (reading_by a) values rows) none ]
 
--- where no argument has a default, the rows at the end are those of the walk
-defaults_none : (c : List Rule) (rows : List Row) → AllByRecursion (λ a. a.defaults ≡ []) c → fold with_default rows c ≡ rows
-defaults_none [] rows all = refl
-defaults_none (a ∷ c) rows (here, rest) = ap (λ r. fold with_default r c) (with_default_none rows a here) ∙ defaults_none c rows rest
+-- the argument's default values keep what is said of the rows
+abbrev KeepsDefault : (List Row → Type 0) → Rule → Type 0
+KeepsDefault Good a = (rows : List Row) → Good rows → Good (with_default rows a)
+
+-- so does an argument with none
+no_default : (Good : List Row → Type 0) (a : Rule) → a.defaults ≡ [] → KeepsDefault Good a
+no_default Good a none rows good = subst Good (sym (with_default_none rows a none)) good
+
+defaults_keep : (Good : List Row → Type 0) (c : List Rule) (rows : List Row) → AllByRecursion (KeepsDefault Good) c → Good rows → Good (fold with_default rows c)
+defaults_keep Good [] rows all good = good
+defaults_keep Good (a ∷ c) rows (here, rest) good = defaults_keep Good c (with_default rows a) rest (here rows good)
 
 -- what a level without fault leaves
-level_leaves : (Good : List Row → Type 0) (s : Shape) (words : List Text) → AllByRecursion (Keeps Good s) s.rules → AllByRecursion (λ a. a.defaults ≡ []) s.rules → Good []
+level_leaves : (Good : List Row → Type 0) (s : Shape) (words : List Text) → AllByRecursion (Keeps Good s) s.rules → AllByRecursion (KeepsDefault Good) s.rules → Good []
     → level_fault s [] nothing_held words false [] ≡ []
     → Good (finished s.rules (walk s.rules [] nothing_held words).held) × (check_fault s (finished s.rules (walk s.rules [] nothing_held words).held) false ≡ [])
 level_leaves Good s words keeps defaults empty none =
@@ -135,7 +150,7 @@ level_leaves Good s words keeps defaults empty none =
     let after = no_fault _ _ settled_well.1 in
     let good = walk_keeps Good s keeps [] words (walk_from nothing_held) empty walked_well.0 in
     let kept = settle_keeps Good s keeps end good settled_well.0 in
-    (subst Good (sym (defaults_none s.rules (settled s.rules end).rows defaults)) kept, after.1)
+    (defaults_keep Good s.rules (settled s.rules end).rows defaults kept, after.1)
 
 -- ---- the program's own levels
 
@@ -165,8 +180,8 @@ BudgetGood : List Row → Type 0
 BudgetGood = Good (codes "budget") is_budget
 
 -- a use of an option that takes one value, and is not the one in question
-keeps_option : (id : Text) (test : Text → Bool) (a : Rule) → action_of a ≡ action.Set → bytes_eq a.id id ≡ false → Keeps (Good id test) serve_shape a
-keeps_option id test a is other values rows good none =
+keeps_option : (id : Text) (test : Text → Bool) (s : Shape) (a : Rule) → action_of a ≡ action.Set → bytes_eq a.id id ≡ false → Keeps (Good id test) s a
+keeps_option id test s a is other values rows good none =
     used_good id test (action_of a) a.id (reading_by a) (values_or_missing a values) rows (λ count. cc) good (λ same. absurd (true≢false (sym same ∙ other)))
 
 keeps_workers : Keeps WorkersGood serve_shape (filled workers_rule)
@@ -197,22 +212,62 @@ files_options : (id : Text) (test : Text → Bool) → bytes_eq (codes "journal"
     → Keeps (Good id test) serve_shape (filled (option_rule (codes "journal"))) × Keeps (Good id test) serve_shape (filled (option_rule (codes "load")))
     × Keeps (Good id test) serve_shape (filled (option_rule (codes "save")))
 files_options id test journal load save = (
-  keeps_option id test (filled (option_rule (codes "journal"))) refl journal,
-  keeps_option id test (filled (option_rule (codes "load"))) refl load,
-  keeps_option id test (filled (option_rule (codes "save"))) refl save,
+  keeps_option id test serve_shape (filled (option_rule (codes "journal"))) refl journal,
+  keeps_option id test serve_shape (filled (option_rule (codes "load"))) refl load,
+  keeps_option id test serve_shape (filled (option_rule (codes "save"))) refl save,
 )
+
+-- a use of a flag that is not the one in question
+keeps_flag : (id : Text) (test : Text → Bool) (s : Shape) (name : Text) → bytes_eq name id ≡ false → Keeps (Good id test) s (filled (flag_rule name))
+keeps_flag id test s name other values rows good none =
+    used_good id test action.SetTrue name AsWritten (values_or_missing (filled (flag_rule name)) values) rows (λ count. cc) good (λ same. absurd (true≢false (sym same ∙ other)))
+
+-- and of the one in question
+abbrev is_flag : Text → Bool
+is_flag = accepts false parser.Bool
+
+keeps_own_flag : (s : Shape) (name : Text) → Keeps (Good name is_flag) s (filled (flag_rule name))
+keeps_own_flag s name [] rows good none = used_good name is_flag action.SetTrue name AsWritten (codes "true" ∷ []) rows (λ count. cc) good (λ same. (codes "true", [], refl, refl, refl))
+keeps_own_flag s name (v ∷ vs) rows good none =
+    let again = s.args_override_self in
+    let used_well = no_fault (range_kinds 0 0 (length (v ∷ vs))) (set_fault again (filled (flag_rule name)) (v ∷ vs) rows) none in
+    let once = no_fault (repeat_fault again name rows) (values_fault (filled (flag_rule name)) (v ∷ vs)) used_well.1 in
+    let passes = accepted (is_flag v) kind.InvalidValue (values_fault (filled (flag_rule name)) vs) once.1 in
+    used_good name is_flag action.SetTrue name AsWritten (v ∷ vs) rows (λ count. cc) good (λ same. (v, vs, refl, refl, passes))
+
+-- one that is not given is not set
+flag_default : (id : Text) (test : Text → Bool) (name : Text) → (bytes_eq name id ≡ true → test (codes "false") ≡ true) → KeepsDefault (Good id test) (filled (flag_rule name))
+flag_default id test name passes rows good = default_good id test name AsWritten (codes "false") [] rows good (λ same. (codes "false", [], refl, refl, passes same)) (has_row name rows)
+
+-- the default values of `serve` and of `race`
+serve_defaults : (id : Text) (test : Text → Bool) → (bytes_eq (codes "newest") id ≡ true → test (codes "false") ≡ true) → (bytes_eq (codes "any") id ≡ true → test (codes "false") ≡ true)
+    → AllByRecursion (KeepsDefault (Good id test)) serve_shape.rules
+serve_defaults id test newest any =
+    let none = no_default (Good id test) in
+    let file = λ (name : Text). none (filled (option_rule name)) refl in
+    (none (filled workers_rule) refl, (file (codes "journal"), (file (codes "load"), (file (codes "save"), (none (filled budget_rule) refl, (flag_default id test (codes "newest") newest, (flag_default id test (codes "any") any, (none (filled help_rule) refl, tt))))))))
+
+race_defaults : (id : Text) (test : Text → Bool) → (bytes_eq (codes "newest") id ≡ true → test (codes "false") ≡ true) → (bytes_eq (codes "any") id ≡ true → test (codes "false") ≡ true)
+    → AllByRecursion (KeepsDefault (Good id test)) race_shape.rules
+race_defaults id test newest any =
+    let none = no_default (Good id test) in
+    (none (with_index 1 (filled files_rule)) refl, (flag_default id test (codes "newest") newest, (flag_default id test (codes "any") any, (none (filled help_rule) refl, tt))))
+
+-- no flag is this one
+apart : {P : Type 0} (a b : Text) → bytes_eq a b ≡ false → bytes_eq a b ≡ true → P
+apart a b other same = absurd (true≢false (sym same ∙ other))
 
 workers_kept : AllByRecursion (Keeps WorkersGood serve_shape) serve_shape.rules
 unfolding WorkersGood
 workers_kept =
     let files = files_options (codes "workers") is_worker_count refl refl refl in
-    (keeps_workers, (files.0, (files.1, (files.2, (keeps_option (codes "workers") is_worker_count (filled budget_rule) refl refl, (keeps_help WorkersGood serve_shape, tt))))))
+    (keeps_workers, (files.0, (files.1, (files.2, (keeps_option (codes "workers") is_worker_count serve_shape (filled budget_rule) refl refl, (keeps_flag (codes "workers") is_worker_count serve_shape (codes "newest") refl, (keeps_flag (codes "workers") is_worker_count serve_shape (codes "any") refl, (keeps_help WorkersGood serve_shape, tt))))))))
 
 budget_kept : AllByRecursion (Keeps BudgetGood serve_shape) serve_shape.rules
 unfolding BudgetGood
 budget_kept =
     let files = files_options (codes "budget") is_budget refl refl refl in
-    (keeps_option (codes "budget") is_budget (filled workers_rule) refl refl, (files.0, (files.1, (files.2, (keeps_budget, (keeps_help BudgetGood serve_shape, tt))))))
+    (keeps_option (codes "budget") is_budget serve_shape (filled workers_rule) refl refl, (files.0, (files.1, (files.2, (keeps_budget, (keeps_flag (codes "budget") is_budget serve_shape (codes "newest") refl, (keeps_flag (codes "budget") is_budget serve_shape (codes "any") refl, (keeps_help BudgetGood serve_shape, tt))))))))
 
 FilesGood : List Row → Type 0
 FilesGood = Good (codes "files") (λ _. true)
@@ -224,7 +279,8 @@ keeps_files (v ∷ vs) rows good none =
     used_good (codes "files") (λ _. true) action.Append (codes "files") AsWritten (v ∷ vs) rows (λ count. cc) good (λ same. (v, vs, refl, refl, refl))
 
 files_kept : AllByRecursion (Keeps FilesGood race_shape) race_shape.rules
-files_kept = (keeps_files, (keeps_help FilesGood race_shape, tt))
+unfolding FilesGood
+files_kept = (keeps_files, (keeps_flag (codes "files") (λ _. true) race_shape (codes "newest") refl, (keeps_flag (codes "files") (λ _. true) race_shape (codes "any") refl, (keeps_help FilesGood race_shape, tt))))
 
 -- the last checks of a level want what is required
 asked_for : (b : Bool) → check_kinds false false (not b || false) ≡ [] → b ≡ true
@@ -236,7 +292,8 @@ workers_given : (words : List Text) → level_fault serve_shape [] nothing_held 
     → HasWorkers (finished serve_shape.rules (walk serve_shape.rules [] nothing_held words).held)
 unfolding WorkersGood
 workers_given words none =
-    let left = level_leaves WorkersGood serve_shape words workers_kept (refl, (refl, (refl, (refl, (refl, (refl, tt)))))) tt none in
+    let left = level_leaves WorkersGood serve_shape words workers_kept
+    (serve_defaults (codes "workers") is_worker_count (apart (codes "newest") (codes "workers") refl) (apart (codes "any") (codes "workers") refl)) tt none in
     let rows = finished serve_shape.rules (walk serve_shape.rules [] nothing_held words).held in
     let read = first_read (codes "workers") is_worker_count rows left.0 (asked_for (is_given (codes "workers") rows) left.1) in
     (read.0, read.2, accepts-Accepts false (Unsigned 1 MOST_WORKERS) read.0 read.4)
@@ -246,7 +303,8 @@ budget_given : (words : List Text) → level_fault serve_shape [] nothing_held w
     → HasBudget (finished serve_shape.rules (walk serve_shape.rules [] nothing_held words).held)
 unfolding BudgetGood
 budget_given words none text is =
-    let left = level_leaves BudgetGood serve_shape words budget_kept (refl, (refl, (refl, (refl, (refl, (refl, tt)))))) tt none in
+    let left = level_leaves BudgetGood serve_shape words budget_kept
+    (serve_defaults (codes "budget") is_budget (apart (codes "newest") (codes "budget") refl) (apart (codes "any") (codes "budget") refl)) tt none in
     let rows = finished serve_shape.rules (walk serve_shape.rules [] nothing_held words).held in
     accepts-Accepts false (Unsigned 0 MOST_CONFLICTS) text (read_passes (codes "budget") is_budget rows left.0 text is)
 
@@ -255,10 +313,55 @@ files_given : (words : List Text) → level_fault race_shape [] nothing_held wor
     → HasFiles (finished race_shape.rules (walk race_shape.rules [] nothing_held words).held)
 unfolding FilesGood
 files_given words none =
-    let left = level_leaves FilesGood race_shape words files_kept (refl, (refl, tt)) tt none in
+    let left = level_leaves FilesGood race_shape words files_kept
+    (race_defaults (codes "files") (λ _. true) (apart (codes "newest") (codes "files") refl) (apart (codes "any") (codes "files") refl)) tt none in
     let rows = finished race_shape.rules (walk race_shape.rules [] nothing_held words).held in
     let read = first_read (codes "files") (λ _. true) rows left.0 (asked_for (is_given (codes "files") rows) left.1) in
     (read.0 ∷ read.1, read.3, omega arith)
+
+-- ---- flags
+
+newest_of_serve : AllByRecursion (Keeps (Good (codes "newest") is_flag) serve_shape) serve_shape.rules
+newest_of_serve =
+    let files = files_options (codes "newest") is_flag refl refl refl in
+    (keeps_option (codes "newest") is_flag serve_shape (filled workers_rule) refl refl, (files.0, (files.1, (files.2, (keeps_option (codes "newest") is_flag serve_shape (filled budget_rule) refl refl, (keeps_own_flag serve_shape (codes "newest"), (keeps_flag (codes "newest") is_flag serve_shape (codes "any") refl, (keeps_help (Good (codes "newest") is_flag) serve_shape, tt))))))))
+
+any_of_serve : AllByRecursion (Keeps (Good (codes "any") is_flag) serve_shape) serve_shape.rules
+any_of_serve =
+    let files = files_options (codes "any") is_flag refl refl refl in
+    (keeps_option (codes "any") is_flag serve_shape (filled workers_rule) refl refl, (files.0, (files.1, (files.2, (keeps_option (codes "any") is_flag serve_shape (filled budget_rule) refl refl, (keeps_flag (codes "any") is_flag serve_shape (codes "newest") refl, (keeps_own_flag serve_shape (codes "any"), (keeps_help (Good (codes "any") is_flag) serve_shape, tt))))))))
+
+-- a use of the files is none of a flag
+files_apart : (id : Text) (test : Text → Bool) → bytes_eq (codes "files") id ≡ false → Keeps (Good id test) race_shape (with_index 1 (filled files_rule))
+files_apart id test other values rows good none =
+    used_good id test action.Append (codes "files") AsWritten (values_or_missing (with_index 1 (filled files_rule)) values) rows (λ count. cc) good (λ same. absurd (true≢false (sym same ∙ other)))
+
+newest_of_race : AllByRecursion (Keeps (Good (codes "newest") is_flag) race_shape) race_shape.rules
+newest_of_race =
+    (files_apart (codes "newest") is_flag refl, (keeps_own_flag race_shape (codes "newest"), (keeps_flag (codes "newest") is_flag race_shape (codes "any") refl, (keeps_help (Good (codes "newest") is_flag) race_shape, tt))))
+
+any_of_race : AllByRecursion (Keeps (Good (codes "any") is_flag) race_shape) race_shape.rules
+any_of_race =
+    (files_apart (codes "any") is_flag refl, (keeps_flag (codes "any") is_flag race_shape (codes "newest") refl, (keeps_own_flag race_shape (codes "any"), (keeps_help (Good (codes "any") is_flag) race_shape, tt))))
+
+flag_given : (s : Shape) (name : Text) (words : List Text) → AllByRecursion (Keeps (Good name is_flag) s) s.rules → AllByRecursion (KeepsDefault (Good name is_flag)) s.rules
+    → level_fault s [] nothing_held words false [] ≡ [] → HasFlag name (finished s.rules (walk s.rules [] nothing_held words).held)
+flag_given s name words kept defaults none text is =
+    let left = level_leaves (Good name is_flag) s words kept defaults tt none in
+    read_passes name is_flag (finished s.rules (walk s.rules [] nothing_held words).held) left.0 text is
+
+-- the flags of `serve` and of `race` are set or not
+flags_of_serve : (words : List Text) → level_fault serve_shape [] nothing_held words false [] ≡ [] → HasFlags (finished serve_shape.rules (walk serve_shape.rules [] nothing_held words).held)
+flags_of_serve words none = (
+  flag_given serve_shape (codes "newest") words newest_of_serve (serve_defaults (codes "newest") is_flag (λ _. refl) (λ _. refl)) none,
+  flag_given serve_shape (codes "any") words any_of_serve (serve_defaults (codes "any") is_flag (λ _. refl) (λ _. refl)) none,
+)
+
+flags_of_race : (words : List Text) → level_fault race_shape [] nothing_held words false [] ≡ [] → HasFlags (finished race_shape.rules (walk race_shape.rules [] nothing_held words).held)
+flags_of_race words none = (
+  flag_given race_shape (codes "newest") words newest_of_race (race_defaults (codes "newest") is_flag (λ _. refl) (λ _. refl)) none,
+  flag_given race_shape (codes "any") words any_of_race (race_defaults (codes "any") is_flag (λ _. refl) (λ _. refl)) none,
+)
 
 -- ---- the whole command line
 
@@ -272,8 +375,8 @@ subcommand_wanted rows false none = absurd (cc)
 
 entered_by : (words : List Text) (is_serve is_race : Bool) → let met = cond is_serve (Some serve_shape) (cond is_race (Some race_shape) None) in
     option_map_or (λ s. level_fault s [] nothing_held words false []) met [] ≡ [] → is_some (option_map (λ s. rows_at s words) met) ≡ true → IsGiven (option_map (λ s. rows_at s words) met)
-entered_by words true is_race below has = ((rows_at serve_shape words).1, inl (refl, workers_given words below, budget_given words below))
-entered_by words false true below has = ((rows_at race_shape words).1, inr (refl, files_given words below))
+entered_by words true is_race below has = ((rows_at serve_shape words).1, inl (refl, workers_given words below, budget_given words below, flags_of_serve words below))
+entered_by words false true below has = ((rows_at race_shape words).1, inr (refl, files_given words below, flags_of_race words below))
 entered_by words false false below has = absurd (true≢false (sym has))
 
 entered_from : (stop : Option (Text × List Text)) → entered_fault (built program_app) stop ≡ [] → is_some (entered (built program_app) stop) ≡ true

@@ -1,13 +1,17 @@
 -- The command line, as clap is told of it.
 use Rattle.std.specs.Prelude.{Some, true, codes}
 use Rattle.clap.specs.Words.{App, Rule, Text, new_app, new_rule, with_rule, with_subcommand}
-use Rattle.clap.specs.declared.builder.action.ArgAction.TheVariants.{Set, Append}
+use Rattle.clap.specs.declared.builder.action.ArgAction.TheVariants.{Set, SetTrue, Append}
 use Rattle.clap.specs.declared.builder.ValueParser.TheVariants.{Unsigned}
 use Rattle.command_line.specs.declared.words.TheConstants.{MOST_CONFLICTS, MOST_WORKERS}
 
 -- `--name VALUE`, which may be left out
 abbrev pub option_rule : Text → Rule
 option_rule name = record (new_rule name) { long = Some name; action = Some Set; value_names = 1 }
+
+-- `--name`, which has no value, and may be left out
+abbrev pub flag_rule : Text → Rule
+flag_rule name = record (new_rule name) { long = Some name; action = Some SetTrue }
 
 -- `--workers N`, which has to be there, N from 1 to MOST_WORKERS
 abbrev pub workers_rule : Rule
@@ -26,14 +30,18 @@ files_rule = record (new_rule (codes "files")) {
   value_names = 1;
 }
 
--- `serve --workers N [--journal FILE] [--load FILE] [--save FILE] [--budget N]`
+-- `--newest` and `--any`, the flags that say which selections are told
+abbrev pub with_selection_rules : App → App
+with_selection_rules a = with_rule (with_rule a (flag_rule (codes "newest"))) (flag_rule (codes "any"))
+
+-- `serve --workers N [--journal FILE] [--load FILE] [--save FILE] [--budget N] [--newest] [--any]`
 abbrev pub serve_app : App
 serve_app =
-    with_rule (with_rule (with_rule (with_rule (with_rule (new_app (codes "serve")) workers_rule) (option_rule (codes "journal"))) (option_rule (codes "load"))) (option_rule (codes "save"))) budget_rule
+    with_selection_rules (with_rule (with_rule (with_rule (with_rule (with_rule (new_app (codes "serve")) workers_rule) (option_rule (codes "journal"))) (option_rule (codes "load"))) (option_rule (codes "save"))) budget_rule)
 
--- `race FILE...`
+-- `race [--newest] [--any] FILE...`
 abbrev pub race_app : App
-race_app = with_rule (new_app (codes "race")) files_rule
+race_app = with_selection_rules (with_rule (new_app (codes "race")) files_rule)
 
 -- with no word for the program itself, and one of those that are to be its subcommands
 abbrev pub bare_app : App

@@ -2,7 +2,7 @@
 ghost use Rattle.std.specs.Prelude.{◌≡◌, IfOk, true, false};
 ghost use Rattle.clap.specs.Words.{app_of, rule_of, with_subcommand};
 ghost use Rattle.clap.specs.declared.Command.TheViews.{out-Command as fields_of};
-ghost use Rattle.command_line.specs.CommandLine.{option_rule, workers_rule, budget_rule, files_rule, serve_app, race_app, bare_app, program_app};
+ghost use Rattle.command_line.specs.CommandLine.{option_rule, flag_rule, workers_rule, budget_rule, files_rule, with_selection_rules, serve_app, race_app, bare_app, program_app};
 
 use crate::words::{MOST_CONFLICTS, MOST_WORKERS};
 use clap::builder::ValueParser;
@@ -16,8 +16,8 @@ const SERVE_EXAMPLE: &str =
 // What the help of `race` shows.
 const RACE_EXAMPLE: &str = "Example: registryd race first.lines second.lines";
 
-/// `registryd serve --workers N [--journal FILE] [--load FILE] [--save FILE] [--budget N]` or `registryd race FILE...`,
-/// without the program's name.
+/// `registryd serve --workers N [--journal FILE] [--load FILE] [--save FILE] [--budget N] [--newest | --any]` or
+/// `registryd race [--newest | --any] FILE...`, without the program's name.
 pub fn program<'a>(alloc: Global) -> Result<Command<'a>, AllocError>
     ensures { IfOk result (λ c. app_of c ≡ program_app) }
 {
@@ -81,17 +81,32 @@ fn serve_command<'a>(alloc: Global) -> Result<Command<'a>, AllocError>
         "save",
         "Where to write the journal at the end",
     ))?;
-    with_save.arg(budget_option(alloc))
+    let with_budget = with_save.arg(budget_option(alloc))?;
+    with_selection(alloc, with_budget)
+}
+
+// The flags that say which selection is told.
+fn with_selection<'a>(alloc: Global, command: Command<'a>) -> Result<Command<'a>, AllocError>
+    ensures app { IfOk result (λ c. app_of c ≡ with_selection_rules (app_of command.entry)) }
+    ensures local { (fields_of command.entry).has_globals ≡ false → IfOk result (λ c. (fields_of c).has_globals ≡ false) }
+{
+    let with_newest = command.arg(flag(
+        alloc,
+        "newest",
+        "Tell the newest selection that meets a request",
+    ))?;
+    with_newest.arg(flag(alloc, "any", "Tell the first selection that a search finds"))
 }
 
 fn race_command<'a>(alloc: Global) -> Result<Command<'a>, AllocError>
     ensures app { IfOk result (λ c. app_of c ≡ race_app) }
     ensures local { IfOk result (λ c. (fields_of c).has_globals ≡ false) }
 {
-    Command::new(alloc, "race")
+    let bare = Command::new(alloc, "race")
         .about("Answers the request lines of files, a thread to each")
-        .after_help(RACE_EXAMPLE)
-        .arg(files_argument(alloc))
+        .after_help(RACE_EXAMPLE);
+    let with_files = bare.arg(files_argument(alloc))?;
+    with_selection(alloc, with_files)
 }
 
 fn workers_option<'a>(alloc: Global) -> Arg<'a>
@@ -128,6 +143,16 @@ fn file_option<'a>(alloc: Global, name: &'a str, help: &'a str) -> Arg<'a>
         .value_name("FILE")
         .help(help)
         .action(ArgAction::Set)
+}
+
+fn flag<'a>(alloc: Global, name: &'a str, help: &'a str) -> Arg<'a>
+    ensures rule { rule_of result ≡ flag_rule name.entry.now }
+    ensures local { result.global ≡ false }
+{
+    Arg::new(alloc, name)
+        .long(name)
+        .help(help)
+        .action(ArgAction::SetTrue)
 }
 
 fn files_argument<'a>(alloc: Global) -> Arg<'a>
