@@ -1,13 +1,12 @@
 -- Requests that wait together, and the replies to them.
 use Rattle.std.proofs.Common.{◌≡◌, Bool, ℕ, ◌+◌, ◌<◌, ◌≤◌, List, [], ◌∷◌, ◌++◌, length, take, drop, get_or, map, refl, sym, ap, subst, ◌∙◌, inl, inr, arith, length-append, Option, None, Some, Result, Ok, Err}
 use Rattle.std.proofs.KnownBytes.{Appends-nil}
-use Rattle.std.proofs.lemmas.List.{append-nil, append_assoc, drop-append-le, drop-map, drop_all, drop_more, length-map, map-append, take-append-drop}
+use Rattle.std.proofs.lemmas.List.{append-nil, append_assoc, drop-append-le, drop_all, drop_more, take-append-drop}
 use Rattle.std.proofs.lemmas.List.Concat.{flat_map-append}
 use Rattle.std.specs.Prelude.{if◌then◌else◌, is_none, MatchResult, OnOk}
 use Rattle.versions.specs.declared.refusal.Refusal.{Refusal}
 use Rattle.versions.specs.declared.refusal.Refusal.TheVariants.{NoMemory}
 use Rattle.registry.specs.Registry.{Packages}
-use Rattle.registry.specs.Requests.{Wanted}
 use Rattle.derivations.specs.declared.line.Line.{Line}
 use Rattle.book.specs.Items.{Book, after, book_of, packages_of, refusal, revision_of, stepped}
 use Rattle.book.specs.Laws.{ReplayGrows}
@@ -18,8 +17,8 @@ use Rattle.std.specs.Io.KnownBytes.{Appends}
 use Rattle.replies.specs.Putting.{IsCut, IsPut, PutsAddUp}
 use Rattle.replies.specs.Replies.{Body, Reply, refused, replies_text, reply_text}
 use Rattle.wire.specs.Requests.{request_of}
-use Rattle.wire.specs.Shapes.{Request, resolve}
-use Rattle.session.specs.Batches.{AreAsked, AreReplied, LearnsOf, MayBeTold, Tells, requests_of}
+use Rattle.answers.specs.declared.settings.Settings.{Settings}
+use Rattle.session.specs.Batches.{AreAsked, AreReplied, IsAskedBy, LearnsOf, MayBeTold, Question, Tells, request_in}
 use Rattle.answers.specs.Laws.{RepliesAddUp}
 use Rattle.answers.specs.Lawful.{AreLawfulWithin, Learns, LearnsSome, MayAnswer, Ways, asked_within, bounded_if, reply_at}
 use Rattle.answers.specs.Outcomes.{TellsFound}
@@ -27,7 +26,6 @@ use Rattle.answers.specs.Told.{reply_from}
 use Rattle.solver.specs.Outcomes.{MayStop}
 use Rattle.session.specs.Session.{session_ways}
 use Rattle.session.proofs.ServeLemmas.{replies_text-more}
-use Rattle.solver.specs.declared.solving.Options.{Options}
 
 -- what was written before, and more
 pub appends_behind : (front held more written : List ℕ) → Appends (Some held) (Some more) written → Appends (Some (front ++ held)) (Some (front ++ more)) written
@@ -35,22 +33,9 @@ appends_behind front held more written is = ap (λ (l : List ℕ). front ++ l) i
 
 -- ---- what is asked
 
-pub requests_of-length : (asked : List (Wanted × Options)) → length (requests_of asked) ≡ length asked
-requests_of-length asked = length-map asked (λ (one : Wanted × Options). resolve one.0 one.1.explain one.1.budget)
-
-pub requests_of-append : (asked others : List (Wanted × Options)) → requests_of (asked ++ others) ≡ requests_of asked ++ requests_of others
-requests_of-append asked others = map-append (λ (one : Wanted × Options). resolve one.0 one.1.explain one.1.budget) asked others
-
-pub requests_of-none : (asked : List (Wanted × Options)) → asked ≡ [] → requests_of asked ≡ []
-requests_of-none asked none = ap requests_of none
-
-module _ (asked : List (Wanted × Options)) where
-  -- the next one, and those behind it
-  pub requests_of-next : (k : ℕ) (one : Wanted × Options) → k < length asked → one ≡ get_or asked k one → drop k (requests_of asked) ≡ resolve one.0 one.1.explain one.1.budget ∷ drop (k + 1) (requests_of asked)
-  requests_of-next k one within here =
-      drop-map (λ (one : Wanted × Options). resolve one.0 one.1.explain one.1.budget) k asked
-      ∙ ap requests_of (drop_more asked k one within ∙ ap (λ (x : Wanted × Options). x ∷ drop (k + 1) asked) (sym here))
-      ∙ ap (λ (requests : List Request). resolve one.0 one.1.explain one.1.budget ∷ requests) (sym (drop-map (λ (one : Wanted × Options). resolve one.0 one.1.explain one.1.budget) (k + 1) asked))
+-- the next one, and those behind it
+pub next_of : (asked : List Question) (k : ℕ) (one : Question) → k < length asked → one ≡ get_or asked k one → drop k asked ≡ one ∷ drop (k + 1) asked
+next_of asked k one within here = drop_more asked k one within ∙ ap (λ (x : Question). x ∷ drop (k + 1) asked) (sym here)
 
 -- ---- what is learnt publishes nothing
 
@@ -83,7 +68,7 @@ learning_keeps grows old new (offered, learns) = learns_keep grows old new offer
 -- ---- replies to requests, one after another
 
 module _ {S : Type 0} (w : Ways S) where
-  replied_append : (requests others : List Request) (replies more : List Reply) (old mid new : S) → AreReplied w requests old replies mid → AreReplied w others mid more new
+  replied_append : (requests others : List Question) (replies more : List Reply) (old mid new : S) → AreReplied w requests old replies mid → AreReplied w others mid more new
       → AreReplied w (requests ++ others) old (replies ++ more) new
   replied_append [] others [] more old mid new first behind = subst (λ (here : S). AreReplied w others here more new) first behind
   replied_append [] others (reply ∷ replies) more old mid new first behind = absurd first
@@ -92,21 +77,21 @@ module _ {S : Type 0} (w : Ways S) where
       (here, answers, replied_append requests others replies more here mid new rest behind)
 
   -- lines that ask these requests are answered by the replies to them
-  pub replied_lines : (limit : Option ℕ) → RepliesAddUp w → (lines : List (List ℕ)) (requests : List Request) (old new : S) (replies : List Reply) → AreAsked limit lines requests → AreReplied w requests old replies new
-      → AreLawfulWithin limit w lines old replies new
-  replied_lines limit laws [] [] old new [] are replied = replied
-  replied_lines limit laws [] [] old new (reply ∷ replies) are replied = absurd replied
-  replied_lines limit laws [] (request ∷ requests) old new replies are replied = absurd are
-  replied_lines limit laws (line ∷ lines) [] old new replies are replied = absurd are
-  replied_lines limit laws (line ∷ lines) (request ∷ requests) old new [] are replied = absurd replied
-  replied_lines limit laws (line ∷ lines) (request ∷ requests) old new (reply ∷ replies) (is, are) (mid, answers, rest) =
-      (mid, laws.asked limit line request old reply mid is answers, replied_lines limit laws lines requests mid new replies are rest)
+  pub replied_lines : (settings : Settings) → RepliesAddUp w → (lines : List (List ℕ)) (requests : List Question) (old new : S) (replies : List Reply) → AreAsked settings lines requests → AreReplied w requests old replies new
+      → AreLawfulWithin settings w lines old replies new
+  replied_lines settings laws [] [] old new [] are replied = replied
+  replied_lines settings laws [] [] old new (reply ∷ replies) are replied = absurd replied
+  replied_lines settings laws [] (request ∷ requests) old new replies are replied = absurd are
+  replied_lines settings laws (line ∷ lines) [] old new replies are replied = absurd are
+  replied_lines settings laws (line ∷ lines) (request ∷ requests) old new [] are replied = absurd replied
+  replied_lines settings laws (line ∷ lines) (request ∷ requests) old new (reply ∷ replies) (is, are) (mid, answers, rest) =
+      (mid, laws.asked settings line (request_in request) old reply mid is.request (subst (λ (b : Bool). MayAnswer w b (request_in request) old reply mid) is.newest answers), replied_lines settings laws lines requests mid new replies are rest)
 
 -- each request may be told that memory is wanting
-wanting : List Item → List Request → List Reply
+wanting : List Item → List Question → List Reply
 wanting here requests = map (λ request. reply_at session_ways here (refused NoMemory)) requests
 
-all_wanting : (here : List Item) (requests : List Request) → AreReplied session_ways requests here (wanting here requests) here
+all_wanting : (here : List Item) (requests : List Question) → AreReplied session_ways requests here (wanting here requests) here
 unfolding wanting
 all_wanting here [] = refl
 all_wanting here (request ∷ requests) = (here, inl (refl, (NoMemory, inl refl, refl)), all_wanting here requests)
@@ -131,30 +116,30 @@ learns_offered (lines ∷ offered) first rest old new is learns = learns
 same_reply : (here items : List Item) (body : Body) → revision_of here ≡ revision_of items → reply_at session_ways here body ≡ reply_at session_ways items body
 same_reply here items body same = ap (λ (n : ℕ). reply_from (record { revision = n; stamp = None }) body) same
 
-module _ (laws : RepliesAddUp session_ways) (wanted : Wanted) (explain : Bool) (budget : Option ℕ) (items : List Item) where
+module _ (laws : RepliesAddUp session_ways) (one : Question) (items : List Item) where
   -- what the solver found is told
-  pub told_found : (body : Body) → TellsFound (packages_of items) wanted explain body → (offered : List (List Line))
-      → MayBeTold (resolve wanted explain budget ∷ []) items (reply_at session_ways items body ∷ []) offered
+  pub told_found : (body : Body) → TellsFound (packages_of items) one.0 one.1.explain one.1.newest body → (offered : List (List Line))
+      → MayBeTold (one ∷ []) items (reply_at session_ways items body ∷ []) offered
   told_found body tells offered here new packages revision learns = (
     new,
-    subst (λ (reply : Reply). MayAnswer session_ways (resolve wanted explain budget) here reply new) (same_reply here items body revision)
-        (laws.found wanted explain budget here here body refl (subst (λ (ps : Packages). TellsFound ps wanted explain body) (sym packages) tells) new (learns_some offered here new learns)),
+    subst (λ (reply : Reply). MayAnswer session_ways one.1.newest (request_in one) here reply new) (same_reply here items body revision)
+        (laws.found one.0 one.1.explain one.1.newest one.1.budget here here body refl (subst (λ (ps : Packages). TellsFound ps one.0 one.1.explain one.1.newest body) (sym packages) tells) new (learns_some offered here new learns)),
     refl,
   )
 
   -- why a request is left without an answer
-  pub told_stopped : (e : Refusal) → MayStop (packages_of items) wanted budget e → MayBeTold (resolve wanted explain budget ∷ []) items (reply_at session_ways items (refused e) ∷ []) []
+  pub told_stopped : (e : Refusal) → MayStop (packages_of items) one.0 one.1.budget e → MayBeTold (one ∷ []) items (reply_at session_ways items (refused e) ∷ []) []
   told_stopped e stops here new packages revision is = (
     here,
-    subst (λ (reply : Reply). MayAnswer session_ways (resolve wanted explain budget) here reply here) (same_reply here items (refused e) revision)
-        (laws.stopped wanted explain budget here here e refl (subst (λ (ps : Packages). MayStop ps wanted budget e) (sym packages) stops)),
+    subst (λ (reply : Reply). MayAnswer session_ways one.1.newest (request_in one) here reply here) (same_reply here items (refused e) revision)
+        (laws.stopped one.0 one.1.explain one.1.newest one.1.budget here here e refl (subst (λ (ps : Packages). MayStop ps one.0 one.1.budget e) (sym packages) stops)),
     is,
   )
 
 told_nothing : (items : List Item) → MayBeTold [] items [] []
 told_nothing items here new packages revision is = is
 
-told_both : ReplayGrows → (requests others : List Request) (items : List Item) (replies more : List Reply) (offered after : List (List Line)) → MayBeTold requests items replies offered
+told_both : ReplayGrows → (requests others : List Question) (items : List Item) (replies more : List Reply) (offered after : List (List Line)) → MayBeTold requests items replies offered
     → MayBeTold others items more after → MayBeTold (requests ++ others) items (replies ++ more) (offered ++ after)
 told_both grows requests others items replies more [] after one two here new packages revision learns =
     replied_append session_ways requests others replies more here here new (one here here packages revision refl) (two here new packages revision learns)
@@ -164,26 +149,26 @@ told_both grows requests others items replies more (lines ∷ offered) after one
     (two new new (same.0 ∙ packages) (same.1 ∙ revision) (learns_nothing after new))
 
 -- with what is learnt then
-pub told_learnt : (requests : List Request) (items : List Item) (replies : List Reply) (offered : List (List Line)) (new : List Item) → MayBeTold requests items replies offered → LearnsOf offered items new
+pub told_learnt : (requests : List Question) (items : List Item) (replies : List Reply) (offered : List (List Line)) (new : List Item) → MayBeTold requests items replies offered → LearnsOf offered items new
     → AreReplied session_ways requests items replies new
 told_learnt requests items replies offered new told learns = told items new refl refl learns
 
 -- and where nothing is
-pub told_replied : (requests : List Request) (items : List Item) (replies : List Reply) (offered : List (List Line)) → MayBeTold requests items replies offered → AreReplied session_ways requests items replies items
+pub told_replied : (requests : List Question) (items : List Item) (replies : List Reply) (offered : List (List Line)) → MayBeTold requests items replies offered → AreReplied session_ways requests items replies items
 told_replied requests items replies offered told = told items items refl refl (learns_nothing offered items)
 
 -- ---- replies that are put
 
 -- replies to these requests were put
-abbrev pub HasPut : Option (List ℕ) → Option (List ℕ) → List ℕ → List ℕ → List Request → List Item → List Item → Type 0
+abbrev pub HasPut : Option (List ℕ) → Option (List ℕ) → List ℕ → List ℕ → List Question → List Item → List Item → Type 0
 HasPut a b p q requests old new = (replies : List Reply) × AreReplied session_ways requests old replies new × IsPut a b p q (replies_text replies)
 
 -- or a beginning of them
-abbrev pub HasCut : Option (List ℕ) → Option (List ℕ) → List ℕ → List Request → List Item → List Item → Type 0
+abbrev pub HasCut : Option (List ℕ) → Option (List ℕ) → List ℕ → List Question → List Item → List Item → Type 0
 HasCut a b p requests old new = (replies : List Reply) × AreReplied session_ways requests old replies new × IsCut a b p (replies_text replies)
 
 -- the first of these requests were told replies
-abbrev pub HasTold : Option (List ℕ) → Option (List ℕ) → List ℕ → List ℕ → List Request → List Request → List Item → List (List Line) → List (List Line) → Type 0
+abbrev pub HasTold : Option (List ℕ) → Option (List ℕ) → List ℕ → List ℕ → List Question → List Question → List Item → List (List Line) → List (List Line) → Type 0
 HasTold a b p q requests left items before after = Tells {A = Unit} {E = Unit} a b p q (Ok tt) requests left items before after
 
 pub on_ok : {A B E : Type 0} (r : Result B E) → A → OnOk r A
@@ -194,7 +179,7 @@ put_nothing : (a : Option (List ℕ)) (p : List ℕ) → IsPut a a p p []
 put_nothing a p = ([], Appends-nil a, sym (append-nil p))
 
 -- none yet
-pub tells_none : (a : Option (List ℕ)) (p : List ℕ) (requests : List Request) (items : List Item) (offered : List (List Line)) → HasTold a a p p requests requests items offered offered
+pub tells_none : (a : Option (List ℕ)) (p : List ℕ) (requests : List Question) (items : List Item) (offered : List (List Line)) → HasTold a a p p requests requests items offered offered
 tells_none a p requests items offered = record {
   first = [];
   others = requests;
@@ -213,7 +198,7 @@ one_put (Err e) a b p q text puts = puts
 
 module _ {E : Type 0} (r : Result Unit E) (a b : Option (List ℕ)) (p q : List ℕ) where
   -- one
-  pub tells_one : (request : Request) (items : List Item) (before after more : List (List Line)) (reply : Reply) → after ≡ before ++ more → MayBeTold (request ∷ []) items (reply ∷ []) more
+  pub tells_one : (request : Question) (items : List Item) (before after more : List (List Line)) (reply : Reply) → after ≡ before ++ more → MayBeTold (request ∷ []) items (reply ∷ []) more
       → Puts a b p q r (reply_text reply) → Tells a b p q r (request ∷ []) [] items before after
   tells_one request items before after more reply offered told puts = record {
     first = request ∷ [];
@@ -232,7 +217,7 @@ sent_put (Ok u) a b p q (written, appends, is) none = (written, appends, ap (λ 
 sent_put (Err e) a b p q (written, appends, begins) none = (written, appends, (begins.0, begins.1 ∙ sym (append-nil p)))
 
 -- what waits is written
-pub tells_sends : {E : Type 0} (r : Result Unit E) (a b : Option (List ℕ)) (p q : List ℕ) (requests : List Request) (items : List Item) (offered : List (List Line)) → Writes a b r p → q ≡ []
+pub tells_sends : {E : Type 0} (r : Result Unit E) (a b : Option (List ℕ)) (p q : List ℕ) (requests : List Question) (items : List Item) (offered : List (List Line)) → Writes a b r p → q ≡ []
     → Tells a b p q r requests requests items offered offered
 tells_sends r a b p q requests items offered writes none = record {
   first = [];
@@ -247,7 +232,7 @@ tells_sends r a b p q requests items offered writes none = record {
 }
 
 -- nothing is put
-pub tells_puts_none : {E : Type 0} (r : Result Unit E) (a b : Option (List ℕ)) (p q : List ℕ) (requests : List Request) (items : List Item) (offered : List (List Line)) → Puts a b p q r []
+pub tells_puts_none : {E : Type 0} (r : Result Unit E) (a b : Option (List ℕ)) (p q : List ℕ) (requests : List Question) (items : List Item) (offered : List (List Line)) → Puts a b p q r []
     → Tells a b p q r requests requests items offered offered
 tells_puts_none r a b p q requests items offered puts = record {
   first = [];
@@ -269,14 +254,14 @@ both_put laws (Err e) a b c p q s replies more one two =
     subst (IsCut a c p) (sym (flat_map-append reply_text replies more)) (laws.second_cut a b c p q (replies_text replies) (replies_text more) one two)
 
 -- some, and then others
-pub tells_then : PutsAddUp → ReplayGrows → {A E : Type 0} (r : Result A E) (a b c : Option (List ℕ)) (p q s : List ℕ) (requests mid left : List Request) (items : List Item) (before between after : List (List Line))
+pub tells_then : PutsAddUp → ReplayGrows → {A E : Type 0} (r : Result A E) (a b c : Option (List ℕ)) (p q s : List ℕ) (requests mid left : List Question) (items : List Item) (before between after : List (List Line))
     → HasTold a b p q requests mid items before between → Tells b c q s r mid left items between after → Tells a c p s r requests left items before after
 tells_then laws grows r a b c p q s requests mid left items before between after one two = record {
   first = one.first ++ two.first;
   others = two.others;
   replies = one.replies ++ two.replies;
   more = one.more ++ two.more;
-  split = one.split ∙ ap (λ (l : List Request). one.first ++ l) (sym one.rest ∙ two.split) ∙ sym (append_assoc one.first two.first two.others);
+  split = one.split ∙ ap (λ (l : List Question). one.first ++ l) (sym one.rest ∙ two.split) ∙ sym (append_assoc one.first two.first two.others);
   rest = two.rest;
   offered = two.offered ∙ ap (λ (l : List (List Line)). l ++ two.more) one.offered ∙ append_assoc before one.more two.more;
   told = told_both grows one.first two.first items one.replies two.replies one.more two.more one.told two.told;
@@ -284,7 +269,7 @@ tells_then laws grows r a b c p q s requests mid left items before between after
 }
 
 -- how it went may be told otherwise
-pub tells_ok : {A B E F : Type 0} (v : A) (w : B) (a b : Option (List ℕ)) (p q : List ℕ) (requests left left' : List Request) (items : List Item) (before after : List (List Line)) → left' ≡ left
+pub tells_ok : {A B E F : Type 0} (v : A) (w : B) (a b : Option (List ℕ)) (p q : List ℕ) (requests left left' : List Question) (items : List Item) (before after : List (List Line)) → left' ≡ left
     → Tells {A = A} {E = E} a b p q (Ok v) requests left items before after → Tells {A = B} {E = F} a b p q (Ok w) requests left' items before after
 tells_ok v w a b p q requests left left' items before after same t = record {
   first = t.first;
@@ -298,7 +283,7 @@ tells_ok v w a b p q requests left left' items before after same t = record {
   puts = t.puts;
 }
 
-pub tells_err : {A B E F : Type 0} (e : E) (f : F) (a b : Option (List ℕ)) (p q q' : List ℕ) (requests left left' : List Request) (items : List Item) (before after : List (List Line))
+pub tells_err : {A B E F : Type 0} (e : E) (f : F) (a b : Option (List ℕ)) (p q q' : List ℕ) (requests left left' : List Question) (items : List Item) (before after : List (List Line))
     → Tells {A = A} {E = E} a b p q (Err e) requests left items before after → Tells {A = B} {E = F} a b p q' (Err f) requests left' items before after
 tells_err e f a b p q q' requests left left' items before after t = record {
   first = t.first;
@@ -313,25 +298,25 @@ tells_err e f a b p q q' requests left left' items before after t = record {
 }
 
 -- what waits was written, behind what was told
-pub tells_sent : PutsAddUp → ReplayGrows → (E : Type 0) (v : Unit {0}) (a b c : Option (List ℕ)) (p q s : List ℕ) (requests left : List Request) (items : List Item) (before after : List (List Line))
+pub tells_sent : PutsAddUp → ReplayGrows → (E : Type 0) (v : Unit {0}) (a b c : Option (List ℕ)) (p q s : List ℕ) (requests left : List Question) (items : List Item) (before after : List (List Line))
     → HasTold a b p q requests left items before after → Writes {E = E} b c (Ok v) q → s ≡ [] → HasTold a c p s requests left items before after
 tells_sent laws grows E v a b c p q s requests left items before after told writes none =
     tells_ok v tt a c p s requests left left items before after refl
     (tells_then laws grows {A = Unit} {E = E} (Ok v) a b c p q s requests left left items before after after told (tells_sends {E = E} (Ok v) b c q s left items after writes none))
 
-behind_rest : {A E : Type 0} (r : Result A E) (left others behind : List Request) → OnOk r (left ≡ others) → OnOk r (left ++ behind ≡ others ++ behind)
-behind_rest (Ok v) left others behind is = ap (λ (l : List Request). l ++ behind) is
+behind_rest : {A E : Type 0} (r : Result A E) (left others behind : List Question) → OnOk r (left ≡ others) → OnOk r (left ++ behind ≡ others ++ behind)
+behind_rest (Ok v) left others behind is = ap (λ (l : List Question). l ++ behind) is
 behind_rest (Err e) left others behind is = tt
 
 -- with others behind them
-pub tells_before : {A E : Type 0} (r : Result A E) (a b : Option (List ℕ)) (p q : List ℕ) (requests left behind : List Request) (items : List Item) (before after : List (List Line))
+pub tells_before : {A E : Type 0} (r : Result A E) (a b : Option (List ℕ)) (p q : List ℕ) (requests left behind : List Question) (items : List Item) (before after : List (List Line))
     → Tells a b p q r requests left items before after → Tells a b p q r (requests ++ behind) (left ++ behind) items before after
 tells_before r a b p q requests left behind items before after t = record {
   first = t.first;
   others = t.others ++ behind;
   replies = t.replies;
   more = t.more;
-  split = ap (λ (l : List Request). l ++ behind) t.split ∙ append_assoc t.first t.others behind;
+  split = ap (λ (l : List Question). l ++ behind) t.split ∙ append_assoc t.first t.others behind;
   rest = behind_rest r left t.others behind t.rest;
   offered = t.offered;
   told = t.told;
@@ -339,59 +324,59 @@ tells_before r a b p q requests left behind items before after t = record {
 }
 
 -- the next one, of those from a place on
-pub tells_next : {A E : Type 0} (r : Result A E) (a b : Option (List ℕ)) (p q : List ℕ) (asked : List (Wanted × Options)) (k : ℕ) (one : Wanted × Options) (items : List Item) (before after : List (List Line))
-    → k < length asked → one ≡ get_or asked k one → Tells a b p q r (resolve one.0 one.1.explain one.1.budget ∷ []) [] items before after → Tells a b p q r (drop k (requests_of asked)) (drop (k + 1) (requests_of asked)) items before after
+pub tells_next : {A E : Type 0} (r : Result A E) (a b : Option (List ℕ)) (p q : List ℕ) (asked : List Question) (k : ℕ) (one : Question) (items : List Item) (before after : List (List Line))
+    → k < length asked → one ≡ get_or asked k one → Tells a b p q r (one ∷ []) [] items before after → Tells a b p q r (drop k asked) (drop (k + 1) asked) items before after
 tells_next {A} {E} r a b p q asked k one items before after within here t =
-    subst (λ (l : List Request). Tells {A = A} {E = E} a b p q r l (drop (k + 1) (requests_of asked)) items before after) (sym (requests_of-next asked k one within here))
-    (tells_before r a b p q (resolve one.0 one.1.explain one.1.budget ∷ []) [] (drop (k + 1) (requests_of asked)) items before after t)
+    subst (λ (l : List Question). Tells {A = A} {E = E} a b p q r l (drop (k + 1) asked) items before after) (sym (next_of asked k one within here))
+    (tells_before r a b p q (one ∷ []) [] (drop (k + 1) asked) items before after t)
 
 -- none is left behind the last
-pub drop_requests : (asked : List (Wanted × Options)) (k : ℕ) → length asked ≤ k → drop k (requests_of asked) ≡ []
-drop_requests asked k end = drop_all k (requests_of asked) (subst (λ (n : ℕ). n ≤ k) (sym (requests_of-length asked)) end)
+pub drop_requests : (asked : List Question) (k : ℕ) → length asked ≤ k → drop k asked ≡ []
+drop_requests asked k end = drop_all k asked end
 
 -- the first ones, of all
-pub tells_first : {A E : Type 0} (r : Result A E) (a b : Option (List ℕ)) (p q : List ℕ) (requests : List Request) (most count : ℕ) (items : List Item) (before after : List (List Line)) → count ≤ length (take most requests)
+pub tells_first : {A E : Type 0} (r : Result A E) (a b : Option (List ℕ)) (p q : List ℕ) (requests : List Question) (most count : ℕ) (items : List Item) (before after : List (List Line)) → count ≤ length (take most requests)
     → Tells a b p q r (take most requests) (drop count (take most requests)) items before after → Tells a b p q r requests (drop count requests) items before after
 tells_first {A} {E} r a b p q requests most count items before after within t =
     let all : take most requests ++ drop most requests ≡ requests = take-append-drop most requests in
-    subst (λ (l : List Request). Tells {A = A} {E = E} a b p q r l (drop count l) items before after) all
-    (subst (λ (l : List Request). Tells {A = A} {E = E} a b p q r (take most requests ++ drop most requests) l items before after) (sym (drop-append-le count (take most requests) (drop most requests) within))
+    subst (λ (l : List Question). Tells {A = A} {E = E} a b p q r l (drop count l) items before after) all
+    (subst (λ (l : List Question). Tells {A = A} {E = E} a b p q r (take most requests ++ drop most requests) l items before after) (sym (drop-append-le count (take most requests) (drop most requests) within))
     (tells_before r a b p q (take most requests) (drop count (take most requests)) (drop most requests) items before after t))
 
 pub drop_past : {A : Type 0} (xs ys : List A) → drop (length xs) (xs ++ ys) ≡ ys
 drop_past [] ys = refl
 drop_past (x ∷ xs) ys = drop_past xs ys
 
-pub part_length : (part : List (Wanted × Options)) (requests : List Request) (most : ℕ) → requests_of part ≡ take most requests → length part ≡ length (take most requests)
-part_length part requests most is = sym (requests_of-length part) ∙ ap length is
+pub part_length : (part requests : List Question) (most : ℕ) → part ≡ take most requests → length part ≡ length (take most requests)
+part_length part requests most is = ap length is
 
 -- no more than there are
-pub part_within : (part : List (Wanted × Options)) (requests : List Request) (most count : ℕ) → requests_of part ≡ take most requests → count ≤ length part → count ≤ length requests
+pub part_within : (part requests : List Question) (most count : ℕ) → part ≡ take most requests → count ≤ length part → count ≤ length requests
 part_within part requests most count is within =
     let same = part_length part requests most is in
     let all = sym (length-append (take most requests) (drop most requests)) ∙ ap length (take-append-drop most requests) in
     omega (arith, within, same, all)
 
 -- some of a part of the requests, from the first on
-pub tells_part : {A E : Type 0} (r : Result A E) (a b : Option (List ℕ)) (p q : List ℕ) (part : List (Wanted × Options)) (requests : List Request) (most count : ℕ) (items : List Item) (before after : List (List Line))
-    → requests_of part ≡ take most requests → count ≤ length part → Tells a b p q r (requests_of part) (drop count (requests_of part)) items before after → Tells a b p q r requests (drop count requests) items before after
+pub tells_part : {A E : Type 0} (r : Result A E) (a b : Option (List ℕ)) (p q : List ℕ) (part requests : List Question) (most count : ℕ) (items : List Item) (before after : List (List Line))
+    → part ≡ take most requests → count ≤ length part → Tells a b p q r part (drop count part) items before after → Tells a b p q r requests (drop count requests) items before after
 tells_part {A} {E} r a b p q part requests most count items before after is within t =
     tells_first r a b p q requests most count items before after (subst (λ (n : ℕ). count ≤ n) (part_length part requests most is) within)
-    (subst (λ (l : List Request). Tells {A = A} {E = E} a b p q r l (drop count l) items before after) is t)
+    (subst (λ (l : List Question). Tells {A = A} {E = E} a b p q r l (drop count l) items before after) is t)
 
 -- all of a part
-pub tells_whole : {A E : Type 0} (r : Result A E) (a b : Option (List ℕ)) (p q : List ℕ) (part : List (Wanted × Options)) (requests : List Request) (most count : ℕ) (items : List Item) (before after : List (List Line))
-    → requests_of part ≡ take most requests → count ≡ length part → Tells a b p q r (requests_of part) [] items before after → Tells a b p q r requests (drop count requests) items before after
+pub tells_whole : {A E : Type 0} (r : Result A E) (a b : Option (List ℕ)) (p q : List ℕ) (part requests : List Question) (most count : ℕ) (items : List Item) (before after : List (List Line))
+    → part ≡ take most requests → count ≡ length part → Tells a b p q r part [] items before after → Tells a b p q r requests (drop count requests) items before after
 tells_whole {A} {E} r a b p q part requests most count items before after is all t =
     let whole : take most requests ++ drop most requests ≡ requests = take-append-drop most requests in
     let rest : drop count requests ≡ drop most requests
     = ap (λ (n : ℕ). drop n requests) (all ∙ part_length part requests most is) ∙ ap (drop (length (take most requests))) (sym whole) ∙ drop_past (take most requests) (drop most requests) in
-    subst (λ (l : List Request). Tells {A = A} {E = E} a b p q r requests l items before after) (sym rest)
-    (subst (λ (l : List Request). Tells {A = A} {E = E} a b p q r l (drop most requests) items before after) (ap (λ (l : List Request). l ++ drop most requests) is ∙ whole)
-    (tells_before r a b p q (requests_of part) [] (drop most requests) items before after t))
+    subst (λ (l : List Question). Tells {A = A} {E = E} a b p q r requests l items before after) (sym rest)
+    (subst (λ (l : List Question). Tells {A = A} {E = E} a b p q r l (drop most requests) items before after) (ap (λ (l : List Question). l ++ drop most requests) is ∙ whole)
+    (tells_before r a b p q part [] (drop most requests) items before after t))
 
 -- the same where what went out before is told too
-pub tells_behind : {A E : Type 0} (r : Result A E) (front held held' : List ℕ) (p q : List ℕ) (requests left : List Request) (items : List Item) (before after : List (List Line))
+pub tells_behind : {A E : Type 0} (r : Result A E) (front held held' : List ℕ) (p q : List ℕ) (requests left : List Question) (items : List Item) (before after : List (List Line))
     → Tells (Some held) (Some held') p q r requests left items before after → Tells (Some (front ++ held)) (Some (front ++ held')) p q r requests left items before after
 tells_behind r front held held' p q requests left items before after t = record {
   first = t.first;
@@ -411,24 +396,24 @@ tells_behind r front held held' p q requests left items before after t = record 
     puts_behind (Err e) replies (written, appends, is) = (written, appends_behind front held held' written appends, is)
 
 -- all were told
-pub tells_all : {A E : Type 0} (v : A) (a b : Option (List ℕ)) (p q : List ℕ) (requests left : List Request) (items new : List Item) (offered : List (List Line)) → left ≡ []
+pub tells_all : {A E : Type 0} (v : A) (a b : Option (List ℕ)) (p q : List ℕ) (requests left : List Question) (items new : List Item) (offered : List (List Line)) → left ≡ []
     → Tells {A = A} {E = E} a b p q (Ok v) requests left items [] offered → LearnsOf offered items new → HasPut a b p q requests items new
 tells_all v a b p q requests left items new offered none t learns =
-    let whole : requests ≡ t.first = t.split ∙ ap (λ (l : List Request). t.first ++ l) (sym t.rest ∙ none) ∙ append-nil t.first in (
+    let whole : requests ≡ t.first = t.split ∙ ap (λ (l : List Question). t.first ++ l) (sym t.rest ∙ none) ∙ append-nil t.first in (
       t.replies,
-      subst (λ (l : List Request). AreReplied session_ways l items t.replies new) (sym whole)
+      subst (λ (l : List Question). AreReplied session_ways l items t.replies new) (sym whole)
           (told_learnt t.first items t.replies t.more new t.told (subst (λ (l : List (List Line)). LearnsOf l items new) t.offered learns)),
       t.puts,
     )
 
 -- or a put failed, whatever was to follow
-pub tells_fails : PutsAddUp → {A E : Type 0} (e : E) (a b : Option (List ℕ)) (p q : List ℕ) (requests left : List Request) (items : List Item) (before after : List (List Line))
+pub tells_fails : PutsAddUp → {A E : Type 0} (e : E) (a b : Option (List ℕ)) (p q : List ℕ) (requests left : List Question) (items : List Item) (before after : List (List Line))
     → Tells {A = A} {E = E} a b p q (Err e) requests left items before after → HasCut a b p requests items items
 unfolding wanting
 tells_fails laws e a b p q requests left items before after t =
     let rest = wanting items t.others in (
       t.replies ++ rest,
-      subst (λ (l : List Request). AreReplied session_ways l items (t.replies ++ rest) items) (sym t.split)
+      subst (λ (l : List Question). AreReplied session_ways l items (t.replies ++ rest) items) (sym t.split)
           (replied_append session_ways t.first t.others t.replies rest items items items (told_replied t.first items t.replies t.more t.told) (all_wanting items t.others)),
       subst (IsCut a b p) (sym (flat_map-append reply_text t.replies rest)) (laws.first_cut a b p (replies_text t.replies) (replies_text rest) t.puts),
     )
@@ -442,24 +427,24 @@ puts_last laws (Err e) a b c p q s replies reply one two =
     subst (IsCut a c p) (sym (replies_text-more replies reply)) (laws.second_cut a b c p q (replies_text replies) (reply_text reply) one two)
 
 -- a line at fault is at fault within every budget
-pub refuses_within : (limit : Option ℕ) (line : List ℕ) (e : Refusal) → request_of line ≡ Err e → asked_within limit line ≡ Err e
+pub refuses_within : (budget : Option ℕ) (line : List ℕ) (e : Refusal) → request_of line ≡ Err e → asked_within budget line ≡ Err e
 refuses_within None line e is = is
 refuses_within (Some budget) line e is = ap (bounded_if budget) is
 
 -- ---- lines that ask what waits
 
-pub asked_more : (limit : Option ℕ) (lines : List (List ℕ)) (requests : List Request) (line : List ℕ) (request : Request) → AreAsked limit lines requests → asked_within limit line ≡ Ok request
-    → AreAsked limit (lines ++ line ∷ []) (requests ++ request ∷ [])
-asked_more limit [] [] line request are is = (is, tt)
-asked_more limit [] (other ∷ requests) line request are is = absurd are
-asked_more limit (other ∷ lines) [] line request are is = absurd are
-asked_more limit (first ∷ lines) (other ∷ requests) line request (here, are) is = (here, asked_more limit lines requests line request are is)
+pub asked_more : (settings : Settings) (lines : List (List ℕ)) (requests : List Question) (line : List ℕ) (request : Question) → AreAsked settings lines requests → IsAskedBy settings line request
+    → AreAsked settings (lines ++ line ∷ []) (requests ++ request ∷ [])
+asked_more settings [] [] line request are is = (is, tt)
+asked_more settings [] (other ∷ requests) line request are is = absurd are
+asked_more settings (other ∷ lines) [] line request are is = absurd are
+asked_more settings (first ∷ lines) (other ∷ requests) line request (here, are) is = (here, asked_more settings lines requests line request are is)
 
 -- the lines that ask the first of the requests, and those that ask the others
-pub asked_split : (limit : Option ℕ) (lines : List (List ℕ)) (first others : List Request) → AreAsked limit lines (first ++ others)
-    → (front : List (List ℕ)) × (back : List (List ℕ)) × (lines ≡ front ++ back) × AreAsked limit front first × AreAsked limit back others
-asked_split limit lines [] others are = ([], lines, refl, tt, are)
-asked_split limit [] (request ∷ first) others are = absurd are
-asked_split limit (line ∷ lines) (request ∷ first) others (is, are) =
-    let rest = asked_split limit lines first others are in
+pub asked_split : (settings : Settings) (lines : List (List ℕ)) (first others : List Question) → AreAsked settings lines (first ++ others)
+    → (front : List (List ℕ)) × (back : List (List ℕ)) × (lines ≡ front ++ back) × AreAsked settings front first × AreAsked settings back others
+asked_split settings lines [] others are = ([], lines, refl, tt, are)
+asked_split settings [] (request ∷ first) others are = absurd are
+asked_split settings (line ∷ lines) (request ∷ first) others (is, are) =
+    let rest = asked_split settings lines first others are in
     (line ∷ rest.0, rest.1, ap (λ ls. line ∷ ls) rest.2, (is, rest.3), rest.4)

@@ -13,3 +13,4 @@ pub mod CommitLemmas
 pub mod SavableLemmas
 pub mod CrashLemmas
 mod TellingLemmas
+pub mod AgreeLemmas

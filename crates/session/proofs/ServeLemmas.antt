@@ -13,6 +13,7 @@ use Rattle.replies.specs.Replies.{Reply, reply_text, replies_text}
 use Rattle.book.specs.declared.item.Item.{Item}
 use Rattle.answers.specs.Laws.{RepliesAddUp}
 use Rattle.answers.specs.Lawful.{AreLawfulWithin}
+use Rattle.answers.specs.declared.settings.Settings.{Settings}
 use Rattle.session.specs.Serving.{Progress}
 use Rattle.session.specs.Session.{Breaks, Serves, session_ways}
 use Rattle.session.specs.Streams.{streams}
@@ -37,8 +38,8 @@ pub replies_text-more : (replies : List Reply) (reply : Reply) → replies_text 
 replies_text-more replies reply = flat_map-append reply_text replies (reply ∷ []) ∙ ap (λ l. replies_text replies ++ l) (append-nil (reply_text reply))
 
 -- before the first line
-pub starts : {limit : Option ℕ} (r w : Option (List ℕ)) (old : List Item) (held : Unread) (waiting : List ℕ) → StandsFor held [] → waiting ≡ [] → Progress limit r r w w old old held waiting
-starts {limit} r w old held waiting stands none = record {
+pub starts : {settings : Settings} (r w : Option (List ℕ)) (old : List Item) (held : Unread) (waiting : List ℕ) → StandsFor held [] → waiting ≡ [] → Progress settings r r w w old old held waiting
+starts {settings} r w old held waiting stands none = record {
   input = [];
   lines = [];
   rest = [];
@@ -54,32 +55,32 @@ starts {limit} r w old held waiting stands none = record {
 }
 
 -- lines that stand at the front of the rest, the replies to them, and what was written of these
-pub record Answered (limit : Option ℕ) (w w' : Option (List ℕ)) (rest : List ℕ) (mid new : List Item) (written : List ℕ) : Type 0 where
+pub record Answered (settings : Settings) (w w' : Option (List ℕ)) (rest : List ℕ) (mid new : List Item) (written : List ℕ) : Type 0 where
   pub lines : List (List ℕ)
   pub after : List ℕ
   pub replies : List Reply
   pub whole : rest ≡ with_feeds lines ++ after
   pub no_feeds : AllByRecursion HasNoFeed lines
-  pub session : AreLawfulWithin limit session_ways lines mid replies new
+  pub session : AreLawfulWithin settings session_ways lines mid replies new
   pub appends : Appends w w' written
 
-module _ {limit : Option ℕ} (laws : RepliesAddUp session_ways) (r0 r w0 w w' : Option (List ℕ)) (old mid new : List Item) (held : Unread) (waiting written : List ℕ) (p : Progress limit r0 r w0 w old mid held waiting)
-    (a : Answered limit w w' p.rest mid new written) where
+module _ {settings : Settings} (laws : RepliesAddUp session_ways) (r0 r w0 w w' : Option (List ℕ)) (old mid new : List Item) (held : Unread) (waiting written : List ℕ) (p : Progress settings r0 r w0 w old mid held waiting)
+    (a : Answered settings w w' p.rest mid new written) where
   pub all_split : p.input ≡ with_feeds (p.lines ++ a.lines) ++ a.after
   all_split = p.split ∙ ap (λ l. with_feeds p.lines ++ l) a.whole ∙ sym (with_feeds-append p.lines a.lines a.after)
 
   pub all_feeds : AllByRecursion HasNoFeed (p.lines ++ a.lines)
   all_feeds = no_feeds-append p.lines a.lines p.no_feeds a.no_feeds
 
-  pub all_lawful : AreLawfulWithin limit session_ways (p.lines ++ a.lines) old (p.replies ++ a.replies) new
-  all_lawful = laws.lines limit p.lines a.lines p.replies a.replies old mid new p.session a.session
+  pub all_lawful : AreLawfulWithin settings session_ways (p.lines ++ a.lines) old (p.replies ++ a.replies) new
+  all_lawful = laws.lines settings p.lines a.lines p.replies a.replies old mid new p.session a.session
 
   pub all_said : (text : List ℕ) → written ++ text ≡ waiting ++ replies_text a.replies → (p.text ++ written) ++ text ≡ replies_text (p.replies ++ a.replies)
   all_said text all = append_assoc p.text written text ∙ ap (λ l. p.text ++ l) all ∙ sym (append_assoc p.text waiting (replies_text a.replies))
       ∙ ap (λ l. l ++ replies_text a.replies) p.said ∙ sym (flat_map-append reply_text p.replies a.replies)
 
   -- the replies were put
-  unfoldable pub answers : (held' : Unread) (waiting' : List ℕ) → StandsFor held' a.after → written ++ waiting' ≡ waiting ++ replies_text a.replies → Progress limit r0 r w0 w' old new held' waiting'
+  unfoldable pub answers : (held' : Unread) (waiting' : List ℕ) → StandsFor held' a.after → written ++ waiting' ≡ waiting ++ replies_text a.replies → Progress settings r0 r w0 w' old new held' waiting'
   answers held' waiting' stands all = record {
     input = p.input;
     lines = p.lines ++ a.lines;
@@ -97,12 +98,12 @@ module _ {limit : Option ℕ} (laws : RepliesAddUp session_ways) (r0 r w0 w w' :
 
   -- and what stands behind the lines is left
   unfoldable pub answers_left : (held' : Unread) (waiting' : List ℕ) → StandsFor held' a.after → written ++ waiting' ≡ waiting ++ replies_text a.replies
-      → (q : Progress limit r0 r w0 w' old new held' waiting') × (q.rest ≡ a.after)
+      → (q : Progress settings r0 r w0 w' old new held' waiting') × (q.rest ≡ a.after)
   unfolding answers
   answers_left held' waiting' stands all = (answers held' waiting' stands all, refl)
 
   -- the write of the replies failed
-  pub answer_fails : LinesInFront → WholeLinesInFront → IsBeginning written (waiting ++ replies_text a.replies) → Breaks limit (streams r0 r w0 w') old
+  pub answer_fails : LinesInFront → WholeLinesInFront → IsBeginning written (waiting ++ replies_text a.replies) → Breaks settings (streams r0 r w0 w') old
   answer_fails in_front whole_in_front (more, is) = record {
     input = p.input;
     count = length (p.lines ++ a.lines);
@@ -111,7 +112,7 @@ module _ {limit : Option ℕ} (laws : RepliesAddUp session_ways) (r0 r w0 w w' :
     text = p.text ++ written;
     read = p.read;
     whole = inl (omega (arith, ap length whole, length-append (p.lines ++ a.lines) (whole_lines_of a.after)));
-    session = subst (λ ls. AreLawfulWithin limit session_ways ls old (p.replies ++ a.replies) new) (sym front) all_lawful;
+    session = subst (λ ls. AreLawfulWithin settings session_ways ls old (p.replies ++ a.replies) new) (sym front) all_lawful;
     written = Appends-trans w0 w w' p.text written p.written a.appends;
     beginning = (more, all_said more is);
   }
@@ -125,10 +126,10 @@ module _ {limit : Option ℕ} (laws : RepliesAddUp session_ways) (r0 r w0 w w' :
           ∙ take_at (p.lines ++ a.lines) (lines_of a.after) _ refl
 
 -- more was read
-unfoldable pub reads : {limit : Option ℕ} → ReadingGoesOn → (r0 r r' w0 w : Option (List ℕ)) (old new : List Item) (held held' : Unread) (waiting piece : List ℕ)
-    → Progress limit r0 r w0 w old new held waiting → Consumes r r' piece → held'.bytes ≡ held.bytes ++ piece → held'.is_long ≡ held.is_long
-    → Progress limit r0 r' w0 w old new held' waiting
-reads {limit} goes_on r0 r r' w0 w old new held held' waiting piece p consumes bytes same = record {
+unfoldable pub reads : {settings : Settings} → ReadingGoesOn → (r0 r r' w0 w : Option (List ℕ)) (old new : List Item) (held held' : Unread) (waiting piece : List ℕ)
+    → Progress settings r0 r w0 w old new held waiting → Consumes r r' piece → held'.bytes ≡ held.bytes ++ piece → held'.is_long ≡ held.is_long
+    → Progress settings r0 r' w0 w old new held' waiting
+reads {settings} goes_on r0 r r' w0 w old new held held' waiting piece p consumes bytes same = record {
   input = p.input ++ piece;
   lines = p.lines;
   rest = p.rest ++ piece;
@@ -144,23 +145,23 @@ reads {limit} goes_on r0 r r' w0 w old new held held' waiting piece p consumes b
 }
 
 -- a read gave nothing
-unfoldable pub reads_none : {limit : Option ℕ} → ReadingGoesOn → (r0 r r' w0 w : Option (List ℕ)) (old new : List Item) (held held' : Unread) (waiting piece : List ℕ)
-    → (p : Progress limit r0 r w0 w old new held waiting) → HasNoFeed p.rest → Consumes r r' piece → held'.bytes ≡ held.bytes ++ piece → held'.is_long ≡ held.is_long
-    → piece ≡ [] → (q : Progress limit r0 r' w0 w old new held' waiting) × HasNoFeed q.rest
+unfoldable pub reads_none : {settings : Settings} → ReadingGoesOn → (r0 r r' w0 w : Option (List ℕ)) (old new : List Item) (held held' : Unread) (waiting piece : List ℕ)
+    → (p : Progress settings r0 r w0 w old new held waiting) → HasNoFeed p.rest → Consumes r r' piece → held'.bytes ≡ held.bytes ++ piece → held'.is_long ≡ held.is_long
+    → piece ≡ [] → (q : Progress settings r0 r' w0 w old new held' waiting) × HasNoFeed q.rest
 unfolding reads
-reads_none {limit} goes_on r0 r r' w0 w old new held held' waiting piece p no_feed consumes bytes same none = (
+reads_none {settings} goes_on r0 r r' w0 w old new held held' waiting piece p no_feed consumes bytes same none = (
   reads goes_on r0 r r' w0 w old new held held' waiting piece p consumes bytes same,
   subst HasNoFeed (sym (append-nil p.rest) ∙ ap (λ l. p.rest ++ l) (sym none)) no_feed,
 )
 
 -- a read failed when no whole line was left, and all replies were sent
-pub read_fails : {limit : Option ℕ} → WholeLinesInFront → NoWholeLine → (r0 r r' w0 w : Option (List ℕ)) (old new : List Item) (held : Unread) (waiting : List ℕ)
-    → (p : Progress limit r0 r w0 w old new held waiting) → HasNoFeed p.rest → waiting ≡ [] → Keeps r r' → Serves limit (streams r0 r' w0 w) whole_lines_of old new
-read_fails {limit} whole_in_front no_line r0 r r' w0 w old new held waiting p no_feed none kept = record {
+pub read_fails : {settings : Settings} → WholeLinesInFront → NoWholeLine → (r0 r r' w0 w : Option (List ℕ)) (old new : List Item) (held : Unread) (waiting : List ℕ)
+    → (p : Progress settings r0 r w0 w old new held waiting) → HasNoFeed p.rest → waiting ≡ [] → Keeps r r' → Serves settings (streams r0 r' w0 w) whole_lines_of old new
+read_fails {settings} whole_in_front no_line r0 r r' w0 w old new held waiting p no_feed none kept = record {
   input = p.input;
   replies = p.replies;
   read = Consumes-kept r0 r r' p.input p.read kept;
-  session = subst (λ ls. AreLawfulWithin limit session_ways ls old p.replies new) (sym all) p.session;
+  session = subst (λ ls. AreLawfulWithin settings session_ways ls old p.replies new) (sym all) p.session;
   written = subst (Appends w0 w) (sym (append-nil p.text) ∙ ap (λ l. p.text ++ l) (sym none) ∙ p.said) p.written;
 }
   where
@@ -169,14 +170,14 @@ read_fails {limit} whole_in_front no_line r0 r r' w0 w old new held waiting p no
         ∙ ap (λ ls. p.lines ++ ls) (no_line p.rest no_feed) ∙ append-nil p.lines
 
 -- the text ended, and the rest of it was answered
-pub ends : {limit : Option ℕ} → RepliesAddUp session_ways → LinesInFront → (r0 r w0 w w' : Option (List ℕ)) (old mid new : List Item) (held : Unread) (waiting : List ℕ) (after : List Reply) (written : List ℕ)
-    → (p : Progress limit r0 r w0 w old mid held waiting) → waiting ≡ [] → AreLawfulWithin limit session_ways (lines_of p.rest) mid after new → Appends w w' written → written ≡ replies_text after
-    → Serves limit (streams r0 r w0 w') lines_of old new
-ends {limit} laws in_front r0 r w0 w w' old mid new held waiting after written p none session appends is = record {
+pub ends : {settings : Settings} → RepliesAddUp session_ways → LinesInFront → (r0 r w0 w w' : Option (List ℕ)) (old mid new : List Item) (held : Unread) (waiting : List ℕ) (after : List Reply) (written : List ℕ)
+    → (p : Progress settings r0 r w0 w old mid held waiting) → waiting ≡ [] → AreLawfulWithin settings session_ways (lines_of p.rest) mid after new → Appends w w' written → written ≡ replies_text after
+    → Serves settings (streams r0 r w0 w') lines_of old new
+ends {settings} laws in_front r0 r w0 w w' old mid new held waiting after written p none session appends is = record {
   input = p.input;
   replies = p.replies ++ after;
   read = p.read;
-  session = subst (λ ls. AreLawfulWithin limit session_ways ls old (p.replies ++ after) new) (sym all) (laws.lines limit p.lines (lines_of p.rest) p.replies after old mid new p.session session);
+  session = subst (λ ls. AreLawfulWithin settings session_ways ls old (p.replies ++ after) new) (sym all) (laws.lines settings p.lines (lines_of p.rest) p.replies after old mid new p.session session);
   written = subst (Appends w0 w') text (Appends-trans w0 w w' p.text written p.written appends);
 }
   where
@@ -188,10 +189,10 @@ ends {limit} laws in_front r0 r w0 w w' old mid new held waiting after written p
         ∙ sym (flat_map-append reply_text p.replies after)
 
 -- the text ended, and the write of the last reply failed
-pub end_fails : {limit : Option ℕ} → RepliesAddUp session_ways → LinesInFront → (r0 r w0 w w' : Option (List ℕ)) (old mid new : List Item) (held : Unread) (waiting : List ℕ) (after : List Reply) (written : List ℕ)
-    → (p : Progress limit r0 r w0 w old mid held waiting) → IsAtEnd r → waiting ≡ [] → AreLawfulWithin limit session_ways (lines_of p.rest) mid after new → Appends w w' written → IsBeginning written (replies_text after)
-    → Breaks limit (streams r0 r w0 w') old
-end_fails {limit} laws in_front r0 r w0 w w' old mid new held waiting after written p at_end none session appends (more, is) = record {
+pub end_fails : {settings : Settings} → RepliesAddUp session_ways → LinesInFront → (r0 r w0 w w' : Option (List ℕ)) (old mid new : List Item) (held : Unread) (waiting : List ℕ) (after : List Reply) (written : List ℕ)
+    → (p : Progress settings r0 r w0 w old mid held waiting) → IsAtEnd r → waiting ≡ [] → AreLawfulWithin settings session_ways (lines_of p.rest) mid after new → Appends w w' written → IsBeginning written (replies_text after)
+    → Breaks settings (streams r0 r w0 w') old
+end_fails {settings} laws in_front r0 r w0 w w' old mid new held waiting after written p at_end none session appends (more, is) = record {
   input = p.input;
   count = length (p.lines ++ lines_of p.rest);
   replies = p.replies ++ after;
@@ -199,7 +200,7 @@ end_fails {limit} laws in_front r0 r w0 w w' old mid new held waiting after writ
   text = p.text ++ written;
   read = p.read;
   whole = inr at_end;
-  session = subst (λ ls. AreLawfulWithin limit session_ways ls old (p.replies ++ after) new) (sym front) (laws.lines limit p.lines (lines_of p.rest) p.replies after old mid new p.session session);
+  session = subst (λ ls. AreLawfulWithin settings session_ways ls old (p.replies ++ after) new) (sym front) (laws.lines settings p.lines (lines_of p.rest) p.replies after old mid new p.session session);
   written = Appends-trans w0 w w' p.text written p.written appends;
   beginning = (
     more,

@@ -8,6 +8,7 @@ use Rattle.lines.specs.declared.buffer.Next.TheVariants.{Line, TooLong, More}
 use Rattle.lines.specs.Laws.{LastLine}
 use Rattle.replies.specs.Replies.{Reply}
 use Rattle.answers.specs.Lawful.{AreLawfulWithin, IsLawfulWithin}
+use Rattle.answers.specs.declared.settings.Settings.{Settings}
 use Rattle.session.specs.Session.{session_ways}
 
 -- a last line that is there
@@ -23,7 +24,7 @@ found_next TooLong text u some found = found
 found_next More text u some found = absurd (some refl)
 
 -- one line that is the whole text
-pub session_one : (limit : Option ℕ) → LastLine → (old : List Item) (text : List ℕ) (new : List Item) (reply : Reply) → HasNoFeed text → 0 < length text → IsLawfulWithin limit session_ways text old reply new
-    → AreLawfulWithin limit session_ways (lines_of text) old (reply ∷ []) new
-session_one limit last old text new reply no_feed some lawful =
-    subst (λ ls. AreLawfulWithin limit session_ways ls old (reply ∷ []) new) (sym (last text no_feed some)) (new, lawful, refl)
+pub session_one : (settings : Settings) → LastLine → (old : List Item) (text : List ℕ) (new : List Item) (reply : Reply) → HasNoFeed text → 0 < length text → IsLawfulWithin settings session_ways text old reply new
+    → AreLawfulWithin settings session_ways (lines_of text) old (reply ∷ []) new
+session_one settings last old text new reply no_feed some lawful =
+    subst (λ ls. AreLawfulWithin settings session_ways ls old (reply ∷ []) new) (sym (last text no_feed some)) (new, lawful, refl)

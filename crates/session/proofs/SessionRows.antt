@@ -3,11 +3,11 @@ use Rattle.std.proofs.Common.{◌≡◌, ◌<◌, ◌∙◌, ◌||◌, ℕ, zero
 use Rattle.std.proofs.lemmas.Bool.{cases_Bool, eqb-true}
 use Rattle.std.proofs.lemmas.Option.{none-some, same_Some}
 use Rattle.std.specs.List.{AllByRecursion, IsDistinct}
-use Rattle.std.specs.Prelude.{Option, None, Some, Contains}
+use Rattle.std.specs.Prelude.{Option, None, Some, Contains, slice_get, take}
 use Rattle.versions.specs.OnLiterals.{semver_on_literals}
 use Rattle.versions.specs.Words.{Text, meets, parts_of_text, precedence, same_precedence}
 use Rattle.versions.specs.declared.refusal.Refusal.TheVariants.{BudgetSpent}
-use Rattle.registry.specs.Registry.{Packages, needs_of, number_of, package_at, publication_at}
+use Rattle.registry.specs.Registry.{Packages, Publication, needs_of, number_of, package_at, publication_at}
 use Rattle.registry.specs.Requests.{Wanted, is_allowed}
 use Rattle.registry.specs.Selections.{Choices, IsMet, IsReached, Meets, along, needed}
 use Rattle.registry.specs.Preference.{IsPreferredSelection, preferred}
@@ -26,6 +26,7 @@ use Rattle.derivations.specs.Facts.{need_terms}
 use Rattle.derivations.specs.declared.facts.Cause.TheVariants.{Need, Root}
 use Rattle.derivations.specs.declared.line.Line.{Line}
 use Rattle.walk.specs.Choosing.{choice_of}
+use Rattle.walk.specs.Newest.{Has, IsAhead, IsNewest, is_preferred_to, next_package}
 use Rattle.solver.specs.Outcomes.{Tells}
 use Rattle.replies.specs.Replies.{Body, follows, no_selection, refused, selected}
 use Rattle.wire.specs.Shapes.{check, resolve}
@@ -156,14 +157,54 @@ a-tells = record {
   told = refl;
 }
 
--- the reply that lists `a` 1.0.0 is lawful, under every budget and without one, whether an explanation is asked or not
-listed-a : OnePreferredSelection → (explain : Bool) (budget : Option ℕ) → Answers session_ways (resolve needs_a explain budget) one (record { revision = 1; stamp = None; body = selected a_selected }) one
-listed-a once explain budget =
-    let answer : IsAnswer a_alone needs_a a_selected = record {
+-- it is the newest one, since the package has no other version
+a_version : Publication
+a_version = record { version = codes "1.0.0"; needs = []; yanked = false }
+
+a-next : next_package a_alone needs_a.needs [] ≡ Some 1
+unfolding a_alone number_of
+a-next = refl
+
+not-itself : (name : Text) → is_preferred_to needs_a name a_version a_version ≡ false
+unfolding semver_on_literals a_version same_precedence precedence parts_of_text
+not-itself name = refl
+
+none-ahead : (j : ℕ) → IsAhead a_alone needs_a 1 j 0 → ⊥
+unfolding a_alone a_version publication_at package_at
+none-ahead zero ahead =
+    let one_is : a_version ≡ ahead.one = same_Some a_version ahead.one ahead.first in
+    let other_is : a_version ≡ ahead.other = same_Some a_version ahead.other ahead.second in
+    let alike : is_preferred_to needs_a ahead.pack.name a_version a_version ≡ true
+    = subst (λ (x : Publication × Publication). is_preferred_to needs_a ahead.pack.name x.0 x.1 ≡ true) (λ i. (sym one_is i, sym other_is i)) ahead.preferred in
+    let both : true ≡ false = sym alike ∙ not-itself ahead.pack.name in cc
+none-ahead (suc j) ahead = none-some ahead.one ahead.first
+
+a_found : List (ℕ × ℕ)
+a_found = (1, 0) ∷ []
+
+a-walked : (i : ℕ) (e : ℕ × ℕ) → slice_get a_found i ≡ Some e → next_package a_alone needs_a.needs (take i a_found) ≡ Some e.0
+unfolding a_found
+a-walked zero e is = a-next ∙ ap (λ (x : ℕ × ℕ). Some x.0) (same_Some (1, 0) e is)
+a-walked (suc i) e is = absurd (none-some e is)
+
+a-best : (i j : ℕ) (e : ℕ × ℕ) → slice_get a_found i ≡ Some e → IsAhead a_alone needs_a e.0 j e.1 → ⊥
+unfolding a_found
+a-best zero j e is ahead = none-ahead j (subst (λ (x : ℕ × ℕ). IsAhead a_alone needs_a x.0 j x.1) (sym (same_Some (1, 0) e is)) ahead)
+a-best (suc i) j e is ahead = none-some e is
+
+first-newest : IsNewest a_alone needs_a first
+unfolding a_found
+first-newest = record { found = a_found; selects = refl; meets = first-meets; walked = a-walked; best = λ i j e is ahead t meets has have. a-best i j e is ahead }
+
+-- the reply that lists `a` 1.0.0 is lawful, under every budget and without one, whether an explanation is asked or not, and whether the newest selection has to be told or not
+listed-a : OnePreferredSelection → (explain newest : Bool) (budget : Option ℕ) → Answers session_ways newest (resolve needs_a explain budget) one (record { revision = 1; stamp = None; body = selected a_selected }) one
+listed-a once explain newest budget =
+    let answer : IsAnswer a_alone needs_a newest a_selected = record {
       lawful = record { selection = first; meets = first-meets; tells = a-tells };
       preferred = λ s is meets. subst (λ (x : Choices). Tells a_alone x a_selected) (λ i p. once a_alone needs_a first s first-preferred is p i) a-tells;
+      is_newest = λ on. record { selection = first; newest = first-newest; tells = a-tells };
     } in
-    let told = inl (a_selected, subst (λ packages. IsAnswer packages needs_a a_selected) (sym at-one) answer, refl) in
+    let told = inl (a_selected, subst (λ packages. IsAnswer packages needs_a newest a_selected) (sym at-one) answer, refl) in
     inl (one, (refl, (selected a_selected, told, after-one (selected a_selected))), ([], refl))
 
 -- and no reply that none meets the request is
@@ -235,12 +276,12 @@ zed-none refute = refute [] needs_zed (end ∷ []) zed-derivation
 zed-refuted : DerivationsRefute → IsRefuted (packages_of []) needs_zed
 zed-refuted refute = subst (λ packages. IsRefuted packages needs_zed) (sym at-none) (record { lines = end ∷ []; derivation = zed-derivation; none = zed-none refute })
 
-refused-zed : DerivationsRefute → (budget : Option ℕ) → Answers session_ways (resolve needs_zed false budget) [] (record { revision = 0; stamp = None; body = no_selection }) []
-refused-zed refute budget = inl ([], (refl, (no_selection, inr (zed-refuted refute, refl), after-none no_selection)), ([], refl))
+refused-zed : DerivationsRefute → (newest : Bool) (budget : Option ℕ) → Answers session_ways newest (resolve needs_zed false budget) [] (record { revision = 0; stamp = None; body = no_selection }) []
+refused-zed refute newest budget = inl ([], (refl, (no_selection, inr (zed-refuted refute, refl), after-none no_selection)), ([], refl))
 
 -- under a budget it may be told that this is spent
-spent-zed : DerivationsRefute → Answers session_ways (resolve needs_zed false (Some 0)) [] (record { revision = 0; stamp = None; body = refused BudgetSpent }) []
-spent-zed refute =
+spent-zed : DerivationsRefute → (newest : Bool) → Answers session_ways newest (resolve needs_zed false (Some 0)) [] (record { revision = 0; stamp = None; body = refused BudgetSpent }) []
+spent-zed refute newest =
     inr (refl, (refused BudgetSpent, (subst (λ packages. NonePreferred packages needs_zed) (sym at-none) (λ s is meets. zed-none refute s meets), refl), after-none (refused BudgetSpent)))
 
 -- and without one it may not
@@ -257,8 +298,8 @@ unfolding zed_named end
 zed-proves = (end ∷ [], record { same = refl; lawful = (tt, tt) }, subst (λ packages. IsDerivation packages needs_zed (end ∷ [])) (sym at-none) zed-derivation)
 
 -- it may be told to follow
-follows-zed : Answers session_ways (check needs_zed zed_named) [] (record { revision = 0; stamp = None; body = follows true }) []
-follows-zed = (refl, (follows true, (true, (λ _. zed-proves, λ _. refl), refl), after-none (follows true)))
+follows-zed : (newest : Bool) → Answers session_ways newest (check needs_zed zed_named) [] (record { revision = 0; stamp = None; body = follows true }) []
+follows-zed newest = (refl, (follows true, (true, (λ _. zed-proves, λ _. refl), refl), after-none (follows true)))
 
 -- and may not be told not to
 denied-zed : TellsVerdict (packages_of []) needs_zed zed_named (follows false) → ⊥

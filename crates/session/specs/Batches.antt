@@ -1,5 +1,5 @@
 -- Requests of neighbouring lines, which are answered together.
-use Rattle.std.specs.Prelude.{◌≡◌, ℕ, List, [], ◌∷◌, ◌++◌, map, OnOk, Option, Result, MatchResult, Ok}
+use Rattle.std.specs.Prelude.{◌≡◌, ℕ, List, [], ◌∷◌, ◌++◌, OnOk, Option, Result, MatchResult, Ok}
 use Rattle.std.specs.List.{AllZip}
 use Rattle.registry.specs.Requests.{Wanted}
 use Rattle.derivations.specs.declared.line.Line.{Line}
@@ -10,21 +10,31 @@ use Rattle.replies.specs.Replies.{Reply, replies_text}
 use Rattle.book.specs.Items.{packages_of, revision_of}
 use Rattle.book.specs.declared.item.Item.{Item}
 use Rattle.answers.specs.Lawful.{AreLawfulWithin, LearnsSome, MayAnswer, Ways, asked_within}
+use Rattle.answers.specs.declared.settings.Settings.{Settings}
 use Rattle.session.specs.Session.{session_ways}
 use Rattle.solver.specs.declared.solving.Options.{Options}
 
--- what each of these asks: a request, and how it is to be answered
-abbrev pub requests_of : List (Wanted × Options) → List Request
-requests_of = map (λ one. resolve one.0 one.1.explain one.1.budget)
+-- a request, and how it is to be answered
+abbrev pub Question : Type 0
+Question = Wanted × Options
 
--- each of these lines asks what stands at its place, by this budget of each request that names none, if there is one
-abbrev pub AreAsked : Option ℕ → List (List ℕ) → List Request → Type 0
-AreAsked limit = AllZip (λ line request. asked_within limit line ≡ Ok request)
+-- what a line asks that has such a request
+abbrev pub request_in : Question → Request
+request_in one = resolve one.0 one.1.explain one.1.budget
+
+-- the line asks for this within these settings
+pub record IsAskedBy (settings : Settings) (line : List ℕ) (one : Question) : Type 0 where
+  pub request : asked_within settings.budget line ≡ Ok (request_in one)
+  pub newest : one.1.newest ≡ settings.newest
+
+-- each of these lines asks for what stands at its place, within these settings
+abbrev pub AreAsked : Settings → List (List ℕ) → List Question → Type 0
+AreAsked settings = AllZip (IsAskedBy settings)
 
 -- The requests may be answered so, one reply a request, each after what those before it left.
-abbrev pub AreReplied : {S : Type 0} → Ways S → List Request → S → List Reply → S → Type 0
+abbrev pub AreReplied : {S : Type 0} → Ways S → List Question → S → List Reply → S → Type 0
 AreReplied {S} w [] old [] new = new ≡ old
-AreReplied {S} w (request ∷ requests) old (reply ∷ replies) new = (mid : S) × MayAnswer w request old reply mid × AreReplied w requests mid replies new
+AreReplied {S} w (request ∷ requests) old (reply ∷ replies) new = (mid : S) × MayAnswer w request.1.newest (request_in request) old reply mid × AreReplied w requests mid replies new
 AreReplied {S} w [] old (reply ∷ replies) new = ⊥
 AreReplied {S} w (request ∷ requests) old [] new = ⊥
 
@@ -36,17 +46,17 @@ LearnsOf [] old new = new ≡ old
 LearnsOf (lines ∷ offered) old new = LearnsSome session_ways old new
 
 -- The requests may be told so where the session has these packages and this revision, whatever is learnt then of what the answers offer.
-abbrev pub MayBeTold : List Request → List Item → List Reply → List (List Line) → Type 0
+abbrev pub MayBeTold : List Question → List Item → List Reply → List (List Line) → Type 0
 MayBeTold requests items replies offered = (here new : List Item) → packages_of here ≡ packages_of items → revision_of here ≡ revision_of items
     → LearnsOf offered here new
     → AreReplied session_ways requests here replies new
 
 -- The first of these requests were told replies, whose texts were put, and what the answers offer stands behind what was offered before. The others are left.
-pub record Tells {A E : Type 0} (written_before written_after : Option (List ℕ)) (before after : List ℕ) (r : Result A E) (requests left : List Request)
+pub record Tells {A E : Type 0} (written_before written_after : Option (List ℕ)) (before after : List ℕ) (r : Result A E) (requests left : List Question)
     (items : List Item)
     (offered_before offered_after : List (List Line)) : Type 0 where
-  pub first : List Request
-  pub others : List Request
+  pub first : List Question
+  pub others : List Question
   pub replies : List Reply
   pub more : List (List Line)
   pub split : requests ≡ first ++ others
@@ -58,21 +68,21 @@ pub record Tells {A E : Type 0} (written_before written_after : Option (List ℕ
 -- ---- lines that are taken
 
 -- The first of these requests were replied to, and what was put are the texts of the replies. The others are left.
-pub record Leaves {E : Type 0} (written_before written_after : Option (List ℕ)) (before after : List ℕ) (r : Result Unit E) (requests : List Request)
-    (old new : List Item) (left : List Request) : Type 0 where
-  pub first : List Request
+pub record Leaves {E : Type 0} (written_before written_after : Option (List ℕ)) (before after : List ℕ) (r : Result Unit E) (requests : List Question)
+    (old new : List Item) (left : List Question) : Type 0 where
+  pub first : List Question
   pub replies : List Reply
   pub split : requests ≡ first ++ left
   pub replied : AreReplied session_ways first old replies new
   pub puts : Puts written_before written_after before after r (replies_text replies)
 
 -- Of these lines the first are answered, and what was put are the texts of their lawful replies. The others wait as what they ask.
-pub record Takes {E : Type 0} (limit : Option ℕ) (written_before written_after : Option (List ℕ)) (before after : List ℕ) (r : Result Unit E)
-    (lines : List (List ℕ)) (old new : List Item) (batch : List Request) : Type 0 where
+pub record Takes {E : Type 0} (settings : Settings) (written_before written_after : Option (List ℕ)) (before after : List ℕ) (r : Result Unit E)
+    (lines : List (List ℕ)) (old new : List Item) (batch : List Question) : Type 0 where
   pub answered : List (List ℕ)
   pub others : List (List ℕ)
   pub replies : List Reply
   pub split : lines ≡ answered ++ others
-  pub session : AreLawfulWithin limit session_ways answered old replies new
-  pub waits : OnOk r (AreAsked limit others batch)
+  pub session : AreLawfulWithin settings session_ways answered old replies new
+  pub waits : OnOk r (AreAsked settings others batch)
   pub puts : Puts written_before written_after before after r (replies_text replies)

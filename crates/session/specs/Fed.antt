@@ -15,7 +15,8 @@ use Rattle.wire.specs.declared.request.Asked.TheVariants as asked_as
 use Rattle.journals.specs.Logs.{count_behind, lines_behind}
 use Rattle.journals.specs.Saved.{saved_end}
 use Rattle.commits.specs.Events.{EachMoment, Event, IsDurable, handed, replied, taken}
-use Rattle.answers.specs.Lawful.{AreLawful, IsLawful}
+use Rattle.answers.specs.Lawful.{AreLawfulWithin, IsLawfulWithin}
+use Rattle.answers.specs.declared.settings.Settings.{Settings}
 use Rattle.session.specs.Committing.{FrontOf}
 use Rattle.session.specs.Durable.{IsBacked, IsLog}
 use Rattle.session.specs.Session.{session_ways}
@@ -38,6 +39,8 @@ pub record FedSession : Type 0 where
   pub needs : ℕ
   -- replies wait until the lines of the items on which they rest are safe
   pub keeps : Bool
+  -- how requests are answered, as far as their lines do not say
+  pub settings : Settings
   -- up to here the lines are safe
   pub safe : Mark
   -- and up to here they were given, to be made safe
@@ -93,12 +96,12 @@ abbrev pub needs_of : List ℕ → List Item → List Item → ℕ
 needs_of line old new = if is_search (request_of line) then length old else length new
 
 -- A line was answered, and its reply stands behind the others, whole, or for want of memory not at all.
-abbrev pub RepliesWhole : {E : Type 0} → List ℕ → List Item → List Item → List ℕ → List ℕ → Result ℕ E → Type 0
-RepliesWhole line old new before after result = (reply : Reply) × IsLawful session_ways line old reply new
+abbrev pub RepliesWhole : {E : Type 0} → Settings → List ℕ → List Item → List Item → List ℕ → List ℕ → Result ℕ E → Type 0
+RepliesWhole settings line old new before after result = (reply : Reply) × IsLawfulWithin settings session_ways line old reply new
     × MatchResult result (λ needs. (after ≡ before ++ reply_text reply) × (needs ≡ needs_of line old new)) (λ _. after ≡ before)
 
 -- the last of these lines was answered here
-pub record Last (lines : List (List ℕ)) (old : List Item) (replies : List Reply) (new : List Item) (needs : ℕ) : Type 0 where
+pub record Last (settings : Settings) (lines : List (List ℕ)) (old : List Item) (replies : List Reply) (new : List Item) (needs : ℕ) : Type 0 where
   pub before : List (List ℕ)
   pub line : List ℕ
   pub told : List Reply
@@ -106,18 +109,19 @@ pub record Last (lines : List (List ℕ)) (old : List Item) (replies : List Repl
   pub mid : List Item
   pub lines_are : lines ≡ before ++ line ∷ []
   pub replies_are : replies ≡ told ++ reply ∷ []
-  pub session : AreLawful session_ways before old told mid
-  pub lawful : IsLawful session_ways line mid reply new
+  pub session : AreLawfulWithin settings session_ways before old told mid
+  pub lawful : IsLawfulWithin settings session_ways line mid reply new
   pub needs_are : needs ≡ needs_of line mid new
 
 -- Each of these lines has its lawful reply, in order, and the replies rest on what that to the last line rests on.
-pub record Answers (lines : List (List ℕ)) (old : List Item) (replies : List Reply) (new : List Item) (needs_before needs : ℕ) : Type 0 where
-  pub session : AreLawful session_ways lines old replies new
-  pub rests : ((lines ≡ []) × (needs ≡ needs_before)) ⊎ Last lines old replies new needs
+pub record Answers (settings : Settings) (lines : List (List ℕ)) (old : List Item) (replies : List Reply) (new : List Item) (needs_before needs : ℕ) : Type 0 where
+  pub session : AreLawfulWithin settings session_ways lines old replies new
+  pub rests : ((lines ≡ []) × (needs ≡ needs_before)) ⊎ Last settings lines old replies new needs
 
 -- nothing else changed
 pub record IsElseSame (old new : FedSession) : Type 0 where
   pub keeps : new.keeps ≡ old.keeps
+  pub settings : new.settings ≡ old.settings
   pub safe : new.safe ≡ old.safe
   pub given : new.given ≡ old.given
 
@@ -129,16 +133,16 @@ pub record Feeds (text bytes : List ℕ) (old new : FedSession) : Type 0 where
   pub split : text ++ bytes ≡ with_feeds (whole_lines_of (text ++ bytes)) ++ rest
   pub no_feed : HasNoFeed rest
   pub stands : StandsFor new.unread rest
-  pub answers : Answers (whole_lines_of (text ++ bytes)) old.items replies new.items old.needs new.needs
+  pub answers : Answers old.settings (whole_lines_of (text ++ bytes)) old.items replies new.items old.needs new.needs
   pub told : new.waiting ≡ old.waiting ++ replies_text replies
   pub same : IsElseSame old new
   pub went_on : old.is_spent ≡ false
   pub goes_on : new.is_spent ≡ false
 
 -- One more line may have been answered, whose reply is lost.
-abbrev pub LosesOne : List ℕ → List (List ℕ) → List Item → List Item → Type 0
-LosesOne input lines here new = (new ≡ here) ⊎ ((line : List ℕ) × (reply : Reply) × FrontOf input (lines ++ line ∷ [])
-    × IsLawful session_ways line here reply new)
+abbrev pub LosesOne : Settings → List ℕ → List (List ℕ) → List Item → List Item → Type 0
+LosesOne settings input lines here new = (new ≡ here) ⊎ ((line : List ℕ) × (reply : Reply) × FrontOf input (lines ++ line ∷ [])
+    × IsLawfulWithin settings session_ways line here reply new)
 
 -- The bytes were fed behind a text of which no line had ended, and there was no memory for a reply: of the whole lines of both the first ones
 -- have their lawful replies, in order and whole, behind the replies that waited, and the session takes no more.
@@ -148,8 +152,8 @@ pub record Stops (text bytes : List ℕ) (old new : FedSession) : Type 0 where
   -- what the first ones left
   pub here : List Item
   pub front : FrontOf (text ++ bytes) lines
-  pub answers : Answers lines old.items replies here old.needs new.needs
-  pub lost : LosesOne (text ++ bytes) lines here new.items
+  pub answers : Answers old.settings lines old.items replies here old.needs new.needs
+  pub lost : LosesOne old.settings (text ++ bytes) lines here new.items
   pub told : new.waiting ≡ old.waiting ++ replies_text replies
   pub same : IsElseSame old new
   pub went_on : old.is_spent ≡ false
@@ -158,7 +162,7 @@ pub record Stops (text bytes : List ℕ) (old new : FedSession) : Type 0 where
 -- ---- within a feed
 
 -- Lines of what was read were answered, their replies stand behind what stood before, and the rest is held.
-pub record Feeding (read_before read_after : Option (List ℕ)) (old new : List Item) (held : Unread) (before after : List ℕ)
+pub record Feeding (settings : Settings) (read_before read_after : Option (List ℕ)) (old new : List Item) (held : Unread) (before after : List ℕ)
     (needs_before needs : ℕ) : Type 0 where
   pub input : List ℕ
   pub lines : List (List ℕ)
@@ -168,23 +172,23 @@ pub record Feeding (read_before read_after : Option (List ℕ)) (old new : List 
   pub split : input ≡ with_feeds lines ++ rest
   pub no_feeds : AllByRecursion HasNoFeed lines
   pub stands : StandsFor held rest
-  pub answers : Answers lines old replies new needs_before needs
+  pub answers : Answers settings lines old replies new needs_before needs
   pub told : after ≡ before ++ replies_text replies
 
 -- all whole lines of what was read were answered
-abbrev pub IsFed : Option (List ℕ) → Option (List ℕ) → List Item → List Item → Unread → List ℕ → List ℕ → ℕ → ℕ → Type 0
-IsFed read_before read_after old new held before after needs_before needs = (f : Feeding read_before read_after old new held before after needs_before needs) × HasNoFeed f.rest
+abbrev pub IsFed : Settings → Option (List ℕ) → Option (List ℕ) → List Item → List Item → Unread → List ℕ → List ℕ → ℕ → ℕ → Type 0
+IsFed settings read_before read_after old new held before after needs_before needs = (f : Feeding settings read_before read_after old new held before after needs_before needs) × HasNoFeed f.rest
 
 -- Lines of what was read were answered, and of one more the reply may be lost.
-pub record IsStopped (read_before read_after : Option (List ℕ)) (old new : List Item) (before after : List ℕ) (needs_before needs : ℕ) : Type 0 where
+pub record IsStopped (settings : Settings) (read_before read_after : Option (List ℕ)) (old new : List Item) (before after : List ℕ) (needs_before needs : ℕ) : Type 0 where
   pub input : List ℕ
   pub lines : List (List ℕ)
   pub replies : List Reply
   pub here : List Item
   pub read : Consumes read_before read_after input
   pub front : FrontOf input lines
-  pub answers : Answers lines old replies here needs_before needs
-  pub lost : LosesOne input lines here new
+  pub answers : Answers settings lines old replies here needs_before needs
+  pub lost : LosesOne settings input lines here new
   pub told : after ≡ before ++ replies_text replies
 
 -- ---- calls, one after another
@@ -240,13 +244,14 @@ events_of (saved steps ∷ calls) = steps ++ events_of calls
 
 -- ---- what follows of them
 
--- A session that begins with these items, to which nothing was fed. Where it keeps its journal, the lines of these are safe.
-pub record IsBegun (keeps : Bool) (items : List Item) (s : FedSession) : Type 0 where
+-- A session of such settings that begins with these items, to which nothing was fed. Where it keeps its journal, the lines of these are safe.
+pub record IsBegun (keeps : Bool) (settings : Settings) (items : List Item) (s : FedSession) : Type 0 where
   pub items_are : s.items ≡ items
   pub unread : StandsFor s.unread []
   pub none : s.waiting ≡ []
   pub needs : s.needs ≡ length items
   pub kept : s.keeps ≡ keeps
+  pub set : s.settings ≡ settings
   pub safe : s.safe ≡ record { items = length items; lines = length items }
   pub given : s.given ≡ record { items = length items; lines = length items }
   pub goes_on : s.is_spent ≡ false
@@ -259,7 +264,7 @@ pub record AreAllReplies (begun : List Item) (input told : List ℕ) (s : FedSes
   pub split : input ≡ with_feeds (whole_lines_of input) ++ rest
   pub no_feed : HasNoFeed rest
   pub stands : StandsFor s.unread rest
-  pub session : AreLawful session_ways (whole_lines_of input) begun replies s.items
+  pub session : AreLawfulWithin s.settings session_ways (whole_lines_of input) begun replies s.items
   pub all : told ++ s.waiting ≡ replies_text replies
 
 -- The replies, taken or not, are those to the first whole lines of all that was fed, and of one more the reply may be lost.
@@ -268,8 +273,8 @@ pub record AreFirstReplies (begun : List Item) (input told : List ℕ) (s : FedS
   pub replies : List Reply
   pub here : List Item
   pub front : FrontOf input lines
-  pub session : AreLawful session_ways lines begun replies here
-  pub lost : LosesOne input lines here s.items
+  pub session : AreLawfulWithin s.settings session_ways lines begun replies here
+  pub lost : LosesOne s.settings input lines here s.items
   pub all : told ++ s.waiting ≡ replies_text replies
 
 abbrev pub AreReplies : List Item → List ℕ → List ℕ → FedSession → Type 0
@@ -278,15 +283,15 @@ AreReplies begun input told s = MatchBool s.is_spent (AreFirstReplies begun inpu
 -- At each moment what had gone out rested on what was durable, for the first lines of what was fed; and the file has the lines of the items that
 -- are safe.
 pub record IsKept (begun : List Item) (input : List ℕ) (events : List Event) (s : FedSession) : Type 0 where
-  pub backed : (left : Option (List ℕ)) → EachMoment (IsBacked None left begun input) events
+  pub backed : (left : Option (List ℕ)) → EachMoment (IsBacked s.settings left begun input) events
   pub log : IsLog begun (take s.safe.items s.items) (taken events) s.safe.lines
   pub durable : IsDurable events (taken events)
   -- where all items are safe, the line that ends a file may be put behind
   pub ends : (steps : List Event) → s.safe.items ≡ length s.items → replied steps ≡ [] → IsBeginning (taken steps) (saved_end s.safe.lines)
-      → (left : Option (List ℕ)) → EachMoment (IsBacked None left begun input) (events ++ steps)
+      → (left : Option (List ℕ)) → EachMoment (IsBacked s.settings left begun input) (events ++ steps)
 
 -- What calls do adds up: to the replies of one session, and where it keeps its journal, to one that no reply outruns.
 abbrev pub CallsAddUp : Type 0
-CallsAddUp = (keeps : Bool) (begun : List Item) (first last : FedSession) (calls : List Call) → IsBegun keeps begun first → Do calls first last
-    → AreReplies begun (fed_of calls) (replied (events_of calls)) last
+CallsAddUp = (keeps : Bool) (settings : Settings) (begun : List Item) (first last : FedSession) (calls : List Call) → IsBegun keeps settings begun first
+    → Do calls first last → (last.settings ≡ settings) × AreReplies begun (fed_of calls) (replied (events_of calls)) last
     × (keeps ≡ true → IsKept begun (fed_of calls) (events_of calls) last)

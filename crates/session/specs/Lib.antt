@@ -9,3 +9,4 @@ pub mod Serving
 pub mod Durable
 pub mod Committing
 pub mod Fed
+pub mod Agreeing

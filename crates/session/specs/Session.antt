@@ -10,6 +10,7 @@ use Rattle.lines.specs.Lines.{lines_of, whole_lines_of}
 use Rattle.lines.specs.Texts.{IsBeginning}
 use Rattle.replies.specs.Replies.{Reply, replies_text}
 use Rattle.answers.specs.Lawful.{AreLawfulWithin, Ways}
+use Rattle.answers.specs.declared.settings.Settings.{Settings}
 use Rattle.session.specs.Served.{is_full}
 use Rattle.session.specs.Streams.{Streams}
 
@@ -37,18 +38,17 @@ session_ways = record {
 
 -- ---- what it reads and writes
 
--- Of what was read these lines were answered, by this budget of each request that names none, if there is one, and what was written are the
--- texts of their lawful replies.
-pub record Serves (limit : Option ℕ) (s : Streams) (lines_in : List ℕ → List (List ℕ)) (old new : List Item) : Type 0 where
+-- Of what was read these lines were answered, within these settings, and what was written are the texts of their lawful replies.
+pub record Serves (settings : Settings) (s : Streams) (lines_in : List ℕ → List (List ℕ)) (old new : List Item) : Type 0 where
   pub input : List ℕ
   pub replies : List Reply
   pub read : Consumes s.read_before s.read_after input
-  pub session : AreLawfulWithin limit session_ways (lines_in input) old replies new
+  pub session : AreLawfulWithin settings session_ways (lines_in input) old replies new
   pub written : Appends s.written_before s.written_after (replies_text replies)
 
 -- Of what was read the first lines were answered, each of them whole, and what was written is a beginning of the texts of their lawful
 -- replies.
-pub record Breaks (limit : Option ℕ) (s : Streams) (old : List Item) : Type 0 where
+pub record Breaks (settings : Settings) (s : Streams) (old : List Item) : Type 0 where
   pub input : List ℕ
   pub count : ℕ
   pub replies : List Reply
@@ -57,6 +57,6 @@ pub record Breaks (limit : Option ℕ) (s : Streams) (old : List Item) : Type 0 
   pub read : Consumes s.read_before s.read_after input
   -- the last line, where it lacks its line feed, is whole at the reader's end
   pub whole : (count ≤ length (whole_lines_of input)) ⊎ IsAtEnd s.read_after
-  pub session : AreLawfulWithin limit session_ways (take count (lines_of input)) old replies new
+  pub session : AreLawfulWithin settings session_ways (take count (lines_of input)) old replies new
   pub written : Appends s.written_before s.written_after text
   pub beginning : IsBeginning text (replies_text replies)

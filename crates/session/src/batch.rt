@@ -4,9 +4,8 @@ ghost use Rattle.book.specs.Items.{packages_of};
 ghost use Rattle.lines.specs.Texts.{Puts};
 ghost use Rattle.pool.specs.Answering.{IsAnswerTo};
 ghost use Rattle.solver.specs.Outcomes.{MayStop};
-ghost use Rattle.wire.specs.Shapes.{resolve};
 ghost use Rattle.replies.specs.Replied.{body_of};
-ghost use Rattle.session.specs.Batches.{AreReplied, Leaves, LearnsOf, Tells, requests_of};
+ghost use Rattle.session.specs.Batches.{AreReplied, Leaves, LearnsOf, Tells};
 ghost use Rattle.derivations.specs.declared.line.Line.{Line};
 ghost use Rattle.answers.specs.Outcomes.{TellsFound};
 ghost use Rattle.session.specs.Committing.{TellsOn};
@@ -46,13 +45,12 @@ pub struct Batch {
 
 impl Model for Batch {
     ghost use Rattle.std.specs.Prelude.{◌≤◌, List, vec_capacity};
-    ghost use Rattle.wire.specs.Shapes.{Request};
-    ghost use Rattle.session.specs.Batches.{requests_of};
+    ghost use Rattle.session.specs.Batches.{Question};
     ghost use Rattle.session.specs.declared.batch.TheConstants.{BATCH_LIMIT};
 
-    ghost Value = { List Request };
+    ghost Value = { List Question };
 
-    ghost view = { λ b. requests_of b.asked.items };
+    ghost view = { λ b. b.asked.items };
 
     ghost invariant = { λ b. BATCH_LIMIT ≤ vec_capacity b.asked };
 }
@@ -86,13 +84,12 @@ impl Batch {
         self.reply(rt, alloc, served, outbox, writer, false)
     }
 
-    /// Has a request wait behind the others.
-    pub fn push(&mut self, request: Request, explain: bool, budget: Option<u32>)
+    /// Has a request wait behind the others, to be answered so.
+    pub fn push(&mut self, request: Request, options: Options)
         requires { length self.old < BATCH_LIMIT }
-        ensures { self.new ≡ self.old ++ resolve request explain budget ∷ [] }
+        ensures { self.new ≡ self.old ++ (request, options) ∷ [] }
     {
-        self.asked
-            .push_reserved((request, Options { budget, explain }));
+        self.asked.push_reserved((request, options));
     }
 
     /// How many wait.
@@ -270,7 +267,7 @@ pub(crate) fn send_if<W: Write>(asked: bool, outbox: &mut Outbox, writer: &mut W
 
 /// The first requests, so many at most.
 fn first_of(asked: &[Asked], most: usize) -> &[Asked]
-    ensures { requests_of result.now ≡ take most (requests_of asked.now) }
+    ensures { result.now ≡ take most asked.now }
 {
     &asked[..most.min(asked.len())]
 }
@@ -289,7 +286,7 @@ fn put_soon<W: Write>(
 ) -> io::Result<bool>
     requires { count.old ≡ 0 }
     ensures told { Tells (W.contents writer.old) (W.contents writer.new) outbox.old outbox.new result
-        (requests_of asked.now) (drop count.new (requests_of asked.now)) served.now offered.old.items offered.new.items }
+        asked.now (drop count.new asked.now) served.now offered.old.items offered.new.items }
     ensures within { count.new ≤ length asked.now }
 {
     puts_add_up();
@@ -329,7 +326,7 @@ pub(crate) fn put_answer<W: Write>(
 ) -> io::Result<()>
     requires { IsAnswerTo (packages_of served.now) asked.now answer }
     ensures { Tells (W.contents writer.old) (W.contents writer.new) outbox.old outbox.new result
-        (resolve asked.now.0 asked.now.1.explain asked.now.1.budget ∷ []) [] served.now offered.old.items offered.new.items }
+        (asked.now ∷ []) [] served.now offered.old.items offered.new.items }
 {
     lawful_replies_add_up::<Served>();
     match told_to(alloc, served.registry(), asked, answer) {
@@ -366,9 +363,9 @@ fn told_to(
     answer: Answer,
 ) -> Result<(Body<'static>, Vec<Learnt>), Refusal>
     requires { IsAnswerTo registry.now.packages asked.now answer }
-    ensures told { IfOk result (λ r. TellsFound registry.now.packages asked.now.0 asked.now.1.explain (body_of r.0)) }
+    ensures told { IfOk result (λ r. TellsFound registry.now.packages asked.now.0 asked.now.1.explain asked.now.1.newest (body_of r.0)) }
     ensures only { IfErr result (MayStop registry.now.packages asked.now.0 asked.now.1.budget) }
 {
     let outcome = answer?;
-    Ok(told_of(alloc, registry, &asked.0, asked.1.explain, outcome)?)
+    Ok(told_of(alloc, registry, &asked.0, asked.1, outcome)?)
 }

@@ -1,5 +1,5 @@
 //! Lines that were found: each is replied to, or waits to be answered with its neighbours.
-ghost use Rattle.std.specs.Prelude.{◌∷◌, ◌++◌, ℕ, List, [], Option};
+ghost use Rattle.std.specs.Prelude.{◌∷◌, ◌++◌, ℕ, List, []};
 ghost use Rattle.lines.specs.Unread.{IsFound};
 ghost use Rattle.answers.specs.Answering.{IsReadWithin};
 ghost use Rattle.session.specs.Batches.{AreAsked, Takes};
@@ -10,12 +10,13 @@ ghost use Rattle.session.specs.Session.{session_ways};
 use crate::batch::Batch;
 use crate::served::Served;
 use answers::{
-    Answer, Ledger, answer_read, lawful_replies_add_up, learn_all, put_listing, put_told,
+    Answer, Ledger, Settings, answer_read, lawful_replies_add_up, learn_all, put_listing, put_told,
     send_told, within,
 };
 use intake::Intake;
 use lines::{LineBuffer, Next, Outbox};
 use replies::puts_add_up;
+use solver::Options;
 use std::alloc::Global;
 use std::io;
 use std::io::Write;
@@ -24,19 +25,19 @@ use std::thread::Threads;
 use versions::Refusal;
 use wire::Asked;
 
-/// Reads what the line asks that was found, with this budget where it asks to resolve and names none.
+/// Reads what the line asks that was found, within these settings.
 pub fn read_found(
     alloc: Global,
     intake: &mut Intake,
     lines: &LineBuffer,
     found: Next,
-    limit: Option<u32>,
+    settings: Settings,
 ) -> Result<Asked, Refusal>
     requires { (line : List ℕ) × IsFound found lines.now line }
-    ensures { (line : List ℕ) → IsFound found lines.now line → IsReadWithin limit result line }
+    ensures { (line : List ℕ) → IsFound found lines.now line → IsReadWithin settings result line }
 {
     match found {
-        Next::Line => within(intake.read(alloc, lines.line()), limit),
+        Next::Line => within(intake.read(alloc, lines.line()), settings),
         Next::TooLong => Err(Refusal::BadLine),
         Next::More => unreachable!(),
     }
@@ -52,9 +53,10 @@ pub fn take<H: Threads + Wait + Sync, W: Write>(
     outbox: &mut Outbox,
     writer: &mut W,
     read: Result<Asked, Refusal>,
+    settings: Settings,
 ) -> io::Result<()>
-    ensures { (limit : Option ℕ) (waiting : List (List ℕ)) (line : List ℕ) → AreAsked limit waiting batch.old → IsReadWithin limit read line
-        → Takes limit (W.contents writer.old) (W.contents writer.new) outbox.old outbox.new result (waiting ++ line ∷ []) served.old served.new batch.new }
+    ensures { (waiting : List (List ℕ)) (line : List ℕ) → AreAsked settings waiting batch.old → IsReadWithin settings read line
+        → Takes settings (W.contents writer.old) (W.contents writer.new) outbox.old outbox.new result (waiting ++ line ∷ []) served.old served.new batch.new }
 {
     lawful_replies_add_up::<Served>();
     match read {
@@ -66,11 +68,34 @@ pub fn take<H: Threads + Wait + Sync, W: Write>(
             },
         ) => {
             batch.make_room(rt, alloc, served, outbox, writer)?;
-            batch.push(request, explain, budget);
+            let options = Options {
+                budget,
+                explain,
+                newest: settings.newest,
+            };
+            batch.push(request, options);
             Ok(())
         }
-        Ok(asked) => reply_behind(rt, alloc, served, batch, outbox, writer, Ok(asked)),
-        Err(fault) => reply_behind(rt, alloc, served, batch, outbox, writer, Err(fault)),
+        Ok(asked) => reply_behind(
+            rt,
+            alloc,
+            served,
+            batch,
+            outbox,
+            writer,
+            Ok(asked),
+            settings,
+        ),
+        Err(fault) => reply_behind(
+            rt,
+            alloc,
+            served,
+            batch,
+            outbox,
+            writer,
+            Err(fault),
+            settings,
+        ),
     }
 }
 
@@ -83,14 +108,15 @@ fn reply_behind<H: Threads + Wait + Sync, W: Write>(
     outbox: &mut Outbox,
     writer: &mut W,
     read: Result<Asked, Refusal>,
+    settings: Settings,
 ) -> io::Result<()>
-    ensures { (limit : Option ℕ) (waiting : List (List ℕ)) (line : List ℕ) → AreAsked limit waiting batch.old → IsReadWithin limit read line
-        → Takes limit (W.contents writer.old) (W.contents writer.new) outbox.old outbox.new result (waiting ++ line ∷ []) served.old served.new batch.new }
+    ensures { (waiting : List (List ℕ)) (line : List ℕ) → AreAsked settings waiting batch.old → IsReadWithin settings read line
+        → Takes settings (W.contents writer.old) (W.contents writer.new) outbox.old outbox.new result (waiting ++ line ∷ []) served.old served.new batch.new }
 {
     puts_add_up();
     lawful_replies_add_up::<Served>();
     match batch.reply(rt, alloc, served, outbox, writer, false) {
-        Ok(()) => reply_to(alloc, served, outbox, writer, read),
+        Ok(()) => reply_to(alloc, served, outbox, writer, read, settings),
         Err(e) => {
             drop(read);
             Err(e)
@@ -106,11 +132,12 @@ pub fn reply_to<W: Write>(
     outbox: &mut Outbox,
     writer: &mut W,
     read: Result<Asked, Refusal>,
+    settings: Settings,
 ) -> io::Result<()>
-    ensures { (limit : Option ℕ) (line : List ℕ) → IsReadWithin limit read line
-        → PutsReply (λ reply. IsLawfulWithin limit session_ways line served.old reply served.new) (W.contents writer.old) (W.contents writer.new) outbox.old outbox.new result }
+    ensures { (line : List ℕ) → IsReadWithin settings read line
+        → PutsReply (λ reply. IsLawfulWithin settings session_ways line served.old reply served.new) (W.contents writer.old) (W.contents writer.new) outbox.old outbox.new result }
 {
-    match answer_read(alloc, served, read) {
+    match answer_read(alloc, served, read, settings) {
         Answer::Told(body) => put_told(outbox, writer, served.standing(), body),
         Answer::Found(body, offered) => {
             let put = send_told(outbox, writer, served.standing(), body);

@@ -31,7 +31,9 @@ mod telling_kept;
 pub use durable::serve_durably;
 pub use fed::Fed;
 pub use journal::{Begun, load, recover_session, save_session};
-pub use laws::{fed_calls_add_up, nothing_told_is_lost, saved_sessions_load};
+pub use laws::{
+    fed_calls_add_up, nothing_told_is_lost, saved_sessions_load, sessions_select_the_same,
+};
 pub use limits::limits_in_numbers;
 pub use serve::{run, serve_session};
 pub use served::Served;

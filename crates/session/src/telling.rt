@@ -1,7 +1,7 @@
 //! Requests that are told their answers in order, while threads search for those behind the next.
 ghost use Rattle.std.specs.Prelude.{◌≡◌, [], IfSome, length};
 ghost use Rattle.book.specs.Items.{packages_of};
-ghost use Rattle.session.specs.Batches.{Tells, requests_of};
+ghost use Rattle.session.specs.Batches.{Tells};
 
 use crate::batch::{put_answer, send_if};
 use crate::served::Served;
@@ -31,7 +31,7 @@ struct Telling<'a, W> {
 impl<'a, W: Write> Consumer for Telling<'a, W> {
     ghost use Rattle.std.specs.Prelude.{◌≡◌, []};
     ghost use Rattle.book.specs.Items.{packages_of};
-    ghost use Rattle.session.specs.Batches.{Tells, requests_of};
+    ghost use Rattle.session.specs.Batches.{Tells};
 
     type Output = io::Result<()>;
 
@@ -40,7 +40,7 @@ impl<'a, W: Write> Consumer for Telling<'a, W> {
     ghost consumes = { λ t packages asked result then. (then.outbox.ghost_name ≡ t.outbox.ghost_name)
         × (then.writer.ghost_name ≡ t.writer.ghost_name) × (then.offered.ghost_name ≡ t.offered.ghost_name)
         × Tells (W.contents t.writer.now) (W.contents then.writer.now) t.outbox.now then.outbox.now result
-        (requests_of t.asked.now) [] t.served.now t.offered.now.items then.offered.now.items };
+        t.asked.now [] t.served.now t.offered.now.items then.offered.now.items };
 
     fn consume<G: Gate, Q: Query, R: Wait>(
         &mut self,
@@ -73,7 +73,7 @@ pub(crate) fn tell_in_order<H: Threads + Wait + Sync, W: Write>(
     offered: &mut Vec<Learnt>,
 ) -> io::Result<()>
     ensures { Tells (W.contents writer.old) (W.contents writer.new) outbox.old outbox.new result
-        (requests_of asked.now) [] served.now offered.old.items offered.new.items }
+        asked.now [] served.now offered.old.items offered.new.items }
 {
     let mut telling = Telling {
         alloc,
@@ -109,7 +109,7 @@ fn tell_each<G: Gate, Q: Query, R: Wait, W: Write>(
     requires asked { Q.asked ≡ asked.now }
     requires none { answers.old ≡ 0 }
     ensures { Tells (W.contents writer.old) (W.contents writer.new) outbox.old outbox.new result
-        (requests_of asked.now) [] served.now offered.old.items offered.new.items }
+        asked.now [] served.now offered.old.items offered.new.items }
 {
     puts_add_up();
     journals_grow();

@@ -1,8 +1,7 @@
 //! Requests that are told their answers in order, in a session whose journal is kept in a file.
 ghost use Rattle.std.specs.Prelude.{◌≡◌, ◌++◌, List, length};
 ghost use Rattle.book.specs.Items.{packages_of};
-ghost use Rattle.wire.specs.Shapes.{Request};
-ghost use Rattle.session.specs.Batches.{requests_of};
+ghost use Rattle.session.specs.Batches.{Question};
 ghost use Rattle.session.specs.Committing.{TellsOn};
 
 use crate::batch::put_answer;
@@ -37,8 +36,7 @@ struct TellingKept<'a, D> {
 impl<'a, D: Devices> Consumer for TellingKept<'a, D> {
     ghost use Rattle.std.specs.Prelude.{◌≡◌, ◌++◌, List};
     ghost use Rattle.book.specs.Items.{packages_of};
-    ghost use Rattle.wire.specs.Shapes.{Request};
-    ghost use Rattle.session.specs.Batches.{requests_of};
+    ghost use Rattle.session.specs.Batches.{Question};
     ghost use Rattle.session.specs.Committing.{TellsOn};
 
     type Output = io::Result<()>;
@@ -48,8 +46,8 @@ impl<'a, D: Devices> Consumer for TellingKept<'a, D> {
     ghost consumes = { λ t packages asked result then. (then.devices.ghost_name ≡ t.devices.ghost_name)
         × (then.outbox.ghost_name ≡ t.outbox.ghost_name) × (then.held.ghost_name ≡ t.held.ghost_name)
         × (then.at.ghost_name ≡ t.at.ghost_name) × (then.offered.ghost_name ≡ t.offered.ghost_name)
-        × ((behind : List Request) → TellsOn result (D.seen t.devices.now) (D.seen then.devices.now) t.served.now t.outbox.now then.outbox.now
-        (requests_of t.asked.now ++ behind) behind t.offered.now.items then.offered.now.items t.held.now.items then.held.now.items t.at.now then.at.now) };
+        × ((behind : List Question) → TellsOn result (D.seen t.devices.now) (D.seen then.devices.now) t.served.now t.outbox.now then.outbox.now
+        (t.asked.now ++ behind) behind t.offered.now.items then.offered.now.items t.held.now.items then.held.now.items t.at.now then.at.now) };
 
     fn consume<G: Gate, Q: Query, R: Wait>(
         &mut self,
@@ -85,8 +83,8 @@ pub(crate) fn tell_kept_in_order<H: Threads + Wait + Sync, D: Devices>(
     workers: usize,
     offered: &mut Vec<Learnt>,
 ) -> io::Result<()>
-    ensures { (behind : List Request) → TellsOn result (D.seen devices.old) (D.seen devices.new) served.now outbox.old outbox.new
-        (requests_of asked.now ++ behind) behind offered.old.items offered.new.items held.old.items held.new.items at.old at.new }
+    ensures { (behind : List Question) → TellsOn result (D.seen devices.old) (D.seen devices.new) served.now outbox.old outbox.new
+        (asked.now ++ behind) behind offered.old.items offered.new.items held.old.items held.new.items at.old at.new }
 {
     let mut telling = TellingKept {
         alloc,
@@ -125,8 +123,8 @@ fn tell_each<G: Gate, Q: Query, R: Wait, D: Devices>(
     requires packages { Q.packages ≡ packages_of served.now }
     requires asked { Q.asked ≡ asked.now }
     requires none { answers.old ≡ 0 }
-    ensures { (behind : List Request) → TellsOn result (D.seen devices.old) (D.seen devices.new) served.now outbox.old outbox.new
-        (requests_of asked.now ++ behind) behind offered.old.items offered.new.items held.old.items held.new.items at.old at.new }
+    ensures { (behind : List Question) → TellsOn result (D.seen devices.old) (D.seen devices.new) served.now outbox.old outbox.new
+        (asked.now ++ behind) behind offered.old.items offered.new.items held.old.items held.new.items at.old at.new }
 {
     puts_add_up();
     journals_grow();

@@ -1,6 +1,5 @@
 use Rattle.std.proofs.Common.{◌+◌, ℕ, ap, drop, refl, subst, sym}
 use Rattle.std.proofs.lemmas.Result.{err_from_is_err_and}
-use Rattle.session.specs.Batches.{requests_of}
 use Rattle.session.proofs.BatchLemmas.{tells_err, tells_next, tells_none, tells_ok, tells_then}
 use Rattle.session.proofs.batch.put_soon.Goals as goal
 
@@ -20,7 +19,7 @@ loop-at-preserved g c =
 pub returns-in_default-clause-told : goal.returns-in_default-clause-told
 returns-in_default-clause-told g c =
     let at = c.loop-at in
-    tells_ok _ _ _ _ _ _ _ _ _ _ _ _ (ap (λ (k : ℕ). drop k (requests_of c.args.asked.now)) at.invariant.counted) at.invariant.told
+    tells_ok _ _ _ _ _ _ _ _ _ _ _ _ (ap (λ (k : ℕ). drop k c.args.asked.now) at.invariant.counted) at.invariant.told
 
 pub returns-in_err-put_answer-clause-told : goal.returns-in_err-put_answer-clause-told
 returns-in_err-put_answer-clause-told g c =
@@ -33,4 +32,4 @@ returns-in_err-put_answer-clause-told g c =
 pub returns-clause-told : goal.returns-clause-told
 returns-clause-told g c =
     let at = c.loop-at in
-    tells_ok _ _ _ _ _ _ _ _ _ _ _ _ (ap (λ (k : ℕ). drop k (requests_of c.args.asked.now)) at.invariant.counted) at.invariant.told
+    tells_ok _ _ _ _ _ _ _ _ _ _ _ _ (ap (λ (k : ℕ). drop k c.args.asked.now) at.invariant.counted) at.invariant.told

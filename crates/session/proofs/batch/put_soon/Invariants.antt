@@ -1,10 +1,9 @@
 use Rattle.std.proofs.Common.{◌≡◌, drop}
-use Rattle.session.specs.Batches.{requests_of}
 use Rattle.session.proofs.BatchLemmas.{HasTold}
 use Rattle.session.proofs.batch.put_soon.Given as goal
 
 abbrev pub invariant-loop-at : goal.invariant-loop-at
 invariant-loop-at g l = record {
   counted : l.count ≡ l.at;
-  told : HasTold (g.W.Write.contents l.initial.writer) (g.W.Write.contents l.writer) l.initial.outbox l.outbox (requests_of l.asked) (drop l.at (requests_of l.asked)) l.served l.initial.offered.items l.offered.items;
+  told : HasTold (g.W.Write.contents l.initial.writer) (g.W.Write.contents l.writer) l.initial.outbox l.outbox l.asked (drop l.at l.asked) l.served l.initial.offered.items l.offered.items;
 }

@@ -9,4 +9,4 @@ unfolding request_of
 returns-in-TooLong c = λ line found.
     let long = rw c.in-TooLong.is at found in
     let over : nat_le (length line) line_limit ≡ false = search rules in
-    refuses_within c.args.limit line _ (rw over refl)
+    refuses_within c.args.settings.budget line _ (rw over refl)

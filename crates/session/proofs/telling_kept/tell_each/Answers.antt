@@ -12,7 +12,7 @@ use Rattle.solver.specs.declared.solving.Options.{Options}
 use Rattle.session.proofs.telling_kept.tell_each.Goals as goal
 
 pub loop-place-init : goal.loop-place-init
-loop-place-init g c = record { count = c.requires.none; told = λ behind limit r0 r e0 old unread t. (t, refl) }
+loop-place-init g c = record { count = c.requires.none; told = λ behind settings r0 r e0 old unread t. (t, refl) }
 
 pub is_ready-is_ready-requires : goal.is_ready-is_ready-requires
 is_ready-is_ready-requires g c =
@@ -38,30 +38,30 @@ loop-place-preserved g c =
     let one = c.index-asked-place in
     record {
       count = c.next-answer.ensures.one ∙ ap (λ n. n + 1) (c.is_ready-is_ready.ensures ∙ at.invariant.count);
-      told = λ behind limit r0 r e0 old unread t.
-          let first = at.invariant.told behind limit r0 r e0 old unread t in
-          let out = c.in_ok-commit_if.ensures.told _ _ limit r0 r e0 old unread first.0 in
+      told = λ behind settings r0 r e0 old unread t.
+          let first = at.invariant.told behind settings r0 r e0 old unread t in
+          let out = c.in_ok-commit_if.ensures.told _ _ settings r0 r e0 old unread first.0 in
           telling_puts r0 r e0 _ old _ unread _ _ _ _ _ out.0 c.puts_add_up.ensures c.journals_grow.ensures.replay c.lines_end_at_feeds.ensures.front c.lines_end_at_feeds.ensures.whole _ _ _ _ _ _
           (tells_before _ _ _ _ _ _ _ behind _ _ _ (tells_next _ _ _ _ _ c.args.asked.now at.place one.result _ _ _ c.loop-place-test.true one.is c.in_ok-put_answer.ensures)) (out.1 ∙ first.1);
     }
 
 pub returns-in_err-commit_if : goal.returns-in_err-commit_if
-returns-in_err-commit_if g c = λ behind limit r0 r e0 old unread t.
+returns-in_err-commit_if g c = λ behind settings r0 r e0 old unread t.
     let err = err_from_is_err_and c.from_residual.result c.from_residual.ensures.1 in
-    let first = c.loop-place.invariant.told behind limit r0 r e0 old unread t in
-    rw err.1 (c.in_err-commit_if.ensures.told _ _ limit r0 r e0 old unread first.0)
+    let first = c.loop-place.invariant.told behind settings r0 r e0 old unread t in
+    rw err.1 (c.in_err-commit_if.ensures.told _ _ settings r0 r e0 old unread first.0)
 
 pub returns-in_err-put_answer : goal.returns-in_err-put_answer
-returns-in_err-put_answer g c = λ behind limit r0 r e0 old unread t.
+returns-in_err-put_answer g c = λ behind settings r0 r e0 old unread t.
     let at = c.loop-place in
     let one = c.index-asked-place in
     let err = err_from_is_err_and c.from_residual-in_err-put_answer.result c.from_residual-in_err-put_answer.ensures.1 in
-    let first = at.invariant.told behind limit r0 r e0 old unread t in
-    let out = c.in_ok-commit_if.ensures.told _ _ limit r0 r e0 old unread first.0 in
+    let first = at.invariant.told behind settings r0 r e0 old unread t in
+    let out = c.in_ok-commit_if.ensures.told _ _ settings r0 r e0 old unread first.0 in
     rw err.1 (telling_puts r0 r e0 _ old _ unread _ _ _ _ _ out.0 c.puts_add_up.ensures c.journals_grow.ensures.replay c.lines_end_at_feeds.ensures.front c.lines_end_at_feeds.ensures.whole _ _ _ _ _ _
     (tells_before _ _ _ _ _ _ _ behind _ _ _ (tells_next _ _ _ _ _ c.args.asked.now at.place one.result _ _ _ c.loop-place-test.true one.is c.in_err-put_answer.ensures)) (out.1 ∙ first.1))
 
 pub returns : goal.returns
-returns g c = λ behind limit r0 r e0 old unread t.
+returns g c = λ behind settings r0 r e0 old unread t.
     let at = c.loop-place in
-    telling_left _ _ _ _ _ _ _ _ _ _ _ _ _ _ (ap (λ l. l ++ behind) (drop_requests c.args.asked.now at.place c.loop-place-test.false)) (at.invariant.told behind limit r0 r e0 old unread t)
+    telling_left _ _ _ _ _ _ _ _ _ _ _ _ _ _ (ap (λ l. l ++ behind) (drop_requests c.args.asked.now at.place c.loop-place-test.false)) (at.invariant.told behind settings r0 r e0 old unread t)

@@ -1,5 +1,4 @@
 use Rattle.std.proofs.Common.{◌≤◌, ap, arith, length, refl, take, ◌∙◌}
-use Rattle.session.specs.Batches.{requests_of}
 use Rattle.session.proofs.BatchLemmas.{part_within, tells_whole}
 use Rattle.session.proofs.batch.Batch.reply_next.Goals as goal
 
@@ -7,7 +6,7 @@ pub leave_out-requires : goal.leave_out-requires
 leave_out-requires g c =
     let most = c.if-self-lt2.most in
     let first = c.first_of-asked.result.now in
-    let part = c.first_of-asked.ensures ∙ ap (λ l. take most (requests_of l)) c.as_slice.ensures.value ∙ ap (take most) c.self.view_is in
+    let part = c.first_of-asked.ensures ∙ ap (take most) c.as_slice.ensures.value ∙ ap (take most) c.self.view_is in
     let all : length first ≤ length first = omega arith in
     part_within first _ most (length first) part all
 
@@ -15,5 +14,5 @@ pub returns : goal.returns
 returns g c =
     let most = c.if-self-lt2.most in
     let first = c.first_of-asked.result.now in
-    let part = c.first_of-asked.ensures ∙ ap (λ l. take most (requests_of l)) c.as_slice.ensures.value ∙ ap (take most) c.self.view_is in
+    let part = c.first_of-asked.ensures ∙ ap (take most) c.as_slice.ensures.value ∙ ap (take most) c.self.view_is in
     rw c.leave_out.ensures (tells_whole c.tell_in_order-put.result _ _ _ _ first _ most (length first) _ _ _ part refl c.tell_in_order-put.ensures)
