@@ -1,8 +1,8 @@
 //! What a seat answers to requests.
-ghost use Rattle.std.specs.Prelude.{◌≡◌, ◌⊎◌, None, Some, Err, IfErr, IfOk, IfSome};
+ghost use Rattle.std.specs.Prelude.{◌≡◌, ◌⊎◌, true, None, Some, Err, IfErr, IfOk, IfSome};
 ghost use Rattle.solver.specs.Outcomes as outcomes;
 ghost use Rattle.solver.specs.Outcomes.{IfPreferredServes};
-ghost use Rattle.chronicle.specs.Answers.{MayStop, NonePreferred, OnlyWhereNone, Resolves};
+ghost use Rattle.chronicle.specs.Answers.{MayStop, NonePreferred, OnlyWhereNone, Resolves, SelectsNewest};
 ghost use Rattle.chronicle.specs.Journals.{packages_of};
 ghost use Rattle.chronicle.specs.Seats.{IsStopped, MayHaveSeen};
 
@@ -14,18 +14,19 @@ use solver::{Options, Outcome, solve_with};
 use versions::Refusal;
 
 impl<'a> Seat<'a> {
-    /// Resolves a request at the place where the seat then stands, which the stamp names.
+    /// Resolves a request at the place where the seat then stands, which the stamp names: by the newest
+    /// selection, or by why there is none.
     pub fn resolve(&mut self, request: &Request) -> Result<(Stamp, Outcome), Refusal>
         ensures seen { MayHaveSeen self.old self.new }
         ensures again { IfSome self.old.stray (λ e. result ≡ Err Refusal.Stray) }
-        ensures answered { IfOk result (λ r. Resolves self.new.journal request.now r.0.place r.0.revision r.1) }
+        ensures answered { IfOk result (λ r. Resolves self.new.journal request.now true r.0.place r.0.revision r.1) }
         ensures none { IfOk result (λ r. OnlyWhereNone (packages_of self.new.journal) request.now r.1) }
         ensures preferred { IfPreferredServes (packages_of self.new.journal) request.now
             (λ s. IfOk result (λ r. outcomes.Answers (packages_of self.new.journal) s r.1)) }
+        ensures newest { IfOk result (λ r. SelectsNewest (packages_of self.new.journal) request.now r.1) }
         ensures reason { IfErr result (IsStopped self.new) }
     {
-        self.catch_up()?;
-        Ok(answer_here(self, request, None)?)
+        self.resolve_with(request, newest_within(None))
     }
 
     /// As [`Seat::resolve`], with at most so many conflicts: at the next one the answer is 22. Under
@@ -38,41 +39,66 @@ impl<'a> Seat<'a> {
     ) -> Result<(Stamp, Outcome), Refusal>
         ensures seen { MayHaveSeen self.old self.new }
         ensures again { IfSome self.old.stray (λ e. result ≡ Err Refusal.Stray) }
-        ensures answered { IfOk result (λ r. Resolves self.new.journal request.now r.0.place r.0.revision r.1) }
+        ensures answered { IfOk result (λ r. Resolves self.new.journal request.now true r.0.place r.0.revision r.1) }
         ensures none { IfOk result (λ r. OnlyWhereNone (packages_of self.new.journal) request.now r.1) }
         ensures preferred { IfPreferredServes (packages_of self.new.journal) request.now
             (λ s. IfOk result (λ r. outcomes.Answers (packages_of self.new.journal) s r.1)) }
+        ensures newest { IfOk result (λ r. SelectsNewest (packages_of self.new.journal) request.now r.1) }
         ensures reason { IfErr result (λ e. IsStopped self.new e ⊎ ((e ≡ Refusal.BudgetSpent) × NonePreferred (packages_of self.new.journal) request.now)) }
     {
+        self.resolve_with(request, newest_within(Some(budget)))
+    }
+
+    /// As [`Seat::resolve`], by options: under a budget, without the reason of a refusal, or with
+    /// whichever selection is found first in place of the newest.
+    pub fn resolve_with(
+        &mut self,
+        request: &Request,
+        options: Options,
+    ) -> Result<(Stamp, Outcome), Refusal>
+        ensures seen { MayHaveSeen self.old self.new }
+        ensures again { IfSome self.old.stray (λ e. result ≡ Err Refusal.Stray) }
+        ensures answered { IfOk result (λ r. Resolves self.new.journal request.now options.explain r.0.place r.0.revision r.1) }
+        ensures none { IfOk result (λ r. OnlyWhereNone (packages_of self.new.journal) request.now r.1) }
+        ensures preferred { IfPreferredServes (packages_of self.new.journal) request.now
+            (λ s. IfOk result (λ r. outcomes.Answers (packages_of self.new.journal) s r.1)) }
+        ensures newest { options.newest ≡ true → IfOk result (λ r. SelectsNewest (packages_of self.new.journal) request.now r.1) }
+        ensures reason { IfErr result (λ e. IsStopped self.new e ⊎ MayStop (packages_of self.new.journal) request.now options.budget e) }
+    {
         self.catch_up()?;
-        Ok(answer_here(self, request, Some(budget))?)
+        Ok(answer_here(self, request, options)?)
     }
 }
 
-/// Answers a request where a seat stands, under its budget where it has one.
+/// The newest selection, or why there is none, under a budget where one is given.
+fn newest_within(budget: Option<u32>) -> Options
+    ensures { result ≡ record { budget = budget; explain = true; newest = true } }
+{
+    Options {
+        budget,
+        explain: true,
+        newest: true,
+    }
+}
+
+/// Answers a request where a seat stands.
 fn answer_here(
     seat: &Seat<'_>,
     request: &Request,
-    budget: Option<u32>,
+    options: Options,
 ) -> Result<(Stamp, Outcome), Refusal>
-    ensures answered { IfOk result (λ r. Resolves seat.now.journal request.now r.0.place r.0.revision r.1) }
+    ensures answered { IfOk result (λ r. Resolves seat.now.journal request.now options.explain r.0.place r.0.revision r.1) }
     ensures none { IfOk result (λ r. OnlyWhereNone (packages_of seat.now.journal) request.now r.1) }
     ensures preferred { IfPreferredServes (packages_of seat.now.journal) request.now
         (λ s. IfOk result (λ r. outcomes.Answers (packages_of seat.now.journal) s r.1)) }
-    ensures only { IfErr result (MayStop (packages_of seat.now.journal) request.now budget) }
+    ensures newest { options.newest ≡ true → IfOk result (λ r. SelectsNewest (packages_of seat.now.journal) request.now r.1) }
+    ensures only { IfErr result (MayStop (packages_of seat.now.journal) request.now options.budget) }
 {
     derivations_refute();
     let stamp = seat.stamp();
-    let options = Options {
-        budget,
-        explain: true,
-    };
-    let outcome = solve_with(
-        seat.alloc(),
-        seat.registry(),
-        request,
-        seat.store(),
-        options,
-    )?;
+    let registry = seat.registry();
+    // That commands made the registry is told with its revision.
+    let _revision = registry.revision();
+    let outcome = solve_with(seat.alloc(), registry, request, seat.store(), options)?;
     Ok((stamp, outcome))
 }

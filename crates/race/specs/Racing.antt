@@ -15,7 +15,8 @@ use Rattle.lines.specs.Texts.{IsBeginning}
 use Rattle.journals.specs.Files.{IsJournalOf}
 use Rattle.journals.specs.Saved.{kept, saved_text}
 use Rattle.replies.specs.Replies.{Reply, replies_text}
-use Rattle.answers.specs.Lawful.{AreLawful, Ways}
+use Rattle.answers.specs.Lawful.{AreLawfulWithin, Ways}
+use Rattle.answers.specs.declared.settings.Settings.{Settings}
 
 -- ---- journals
 
@@ -47,28 +48,28 @@ fresh_seat row number = record { row = row; number = number; journal = []; stray
 
 -- ---- files
 
--- These may be the replies to a file's lines by the seat of the row with this number, which has then seen these entries.
-pub record IsRun (row : Cells) (number : ℕ) (file : Text) (replies : List Reply) (seen : List Entry) : Type 0 where
+-- These may be the replies to a file's lines within such settings by the seat of the row with this number, which has then seen these entries.
+pub record IsRun (settings : Settings) (row : Cells) (number : ℕ) (file : Text) (replies : List Reply) (seen : List Entry) : Type 0 where
   pub end : Place
-  pub session : AreLawful seat_ways (lines_of file) (fresh_seat row number) replies end
+  pub session : AreLawfulWithin settings seat_ways (lines_of file) (fresh_seat row number) replies end
   pub journal : seen ≡ end.journal
 
 -- Each file has its replies, by seats that are numbered in order from this one on, and each of these has then seen its entries.
-abbrev pub AreRun : Cells → ℕ → List Text → List (List Reply) → List (List Entry) → Type 0
-AreRun row number [] [] [] = Unit {0}
-AreRun row number (file ∷ files) (replies ∷ rest) (seen ∷ others) = IsRun row number file replies seen × AreRun row (number + 1) files rest others
-AreRun row number [] [] (seen ∷ others) = ⊥
-AreRun row number [] (replies ∷ rest) all = ⊥
-AreRun row number (file ∷ files) [] all = ⊥
-AreRun row number (file ∷ files) (replies ∷ rest) [] = ⊥
+abbrev pub AreRun : Settings → Cells → ℕ → List Text → List (List Reply) → List (List Entry) → Type 0
+AreRun settings row number [] [] [] = Unit {0}
+AreRun settings row number (file ∷ files) (replies ∷ rest) (seen ∷ others) = IsRun settings row number file replies seen × AreRun settings row (number + 1) files rest others
+AreRun settings row number [] [] (seen ∷ others) = ⊥
+AreRun settings row number [] (replies ∷ rest) all = ⊥
+AreRun settings row number (file ∷ files) [] all = ⊥
+AreRun settings row number (file ∷ files) (replies ∷ rest) [] = ⊥
 
--- There is a row of so many cells, and each file has its replies by a seat of it, which has seen a beginning of the journal. Unless the
+-- There is a row of so many cells, and each file has its replies within such settings by a seat of it, which has seen a beginning of the journal. Unless the
 -- journal is empty, one of them has seen all of it.
-pub record IsRace (files : List Text) (journal : List Entry) (replies : List (List Reply)) : Type 0 where
+pub record IsRace (settings : Settings) (files : List Text) (journal : List Entry) (replies : List (List Reply)) : Type 0 where
   pub row : Cells
   pub sized : row.capacity ≡ CAPACITY_LIMIT
   pub seen : List (List Entry)
-  pub runs : AreRun row 1 files replies seen
+  pub runs : AreRun settings row 1 files replies seen
   pub begins : All (λ (entries : List Entry). Begins entries journal) seen
   pub whole : (journal ≡ []) ⊎ Contains seen journal
 
@@ -78,20 +79,20 @@ pub record IsRace (files : List Text) (journal : List Entry) (replies : List (Li
 abbrev pub race_text : List (List Reply) → List Entry → Text
 race_text replies journal = flat_map replies_text replies ++ file_of journal
 
--- There is one journal, of which each seat has seen a beginning and one has seen all, each file's lines have their lawful replies, and what
+-- There is one journal, of which each seat has seen a beginning and one has seen all, each file's lines have their lawful replies within such settings, and what
 -- was written is these replies and the journal, whose file loads again.
-pub record Races (written_before written_after : Option (List ℕ)) (files : List Text) : Type 0 where
+pub record Races (settings : Settings) (written_before written_after : Option (List ℕ)) (files : List Text) : Type 0 where
   pub journal : List Entry
   pub replies : List (List Reply)
-  pub raced : IsRace files journal replies
+  pub raced : IsRace settings files journal replies
   pub loads : Loads journal
   pub written : Appends written_before written_after (race_text replies journal)
 
 -- The same, but that a beginning alone of these replies and the journal was written.
-pub record RacesInPart (written_before written_after : Option (List ℕ)) (files : List Text) : Type 0 where
+pub record RacesInPart (settings : Settings) (written_before written_after : Option (List ℕ)) (files : List Text) : Type 0 where
   pub journal : List Entry
   pub replies : List (List Reply)
-  pub raced : IsRace files journal replies
+  pub raced : IsRace settings files journal replies
   pub text : List ℕ
   pub written : Appends written_before written_after text
   pub beginning : IsBeginning text (race_text replies journal)

@@ -3,12 +3,12 @@ ghost use Rattle.std.specs.Prelude.{◌≡◌, ◌≤◌, List, [], length, vec_
 ghost use Rattle.lines.specs.Lines.{lines_of};
 ghost use Rattle.replies.specs.Replies.{Reply, replies_text, reply_text};
 ghost use Rattle.race.specs.Kept.{Answered, AnsweredTo, kept_line, kept_text};
-ghost use Rattle.answers.specs.Lawful.{AreLawful, IsLawful};
+ghost use Rattle.answers.specs.Lawful.{AreLawfulWithin, IsLawfulWithin};
 ghost use Rattle.race.specs.Racing.{seat_ways};
 
 use crate::kept::{Kept, keep_listing};
 use crate::seat::Racer;
-use answers::{Answer, Ledger, answer_line, lawful_replies_add_up, learn_all};
+use answers::{Answer, Ledger, Settings, answer_line, lawful_replies_add_up, learn_all};
 use chronicle::{Mark, Seat};
 use intake::Intake;
 use lines::{count_lines, first_line};
@@ -41,11 +41,11 @@ pub fn room_for(alloc: Global, file: &[u8]) -> Result<Vec<Kept>, AllocError>
 }
 
 /// Answers the lines of a file, in order, with the seat.
-pub fn run_file<'a>(job: Job<'a>) -> Run<'a>
+pub fn run_file<'a>(job: Job<'a>, settings: Settings) -> Run<'a>
     requires empty { job.replies.items ≡ [] }
     requires room { length (lines_of job.file.items) ≤ vec_capacity job.replies }
     ensures row { IfOk result.mark (λ m. m.row ≡ job.entry.seat.row) }
-    ensures answered { IfOk result.mark (AnsweredTo job.entry.seat job.entry.file.items result.replies.items) }
+    ensures answered { IfOk result.mark (AnsweredTo settings job.entry.seat job.entry.file.items result.replies.items) }
 {
     let Job {
         seat,
@@ -55,7 +55,7 @@ pub fn run_file<'a>(job: Job<'a>) -> Run<'a>
     } = job;
     let mut racer = Racer::new(seat);
     let mut replies = replies;
-    answer_lines(alloc, &mut racer, file.as_slice(), &mut replies);
+    answer_lines(alloc, &mut racer, file.as_slice(), &mut replies, settings);
     let mark = racer.mark();
     drop(racer);
     drop(file);
@@ -63,27 +63,39 @@ pub fn run_file<'a>(job: Job<'a>) -> Run<'a>
 }
 
 /// Answers lines one after another, and keeps the replies.
-fn answer_lines(alloc: Global, seat: &mut Racer<'_>, file: &[u8], replies: &mut Vec<Kept>)
+fn answer_lines(
+    alloc: Global,
+    seat: &mut Racer<'_>,
+    file: &[u8],
+    replies: &mut Vec<Kept>,
+    settings: Settings,
+)
     requires empty { replies.old.items ≡ [] }
     requires room { length (lines_of file.now) ≤ vec_capacity replies.old }
     ensures row { seat.new.row ≡ seat.old.row }
-    ensures answered { Answered seat.old file.now replies.new.items seat.new }
+    ensures answered { Answered settings seat.old file.now replies.new.items seat.new }
 {
     lawful_replies_add_up::<Racer>();
     let mut rest = file;
     let mut intake = Intake::new(alloc);
     'answering: while let Some((line, behind)) = first_line(rest) {
-        let kept = answer(alloc, seat, &mut intake, line);
+        let kept = answer(alloc, seat, &mut intake, line, settings);
         replies.push_reserved(kept);
         rest = behind;
     }
 }
 
 /// Answers a line, and keeps the reply.
-fn answer(alloc: Global, seat: &mut Racer<'_>, intake: &mut Intake, line: &[u8]) -> Kept
-    ensures { (reply : Reply) × IsLawful seat_ways line.now seat.old reply seat.new × (kept_line result ≡ reply_text reply) }
+fn answer(
+    alloc: Global,
+    seat: &mut Racer<'_>,
+    intake: &mut Intake,
+    line: &[u8],
+    settings: Settings,
+) -> Kept
+    ensures { (reply : Reply) × IsLawfulWithin settings seat_ways line.now seat.old reply seat.new × (kept_line result ≡ reply_text reply) }
 {
-    match answer_line(alloc, seat, intake, line) {
+    match answer_line(alloc, seat, intake, line, settings) {
         Answer::Told(body) => Kept::Reply(seat.standing().reply(body)),
         Answer::Found(body, offered) => {
             let reply = seat.standing().reply(body);

@@ -11,10 +11,10 @@ use Rattle.chronicle.proofs.resolving.answer_here.Goals as goal
 pub solve_with-requires : goal.solve_with-requires
 solve_with-requires c = record {
   stored =
-      subst (λ (p : Packages). All (AllStand p) c.store.result.now.members) (sym c.registry.ensures.packages)
+      subst (λ (p : Packages). All (AllStand p) c.store.result.now.members) (sym c.registry-registry.ensures.packages)
       (subst (λ (ms : List (List Line)). All (AllStand (packages_of c.args.seat.now.journal)) ms) (sym c.store.ensures.members) c.store.ensures.stand);
 }
 
 pub returns-clause-none : goal.returns-clause-none
 returns-clause-none c =
-    none_here c.args.seat.now.journal c.args.request.now c.registry.result.now.packages c.registry.ensures.packages c.derivations_refute.ensures c.in_ok-outcome.outcome c.in_ok-outcome.ensures.lawful
+    none_here c.args.seat.now.journal c.args.request.now c.args.options.explain c.registry-registry.result.now.packages c.registry-registry.ensures.packages c.derivations_refute.ensures c.in_ok-outcome.outcome c.in_ok-outcome.ensures.lawful

@@ -1,4 +1,4 @@
-use Rattle.std.proofs.Common.{◌++◌, ◌∷◌, [], List, None, ℕ, length, refl, sym, ap, ◌∙◌, arith}
+use Rattle.std.proofs.Common.{◌++◌, ◌∷◌, [], List, ℕ, length, refl, sym, ap, ◌∙◌, arith}
 use Rattle.std.proofs.lemmas.List.{append_assoc}
 use Rattle.lines.specs.Lines.{lines_of}
 use Rattle.race.specs.Kept.{kept_text}
@@ -29,12 +29,12 @@ answering-preserved c =
     let room = at.invariant.room in
     let grown = c.push_reserved.ensures in
     record {
-      row = row_kept line.now at.seat reply.0 c.answer-kept.new.seat reply.1 ∙ at.invariant.row;
+      row = row_kept c.args.settings line.now at.seat reply.0 c.answer-kept.new.seat reply.1 ∙ at.invariant.row;
       answered = (
         done.0 ++ line.now ∷ [],
         done.1 ++ reply.0 ∷ [],
         append_assoc done.0 (line.now ∷ []) (lines_of behind.now) ∙ (ap (λ (ls : List (List ℕ)). done.0 ++ ls) (sym lines) ∙ done.2),
-        c.lawful_replies_add_up.ensures.lines None done.0 (line.now ∷ []) done.1 (reply.0 ∷ []) c.args.seat.now at.seat c.answer-kept.new.seat done.3 (c.answer-kept.new.seat, reply.1, refl),
+        c.lawful_replies_add_up.ensures.lines c.args.settings done.0 (line.now ∷ []) done.1 (reply.0 ∷ []) c.args.seat.now at.seat c.answer-kept.new.seat done.3 (c.answer-kept.new.seat, reply.1, refl),
         ap kept_text grown.items ∙ kept_more at.replies.items c.answer-kept.result done.1 reply.0 done.4 reply.2,
       );
       room = omega arith;
