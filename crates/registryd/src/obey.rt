@@ -17,7 +17,7 @@ ghost use Rattle.journals.specs.Files.{IsHistory};
 ghost use Rattle.journals.specs.declared.format.Format.TheVariants.{Two};
 ghost use Rattle.session.specs.Session.{Serves, Breaks};
 ghost use Rattle.session.specs.Streams.{AreUntouched, streams_of};
-ghost use Rattle.command_line.specs.Words.{AskToKeep, AskToRace, AskToServe, HasManyFiles, HasMixedFiles, texts};
+ghost use Rattle.command_line.specs.Words.{AskToKeep, AskToRace, AskToServe, HasManyFiles, HasMixedFiles, HasOpposedFlags, texts};
 ghost use Rattle.command_line.specs.declared.words.TheConstants.{MOST_FILES, MOST_WORKERS};
 
 use crate::files::loaded_from;
@@ -26,7 +26,7 @@ use crate::kept::Kept;
 use crate::recovered::Unbegun;
 use crate::system::SystemFile;
 use crate::target::{Target, saved_to, target_of};
-use answers::RunFault;
+use answers::{RunFault, Settings};
 use command_line::{WordFault, Words, advice_on, read_words};
 use endings::{End, Failure, end_of_making, end_of_read, shown, told};
 use lines::write_text;
@@ -75,10 +75,11 @@ where
     ensures memory { result.end ≡ End.Memory → AreUntouched (streams_of R.remaining W.contents reader.old reader.new writer result.writer) }
     // Nothing was read, and the words ask neither to serve nor for a race.
     ensures words { result.end ≡ End.Words → Keeps (R.remaining reader.old) (R.remaining reader.new) × AskForNothing (texts words.now) }
-    // Words that clap takes are told nothing, but for too many files, and for files that are not named together.
+    // Words that clap takes are told nothing, but for too many files, and for files or flags that are not named together.
     ensures quiet { result.end ≡ End.Words → fault_of program_app (texts words.now) ≡ []
         → (HasManyFiles (subcommand_of program_app (texts words.now)) → ⊥)
-        → (HasMixedFiles (subcommand_of program_app (texts words.now)) → ⊥) → Keeps (W.contents writer) (W.contents result.writer) }
+        → (HasMixedFiles (subcommand_of program_app (texts words.now)) → ⊥)
+        → (HasOpposedFlags (subcommand_of program_app (texts words.now)) → ⊥) → Keeps (W.contents writer) (W.contents result.writer) }
 {
     let mut writer = writer;
     match read_words(alloc, words) {
@@ -86,24 +87,42 @@ where
             Words::Serve {
                 workers,
                 budget,
+                newest,
                 load,
                 save,
             },
         ) => {
+            let settings = Settings { budget, newest };
             let from = lent_name(&load);
             let to = lent_name(&save);
-            let end = serve(rt, alloc, reader, &mut writer, workers, budget, from, to);
+            let end = serve(rt, alloc, reader, &mut writer, workers, settings, from, to);
             Obeyed { end, writer }
         }
         Ok(
             Words::Keep {
                 workers,
                 budget,
+                newest,
                 journal,
             },
-        ) => { keep(rt, alloc, reader, writer, workers, budget, journal.as_str()) }
-        Ok(Words::Race(files)) => {
-            let end = race_files(rt, alloc, files.as_slice(), &mut writer);
+        ) => {
+            let settings = Settings { budget, newest };
+            keep(
+                rt,
+                alloc,
+                reader,
+                writer,
+                workers,
+                settings,
+                journal.as_str(),
+            )
+        }
+        Ok(Words::Race { newest, files }) => {
+            let settings = Settings {
+                budget: None,
+                newest,
+            };
+            let end = race_files(rt, alloc, settings, files.as_slice(), &mut writer);
             Obeyed { end, writer }
         }
         Err(WordFault::Bad) => {
@@ -131,14 +150,14 @@ fn lent_name(name: &Option<String>) -> Option<&str>
 }
 
 /// Serves the lines of a reader: from the items of a journal on where its file is named, and with a journal at the end
-/// where a file is named for it. A request that names no budget has this one, if there is one.
+/// where a file is named for it.
 fn serve<H: Threads + Wait + Sync + Files, R: Read, W: Write>(
     rt: &H,
     alloc: Global,
     reader: &mut R,
     writer: &mut W,
     workers: usize,
-    budget: Option<u32>,
+    settings: Settings,
     load: Option<&str>,
     save: Option<&str>,
 ) -> End
@@ -146,14 +165,14 @@ where
     H::File: SystemFile,
     requires { (1 ≤ workers) × (workers ≤ MOST_WORKERS) }
     ensures done { result ≡ End.Done → IsAtEnd (R.remaining reader.new)
-        × ServesFrom budget (option_map (λ t. t.now) load.entry) (streams_of R.remaining W.contents reader.old reader.new writer.old writer.new) lines_of }
+        × ServesFrom settings (option_map (λ t. t.now) load.entry) (streams_of R.remaining W.contents reader.old reader.new writer.old writer.new) lines_of }
     ensures input { result ≡ End.Input
-        → ServesFrom budget (option_map (λ t. t.now) load.entry) (streams_of R.remaining W.contents reader.old reader.new writer.old writer.new) whole_lines_of
+        → ServesFrom settings (option_map (λ t. t.now) load.entry) (streams_of R.remaining W.contents reader.old reader.new writer.old writer.new) whole_lines_of
         ⊎ (IsSome (option_map (λ t. t.now) load.entry) × AreUntouched (streams_of R.remaining W.contents reader.old reader.new writer.old writer.new)) }
     ensures output { result ≡ End.Output
-        → BreaksFrom budget (option_map (λ t. t.now) load.entry) (streams_of R.remaining W.contents reader.old reader.new writer.old writer.new)
+        → BreaksFrom settings (option_map (λ t. t.now) load.entry) (streams_of R.remaining W.contents reader.old reader.new writer.old writer.new)
         ⊎ (IsAtEnd (R.remaining reader.new)
-        × ServesFrom budget (option_map (λ t. t.now) load.entry) (streams_of R.remaining W.contents reader.old reader.new writer.old writer.new) lines_of) }
+        × ServesFrom settings (option_map (λ t. t.now) load.entry) (streams_of R.remaining W.contents reader.old reader.new writer.old writer.new) lines_of) }
     ensures journal { (line : ℕ) → result ≡ End.Journal line → IsSome (option_map (λ t. t.now) load.entry)
         × AreUntouched (streams_of R.remaining W.contents reader.old reader.new writer.old writer.new) }
     ensures memory { result ≡ End.Memory → AreUntouched (streams_of R.remaining W.contents reader.old reader.new writer.old writer.new) }
@@ -161,7 +180,7 @@ where
     ensures words { result ≢ End.Words }
 {
     match loaded_from(rt, alloc, load) {
-        Ok(served) => serve_to(rt, alloc, reader, writer, workers, budget, served, save),
+        Ok(served) => serve_to(rt, alloc, reader, writer, workers, settings, served, save),
         Err(end) => end,
     }
 }
@@ -173,7 +192,7 @@ fn serve_to<H: Threads + Wait + Sync + Files, R: Read, W: Write>(
     reader: &mut R,
     writer: &mut W,
     workers: usize,
-    budget: Option<u32>,
+    settings: Settings,
     begun: Served,
     save: Option<&str>,
 ) -> End
@@ -181,13 +200,13 @@ where
     H::File: SystemFile,
     requires { (1 ≤ workers) × (workers ≤ MOST_WORKERS) }
     ensures done { result ≡ End.Done → IsAtEnd (R.remaining reader.new) × ((accepted : List Item)
-        × Serves budget (streams_of R.remaining W.contents reader.old reader.new writer.old writer.new) lines_of begun accepted) }
+        × Serves settings (streams_of R.remaining W.contents reader.old reader.new writer.old writer.new) lines_of begun accepted) }
     ensures input { result ≡ End.Input → (accepted : List Item)
-        × Serves budget (streams_of R.remaining W.contents reader.old reader.new writer.old writer.new) whole_lines_of begun accepted }
+        × Serves settings (streams_of R.remaining W.contents reader.old reader.new writer.old writer.new) whole_lines_of begun accepted }
     ensures output { result ≡ End.Output
-        → Breaks budget (streams_of R.remaining W.contents reader.old reader.new writer.old writer.new) begun
+        → Breaks settings (streams_of R.remaining W.contents reader.old reader.new writer.old writer.new) begun
         ⊎ (IsAtEnd (R.remaining reader.new) × ((accepted : List Item)
-        × Serves budget (streams_of R.remaining W.contents reader.old reader.new writer.old writer.new) lines_of begun accepted)) }
+        × Serves settings (streams_of R.remaining W.contents reader.old reader.new writer.old writer.new) lines_of begun accepted)) }
     ensures memory { result ≡ End.Memory
         → AreUntouched (streams_of R.remaining W.contents reader.old reader.new writer.old writer.new) }
     ensures kept { (fault : FileFault) → result ≢ End.Kept fault }
@@ -195,7 +214,7 @@ where
     ensures no_journal { (line : ℕ) → result ≢ End.Journal line }
 {
     match target_of(rt, alloc, save) {
-        Ok(target) => serve_from(rt, alloc, reader, writer, workers, budget, begun, target),
+        Ok(target) => serve_from(rt, alloc, reader, writer, workers, settings, begun, target),
         Err(e) => {
             drop(begun);
             end_of_making(&e)
@@ -210,7 +229,7 @@ fn serve_from<H: Threads + Wait + Sync + Files, R: Read, W: Write>(
     reader: &mut R,
     writer: &mut W,
     workers: usize,
-    budget: Option<u32>,
+    settings: Settings,
     begun: Served,
     target: Target<H::File>,
 ) -> End
@@ -218,20 +237,20 @@ where
     H::File: SystemFile,
     requires { (1 ≤ workers) × (workers ≤ MOST_WORKERS) }
     ensures done { result ≡ End.Done → IsAtEnd (R.remaining reader.new) × ((accepted : List Item)
-        × Serves budget (streams_of R.remaining W.contents reader.old reader.new writer.old writer.new) lines_of begun accepted) }
+        × Serves settings (streams_of R.remaining W.contents reader.old reader.new writer.old writer.new) lines_of begun accepted) }
     ensures input { result ≡ End.Input → (accepted : List Item)
-        × Serves budget (streams_of R.remaining W.contents reader.old reader.new writer.old writer.new) whole_lines_of begun accepted }
+        × Serves settings (streams_of R.remaining W.contents reader.old reader.new writer.old writer.new) whole_lines_of begun accepted }
     ensures output { result ≡ End.Output
-        → Breaks budget (streams_of R.remaining W.contents reader.old reader.new writer.old writer.new) begun
+        → Breaks settings (streams_of R.remaining W.contents reader.old reader.new writer.old writer.new) begun
         ⊎ (IsAtEnd (R.remaining reader.new) × ((accepted : List Item)
-        × Serves budget (streams_of R.remaining W.contents reader.old reader.new writer.old writer.new) lines_of begun accepted)) }
+        × Serves settings (streams_of R.remaining W.contents reader.old reader.new writer.old writer.new) lines_of begun accepted)) }
     ensures memory { result ≡ End.Memory
         → AreUntouched (streams_of R.remaining W.contents reader.old reader.new writer.old writer.new) }
     ensures kept { (fault : FileFault) → result ≢ End.Kept fault }
     ensures words { result ≢ End.Words }
     ensures no_journal { (line : ℕ) → result ≢ End.Journal line }
 {
-    match serve_session(rt, alloc, reader, writer, begun, workers, budget) {
+    match serve_session(rt, alloc, reader, writer, begun, workers, settings) {
         Ok(served) => {
             let end = saved_to(rt, alloc, target, &served);
             // The program ends here, so what they hold needs no walk to be given back.
@@ -249,17 +268,17 @@ fn keep<H: Threads + Wait + Sync + Files, R: Read, W: Write>(
     reader: &mut R,
     writer: W,
     workers: usize,
-    budget: Option<u32>,
+    settings: Settings,
     journal: &str,
 ) -> Obeyed<W>
 where
     H::File: SystemFile,
     requires { (1 ≤ workers) × (workers ≤ MOST_WORKERS) }
-    ensures done { result.end ≡ End.Done → Ends budget (streams_of R.remaining W.contents reader.old reader.new writer result.writer) }
-    ensures input { result.end ≡ End.Input → Stops budget (streams_of R.remaining W.contents reader.old reader.new writer result.writer) }
-    ensures output { result.end ≡ End.Output → Falls budget (streams_of R.remaining W.contents reader.old reader.new writer result.writer) }
+    ensures done { result.end ≡ End.Done → Ends settings (streams_of R.remaining W.contents reader.old reader.new writer result.writer) }
+    ensures input { result.end ≡ End.Input → Stops settings (streams_of R.remaining W.contents reader.old reader.new writer result.writer) }
+    ensures output { result.end ≡ End.Output → Falls settings (streams_of R.remaining W.contents reader.old reader.new writer result.writer) }
     ensures kept { (fault : FileFault) → result.end ≡ End.Kept fault → (fault.name.items ≡ shown_text journal.now)
-        × FallsAtMost budget (streams_of R.remaining W.contents reader.old reader.new writer result.writer) }
+        × FallsAtMost settings (streams_of R.remaining W.contents reader.old reader.new writer result.writer) }
     ensures memory { result.end ≡ End.Memory → AreUntouched (streams_of R.remaining W.contents reader.old reader.new writer result.writer) }
     ensures words { result.end ≢ End.Words }
     ensures no_journal { (line : ℕ) → result.end ≢ End.Journal line }
@@ -271,7 +290,7 @@ where
         };
     };
     match open_journal(rt, alloc, journal) {
-        Ok(opened) => keep_in(rt, alloc, reader, writer, workers, budget, name, opened),
+        Ok(opened) => keep_in(rt, alloc, reader, writer, workers, settings, name, opened),
         Err(why) => Obeyed {
             end: end_without(alloc, name, why),
             writer,
@@ -303,7 +322,7 @@ fn keep_in<H: Threads + Wait + Sync, R: Read, F: Write + OpenFile + Drop, W: Wri
     reader: &mut R,
     writer: W,
     workers: usize,
-    budget: Option<u32>,
+    settings: Settings,
     name: Vec<u8>,
     opened: Opened<F>,
 ) -> Obeyed<W>
@@ -311,14 +330,14 @@ fn keep_in<H: Threads + Wait + Sync, R: Read, F: Write + OpenFile + Drop, W: Wri
     requires served { MayBeServed opened.begun }
     requires history { IsHistory Two opened.begun }
     // Each line has its lawful reply, and at the end the file has the lines of all items.
-    ensures done { result.end ≡ End.Done → Ends budget (streams_of R.remaining W.contents reader.old reader.new writer result.writer) }
+    ensures done { result.end ≡ End.Done → Ends settings (streams_of R.remaining W.contents reader.old reader.new writer result.writer) }
     // Each whole line that was read has its lawful reply.
-    ensures input { result.end ≡ End.Input → Stops budget (streams_of R.remaining W.contents reader.old reader.new writer result.writer) }
+    ensures input { result.end ≡ End.Input → Stops settings (streams_of R.remaining W.contents reader.old reader.new writer result.writer) }
     // A beginning of the lawful replies is written.
-    ensures output { result.end ≡ End.Output → Falls budget (streams_of R.remaining W.contents reader.old reader.new writer result.writer) }
+    ensures output { result.end ≡ End.Output → Falls settings (streams_of R.remaining W.contents reader.old reader.new writer result.writer) }
     // The same, and a call failed at the file, whose name is told.
     ensures fallen { (fault : FileFault) → result.end ≡ End.Kept fault
-        → Falls budget (streams_of R.remaining W.contents reader.old reader.new writer result.writer) }
+        → Falls settings (streams_of R.remaining W.contents reader.old reader.new writer result.writer) }
     ensures kept { (fault : FileFault) → result.end ≡ End.Kept fault → fault.name ≡ name }
     ensures memory { result.end ≡ End.Memory → AreUntouched (streams_of R.remaining W.contents reader.old reader.new writer result.writer) }
     ensures words { result.end ≢ End.Words }
@@ -331,7 +350,7 @@ fn keep_in<H: Threads + Wait + Sync, R: Read, F: Write + OpenFile + Drop, W: Wri
         len,
         failure: None,
     };
-    let ended = serve_durably(rt, alloc, reader, &mut devices, begun, workers, budget);
+    let ended = serve_durably(rt, alloc, reader, &mut devices, begun, workers, settings);
     let Kept {
         file,
         replies: writer,
@@ -372,26 +391,27 @@ fn end_of_keeping(alloc: Global, name: Vec<u8>, fault: RunFault, failure: Option
     }
 }
 
-/// Runs the race of these files, each of which is read whole first.
+/// Runs the race of these files within these settings. Each file is read whole first.
 fn race_files<H: Threads + Sync + Files + AllocGlobal, W: Write>(
     rt: &H,
     alloc: Global,
+    settings: Settings,
     names: &[String],
     writer: &mut W,
 ) -> End
     requires some { 0 < length names.now }
     requires few { length names.now ≤ MOST_FILES }
-    ensures done { result ≡ End.Done → (files : List Text) × (length files ≡ length names.now) × Races (W.contents writer.old) (W.contents writer.new) files }
+    ensures done { result ≡ End.Done → (files : List Text) × (length files ≡ length names.now) × Races settings (W.contents writer.old) (W.contents writer.new) files }
     ensures input { result ≡ End.Input → Keeps (W.contents writer.old) (W.contents writer.new) }
     ensures output { result ≡ End.Output → (files : List Text) × (length files ≡ length names.now)
-        × (Keeps (W.contents writer.old) (W.contents writer.new) ⊎ RacesInPart (W.contents writer.old) (W.contents writer.new) files) }
+        × (Keeps (W.contents writer.old) (W.contents writer.new) ⊎ RacesInPart settings (W.contents writer.old) (W.contents writer.new) files) }
     ensures memory { result ≡ End.Memory → Keeps (W.contents writer.old) (W.contents writer.new) }
     ensures kept { (fault : FileFault) → result ≢ End.Kept fault }
     ensures words { result ≢ End.Words }
     ensures no_journal { (line : ℕ) → result ≢ End.Journal line }
 {
     match read_files(rt, alloc, names) {
-        Ok(files) => match race(rt, alloc, files, writer) {
+        Ok(files) => match race(rt, alloc, files, writer, settings) {
             Ok(()) => End::Done,
             Err(fault) => End::from(fault),
         },
