@@ -1,7 +1,7 @@
-//! Calls of chronicle: a row with two seats and a mark, and steps over them in one call. The mark is at the row's
-//! beginning until a seat makes one. After each step everything that either seat has stored has to stand in its registry.
+//! Calls of chronicle: a row with two or three seats and a mark, and steps over them in one call. The mark is at the row's
+//! beginning until a seat makes one. After each step everything that a seat has stored has to stand in its registry.
 
-ghost use Rattle.std.specs.Prelude.{◌≡◌, ◌≤◌, IfOk};
+ghost use Rattle.std.specs.Prelude.{◌≡◌, ◌≤◌, true, IfOk};
 
 use crate::seat_steps::seat_step;
 use chronicle::{CAPACITY_LIMIT, Mark, Row, SEAT_LIMIT, Seat, agree, seats};
@@ -28,10 +28,14 @@ fn of_row(alloc: Global, cells: &Row, name: &str, row: &Value) -> Result<Answer,
     }
 }
 
-/// `"seats":[1,2]` are the numbers of the two seats. Each comes of a call of its own, so that two may have one number.
+/// `"seats":[1,2]` are the numbers of the seats, of which there may be three. Each comes of a call of its own, so that two may
+/// have one number. Where there are two, nobody moves the third.
 fn seated(alloc: Global, cells: &Row, row: &Value) -> Result<Answer, Unread> {
     match items(member(row, "seats")?)? {
-        [one, two] => with_seats(alloc, cells, whole(one)?, whole(two)?, row),
+        [one, two] => with_seats(alloc, cells, whole(one)?, whole(two)?, SEAT_LIMIT, row),
+        [one, two, three] => {
+            with_seats(alloc, cells, whole(one)?, whole(two)?, whole(three)?, row)
+        }
         _ => Err(Unread::Row),
     }
 }
@@ -41,31 +45,57 @@ fn with_seats(
     cells: &Row,
     one: u32,
     two: u32,
+    three: u32,
     row: &Value,
 ) -> Result<Answer, Unread> {
-    if one < 1 || one > SEAT_LIMIT || two < 1 || two > SEAT_LIMIT {
+    if !is_seat(one) || !is_seat(two) || !is_seat(three) {
         return Ok(Answer::Skipped);
     }
     let steps = items(member(row, "steps")?)?;
     let mut first = last_of(alloc, cells, one)?;
-    let answer = with_first(alloc, cells, two, steps, &mut first);
+    let answer = with_first(alloc, cells, two, three, steps, &mut first);
     drop(first);
     answer
+}
+
+fn is_seat(number: u32) -> bool
+    ensures { result ≡ true → (1 ≤ number) × (number ≤ 64) }
+{
+    1 <= number && number <= SEAT_LIMIT
 }
 
 fn with_first<'a>(
     alloc: Global,
     cells: &'a Row,
     two: u32,
+    three: u32,
     steps: &[Value],
     first: &mut Seat<'a>,
 ) -> Result<Answer, Unread>
     requires row { first.old.row ≡ cells.now }
     requires two { (1 ≤ two) × (two ≤ 64) }
+    requires three { (1 ≤ three) × (three ≤ 64) }
 {
     let mut second = last_of(alloc, cells, two)?;
-    let answer = all_told(alloc, steps, first, &mut second);
+    let answer = with_second(alloc, cells, three, steps, first, &mut second);
     drop(second);
+    answer
+}
+
+fn with_second<'a>(
+    alloc: Global,
+    cells: &'a Row,
+    three: u32,
+    steps: &[Value],
+    first: &mut Seat<'a>,
+    second: &mut Seat<'a>,
+) -> Result<Answer, Unread>
+    requires rows { (first.old.row ≡ cells.now) × (second.old.row ≡ cells.now) }
+    requires three { (1 ≤ three) × (three ≤ 64) }
+{
+    let mut third = last_of(alloc, cells, three)?;
+    let answer = all_told(alloc, steps, first, second, &mut third);
+    drop(third);
     answer
 }
 
@@ -88,12 +118,13 @@ fn all_told<'a>(
     steps: &[Value],
     first: &mut Seat<'a>,
     second: &mut Seat<'a>,
+    third: &mut Seat<'a>,
 ) -> Result<Answer, Unread>
-    requires { first.old.row ≡ second.old.row }
+    requires { (first.old.row ≡ second.old.row) × (first.old.row ≡ third.old.row) }
 {
     let mut mark = first.mark()?;
     let mut answers = Vec::new(alloc);
-    let outcome = take_all(alloc, steps, first, second, &mut mark, &mut answers);
+    let outcome = take_all(alloc, steps, first, second, third, &mut mark, &mut answers);
     drop(mark);
     match outcome {
         Ok(()) => given(alloc, answers),
@@ -109,15 +140,16 @@ fn take_all<'a>(
     steps: &[Value],
     first: &mut Seat<'a>,
     second: &mut Seat<'a>,
+    third: &mut Seat<'a>,
     mark: &mut Mark<'a>,
     answers: &mut Vec<Answer>,
 ) -> Result<(), Unread>
-    requires rows { first.old.row ≡ second.old.row }
+    requires rows { (first.old.row ≡ second.old.row) × (first.old.row ≡ third.old.row) }
     requires mark { mark.old.row ≡ first.old.row }
 {
     for step in steps {
-        answers.push(take(alloc, items(step)?, first, second, mark)?)?;
-        if !is_standing(first) || !is_standing(second) {
+        answers.push(take(alloc, items(step)?, first, second, third, mark)?)?;
+        if !is_standing(first) || !is_standing(second) || !is_standing(third) {
             answers.push(Answer::Word("a member does not stand"))?;
         }
     }
@@ -128,34 +160,43 @@ fn is_standing(seat: &Seat<'_>) -> bool {
     all_stand(seat.registry(), seat.store())
 }
 
-/// `["agree"]`, or a step of the first or the second seat: `[1,"place"]` or `[2,"publish",{..}]`.
+/// `["agree"]`, of each two seats, or a step of one: `[1,"place"]` or `[3,"publish",{..}]`.
 fn take<'a>(
     alloc: Global,
     step: &[Value],
     first: &mut Seat<'a>,
     second: &mut Seat<'a>,
+    third: &mut Seat<'a>,
     mark: &mut Mark<'a>,
 ) -> Result<Answer, Unread>
-    requires rows { first.old.row ≡ second.old.row }
+    requires rows { (first.old.row ≡ second.old.row) × (first.old.row ≡ third.old.row) }
     requires mark { mark.old.row ≡ first.old.row }
     ensures first { first.new.row ≡ first.old.row }
     ensures second { second.new.row ≡ first.old.row }
+    ensures third { third.new.row ≡ first.old.row }
     ensures mark { mark.new.row ≡ first.old.row }
 {
     match step {
-        [_] => agreed(first, second),
-        [number, name] => of_seat(alloc, number, name, name, first, second, mark),
-        [number, name, given] => of_seat(alloc, number, name, given, first, second, mark),
+        [_] => agreed(first, second, third),
+        [number, name] => of_seat(alloc, number, name, name, first, second, third, mark),
+        [number, name, given] => of_seat(alloc, number, name, given, first, second, third, mark),
         _ => Err(Unread::Row),
     }
 }
 
-fn agreed<'a>(first: &mut Seat<'a>, second: &mut Seat<'a>) -> Result<Answer, Unread>
-    requires { first.old.row ≡ second.old.row }
+fn agreed<'a>(
+    first: &mut Seat<'a>,
+    second: &mut Seat<'a>,
+    third: &mut Seat<'a>,
+) -> Result<Answer, Unread>
+    requires { (first.old.row ≡ second.old.row) × (first.old.row ≡ third.old.row) }
     ensures first { first.new.row ≡ first.old.row }
     ensures second { second.new.row ≡ second.old.row }
+    ensures third { third.new.row ≡ third.old.row }
 {
     agree(first, second);
+    agree(first, third);
+    agree(second, third);
     Ok(Answer::None)
 }
 
@@ -166,18 +207,21 @@ fn of_seat<'a>(
     given: &Value,
     first: &mut Seat<'a>,
     second: &mut Seat<'a>,
+    third: &mut Seat<'a>,
     mark: &mut Mark<'a>,
 ) -> Result<Answer, Unread>
-    requires rows { first.old.row ≡ second.old.row }
+    requires rows { (first.old.row ≡ second.old.row) × (first.old.row ≡ third.old.row) }
     requires mark { mark.old.row ≡ first.old.row }
     ensures first { first.new.row ≡ first.old.row }
     ensures second { second.new.row ≡ first.old.row }
+    ensures third { third.new.row ≡ first.old.row }
     ensures mark { mark.new.row ≡ first.old.row }
 {
     let name = text(name)?;
     match whole(number)? {
         1 => seat_step(alloc, name, given, first, mark),
         2 => seat_step(alloc, name, given, second, mark),
+        3 => seat_step(alloc, name, given, third, mark),
         _ => Err(Unread::Row),
     }
 }

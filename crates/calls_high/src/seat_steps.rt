@@ -4,7 +4,7 @@
 ghost use Rattle.std.specs.Prelude.{◌≡◌, IfOk};
 
 use crate::item_texts::put_item;
-use crate::outcomes::{budget_at, offered};
+use crate::outcomes::{offered, seat_options_at};
 use chronicle::{Entry, Mark, Seat, Stamp};
 use derivations::Learnt;
 use registry::Request;
@@ -13,7 +13,7 @@ use rows::{
     text_at, three,
 };
 use serde_json::Value;
-use solver::Outcome;
+use solver::{Options, Outcome};
 use std::alloc::Global;
 use versions::Refusal;
 
@@ -220,9 +220,9 @@ fn resolve(
 ) -> Result<Answer, Unread>
     ensures { seat.new.row ≡ seat.old.row }
 {
-    let budget = budget_at(given)?;
+    let options = seat_options_at(given)?;
     let request = request_at(alloc, given)?;
-    let answer = resolve_told(alloc, learns, seat, &request, budget);
+    let answer = resolve_told(alloc, learns, seat, &request, options);
     drop(request);
     answer
 }
@@ -232,11 +232,11 @@ fn resolve_told(
     learns: bool,
     seat: &mut Seat<'_>,
     request: &Request,
-    budget: Option<u32>,
+    options: Options,
 ) -> Result<Answer, Unread>
     ensures { seat.new.row ≡ seat.old.row }
 {
-    match resolved_again(seat, request, budget) {
+    match resolved_again(seat, request, options) {
         Ok((stamp, outcome)) => {
             let answer = outcome_told(alloc, learns, stamp, &outcome, seat);
             drop(outcome);
@@ -296,12 +296,12 @@ fn learn_one(learnt: Learnt, seat: &mut Seat<'_>) -> Result<(), Unread>
 fn resolved_again(
     seat: &mut Seat<'_>,
     request: &Request,
-    budget: Option<u32>,
+    options: Options,
 ) -> Result<(Stamp, Outcome), Refusal>
     ensures { seat.new.row ≡ seat.old.row }
 {
-    match resolved(seat, request, budget) {
-        Err(Refusal::NoMemory) => resolved(seat, request, budget),
+    match resolved(seat, request, options) {
+        Err(Refusal::NoMemory) => resolved(seat, request, options),
         outcome => outcome,
     }
 }
@@ -309,11 +309,14 @@ fn resolved_again(
 fn resolved(
     seat: &mut Seat<'_>,
     request: &Request,
-    budget: Option<u32>,
+    options: Options,
 ) -> Result<(Stamp, Outcome), Refusal>
     ensures { seat.new.row ≡ seat.old.row }
 {
-    match budget {
+    if !options.explain || !options.newest {
+        return seat.resolve_with(request, options);
+    }
+    match options.budget {
         Some(budget) => seat.resolve_within(request, budget),
         None => seat.resolve(request),
     }

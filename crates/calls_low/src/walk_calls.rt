@@ -2,6 +2,8 @@
 
 ghost use Rattle.std.specs.Ordering.{nat_cmp};
 ghost use Rattle.std.specs.BTreeMap.{get};
+ghost use Rattle.std.specs.Prelude.{OnOk};
+ghost use Rattle.walk.specs.Listing.{IsOrder};
 
 use registry::{Pkg, Registry, Request};
 use rows::{Answer, AnswerText, Given, Shows, Unread, items, member, request_at, whole_at};
@@ -10,8 +12,8 @@ use std::alloc::Global;
 use std::collections::BTreeMap;
 use versions::{Name, Need, Published};
 use walk::{
-    Asker, Chooser, Listed, Preferred, Reached, is_plainly_newest, list_in_order, locked_ordinal,
-    preferred_version, reach, reach_preferred, sort_by_name,
+    Asker, Chooser, Listed, Next, Order, Preferred, Reached, choose_newest, is_plainly_newest,
+    list_in_order, locked_ordinal, preferred_version, reach, reach_preferred, sort_by_name,
 };
 
 pub fn walk_call(
@@ -38,6 +40,8 @@ fn about(
         "reach_by_preferred" => walked(alloc, registry, request, &Preferred { registry, request }),
         "reach_preferred" => reach_by_itself(alloc, registry, request),
         "list_in_order" => list_chosen(alloc, registry, row, request),
+        "go_on" => go_on_chosen(alloc, registry, row, request),
+        "choose_newest" => chosen_newest(alloc, registry, request),
         "is_plainly_newest" => plainly_newest(alloc, registry, row, request),
         "locked_ordinal" => {
             let pkg = whole_at(row, "pkg")?;
@@ -65,8 +69,13 @@ impl Chooser for Chosen<'_> {
     }
 }
 
-fn put_choices(alloc: Global, row: &Value, choices: &mut BTreeMap<Pkg, u32>) -> Result<(), Unread> {
-    for item in items(member(row, "choose")?)? {
+fn put_choices(
+    alloc: Global,
+    row: &Value,
+    name: &str,
+    choices: &mut BTreeMap<Pkg, u32>,
+) -> Result<(), Unread> {
+    for item in items(member(row, name)?)? {
         let (pkg, ordinal) = <(Pkg, u32)>::of(alloc, item)?;
         choices.insert(pkg, ordinal)?;
     }
@@ -75,8 +84,13 @@ fn put_choices(alloc: Global, row: &Value, choices: &mut BTreeMap<Pkg, u32>) -> 
 
 /// What a row chooses, as `[[1,0],[2,1]]`.
 fn choices_at(alloc: Global, row: &Value) -> Result<BTreeMap<Pkg, u32>, Unread> {
+    choices_by(alloc, row, "choose")
+}
+
+/// What a member of a row chooses.
+fn choices_by(alloc: Global, row: &Value, name: &str) -> Result<BTreeMap<Pkg, u32>, Unread> {
     let mut choices = BTreeMap::new(alloc);
-    match put_choices(alloc, row, &mut choices) {
+    match put_choices(alloc, row, name, &mut choices) {
         Ok(()) => Ok(choices),
         Err(why) => {
             drop(choices);
@@ -146,6 +160,59 @@ fn list_chosen(
     listed_in_order(alloc, registry, &listed)
 }
 
+/// With `"choose":[[1,0]],"then":[[1,1]]` what is found by the one is gone on from by the other: `{"next":"b"}` is the
+/// name of the package that comes next then; without a next one, none is there.
+fn go_on_chosen(
+    alloc: Global,
+    registry: &Registry,
+    row: &Value,
+    request: &Request,
+) -> Result<Answer, Unread> {
+    let mut order = Order::new(alloc);
+    let next = gone_on_twice(alloc, registry, row, request, &mut order);
+    drop(order);
+    let next = next?;
+    let mut text = AnswerText::new(alloc);
+    text.put("{");
+    if let Some(next) = next {
+        text.put("\"next\":");
+        registry.name_at(next.pkg).show(&mut text);
+    }
+    text.put("}");
+    text.answer()
+}
+
+fn gone_on_twice(
+    alloc: Global,
+    registry: &Registry,
+    row: &Value,
+    request: &Request,
+    order: &mut Order,
+) -> Result<Option<Next>, Unread>
+    requires { IsOrder registry.now.packages request.now.needs order.old }
+{
+    gone_on(alloc, registry, row, request, "choose", order)?;
+    gone_on(alloc, registry, row, request, "then", order)
+}
+
+/// What comes next by the choices of a member of a row.
+fn gone_on(
+    alloc: Global,
+    registry: &Registry,
+    row: &Value,
+    request: &Request,
+    name: &str,
+    order: &mut Order,
+) -> Result<Option<Next>, Unread>
+    requires { IsOrder registry.now.packages request.now.needs order.old }
+    ensures { OnOk result (IsOrder registry.now.packages request.now.needs order.new) }
+{
+    let choices = choices_by(alloc, row, name)?;
+    let next = order.go_on(alloc, registry, request, &Chosen { choices: &choices });
+    drop(choices);
+    Ok(next?)
+}
+
 fn listed_in_order(alloc: Global, registry: &Registry, listed: &Listed) -> Result<Answer, Unread> {
     let mut is_first = true;
     let mut text = AnswerText::new(alloc);
@@ -162,6 +229,21 @@ fn listed_in_order(alloc: Global, registry: &Registry, listed: &Listed) -> Resul
     }
     text.put("}");
     text.answer()
+}
+
+/// The selection, or `{"selected":null}` where a search is needed.
+fn chosen_newest(alloc: Global, registry: &Registry, request: &Request) -> Result<Answer, Unread> {
+    match choose_newest(alloc, registry, request)? {
+        Some(mut list) => {
+            sort_by_name(registry, &mut list);
+            selected(alloc, registry, &list)
+        }
+        None => {
+            let mut text = AnswerText::new(alloc);
+            text.put("{\"selected\":null}");
+            text.answer()
+        }
+    }
 }
 
 /// Whether what a row selects, as `[[1,0],[2,1]]`, is plainly the newest.

@@ -4,12 +4,12 @@ use crate::fakes::{Narrow, Pieces};
 use crate::texts::{Bytes, failure, text_of, told, written};
 use book::{Item, Replica};
 use journals::{
-    Format, LoadFault, Recovered, all_have_names, end_text, item_lines, load_journal, recover,
-    save_journal,
+    Format, LoadFault, Recovered, all_have_names, end_text, item_lines, load_book, load_journal,
+    recover, save_journal,
 };
 use lines::Outbox;
 use registry::Registry;
-use rows::{Answer, AnswerText, Unread, at, member, whole};
+use rows::{Answer, AnswerText, Unread, at, member, shown, whole};
 use serde_json::Value;
 use std::alloc::Global;
 use std::io;
@@ -18,6 +18,7 @@ use versions::Refusal;
 pub fn journal_call(alloc: Global, name: &str, row: &Value) -> Result<Answer, Unread> {
     match name {
         "load_journal" | "save_journal" | "item_lines" => loaded(alloc, name, row),
+        "load_book" => booked(alloc, row),
         "recover" => recovered(alloc, row),
         "end_text" => ended(alloc, whole_at(row, "count")?),
         _ => Err(Unread::Row),
@@ -54,6 +55,29 @@ fn loaded_of(
         Ok(items) => {
             let answer = items_told(alloc, name, row, &items);
             drop(items);
+            answer
+        }
+        Err(fault) => fault_told(alloc, fault),
+    }
+}
+
+/// What is stored once the text of a row was loaded.
+fn booked(alloc: Global, row: &Value) -> Result<Answer, Unread> {
+    let text = at::<Bytes>(alloc, row, "text")?;
+    let answer = match Pieces::new(row, text.as_slice(), &[]) {
+        Ok(mut reader) => booked_of(alloc, &mut reader),
+        Err(why) => Err(why),
+    };
+    drop(text);
+    answer
+}
+
+fn booked_of(alloc: Global, reader: &mut Pieces<'_>) -> Result<Answer, Unread> {
+    match load_book(alloc, reader) {
+        Ok((replica, items)) => {
+            drop(items);
+            let answer = shown(alloc, replica.store());
+            drop(replica);
             answer
         }
         Err(fault) => fault_told(alloc, fault),
