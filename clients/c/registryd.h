@@ -3,11 +3,14 @@
  * Request lines go in, reply lines come out, as docs/FORMATS.md has them. A session is answered in one of three ways, which is
  * chosen when it is opened; all other calls are the same for each:
  *
- *   by a child process   registryd_open, registryd_open_journal, registryd_open_budget: a `registryd serve` of its own, with threads
- *                        that share requests
- *   in process           registryd_open_embedded, registryd_open_embedded_journal: the session is a part of the caller's process,
- *                        which starts nothing and waits for nothing but its journal's file
+ *   by a child process   registryd_open, registryd_open_journal, registryd_open_budget, registryd_open_selecting: a `registryd serve`
+ *                        of its own, with threads that share requests
+ *   in process           registryd_open_embedded, registryd_open_embedded_journal, registryd_open_embedded_selecting: the session
+ *                        is a part of the caller's process, which starts nothing and waits for nothing but its journal's file
  *   by a service         registryd_connect: a `registry serve` that keeps one journal for many clients
+ *
+ * Which selection answers a request is said by the two calls _selecting, and left to the program by the others. A service selects as
+ * it was started.
  *
  * What is proved: of the program, which replies it gives to the lines that it reads; of the archive `embedded`, which is linked
  * in for sessions in process, the same of the bytes that each call is given, what a journal's file is to get, and that no reply
@@ -52,6 +55,16 @@ enum registryd_answer {
     REGISTRYD_JOURNAL = 5
 };
 
+/* Which selection answers a request. */
+enum registryd_selection {
+    /* As the program selects without a word. */
+    REGISTRYD_DEFAULT = 0,
+    /* Its newest selection, which is the same whoever asks. */
+    REGISTRYD_NEWEST = 1,
+    /* The first one that a search finds, which may differ from session to session. */
+    REGISTRYD_ANY = 2
+};
+
 /* How many sessions may be open at once. */
 #define REGISTRYD_SESSIONS 64
 
@@ -74,6 +87,11 @@ int registryd_open_journal(const char *program, unsigned workers, const char *jo
 int registryd_open_budget(const char *program, unsigned workers, uint32_t budget, const char *journal, const char *load, const char *save,
                           registryd_session *session);
 
+/* As registryd_open, or as registryd_open_journal where `journal` is not null, for requests that this selection answers. A budget is as
+ * registryd_open_budget has it, or null where none is wanted. */
+int registryd_open_selecting(const char *program, unsigned workers, enum registryd_selection selection, const uint32_t *budget, const char *journal,
+                             const char *load, const char *save, registryd_session *session);
+
 /* Opens a session in process. It begins with the journal of a file, or with none where `load` is null; registryd_save will
  * write a journal to the file `save`, which is null where none is wanted.
  *
@@ -86,6 +104,11 @@ int registryd_open_embedded(const char *load, const char *save, registryd_sessio
  * search taught is written before the reply to a later line can be taken, or at the end. A session of the program and one in process
  * exclude each other from a file, as two of either do. */
 int registryd_open_embedded_journal(const char *journal, registryd_session *session, char *words, size_t room);
+
+/* As registryd_open_embedded, or as registryd_open_embedded_journal where `journal` is not null, for requests that this selection
+ * answers. */
+int registryd_open_embedded_selecting(const char *journal, const char *load, const char *save, enum registryd_selection selection,
+                                      registryd_session *session, char *words, size_t room);
 
 /* Connects to a service, `registry serve`. The address is the path of its socket, or HOST:PORT: a text without a slash that ends in
  * a colon and digits. The service has a journal of its own, which it keeps beyond the session. REGISTRYD_START says that it can't

@@ -47,6 +47,8 @@ Pairs = Union[Mapping[str, str], Iterable[tuple[str, str]]]
 Derivation = Sequence[Mapping[str, Any]]
 FilePath = Union[str, "os.PathLike[str]"]
 
+# the words that say which selection answers a request, by whether that is the newest
+SELECTING: dict[bool | None, list[str]] = {None: [], True: ["--newest"], False: ["--any"]}
 MOST_TOLD = 4096  # bytes of standard error that are kept, the last ones
 WAITED = 0.5  # seconds that a program which answers no more has to end by itself
 INTERRUPTED = 2.0  # seconds that it has where a `with` is left by an interrupt from the keyboard
@@ -344,6 +346,9 @@ class Registry:
     file, or the one that the system finds. What can't be started or loaded is an OSError. A session in this process has no workers
     and no budget of its own, and no signal breaks off a search there: give each request a `budget`.
 
+    `newest` says which selection answers a request: where it is true the newest one, which is the same whoever asks, and where it is
+    false the first one that a search finds, which may differ from session to session. Where it is none, that is left to the program.
+
     `connect` is the address of a service, the path of its socket or HOST:PORT; the file registryd_service.py has to stand beside
     this one. Where the connection breaks off, it is made again, and what has no reply is asked again, a command unless it
     was carried out. The `close` of such a session ends it alone.
@@ -354,22 +359,24 @@ class Registry:
 
     def __init__(self, program: FilePath | Sequence[str] = "registryd", *, workers: int = 1, budget: int | None = None,
                  journal: FilePath | None = None, load: FilePath | None = None, save: FilePath | None = None, embedded: bool = False,
-                 library: FilePath | None = None, connect: FilePath | None = None) -> None:
+                 library: FilePath | None = None, connect: FilePath | None = None, newest: bool | None = None) -> None:
         if budget is not None and (embedded or connect is not None):
             raise ValueError("a program of its own alone takes a budget of all requests")
         if connect is not None:
             from registryd_service import Connection
             if journal or load or save or embedded:
                 raise ValueError("a service has a journal of its own")
+            if newest is not None:
+                raise ValueError("a service selects as it was started: start it with --newest or --any")
             self._session: _Child | _Embedded | Connection = Connection(os.fspath(connect))
             return
         if embedded:
             if workers != 1:
                 raise ValueError("a session in this process has no workers")
-            self._session = _Embedded(library, journal, load, save)
+            self._session = _Embedded(library, journal, load, save, newest)
             return
         words = [os.fspath(program)] if isinstance(program, (str, os.PathLike)) else list(program)
-        words += ["serve", "--workers", str(workers)] + ([] if budget is None else ["--budget", str(budget)])
+        words += ["serve", "--workers", str(workers)] + ([] if budget is None else ["--budget", str(budget)]) + SELECTING[newest]
         for option, path in (("--journal", journal), ("--load", load), ("--save", save)):
             words += [] if path is None else [option, os.fspath(path)]
         self._session = _Child(words)
@@ -637,12 +644,14 @@ NUMBER, SIZE, PLACE = ctypes.c_uint64, ctypes.c_size_t, ctypes.POINTER(ctypes.c_
 CALLS = {
     "open_embedded": (ctypes.c_char_p, ctypes.c_char_p, ctypes.POINTER(NUMBER), ctypes.c_char_p, SIZE),
     "open_embedded_journal": (ctypes.c_char_p, ctypes.POINTER(NUMBER), ctypes.c_char_p, SIZE),
+    "open_embedded_selecting": (ctypes.c_char_p, ctypes.c_char_p, ctypes.c_char_p, ctypes.c_int, ctypes.POINTER(NUMBER), ctypes.c_char_p, SIZE),
     "ask": (NUMBER, ctypes.c_char_p, SIZE, ctypes.c_char_p, SIZE, PLACE, PLACE),
     "take": (NUMBER, ctypes.c_char_p, SIZE, PLACE, PLACE),
     "error": (NUMBER, ctypes.c_char_p, SIZE),
     "save": (NUMBER,),
     "close": (NUMBER,),
 }
+NEWEST, ANY = 1, 2  # which selection answers a request
 ANSWERS = {1: "the library was misused, as by a process that was forked", 2: "there is no memory"}
 
 
@@ -667,7 +676,8 @@ def library_path(given: FilePath | None) -> str:
 class _Embedded:
     """A session in this process, by the calls of the library. One thread at a time is in it."""
 
-    def __init__(self, library: FilePath | None, journal: FilePath | None, load: FilePath | None, save: FilePath | None) -> None:
+    def __init__(self, library: FilePath | None, journal: FilePath | None, load: FilePath | None, save: FilePath | None,
+                 newest: bool | None) -> None:
         if journal is not None and (load is not None or save is not None):
             raise ValueError("a session that goes on with a journal loads and saves none")
         self._library = loaded(library_path(library))
@@ -678,11 +688,13 @@ class _Embedded:
         self._lock = threading.Lock()
         self._fault = ""  # why no more lines are taken
         number, words = NUMBER(), ctypes.create_string_buffer(MOST_TOLD)
-        if journal is not None:
-            answered = self._library.registryd_open_embedded_journal(os.fsencode(journal), number, words, MOST_TOLD)
+        files = [None if path is None else os.fsencode(path) for path in (journal, load, save)]
+        if newest is not None:
+            answered = self._library.registryd_open_embedded_selecting(*files, NEWEST if newest else ANY, number, words, MOST_TOLD)
+        elif journal is not None:
+            answered = self._library.registryd_open_embedded_journal(files[0], number, words, MOST_TOLD)
         else:
-            files = [None if path is None else os.fsencode(path) for path in (load, save)]
-            answered = self._library.registryd_open_embedded(*files, number, words, MOST_TOLD)
+            answered = self._library.registryd_open_embedded(*files[1:], number, words, MOST_TOLD)
         if answered:
             raise Ended(told_by(answered, words))
         self._number = number.value

@@ -22,6 +22,9 @@ pub struct Options {
     /// How many conflicts the search of each request may meet that names no budget of its own; any number where it is none. A session
     /// in this process takes none.
     pub budget: Option<u32>,
+    /// Whether a request is answered by its newest selection, which is the same whoever asks, or by the first one that a search finds,
+    /// which may differ from session to session. Where it is none, that is left to the program.
+    pub newest: Option<bool>,
     /// The journal that the session goes on with, made where it is not there: it has each accepted command before the call
     /// that made it returns. With it nothing is loaded or saved.
     pub journal: Option<PathBuf>,
@@ -33,7 +36,7 @@ pub struct Options {
 
 impl Default for Options {
     fn default() -> Options {
-        Options { workers: 1, budget: None, journal: None, load: None, save: None }
+        Options { workers: 1, budget: None, newest: None, journal: None, load: None, save: None }
     }
 }
 
@@ -122,6 +125,9 @@ impl Registry {
         command.args(["serve", "--workers", &options.workers.to_string()]);
         if let Some(budget) = options.budget {
             command.args(["--budget", &budget.to_string()]);
+        }
+        if let Some(newest) = options.newest {
+            command.arg(if newest { "--newest" } else { "--any" });
         }
         for (option, path) in [("--journal", &options.journal), ("--load", &options.load), ("--save", &options.save)] {
             if let Some(path) = path {

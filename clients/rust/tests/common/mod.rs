@@ -8,7 +8,7 @@ use std::process::{self, Child, Command, Stdio};
 use std::sync::atomic::{AtomicUsize, Ordering};
 use std::time::{Duration, Instant};
 
-use registryd::{Error, Registry, Request, Resolve};
+use registryd::{Error, Registry, Request, Resolve, Selected};
 
 /// The program, which `REGISTRYD` names.
 pub fn program() -> PathBuf {
@@ -27,6 +27,26 @@ pub fn file(name: &str) -> PathBuf {
 
 pub fn needs<'a>(needs: &'a [(&'a str, &'a str)]) -> Resolve<'a> {
     Resolve { needs, ..Resolve::default() }
+}
+
+/// Publishes a registry that has two selections for a request for any a and any b. A search takes the package with the fewest versions
+/// first, so the first one that it finds has b 2.0.0, with which a 3.0.0 is out.
+pub fn selected_of_two(registry: &mut Registry) -> Selected {
+    let versions: [(&str, &str, &[(&str, &str)]); 5] =
+        [("a", "1.0.0", &[]), ("a", "2.0.0", &[]), ("a", "3.0.0", &[("b", "=1.0.0")]), ("b", "1.0.0", &[]), ("b", "2.0.0", &[])];
+    versions.iter().for_each(|(name, version, needs)| {
+        registry.publish(name, version, needs).unwrap();
+    });
+    registry.resolve(needs(&[("b", "*"), ("a", "*")])).unwrap()
+}
+
+pub fn versions(a: &str, b: &str) -> Selected {
+    Selected::Versions(vec![("a".to_string(), a.to_string()), ("b".to_string(), b.to_string())])
+}
+
+/// What the program selects without a word.
+pub fn by_default() -> Selected {
+    versions("3.0.0", "1.0.0")
 }
 
 /// How a call tells that the session has ended.
