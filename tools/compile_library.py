@@ -11,7 +11,7 @@ from compile_program import Failed, KitDiffers, as_text, call, lowered, objects_
 EXPORT = re.compile(r'^#\[unsafe\(no_mangle\)\]\npub extern "C" fn (\w+)\(([^)]*)\)', re.M)
 # What `main` passes for the first parameter of a type, and for the second one. The calls are compiled, and never run.
 PASSED = {"Global": ["rt.alloc()"], "&mut Slot": ["&mut slot"], "&[u8]": ['b""'], "&mut [u8]": ["&mut room"],
-          "&mut usize": ["&mut first", "&mut second"]}
+          "&mut usize": ["&mut first", "&mut second"], "u32": ["0"]}
 MAIN = """
 fn main(rt: HostRuntime) {{
     let mut slot = Slot::closed(rt.alloc());

@@ -13,7 +13,7 @@ FILE = "FILE"
 
 @dataclass(frozen=True)
 class Option:
-    """An option with the name of its value, what the program's help says of it, and what may be offered where no file is meant."""
+    """An option with the name of its value, none for a flag, what the program's help says of it, and what may be offered where no file is meant."""
     name: str
     value: str
     about: str
@@ -29,6 +29,10 @@ class Command:
     takes_files: bool = False
 
 
+SELECTIONS = (
+    Option("newest", "", "Tell the newest selection that meets a request"),
+    Option("any", "", "Tell the first selection that a search finds"),
+)
 COMMANDS = (
     Command("serve", "Answers the request lines of standard input", (
         Option("workers", "N", "How many threads resolve, 1 to 64", "1 2 4 8 16 32 64"),
@@ -36,8 +40,9 @@ COMMANDS = (
         Option("load", FILE, "A journal to begin from"),
         Option("save", FILE, "Where to write the journal at the end"),
         Option("budget", "N", "The budget of conflicts of each request that names none", "100 1000 10000 100000"),
+        *SELECTIONS,
     )),
-    Command("race", "Answers the request lines of files, a thread to each", takes_files=True),
+    Command("race", "Answers the request lines of files, a thread to each", SELECTIONS, takes_files=True),
 )
 HELP, VERSION = "Print help", "Print the version, and whether the program is proved"
 
@@ -103,16 +108,19 @@ complete -c registryd -n __fish_use_subcommand -l version -d '{version}'
 """
 
 
+def with_values(command):
+    """The options of a command that take a value."""
+    return [option for option in command.options if option.value]
+
+
 def bash():
     values, commands = [], []
     for command in COMMANDS:
-        for option in command.options:
+        for option in with_values(command):
             offer = BASH_FILES if option.value == FILE else f'COMPREPLY=($(compgen -W "{option.offered}" -- "$current")); return'
             values.append(f'        "{command.name} --{option.name}") {offer} ;;')
-        if command.takes_files:
-            commands.append(f'        {command.name}) [[ $current == -* ]] || {{ {BASH_FILES}; }}; set -- --help ;;')
-        else:
-            commands.append(f'        {command.name}) set -- {" ".join(f"--{it.name}" for it in command.options)} --help ;;')
+        files = f"[[ $current == -* ]] || {{ {BASH_FILES}; }}; " if command.takes_files else ""
+        commands.append(f'        {command.name}) {files}set -- {" ".join(f"--{it.name}" for it in command.options)} --help ;;')
     names = [it.name for it in COMMANDS]
     return BASH.format(names="|".join(names), words=" ".join(names), values="\n".join(values), commands="\n".join(commands))
 
@@ -123,7 +131,7 @@ def zsh():
         words = []
         for it in command.options:
             offer = "_files" if it.value == FILE else f"({it.offered})" if it.offered else " "
-            words.append(f"'--{it.name}[{it.about}]:{it.value}:{offer}'")
+            words.append(f"'--{it.name}[{it.about}]" + (f":{it.value}:{offer}'" if it.value else "'"))
         words += ["'*:file:_files'"] if command.takes_files else []
         lines.append(f"                {command.name}) _arguments {' '.join(words)} '(- *)--help[{HELP}]' ;;")
     commands = " ".join(f"'{it.name}:{it.about}'" for it in COMMANDS)
@@ -136,8 +144,8 @@ def fish():
         within = f"complete -c registryd -n '__fish_seen_subcommand_from {command.name}'"
         lines.append(f"complete -c registryd -n __fish_use_subcommand -a {command.name} -d '{command.about}'")
         for it in command.options:
-            offer = "-r -F" if it.value == FILE else f"-x -a '{it.offered}'"
-            lines.append(f"{within} -l {it.name} {offer} -d '{it.about}'")
+            offer = "-r -F " if it.value == FILE else f"-x -a '{it.offered}' " if it.value else ""
+            lines.append(f"{within} -l {it.name} {offer}-d '{it.about}'")
         lines.append(f"{within} -l help -d '{HELP}'")
         lines += [f"{within} -F"] if command.takes_files else []
     return FISH.format(help=HELP, version=VERSION, lines="\n".join(lines))

@@ -25,7 +25,7 @@ OPTION = "--newest"
 
 def is_offered():
     """Whether the program knows the option."""
-    return os.path.exists(program.PROGRAM) and program.run(["serve", OPTION]).returncode == 0
+    return os.path.exists(program.PROGRAM) and program.run(["serve", "--workers", "1", OPTION]).returncode == 0
 
 
 def serve_newest(lines, workers=1):

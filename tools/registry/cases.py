@@ -1,13 +1,15 @@
 """A request with its answer, told in English: what was selected, why nothing was, or why one version was not."""
 from check_derivation import PAIRS, Fault, admits, demand, formed, read_version
-from limits import MOST_LOCK_LINES, MOST_NEEDS, MOST_REQUIREMENT_BYTES
+from limits import MOST_LOCK_LINES
 
-from .derivation import FAILED, Derivation
+from .derivation import FAILED, Derivation, listed
 from .failures import Refused
 from .locks import changes
 from .packages import named
+from .questions import Question
 from .refusals import english, unmatched, unpublished
 from .telling import Telling
+from .walk import is_preferred, walk
 
 MOST_NAMED = 4
 
@@ -39,12 +41,12 @@ def hints(derivation):
 
 
 class Case:
-    """A request with its reply. `registry` answers the registry in Python, with some packages; `ask` asks the program again; `names`
-    are the published packages."""
+    """A request with its reply. `registry` answers the registry in Python, with some packages; `ask` asks the program again, and `put` puts a
+    question that no request asks; `names` are the published packages."""
 
-    def __init__(self, request, reply, registry, ask, names=(), told=""):
+    def __init__(self, request, reply, registry, ask, names=(), told="", put=None):
         self.request = {"op": "resolve", "needs": request["needs"], "lock": request.get("lock", [])}
-        self.registry, self.ask, self.names, self.told = registry, ask, names, told
+        self.registry, self.ask, self.put, self.names, self.told = registry, ask, put, names, told
         self.reply = reply or self.again()
         self.draw = None  # once it was told: what draws it, of a derivation at most so many lines unfolded
 
@@ -56,10 +58,10 @@ class Case:
         """What was asked, in short."""
         return self.told + told_needs(self.request["needs"])
 
-    def again(self, **other):
-        """The reply to this request with some members changed."""
-        request = {**self.request, "explain": True, **other}
-        reply = self.ask(request)
+    def again(self, question=None, **other):
+        """The reply to this request, or to a question, with some members changed."""
+        request = {**(question.request if question else self.request), "explain": True, **other}
+        reply = self.ask(request) if question is None or question.is_plain() else self.put(question, request)
         if "error" in reply:
             raise Refused(f"{self.title()}: {english(request, reply, dict)}")
         return reply
@@ -79,18 +81,20 @@ class Case:
         self.draw = lambda _: drawing().draw_selection(self.registry(selected), self.request, selected, title)
         return [title, *(f"  {name} {version}" for name, version in selected.items())]
 
-    def derivation(self, title, request, reply, asked=None):
+    def derivation(self, title, request, reply, asked=None, held=None):
         """The derivation of a refusal, which follows."""
         rows = reply.get("derivation") or self.again().get("derivation")
         demand(rows, f"{title}: asked again, the program answers a selection", Refused)
         try:
-            return Derivation(self.registry(named(request, rows)), request, rows, asked, self.names)
+            return Derivation(self.registry(named(request, rows)), request, rows, asked, self.names, held)
         except Fault as fault:
             raise Refused(f"{title}: the derivation does not follow: {fault}") from None
 
     def refusal(self, title, request, reply, asked=None, failed=FAILED):
         """The English of a refusal, and what there is instead of what it misses."""
-        derivation = self.derivation(title, request, reply, asked)
+        return self.english(self.derivation(title, request, reply, asked), title, failed)
+
+    def english(self, derivation, title, failed):
         self.draw = lambda most: drawing().draw_derivation(derivation, title, failed, most)
         return [title, *("  " + it if it else "" for it in (*Telling(derivation, failed).lines(), *hints(derivation)))]
 
@@ -107,35 +111,49 @@ class Case:
             return [f"{name} {selected[name]} is what was selected"]
         if name in needs and not admits(needs[name], release.version):
             return [f"{name} {release.text} can't be selected: the request depends on {name} {needs[name]}"]
-        return self.with_need(name, release.text, selected)
+        return self.with_version(name, release.text, selected)
 
-    def just(self, name, text):
-        """The request for just this version, instead of the request's own need on the package, which admits it."""
-        needs = {**dict(self.request["needs"]), name: "=" + text.partition("+")[0]}
-        demand(len(needs) <= MOST_NEEDS, f"the request has {MOST_NEEDS} needs and can't be asked with one more", Refused)
-        demand(len(needs[name]) <= MOST_REQUIREMENT_BYTES, f"{name} {text} is too long to be asked for", Refused)
-        return {**self.request, "needs": [list(it) for it in needs.items()]}
-
-    def with_need(self, name, text, selected):
+    def with_version(self, name, text, selected):
         """What is answered where just this version is asked for."""
-        request = self.just(name, text)
-        reply, title = self.again(needs=request["needs"]), self.title()
+        question, title, failed = Question(self.request, {name: text}), self.title(), f"{name} {text} can't be selected"
+        reply = self.again(question)
         if "selected" not in reply:
-            failed = f"{name} {text} can't be selected"
-            return self.refusal(f"{title}: {failed}", request, reply, (name, text), failed)
-        other = self.nearest(request, selected, reply)
-        further = [it for it in changes(selected, other) if it.split()[1] != name]
-        told = f"{name} {text} can be selected; {self.instead(name, text, selected)}"
-        lines = [told, "a selection with it changes besides:" if further else "a selection with it changes nothing else"]
-        self.request = request
+            return self.refusal(f"{title}: {failed}", question.request, reply, (name, text), failed)
+        other = self.nearest(question, selected, reply)
+        further = ["  " + it for it in changes(selected, other) if it.split()[1] != name]
+        forbidden = self.forbidden(name, text, self.before(name, text, selected), failed)
+        if forbidden:
+            return [*forbidden, f"a selection with {name} {text} changes besides:", *further]
+        lines = [f"{name} {text} can be selected; {self.instead(name, text, selected)}",
+                 "a selection with it changes besides:" if further else "a selection with it changes nothing else"]
+        self.request = question.request
         self.selection(f"{title}: a selection with {name} {text}", other)
-        return [*lines, *("  " + it for it in further)]
+        return [*lines, *further]
 
-    def nearest(self, request, selected, reply):
-        """A selection for a request that keeps what was selected where it may, else the one of a reply."""
+    def before(self, name, text, selected):
+        """The selected versions that come before a package in the walk, where this version would be preferred to the selected one."""
+        if name not in selected or not is_preferred(text, selected[name], dict(self.request["lock"]).get(name)):
+            return {}
+        order = walk(self.request["needs"], selected, self.registry(selected))
+        return {it: selected[it] for it in order[:order.index(name)]}
+
+    def forbidden(self, name, text, before, failed):
+        """Which of the versions that come before rule this one out, and why; nothing where they leave it."""
+        question = Question(self.request, {**before, name: text})
+        reply = self.again(question) if before else {"selected": []}
+        if "selected" in reply:
+            return []
+        derivation = self.derivation(self.title(), question.request, reply, (name, text), before)
+        used = {fact.held for step in derivation.reached() for fact in step.facts()}
+        told = [f"{it} {version}" for it, version in before.items() if it in used]
+        come = f"which come{'s' * (len(told) == 1)} before it"
+        return self.english(derivation, f"{self.title()}: {failed} with {listed(told, 'and')}, {come}", failed)
+
+    def nearest(self, question, selected, reply):
+        """A selection for a question that keeps what was selected where it may, else the one of a reply."""
         kept = {**dict(self.request["lock"]), **selected}
         if len(kept) <= MOST_LOCK_LINES:
-            reply = {**reply, **self.again(needs=request["needs"], lock=[list(it) for it in kept.items()])}
+            reply = {**reply, **self.again(question, lock=[list(it) for it in kept.items()])}
         return dict(reply["selected"])
 
     def instead(self, name, text, selected):

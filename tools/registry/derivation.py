@@ -5,10 +5,11 @@ A range of versions means those that are published, by precedence.
 import json
 import re
 
-from check_derivation import NEVER, ROOT, Judge
+from check_derivation import NEVER, ROOT, Judge, read_version
 
 FAILED, NOTHING = "resolving failed", "nothing is said of {}"
 THE_REQUEST = (ROOT, frozenset({0}))
+THE_SELECTION = (*THE_REQUEST, "with the versions that it has")
 PLAIN = re.compile(r"[~^][^ ,]*|\*")
 
 
@@ -71,8 +72,9 @@ class Versions:
 
 
 class Fact:
-    """A cause that follows from nothing else. Of two that are told together the one of the lower rank comes first."""
-    rank = 2
+    """A cause that follows from nothing else. Of two that are told together the one of the lower rank comes first. `held` is a package
+    where it says which version of that the selection has."""
+    rank, held = 2, None
 
     def __init__(self, said, lacking=None, names=()):
         """`lacking` is a package and a requirement where it says that nothing published meets it. `names` are the packages it is of."""
@@ -86,13 +88,13 @@ class Question(Fact):
 
 class Dependency(Fact):
     """Versions of a package, or the request, depend on a package; `within` has the versions that they leave to choose from."""
-    rank = 0
+    rank, verb = 0, "depends on"
 
     def __init__(self, subject, whose, target, requirement, within):
         # in quotes where it could be taken for a range of versions, which is another thing
         quoted = requirement if PLAIN.fullmatch(requirement) else f'"{requirement}"'
         self.subject, self.whose, self.target, self.within, self.wanted = subject, whose, target, within, f"{target} {quoted}"
-        super().__init__(f"{subject} depends on {self.wanted}", names=tuple(it for it in (whose[0], target) if it != ROOT))
+        super().__init__(f"{subject} {self.verb} {self.wanted}", names=tuple(it for it in (whose[0], target) if it != ROOT))
         self.unmet = Fact(f"no version of {target} matches {quoted}", (target, requirement), (target,))
 
     def leads_to(self, other, steps):
@@ -102,14 +104,43 @@ class Dependency(Fact):
         return self.within == other.whose[1] or all(self.target not in step.terms for step in steps)
 
 
+class Held(Dependency):
+    """The selection has this version."""
+    rank, verb = 1, "has"
+
+    def __init__(self, target, text, requirement, within):
+        super().__init__("the selection", THE_SELECTION, target, requirement, within)
+        self.held, self.wanted = target, f"{target} {text}"
+        self.said = f"{self.subject} {self.verb} {self.wanted}"
+
+
 def joined(first, second, steps):
     """What two facts say, in few words, between these steps."""
     for one, other in ((first, second), (second, first)):
         if isinstance(one, Dependency) and one.leads_to(other, steps):
             return f"{one.said} which depends on {other.wanted}"
     if isinstance(first, Dependency) and isinstance(second, Dependency) and first.whose == second.whose:
-        return f"{first.subject} depends on both {first.wanted} and {second.wanted}"
+        return f"{first.subject} {first.verb} both {first.wanted} and {second.wanted}"
     return " and ".join(it.said for it in sorted((first, second), key=lambda it: it.rank))
+
+
+class Holding(Judge):
+    """A judge for a request that needs just these versions of some packages: their others are not allowed either."""
+
+    def __init__(self, registry, request, versions):
+        super().__init__(registry, request)
+        self.versions = versions
+
+    def disallowed(self, name, versions):
+        if holds(self.registry, self.versions, name, versions):
+            return {name: (True, frozenset(versions))}
+        return super().disallowed(name, versions)
+
+
+def holds(registry, held, name, versions):
+    """Whether just one version of a package is asked for, and is none of these."""
+    wanted = read_version(held[name]) if name in held else None
+    return wanted is not None and wanted not in [it.version for ordinal, it in enumerate(registry.releases[name]) if ordinal in versions]
 
 
 class Step:
@@ -132,11 +163,13 @@ class Step:
 class Derivation:
     """A derivation that follows, as the steps that its last one rests on; each stands after those that it cites."""
 
-    def __init__(self, registry, request, rows, asked=None, names=()):
-        """A need on the package `asked`, of a name and a version, is the question itself and no need of the request. `names` are
-        the published packages, where the registry has not all of them."""
+    def __init__(self, registry, request, rows, asked=None, names=(), held=None):
+        """A need on the package `asked`, of a name and a version, is the question itself and no need of the request; one on a package that
+        is `held`, in a version, says what the selection has. `names` are the published packages, where the registry has not all of them."""
         self.request = {"lock": [], "explain": True, "budget": 0, **request}
-        judge = Judge(registry, self.request)
+        self.held = held or {}
+        self.only = {**self.held, **dict([asked] if asked else [])}
+        judge = Holding(registry, self.request, self.only)
         judge.judge(rows)
         self.registry, self.versions, self.asked, self.facts, self.names = registry, Versions(registry), asked, {}, names
         lines = []
@@ -191,9 +224,14 @@ class Derivation:
         target, requirement = self.request["needs"][index]
         admitted = self.versions.matching(target, requirement)
         fact = Dependency("the request", THE_REQUEST, target, requirement, admitted)
+        if target in self.held:
+            fact = Held(target, self.held[target], requirement, admitted)
         if self.asked and target == self.asked[0]:
-            fact = Question(" ".join(self.asked) + " is asked for", names=(target,))
+            fact = self.question()
         return self.depended(fact, target, requirement, admitted, dict(NEVER))
+
+    def question(self):
+        return Question(" ".join(self.asked) + " is asked for", names=(self.asked[0],))
 
     def premise(self, name, need, target, versions, within):
         versions, within = frozenset(versions), frozenset(within)
@@ -206,11 +244,14 @@ class Derivation:
             unpublished = Fact(f"no version of {target} is published", (target, requirement), (target,))
             nothing = fact.unmet if self.registry.releases.get(target) else unpublished
             return Step(terms, [fact, nothing])
-        if within & frozenset(self.versions.order(target)) == self.versions.matching(target, requirement) and isinstance(fact, Dependency):
+        is_told = isinstance(fact, Dependency) and (not fact.held or len(within) == 1)
+        if is_told and within & frozenset(self.versions.order(target)) == self.versions.matching(target, requirement):
             fact.admitted = {target: (within, fact.wanted)}
         return fact
 
     def disallowed(self, name, versions):
+        if holds(self.registry, self.only, name, versions):
+            return Held(name, self.held[name], "*", frozenset()) if name in self.held else self.question()
         published = frozenset(self.versions.order(name)) & frozenset(versions)
         locked = " and not in the lock" if self.request["lock"] else ""
         said = [f"{self.versions.every(name, published)} is yanked{locked}"] if published else []
@@ -228,7 +269,7 @@ class Derivation:
             return NOTHING.format(listed(list(terms), "and")) if terms else "the request must be met"
         wanted = " or ".join(self.wanted(step, name, ordinals) for name, (is_in, ordinals) in terms.items() if not is_in)
         if not inside:
-            return f"the request requires {wanted}" if wanted else "no selection meets the request"
+            return f"the {'selection' if self.held else 'request'} requires {wanted}" if wanted else "no selection meets the request"
         if wanted and len(inside) == 1:
             return f"{self.versions.every(*inside[0])} requires {wanted}"
         named = [self.versions.some(*it) for it in inside]

@@ -48,10 +48,20 @@ def service_of(given):
     return standing.service if standing else os.environ.get(SERVICE)
 
 
+def selecting(given):
+    """The words of the program that say which selection answers a request; none where that is left to the program."""
+    newest, takes_any = (getattr(given, it, None) is True for it in ("newest", "any"))
+    if newest and takes_any:
+        raise Usage("--newest goes without --any")
+    return ["--newest"] * newest + ["--any"] * takes_any
+
+
 def reading(given):
     """A session that reads. It answers `ask`, `each`, `commands` and `close`, and one over a service answers the same."""
-    service, path = service_of(given), journal_of(given)
-    return connected(service) if service else (standing and standing.lent(path)) or Reading(path)
+    service, path, words = service_of(given), journal_of(given), selecting(given)
+    if service and words:
+        raise Usage(f"{words[0]} is for a journal: a service selects as it was started")
+    return connected(service) if service else (standing and not words and standing.lent(path)) or Reading(path, words=words)
 
 
 def writing(given):
@@ -199,10 +209,10 @@ class Session:
 class Reading(Session):
     """A session on a journal as it stood when this was begun, or as it is told to have stood."""
 
-    def __init__(self, path, text=None):
+    def __init__(self, path, text=None, words=()):
         self.text = snapshot(path) if text is None else text
         with shared(self.text) as file:
-            super().__init__(path, [f"--load=/dev/fd/{file.fileno()}"], [file.fileno()])
+            super().__init__(path, [*words, f"--load=/dev/fd/{file.fileno()}"], [file.fileno()])
 
     def commands(self):
         """The accepted commands, in order."""

@@ -55,6 +55,8 @@ NEEDS = word("NEED", "a package and a requirement, as app@^1; app alone is app@*
 LOCK = option("--lock", "FILE", "a lock file: its versions are preferred", FILE)
 LOCK_FILE = option("--lock", "FILE", "the lock file (else: registry.lock)", FILE)
 BUDGET = option("--budget", "N", "give up after N conflicts", BUDGETS)
+SELECTING = (flag("--newest", "take the newest selection, which is the same for everyone (else: as the program selects)"),
+             flag("--any", "take the first selection that a search finds"))
 NOT = Word(("NAME", "VERSION"), "why this version is not what is selected", PACKAGE, flag="--not", kept_as="version")
 BESIDE = ("Where no NEED is typed, the needs file beside the lock file says what is needed: its name has .needs for .lock, and each of its "
           "lines a name and a requirement. Without a lock file it is registry.needs.")
@@ -97,16 +99,16 @@ SUBCOMMANDS = (
                (word("TEXT", "a part of the name"),), ("registry search json",)),
     Subcommand("list", "listing", "List all packages, each with its newest version", (), ("registry list",)),
     Subcommand("resolve", "resolve", "Select versions that fit together",
-               (NEEDS, LOCK, option("--write", "FILE", "keep the selection as a lock file, and beside it what was needed", FILE), BUDGET),
+               (NEEDS, LOCK, option("--write", "FILE", "keep the selection as a lock file, and beside it what was needed", FILE), BUDGET, *SELECTING),
                ("registry resolve app@^1 zlib", "registry resolve app@^1 --write registry.lock", "registry resolve --lock registry.lock"),
                BESIDE),
     Subcommand("tree", "tree", "Show a selection as a tree of who needs whom",
                (NEEDS, LOCK, option("--invert", "NAME", "who needs this package, in place of what is needed", PACKAGE),
-                option("--depth", "N", "no more than N steps deep", BUDGETS), BUDGET),
+                option("--depth", "N", "no more than N steps deep", BUDGETS), BUDGET, *SELECTING),
                ("registry tree app@^1", "registry tree app@^1 --invert log", "registry tree --lock registry.lock --depth 1"),
                "The needs of a package are shown once: (*) marks it where it comes again. " + BESIDE),
     Subcommand("why", "why", "Tell why a request is refused, or why a version is not selected",
-               (NEEDS, LOCK, BUDGET, NOT, option("--picture", "FILE", "draw it too, as SVG: the derivation, or the selection", FILE),
+               (NEEDS, LOCK, BUDGET, *SELECTING, NOT, option("--picture", "FILE", "draw it too, as SVG: the derivation, or the selection", FILE),
                 flag("--unfolded", "draw each line of a derivation, however long it is"),
                 option("--asked", "FILE", "the request lines of a session; without --told each followed by its reply", FILE),
                 option("--told", "FILE", "the reply lines of that session", FILE),
@@ -116,13 +118,13 @@ SUBCOMMANDS = (
                "A refusal is told from its derivation alone, and only where that follows. Of a session whose packages are a journal's, "
                "as a race prints it, --journal names that: each reply is told at its revision. " + BESIDE),
     Subcommand("outdated", "outdated", "Tell what in a lock file is not the newest, and what holds it back",
-               (NEEDS, LOCK_FILE, option("--budget", "N", "give a question up after N conflicts (else: 10000)", BUDGETS)),
+               (NEEDS, LOCK_FILE, option("--budget", "N", "give a question up after N conflicts (else: 10000)", BUDGETS), *SELECTING),
                ("registry outdated", "registry outdated --lock app.lock"),
                "Of each package it tells what is locked, what an upgrade of all would select, the newest version that is not yanked, and "
                "why that is not selected. " + BESIDE),
     Subcommand("upgrade", "upgrade", "Take packages off a lock file, and keep what is selected then",
                (word("NAME", "a package of the lock file; without any all are taken off", PACKAGE, "*"), LOCK_FILE,
-                option("--need", "NEED", "what is needed, in place of what the needs file says", NEED, "+"), BUDGET,
+                option("--need", "NEED", "what is needed, in place of what the needs file says", NEED, "+"), BUDGET, *SELECTING,
                 flag("--yes", "write it without a question")),
                ("registry upgrade log", "registry upgrade --yes", "registry upgrade --lock app.lock --need app@^2"),
                "It shows what would change and asks before it writes. " + BESIDE),
@@ -160,7 +162,7 @@ SUBCOMMANDS = (
                 option("--group", "NAME", "the group of the socket"),
                 option("--readers", "N", "how many programs answer requests (else: 2)", range(1, 65), default=2),
                 option("--seconds", "N", "end a search after N seconds (else: 10)", range(1, 3_601), default=10),
-                option("--budget", "N", "the budget of conflicts of requests that name none", BUDGETS),
+                option("--budget", "N", "the budget of conflicts of requests that name none", BUDGETS), *SELECTING,
                 option("--workers", "N", "how many threads of each program resolve (else: 1)", range(1, 65), default=1),
                 option("--clients", "N", "no more than N clients at a time (else: 1000)", range(1, 100_001), default=1_000),
                 option("--log", "FILE", "log each line that is answered; - is standard output", FILE),
@@ -170,7 +172,7 @@ SUBCOMMANDS = (
                "SIGTERM and Ctrl-C end it within 5 seconds, with all answered that came. A first line in HTTP asks for /metrics, /health or /journal."),
     Subcommand("page", "page", "Show the journal on a page in a browser of this machine",
                (option("--port", "N", "the port (else: one that is free)", range(65_536)),
-                option("--seconds", "N", "end a search after N seconds (else: 10)", range(1, 3_601))),
+                option("--seconds", "N", "end a search after N seconds (else: 10)", range(1, 3_601)), *SELECTING),
                ("registry page", "registry page --port 8000 --journal team.journal"),
                "It prints the page's address, and shows there until Ctrl-C. The page changes nothing. Only this machine reaches it, but each of its users."),
 )

@@ -8,9 +8,10 @@ from ..derivation import Dependency
 from ..failures import Refused
 from ..locks import DEFAULT, changes, lock_of
 from ..packages import registry_of
+from ..questions import Question
 from ..refusals import listed
 from ..requests import answered, refused, request_of
-from ..session import reading
+from ..session import reading, selecting
 
 BUDGET = 10_000  # conflicts of each question what holds a version back
 MOST_TOLD = 2
@@ -25,17 +26,22 @@ def run(given, out):
         reply = answered(session, request, out)
         if "selected" not in reply:
             return refused(session, request, reply, out)
-        rows = outdated(session, lock, request, reply, listed(session), given.budget or BUDGET)
+        rows = outdated(session, lock, request, reply, listed(session), given.budget or BUDGET, selecting(given))
     out.give([vars(it) for it in rows], lines(rows, out))
     if not rows:
         out.note(f"all that {path} has is the newest")
     return None
 
 
-def outdated(session, lock, request, reply, packages, budget):
+def outdated(session, lock, request, reply, packages, budget, words):
     """A row for each package that an upgrade would change, or of which there is a newer version."""
     commands, rows, selected = session.commands(), [], dict(reply["selected"])
-    case = Case(request, reply, lambda named: registry_of(commands, named), lambda it: session.ask({**it, "budget": budget})[0], packages)
+
+    def registry(names):
+        return registry_of(commands, names)
+
+    case = Case(request, reply, registry, lambda it: session.ask({**it, "budget": budget})[0], packages,
+                put=lambda question, it: question.put(commands, {**it, "budget": budget}, registry, words))
     for name, locked in sorted(lock.items()):
         allowed, newest = selected.get(name), newest_of(packages.get(name, []), locked)
         if allowed and read_version(allowed) == read_version(locked) and not is_newer(newest, locked):
@@ -69,12 +75,12 @@ def held_back(case, name, newest, selected):
     if name in needs and not admits(needs[name], read_version(newest)):
         return f"the request depends on {name} {needs[name]}"
     try:
-        asked = case.just(name, newest)
-        reply = case.again(needs=asked["needs"])
+        asked = Question(case.request, {name: newest})
+        reply = case.again(asked)
         if "selected" in reply:
             further = [it[2:] for it in changes(selected, case.nearest(asked, selected, reply)) if it.split()[1] != name and it[0] != "+"]
             return "with it " + "; ".join([*further[:MOST_TOLD], *([f"{len(further) - MOST_TOLD} more"] if len(further) > MOST_TOLD else [])])
-        return "; ".join(facts(case.derivation(case.title(), asked, reply, (name, newest)), name))
+        return "; ".join(facts(case.derivation(case.title(), asked.request, reply, (name, newest)), name))
     except Refused as fault:
         return f"not found out: {fault}"
 

@@ -9,7 +9,7 @@ from ..files import write_file
 from ..folding import MOST_SHOWN
 from ..packages import registry_of
 from ..requests import request_of
-from ..session import Session, reading
+from ..session import Session, reading, selecting, service_of
 
 
 def run(given, out):
@@ -49,11 +49,17 @@ def check(given):
 def of_journal(given):
     """The one case of needs that are asked for now."""
     request = request_of(given)
+    # which version is better than which, and comes before which, is said of the newest selection
+    given.newest = given.newest or bool(given.version and not given.any and not service_of(given))
     with reading(given) as session:
         names = {it["name"] for it in session.commands() if it["op"] == "publish"}
         budget = {name: value for name, value in request.items() if name == "budget"}
-        # a service may have more commands once it has replied
-        yield Case(request, None, lambda named: registry_of(session.commands(), named), lambda it: session.ask({**it, **budget})[0], names)
+
+        def registry(named):
+            return registry_of(session.commands(), named)  # a service may have more commands once it has replied
+
+        yield Case(request, None, registry, lambda it: session.ask({**it, **budget})[0], names,
+                   put=lambda question, it: question.put(session.commands(), {**it, **budget}, registry, selecting(given)))
 
 
 def of_files(given):
@@ -66,8 +72,7 @@ def of_files(given):
         commands += [request] if reply.get("ok") is True else []
         if number in wanted:
             before = commands[:] if journal is None else journal[:registry.revision]
-            yield Case(request, reply, lambda _, registry=registry: registry, lambda it, before=before: asked_anew(before, it),
-                       told=f"request {number}, ")
+            yield case_of(number, request, reply, registry, before, selecting(given))
 
 
 def lines_of(path):
@@ -77,9 +82,15 @@ def lines_of(path):
         raise Failed(f"{path}: {fault.strerror}") from None
 
 
-def asked_anew(commands, request):
+def case_of(number, request, reply, registry, commands, words):
+    """The case of a request line and its reply, of a session that had obeyed these commands."""
+    return Case(request, reply, lambda _: registry, lambda it: asked_anew(commands, it, words), told=f"request {number}, ",
+                put=lambda question, it: question.put(commands, it, lambda _: registry, words))
+
+
+def asked_anew(commands, request, words):
     """The reply of a program that has obeyed these commands."""
-    with Session("the session", []) as session:
+    with Session("the session", words) as session:
         return session.ask(*commands, request)[-1]
 
 

@@ -16,10 +16,10 @@ class Unanswered(Failure):
 
 
 class File:
-    """A journal's file that is shown."""
+    """A journal's file that is shown. The words are the program's, which say how it selects."""
 
-    def __init__(self, path):
-        self.path = path
+    def __init__(self, path, words=()):
+        self.path, self.words = path, words
 
     def text(self):
         return snapshot(self.path)
@@ -36,8 +36,8 @@ class File:
 class Service:
     """The journal of a service that is shown. A search in it is none of the service's."""
 
-    def __init__(self, address):
-        self.path = address
+    def __init__(self, address, words=()):
+        self.path, self.words = address, words
 
     def text(self):
         from ..connected import journal_of_service
@@ -56,8 +56,8 @@ class View(Catalog):
     """A journal as it stood at one moment."""
 
     def __init__(self, source):
-        self.path, self.text, self.searches, self.ranks = source.path, source.text(), 0, {}
-        self.session = Reading(self.path, self.text)
+        self.path, self.words, self.text, self.searches, self.ranks = source.path, source.words, source.text(), 0, {}
+        self.session = Reading(self.path, self.text, self.words)
         try:
             super().__init__(self.session)
         except BaseException:
@@ -92,7 +92,7 @@ class View(Catalog):
     def program(self):
         """The program over this text, begun anew where a search was ended with it."""
         if self.session is None:
-            self.session = Reading(self.path, self.text)
+            self.session = Reading(self.path, self.text, self.words)
         return self.session
 
     def leave(self):

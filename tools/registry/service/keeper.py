@@ -10,13 +10,13 @@ class Keeper(Supervisor):
     """`followers` are called with each accepted line, in order. What is asked while the program is begun again waits for that."""
     role = "keeper"
 
-    def __init__(self, path, watch):
+    def __init__(self, path, watch, words=()):
         super().__init__(path, watch)
-        self.revision, self.followers = 0, []
+        self.words, self.revision, self.followers = words, 0, []
 
     async def begin(self):
         """Goes on with the journal's file. What stands there and was told to nobody is accepted now."""
-        self.child = Child(self.path, ["--workers=1", f"--journal={self.path}"])
+        self.child = Child(self.path, ["--workers=1", *self.words, f"--journal={self.path}"])
         revision = await self.child.begin()
         for line in commands_after(self.path, self.revision):
             self.accept(line)

@@ -3,7 +3,7 @@ import asyncio
 import select
 from collections import deque
 
-from ..session import shared
+from ..session import selecting, shared
 from .child import ACCEPTED, Child
 from .journal import text_at
 from .supervisor import Supervisor
@@ -108,7 +108,7 @@ class Readers:
 
     def __init__(self, path, watch, keeper, given):
         self.path, self.watch, self.keeper, self.limit = path, watch, keeper, given.seconds
-        self.words = [f"--workers={given.workers}", *([] if given.budget is None else [f"--budget={given.budget}"])]
+        self.words = [f"--workers={given.workers}", *selecting(given), *([] if given.budget is None else [f"--budget={given.budget}"])]
         self.now, self.waiting = asyncio.get_running_loop().time, deque()
         self.readers = [Reader(self) for _ in range(given.readers)]
 

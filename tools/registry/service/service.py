@@ -4,6 +4,7 @@ import contextlib
 import os
 import signal
 
+from ..session import selecting
 from .client import READS, Client
 from .http import page
 from .keeper import Keeper
@@ -21,7 +22,7 @@ class Service:
         self.path, self.given, self.loop = path, given, asyncio.get_running_loop()
         self.now, self.clients, self.servers, self.is_stopping, self.is_over = self.loop.time, set(), [], False, False
         self.watch, self.signalled = Watch(given.log), asyncio.Event()
-        self.keeper = Keeper(path, self.watch)
+        self.keeper = Keeper(path, self.watch, selecting(given))
         self.readers = Readers(path, self.watch, self.keeper, given)
 
     def takes_in(self, client):

@@ -25,6 +25,7 @@ def bound_file(path, mode, group):
     """A socket in the file system, in place of one that nobody listens on. Until mode and group are set nobody else reaches it."""
     bound = socket.socket(socket.AF_UNIX)
     try:
+        owners = grp.getgrnam(group).gr_gid if group else -1
         if os.path.lexists(path) and stat.S_ISSOCK(os.lstat(path).st_mode):
             if bound.connect_ex(path) == 0:
                 raise Failed(f"{path}: another service answers there")
@@ -34,9 +35,12 @@ def bound_file(path, mode, group):
             bound.bind(path)
         finally:
             os.umask(before)
-        if group:
-            os.chown(path, -1, grp.getgrnam(group).gr_gid)
-        os.chmod(path, mode)
+        try:
+            os.chown(path, -1, owners)
+            os.chmod(path, mode)
+        except OSError:
+            os.unlink(path)
+            raise
     except KeyError:
         raise Failed(f"there is no group {group}") from None
     except OSError as fault:
