@@ -23,10 +23,12 @@ class Session:
     """A running program that is sent lines, and answers each with one."""
 
     def __init__(self, program, workers=1):
-        self.process = subprocess.Popen([program, "serve", "--workers", str(workers)], stdin=subprocess.PIPE,
-                                        stdout=subprocess.PIPE)
+        self.process = subprocess.Popen(self.words(program, workers), stdin=subprocess.PIPE, stdout=subprocess.PIPE)
         # the first reply comes when the program has started, which is no part of loading
         self.resolve('{"op":"list"}')
+
+    def words(self, program, workers):
+        return [program, "serve", "--workers", str(workers)]
 
     def __enter__(self):
         return self

@@ -149,6 +149,30 @@ def sat(size, seed=1, count=6):
     return lines, requests
 
 
+VERSIONS, WINDOW = 5, 3
+
+
+def conflicting(size, seed=1, count=16):
+    """A random registry of `size` packages of five versions, of which each needs two others by a window of three versions, and so many
+    requests. There are many selections for most, and which one a search finds first hangs on what was learnt before."""
+    rng = random.Random(seed)
+    names = ["w%03d" % place for place in range(size)]
+    lines = [publish(name, (1, minor, 0), [[other, window(rng)] for other in rng.sample([it for it in names if it != name], 2)])
+             for name in names for minor in range(VERSIONS)]
+    requests = []
+    for _ in range(count):
+        forms = ["*", "*", "^1.%d.0" % rng.randrange(VERSIONS), "<=1.%d.0" % rng.randrange(VERSIONS)]
+        requests.append(resolve([[name, rng.choice(forms)] for name in rng.sample(names, rng.randint(1, 4))]))
+    return lines, requests
+
+
+def window(rng):
+    """A requirement for some versions in a row: three, or, of three in ten, fewer at the upper end."""
+    low = rng.randrange(VERSIONS)
+    low = min(low, VERSIONS - WINDOW) if rng.random() < 0.7 else low
+    return ">=1.%d.0, <1.%d.0" % (low, low + WINDOW)
+
+
 # ---- requests that share conflicts
 
 SESSION = 200
