@@ -36,8 +36,9 @@ def pieces(text, words):
 class Reader:
     """Reads sentences about a registry and a request."""
 
-    def __init__(self, registry, request, failed="resolving failed"):
-        self.registry, self.request, self.failed = registry, request, failed
+    def __init__(self, registry, request, failed="resolving failed", before=()):
+        """`before` are the versions that the selection is said to have, as pairs."""
+        self.registry, self.request, self.failed, self.before = registry, request, failed, dict(before)
 
     def held(self, name):
         return self.registry.releases.get(name, [])
@@ -96,7 +97,8 @@ class Reader:
 
     def fact(self, text):
         """What a fact forbids, a list; it has to be one."""
-        for form, read in ((r"(.*) depends on both (.*) and (.*)", self.both), (r"(.*) depends on (.*) which depends on (.*)", self.through),
+        for form, read in ((r"the selection has both (.*) and (.*)", self.has_both), (r"the selection has (.*) which depends on (.*)", self.has_through), (r"the selection has (.*)", self.has),
+                           (r"(.*) depends on both (.*) and (.*)", self.both), (r"(.*) depends on (.*) which depends on (.*)", self.through),
                            (r"(.*) depends on (.*)", self.depends), (rf"no version of ({NAME}) matches (.*)", self.unmet),
                            (rf"no version of ({NAME}) is published", self.nothing), (r"(.*) is yanked(?: and not in the lock)?", self.yanked),
                            (r"(.*) is not published", self.missing), (r"(.*) is asked for", self.asked)):
@@ -115,6 +117,17 @@ class Reader:
         name, versions = self.versions(subject)
         self.demand(versions and all(self.held(name)[it].needs.get(need[0]) == need[1] for it in versions), f"{subject} does not need {need}")
         return [{name: versions, **self.without(target)}]
+
+    def has(self, subject):
+        name, _, version = subject.partition(" ")
+        self.demand(self.before.get(name, "") == version != "", f"the selection does not have {subject}")
+        return self.asked(subject)
+
+    def has_both(self, one, other):
+        return self.has(one) + self.has(other)
+
+    def has_through(self, subject, needed):
+        return [*self.has(subject), *self.depends(subject, needed)]
 
     def both(self, subject, one, other):
         return self.depends(subject, one) + self.depends(subject, other)
@@ -159,7 +172,7 @@ class Reader:
         if text.startswith("nothing is said of "):
             return None
         for form in (r"(?P<all>.*) is forbidden", r"(?P<one>.*) is incompatible with (?P<other>.*)", r"(?P<all>.*) are incompatible",
-                     r"the request requires (?P<wanted>.*)", r"(?P<all>.*) together require (?P<wanted>.*)", r"(?P<one>.*) requires (?P<wanted>.*)"):
+                     r"the (?:request|selection) requires (?P<wanted>.*)", r"(?P<all>.*) together require (?P<wanted>.*)", r"(?P<one>.*) requires (?P<wanted>.*)"):
             found = re.fullmatch(form, text)
             if found:
                 parts = found.groupdict()

@@ -13,6 +13,7 @@ from client_python import PYTHON, SECONDS, SOON, Case, registryd
 from library import LIBRARY, needs_library
 from program import TOP
 from registryd import Accepted, Ended, List, Listing, NoSelection, Publish, Registry, Resolve
+from two_selections import BY_DEFAULT, FIRST_FOUND, NEEDS, NEWEST, VERSIONS
 
 CLIENT = os.path.join(TOP, "clients", "python", "registryd.py")
 MOST = 64  # sessions that may be open at once
@@ -52,6 +53,21 @@ class Library(Case):
 class Embedded(Case):
     def open(self, **options):
         return Registry(embedded=True, library=LIBRARY, **options)
+
+    def test_the_newest_selection_or_any(self):
+        path = self.path("a.journal")
+        with self.open(journal=path) as registry:
+            for version in VERSIONS:
+                registry.publish(*version)
+            self.assertEqual(registry.resolve(NEEDS).selected, BY_DEFAULT)
+        for options in ({"journal": path}, {"load": path}, {"load": path, "save": self.path("b.journal")}):
+            for newest, selected in ((True, NEWEST), (False, FIRST_FOUND), (None, BY_DEFAULT)):
+                with self.open(newest=newest, **options) as registry:
+                    self.assertEqual(registry.resolve(NEEDS).selected, selected)
+        with self.open(newest=True) as registry:
+            for version in VERSIONS:
+                registry.publish(*version)
+            self.assertEqual(registry.resolve(NEEDS).selected, NEWEST)
 
     def test_what_cannot_be_asked_for(self):
         for options in ({"workers": 2}, {"journal": self.path("a"), "load": self.path("b")}, {"journal": self.path("a"), "save": self.path("b")}):

@@ -87,7 +87,7 @@ class Client(unittest.TestCase):
         with tempfile.TemporaryDirectory() as folder:
             beside, calls, embedded, program, service = self.passed(folder, *IN_PROCESS)
             # each call twice, and with a service those that take no files
-            self.assertEqual((calls, embedded), (10 + 10 + 6, 3))
+            self.assertEqual((calls, embedded), (10 + 10 + 6, 4))
             self.check_example(folder, "embedded", "rust-embedded.journal", PAGE[3], *IN_PROCESS)
         print(f"({beside + calls + program + embedded + service} tests) ", end="")
 

@@ -85,7 +85,7 @@ class Shells(unittest.TestCase):
         self.assertEqual(self.offered("registryd |--v"), ["--version"])
         self.assertEqual(self.offered("registryd serve |--w"), ["--workers"])
         self.assertEqual(self.offered("registryd serve |x"), [])
-        self.assertEqual(self.offered("registryd race |--"), ["--help"])
+        self.assertEqual(self.offered("registryd race |--"), ["--newest", "--any", "--help"])
 
     def test_bash_offers_each_option_until_it_is_given(self):
         self.assertEqual(self.offered("registryd serve |--"), [*(f"--{it.name}" for it in COMMANDS[0].options), "--help"])

@@ -18,7 +18,7 @@ from try_rounds import BAD, BY_CLAUSE, BY_NAME, BY_PROOF, NOT_REFUSED, judged, j
 # An edit of a limit's number, which is refused by the law that says what it is.
 OF_A_LIMIT = "limits_in_numbers-"
 # How many each run of the tests tries.
-LISTED = 73
+LISTED = 92
 SOURCE = """\
 pub struct Room<'a> {
     door: &'a u32,

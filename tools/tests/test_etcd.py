@@ -1,5 +1,5 @@
-"""Fronts over etcd: what they answer when replies are lost, entries race and cells are dropped; and that the judge of their
-histories finds what is wrong. Behind the fronts stands a small etcd in memory; a real one is asked, too."""
+"""Fronts over etcd: what they answer when replies are lost, entries race and cells are dropped. Behind the fronts stands a small etcd in
+memory; a real one is asked, too."""
 import hashlib
 import json
 import os
@@ -373,91 +373,6 @@ def fronts_key(place):
 
 def encoded(value):
     return b64encode(json.dumps(value).encode()).decode()
-
-
-class Judge(unittest.TestCase):
-    """What may not be is found in a history of two fronts, in which it is not at first."""
-
-    def setUp(self):
-        self.journal = [A1, yank("a", "1.0.0"), B1]
-        self.first = [fronts.Told(A1, accepted(1), 0, 1), fronts.Told(LIST, listing(1, 1, 1, "false"), 1, 2), fronts.Told(B1, accepted(4, 3), 6, 7)]
-        self.second = [fronts.Told(A1, refused(7, "AlreadyPublished", 2, 1, 2), 2, 3), fronts.Told(self.journal[1], accepted(3, 2, 2), 3, 5),
-                       fronts.Told(LIST, listing(3, 2, 2, "true"), 5, 6)]
-
-    def fault(self, opened=()):
-        lines = [program.journal_line(line) for line in self.journal]
-        return fronts.fault("\n".join(["registry-journal 1", *lines, f"end {len(lines)}", ""]), [self.first, self.second], opened)
-
-    def change(self, front, place, **how):
-        front[place] = front[place]._replace(**how)
-
-    def test_nothing_is_wrong(self):
-        self.assertIsNone(self.fault())
-
-    def test_lines_of_which_nobody_was_told(self):
-        # each may stand once, and no other
-        self.journal.append(A2)
-        for opened, is_right in (([], False), ([B1], False), ([A2, B1], True)):
-            self.assertEqual(self.fault(opened) is None, is_right)
-        self.journal.append(A2)
-        self.assertIn("5 entries, and commands were accepted at [5]", self.fault([A2, B1]))
-
-    def test_an_entry_is_lost(self):
-        del self.journal[2]
-        self.assertIn("2 entries, and commands were accepted at [3]", self.fault())
-
-    def test_an_entry_is_doubled(self):
-        self.journal.append(B1)
-        self.assertIn("4 entries, and commands were accepted at [4]", self.fault())
-
-    def test_an_entry_is_another(self):
-        self.journal[2] = A2
-        self.assertIn("does not stand at 3", self.fault())
-
-    def test_two_have_one_revision(self):
-        self.change(self.second, 1, reply=accepted(3, 3, 2))
-        self.change(self.second, 2, reply=listing(3, 3, 2, "true"))
-        self.assertEqual(self.fault(), "two commands have one revision")
-
-    def test_a_front_goes_back(self):
-        self.first.reverse()
-        self.assertIn("out of order", self.fault())
-
-    def test_a_front_that_was_begun_again(self):
-        # the list is answered anew, though the command behind it stood before
-        self.first[1:] = [fronts.Told(LIST, self.second[2].reply.replace('"seat":2', '"seat":1'), 1, 8, True),
-                          fronts.Told(self.journal[1], accepted(3, 2), 1, 8, True), fronts.Told(B1, accepted(4, 3), 8, 9)]
-        self.second = self.second[:1]
-        self.assertIsNone(self.fault())
-        self.first[1] = self.first[1]._replace(reply=listing(4, 3, 1, "true"))
-        self.assertNotIn("out of order", self.fault() or "")
-        self.change(self.first, 2, is_again=False)
-        self.assertIn("out of order", self.fault())
-
-    def test_commands_of_a_front_that_was_begun_again_in_another_order(self):
-        self.change(self.first, 0, is_again=True)
-        self.change(self.first, 2, is_again=True)
-        self.first.reverse()
-        self.assertIn("out of order", self.fault())
-
-    def test_a_place_has_two_revisions_or_listings(self):
-        self.change(self.first, 2, reply=accepted(3, 3))
-        self.assertIn("place 3 is revision 3 and 2", self.fault())
-        self.setUp()
-        self.first.insert(2, fronts.Told(LIST, listing(3, 2, 1, "false"), 5, 6))
-        self.assertIn("two listings at place 3", self.fault())
-
-    def test_what_was_answered_is_not_found(self):
-        self.first.insert(2, fronts.Told(LIST, listing(1, 1, 1, "false"), 5.5, 6))
-        self.assertIn("asked when revision 2 was told", self.fault())
-
-    def test_a_reply_is_not_right_at_its_place(self):
-        self.change(self.second, 0, reply=refused(11, "NoSuchVersion", 2, 1, 2))
-        self.assertIn("AlreadyPublished", self.fault())
-
-
-def listing(place, revision, seat, yanked):
-    return f'{{"packages":[["a",[["1.0.0",{yanked}]]]],"place":{place},"revision":{revision},"seat":{seat}}}'
 
 
 class OverEtcd(unittest.TestCase):

@@ -146,6 +146,25 @@ class English(unittest.TestCase):
             else:
                 self.assertEqual(self.read(said, {**ASKED, "lock": [locked]}), [{"a": frozenset([2])}])
 
+    def test_what_the_selection_has(self):
+        made = registry_of(map(json.loads, [publish("a", "1.0.0", ["b ^1"]), publish("a", "2.0.0", ["b ^2"]), publish("b", "1.0.0"), publish("b", "2.0.0"),
+                                            publish("c", "1.0.0"), publish("c", "2.0.0")]))
+        through = "Because the selection has a 1.0.0 which depends on b ^1, the selection requires b ^1."
+        both = "And because the selection has both a 1.0.0 and c 2.0.0, resolving failed."
+        barred = "Because a 1.0.0 is asked for and c 2.0.0 is asked for, resolving failed."
+        for before, told, is_read in (({"a": "1.0.0"}, [through], True), ({"a": "2.0.0"}, [through], False), ({}, [through], False),
+                                      ({"a": "1.0.0"}, [through.replace("^1", "^2")], False), ({"a": "1.0.0"}, [through.replace("b ^1.", "b 2.0.0.")], False),
+                                      ({"a": "1.0.0", "c": "2.0.0"}, [through, both], False), ({"a": "1.0.0", "c": "1.0.0"}, [through, both], False),
+                                      ({"a": "1.0.0"}, [barred], False)):
+            with self.subTest(before=before, told=told):
+                reader = Reader(made, ASKED, before=before.items())
+                if is_read:
+                    self.assertEqual(reader.read([(None, it) for it in told]), [{"b": frozenset({1, -1})}])
+                else:
+                    self.assertRaises(Unread, reader.read, [(None, it) for it in told])
+        reader = Reader(made, ASKED, before=[("a", "1.0.0"), ("c", "2.0.0")])
+        self.assertEqual(reader.fact("the selection has both a 1.0.0 and c 2.0.0"), [{"a": frozenset({1, -1})}, {"c": frozenset({0, -1})}])
+
     def test_each_fault_is_told(self):
         barred = "Because a 2.0.0 is yanked, a 2.0.0 is forbidden."
         for fact, told in (("a #1 is not published", "a #1 is published"), ("a 9.9.9 is yanked", "'9.9.9' is no version of a"),

@@ -89,9 +89,9 @@ class Map(unittest.TestCase):
         self.assertEqual(len(named), len(set(named)))
         self.assertGreater(len(named), 60)
 
-    def test_each_refusal_is_named(self):
+    def test_each_error_is_named(self):
         listed = re.findall(r"^\| (\d+) \| \w+ \|", read(os.path.join(TOP, "docs", "REGISTRY.md")), re.M)
-        named = re.findall(r"^\| Refusals? ([\d, ]+(?:and \d+)?)", read(MAP), re.M)
+        named = re.findall(r"^\| Errors? ([\d, ]+(?:and \d+)?)", read(MAP), re.M)
         self.assertEqual([number for one in named for number in re.findall(r"\d+", one)], listed)
 
     def test_a_wrong_line_is_told(self):

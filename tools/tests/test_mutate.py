@@ -133,7 +133,7 @@ class Concerned(unittest.TestCase):
         self.assertLessEqual({"test_schedules.py", "test_memory.py"}, files)
         self.assertNotIn("test_crates_picture.py", files)
         # those that name it come first
-        self.assertIn("test_schedules.py", [path.name for path in concerned.tests_of(top, top / "tools" / "race_many.py")[:2]])
+        self.assertIn("test_schedules.py", [path.name for path in concerned.tests_of(top, top / "tools" / "race_many.py")[:3]])
         self.assertTrue(concerned.is_source(top / "tools" / "mutate"))
         self.assertFalse(concerned.is_source(top / "registryd"))
 
@@ -184,6 +184,19 @@ class Command(unittest.TestCase):
         _, told, _ = self.mutate("tools/small.py", "--tests", "tools/tests/test_good.py")
         # `2 * 2` as `2 + 2` does the same
         self.assertEqual(told[1:], ["tools/small.py: 4 of 5 mutants were noticed (80 of 100)", "  line 2: `Mult` as `Add` in `2 * count`"])
+
+    def test_one_that_is_stopped_leaves_nothing(self):
+        (self.top / "tools" / "tests" / "test_good.py").write_text(
+            "import unittest\nimport os, sys, time\nsys.path.insert(0, os.path.dirname(os.path.dirname(os.path.abspath(__file__))))\nimport small\n\n\n"
+            "class Slow(unittest.TestCase):\n    def test_room(self):\n        if small.LIMIT != 7 or not small.fits(0):\n            time.sleep(1_000)\n", encoding="utf-8")
+        copies = self.enterContext(tempfile.TemporaryDirectory())
+        given = {**os.environ, "REGISTRYD": "none", "PROBE": "none", "EMBEDDED": "none", "TMPDIR": copies}
+        with subprocess.Popen([self.top / "tools" / "mutate", "--patience", "500", "--jobs", "2", "tools/small.py", "--tests", "tools/tests/test_good.py"], cwd=self.top,
+                              env=given, stdout=subprocess.PIPE, text=True) as running:
+            self.assertEqual(running.stdout.readline(), "tests that come to these files: 1\n")
+            self.assertEqual(len(os.listdir(copies)), 2)
+            running.terminate()
+            self.assertEqual((running.wait(100), os.listdir(copies)), (143, []))
 
     def test_what_is_no_source(self):
         for word in ("tools/none.py", "/etc/passwd", "tools"):

@@ -218,7 +218,7 @@ class Library(Case):
                          ["define noundef i32 @begin(ptr noundef %a0) {", "define internal i64 @within() {"])
         self.assertEqual([line for line in lines if "@begin(ptr null)" in line], ["  call i32 @begin(ptr null)"])
         # the copy's root calls each export with all that it takes, and the library's own is as it was
-        self.assertIn('    begin(rt.alloc(), &mut slot, b"", &mut first, &mut second);', lines)
+        self.assertIn('    begin(rt.alloc(), &mut slot, b"", &mut first, &mut second, 0);', lines)
         self.assertNotIn("fn main", (self.tree.top / "crates/embedded/src/lib.rt").read_text(encoding="ascii"))
         self.assertEqual(self.build(), (said, ""))
         self.tree.write("crates/low/src/lib.rt", "echo lower\n")

@@ -1,6 +1,7 @@
 """What the pages tell a reader to type can be typed, and answers what they say; and README is short, and leads on."""
 import os
 import re
+import shutil
 import subprocess
 import tempfile
 import unittest
@@ -9,7 +10,7 @@ from program import PROGRAM, TOP
 
 
 # how many lines README has at most
-MOST_LINES = 80
+MOST_LINES = 60
 PAGES = ["README.md", *(os.path.join("docs", page) for page in sorted(os.listdir(os.path.join(TOP, "docs"))) if page.endswith(".md"))]
 
 
@@ -49,6 +50,11 @@ class Readme(unittest.TestCase):
 
     def test_it_is_short(self):
         self.assertLessEqual(len(page("README.md").splitlines()), MOST_LINES)
+
+    @unittest.skipUnless(shutil.which("rt"), "no command rt on the path")
+    def test_it_names_the_logic_of_the_kit(self):
+        told = subprocess.run(["rt", "version"], stdout=subprocess.PIPE, text=True, check=True, timeout=60).stdout
+        self.assertEqual(re.findall(r"`rattle-kit-\w+ logic ([0-9a-f]+)`", page("README.md")), re.findall(r"logic ([0-9a-f]+)", told))
 
     def test_each_page_that_is_named_is_there(self):
         for name in PAGES:

@@ -36,7 +36,7 @@ class Typed(unittest.TestCase):
 
     def test_it_tells_of_each_word(self):
         of = table.subcommand("serve")
-        told = dict(re.findall(r"^\| `(--[a-z-]+) [^|]*\| [^|]* \| ([^|]*) \|$", page(PAGE), re.M))
+        told = dict(re.findall(r"^\| `(--[a-z-]+)[ `][^|]*\| [^|]* \| ([^|]*) \|$", page(PAGE), re.M))
         self.assertEqual(set(told), {it.flag for it in of.words} - {"--mode", "--group"})
         for name in ("--readers", "--seconds", "--workers", "--clients"):
             [word] = [it for it in of.words if it.flag == name]

@@ -1,0 +1,96 @@
+"""Each public item of the crates has a comment that says more than its signature, with its errors by name; each file says what it has."""
+import os
+import subprocess
+import sys
+import unittest
+
+from program import TOP
+
+sys.path.insert(0, os.path.join(TOP, "tools"))
+from doc_comments import CRATES, Fault, faults, faults_of  # noqa: E402
+
+# What only the tests are made of, and the example.
+OF_TESTS = {"rows", "calls_low", "calls_texts", "calls_high", "probe", "team"}
+# Crates that don't keep to it yet. One is taken out once it does.
+TO_COME = {"answers", "chronicle", "derivations", "embedded", "heuristics", "pool", "race", "session", "solver", "walk"}
+SOURCE = """\
+//! Names.
+
+/// The name of a package: at most 64 bytes.
+pub struct Name {
+    text: String,
+}
+
+impl Name {
+    /// Reads a text. Any other one is [`Refusal::BadName`].
+    #[inline]
+    pub fn read(text: &str) -> Result<Name, Refusal>
+        requires { it_is_there }
+    {
+    }
+
+    // no public item
+    fn hidden(&self) -> u32 {
+    }
+}
+
+/// Who is asked for names.
+pub trait Asked {
+    /// Before the first of 3 calls.
+    fn before(&self, i: usize);
+}
+
+/// The most bytes of a text.
+pub const LIMIT: usize = 64;
+"""
+
+
+class Crates(unittest.TestCase):
+    def test_all_is_said(self):
+        crates = {it.name for it in CRATES.iterdir() if (it / "src").is_dir()}
+        self.assertLessEqual(OF_TESTS | TO_COME, crates)
+        self.assertEqual([str(fault) for fault in faults(sorted(crates - OF_TESTS - TO_COME))], [])
+
+
+class Faults(unittest.TestCase):
+    """What is wrong with a comment is found, and nothing else."""
+
+    def check(self, old, new, *wanted):
+        self.assertIn(old, SOURCE)
+        self.assertEqual(list(faults_of("a.rt", SOURCE.replace(old, new))), [Fault("a.rt", *fault) for fault in wanted])
+
+    def test_a_good_source(self):
+        self.check("", "")
+
+    def test_no_head(self):
+        self.check("//! Names.", "// Names.", ("", "no head"))
+        self.check("//! Names.\n", "", ("", "no head"))
+
+    def test_no_comment(self):
+        self.check("/// The name of a package: at most 64 bytes.\n", "", ("Name", "no comment"))
+        self.check("/// The name of a package: at most 64 bytes.\n", "// The name.\n", ("Name", "no comment"))
+        self.check("    /// Reads a text. Any other one is [`Refusal::BadName`].\n", "", ("Name::read", "no comment"))
+        self.check("    /// Before the first of 3 calls.\n", "", ("Asked::before", "no comment"))
+        self.check("/// The most bytes of a text.\n", "", ("LIMIT", "no comment"))
+        self.check("/// The most bytes of a text.\n", "/// The most bytes.\n\n", ("LIMIT", "no comment"))
+
+    def test_a_comment_that_repeats_the_signature(self):
+        self.check("The name of a package: at most 64 bytes.", "A name.", ("Name", "repeats the signature"))
+        self.check("The most bytes of a text.", "The limit.", ("LIMIT", "repeats the signature"))
+        self.check("Reads a text. Any other one is [`Refusal::BadName`].", "Reads the name of the text.", ("Name::read", "repeats the signature"))
+
+    def test_errors(self):
+        said = "Any other one is [`Refusal::BadName`]."
+        self.check(said, "It is copied.", ("Name::read", "no word of its errors"))
+        self.check(said, "A refusal is 1.", ("Name::read", "an error by its number alone"))
+        self.check(said, "Any other text is refused by its number.", ("Name::read", "an error by its number alone"))
+        self.check(said, "An error answers 22 at once.", ("Name::read", "an error by its number alone"))
+        self.check(said, "An error answers [`Refusal::BadName`], also for 22 texts.")
+
+    def test_it_prints_what_it_finds(self):
+        done = subprocess.run([sys.executable, os.path.join(TOP, "tools", "doc_comments.py"), "versions"], stdout=subprocess.PIPE, text=True, timeout=60)
+        self.assertEqual((done.stdout, done.returncode), ("", 0))
+
+
+if __name__ == "__main__":
+    unittest.main()

@@ -1,0 +1,56 @@
+"""Fronts over etcd whose replicas learnt differently, since they were asked other requests in other orders: at one place they select the same with
+`--newest`, and with `--any` they need not."""
+import json
+import os
+import sys
+import unittest
+
+import over_small_etcd
+from program import TOP
+
+sys.path.append(os.path.join(TOP, "bench"))
+import workloads
+
+STAMPS = ("place", "revision", "seat")
+
+
+def body(reply):
+    """What a reply says, without what tells where and by whom."""
+    return {name: it for name, it in json.loads(reply).items() if name not in STAMPS}
+
+
+class Replicas(over_small_etcd.Case):
+    def answers(self, seed, *words):
+        """What three fronts answer to the same requests at one place: the first was asked nothing before, the second each of them alone, and the
+        third each alone in the other order, before a last command that changes none of them."""
+        lines, requests = workloads.conflicting(12, seed)
+        self.etcd = self.founded.copy()
+        gate = self.opened()
+        fronts = [self.front(seat, *words, gate=gate) for seat in (1, 2, 3)]
+        fronts[0].ask(*lines)
+        for request in requests:
+            fronts[1].ask(request)
+        for request in reversed(requests):
+            fronts[2].ask(request)
+        fronts[0].ask('{"op":"publish","name":"aside","version":"1.0.0","needs":[]}')
+        replies = [front.ask(*requests) for front in fronts]
+        self.assertEqual({json.loads(it)["place"] for told in replies for it in told}, {len(lines) + 1})
+        for front in fronts:
+            self.ended(front)
+        return [[body(it) for it in told] for told in replies]
+
+    def test_what_was_learnt_does_not_matter(self):
+        others = 0
+        for seed in (1, 2):
+            first, second, third = self.answers(seed, "--newest")
+            self.assertGreater(sum("selected" in it for it in first), 10)
+            self.assertEqual(second, first)
+            self.assertEqual(third, first)
+            found = self.answers(seed, "--any")
+            others += any(it != found[0] for it in found)
+        # so these are requests for which it could
+        self.assertGreater(others, 0)
+
+
+if __name__ == "__main__":
+    unittest.main()
