@@ -1,4 +1,4 @@
-"""Tables of `derivations`, `walk` and `solver` that would be too large to be kept: each public function makes some.
+"""Tables of `derivations`, `extraction`, `walk` and `solver` that would be too large to be kept: each public function makes some.
 
 A table is a title and its rows; a row's member `gives` is what the call is wanted to answer, or what the function in its
 member `by` is to give of that."""

@@ -6,7 +6,7 @@ import re
 from program import TOP
 
 # These answer a refusal and take no memory.
-TAKES_NONE = {"registry::Registry::check", "derivations::Store::check", "book::Replica::check", "book::Replica::judge"}
+TAKES_NONE = {"registry::Registry::check", "store::Store::check", "book::Replica::check", "book::Replica::judge"}
 # A race makes this one, and each of its requests is refused there (`test_memory.py`).
 OF_RACES = {"journals::can_be_saved"}
 # What the probe stands on, what is tried through the calls of the registry and of the solver, and what is tried through the

@@ -5,8 +5,9 @@ ghost use Rattle.answers.specs.Lawful.{IsStopped, LearnsSome, Ways};
 
 use crate::told::Standing;
 use book::Item;
-use derivations::{Learnt, Store};
+use derivations::Learnt;
 use registry::Registry;
+use store::Store;
 use versions::Refusal;
 
 /// A registry and a store, with the items that made them.

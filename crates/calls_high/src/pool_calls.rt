@@ -2,7 +2,6 @@
 
 use crate::order::InOrder;
 use crate::outcomes::{options_at, put_outcome};
-use derivations::Store;
 use pool::{Answers, Asked, Consumer, Gate, Query, answer_all, answer_all_with, answer_in_order};
 use registry::Registry;
 use rows::{Answer, AnswerText, Shows, Unread, items, member, request_at, size_at, whole_at};
@@ -11,6 +10,7 @@ use solver::Outcome;
 use std::alloc::{AllocError, Global};
 use std::sync::Wait;
 use std::thread::Threads;
+use store::Store;
 
 /// `"workers":2,"requests":[{"needs":[["a","^1"]],"lock":[],"budget":3}]`: the answers, in order.
 pub fn pool_call<R: Threads + Wait + Sync>(

@@ -1,12 +1,13 @@
 //! Calls of the solver.
 
 use crate::outcomes::{budget_at, offered, options_at, put_outcome};
-use derivations::{Learnt, Store, check};
+use derivations::{Learnt, check};
 use registry::{Registry, Request};
 use rows::{Answer, AnswerText, Shows, Unread, request_at, shown};
 use serde_json::Value;
 use solver::{Options, Outcome, solve, solve_with, solve_within};
 use std::alloc::Global;
+use store::Store;
 use versions::Refusal;
 
 /// Each call tells something of what the request of a row is answered.

@@ -4,7 +4,8 @@ ghost use Rattle.std.specs.Prelude.{◌≡◌, ◌↔◌, [], IsTrue};
 ghost use Rattle.std.specs.Bool.{OnTrue};
 ghost use Rattle.derivations.specs.Known.{AreOrdered, EndsAt, IsBefore, IsResolved};
 
-use derivations::{Derivation, Known, Reason, cut};
+use derivations::{Derivation, Known, Reason};
+use extraction::cut;
 use rows::{Answer, Unread, at, shown, size_at};
 use serde_json::Value;
 use std::alloc::Global;

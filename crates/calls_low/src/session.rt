@@ -16,7 +16,6 @@ use crate::store_calls::follow_call;
 use crate::term_calls::term_call;
 use crate::text_calls::{name_call, need_call, version_call};
 use crate::walk_calls::walk_call;
-use derivations::Store;
 use partial::Partial;
 use registry::Registry;
 use releases::Releases;
@@ -24,6 +23,7 @@ use rows::{Answer, Unread, row_of, tell, text_at};
 use serde_json::Value;
 use std::alloc::Global;
 use std::io::{self, Input, Print};
+use store::Store;
 use terms::{GrowingSet, VSet};
 
 /// Answers each row that is read by a line, up to an empty line or the end of what is read.

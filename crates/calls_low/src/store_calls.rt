@@ -1,12 +1,13 @@
 //! Calls of the store of what was learnt.
 
-use derivations::{Learnt, Store};
+use derivations::Learnt;
 use registry::{Command, Registry};
 use rows::{
     Answer, Unread, all_stand, command_of, count, done, enter, given_if, learnt_at, shown, whole_at,
 };
 use serde_json::Value;
 use std::alloc::Global;
+use store::Store;
 
 /// A call that changes the registry too: a command, and what the store does after it.
 pub fn follow_call(

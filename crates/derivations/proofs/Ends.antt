@@ -1,12 +1,10 @@
 -- What a search needs to show before its list is cut.
-use Rattle.std.proofs.Common.{◌≡◌, ◌∙◌, ℕ, List, [], ◌∷◌, sym, ap, true, false, not, true≢false, nat_eq, nat_lt, inl, inr, if◌then◌else◌}
+use Rattle.std.proofs.Common.{◌≡◌, ◌∙◌, ℕ, List, [], ◌∷◌, sym, ap, nat_lt, inl, inr, if◌then◌else◌}
 use Rattle.std.proofs.lemmas.Bool.{cases_Bool}
-use Rattle.std.specs.Prelude.{Option, None, Some, is_some, slice_get}
+use Rattle.std.specs.Prelude.{Option, None, Some, slice_get}
 use Rattle.versions.specs.Words.{Text}
 use Rattle.terms.specs.declared.term.Term.{Term}
 use Rattle.terms.specs.declared.term.Term.TheVariants.{In, NotIn}
-use Rattle.terms.specs.Incompats.{has_term, term_on, true_at}
-use Rattle.terms.specs.Terms.{true_of}
 use Rattle.registry.specs.Registry.{Packages, matching, number_of}
 use Rattle.registry.specs.Requests.{Wanted}
 use Rattle.derivations.specs.Facts.{Terms, dependency, need_terms_at}
@@ -15,23 +13,9 @@ use Rattle.derivations.specs.Derivations.{IsFact}
 use Rattle.derivations.specs.Known.{AreLawful, EndsAt, IsResolved, StandsBy}
 use Rattle.derivations.specs.declared.facts.Cause.{Cause}
 use Rattle.derivations.specs.declared.facts.Cause.TheVariants as cause
-use Rattle.derivations.specs.declared.cutting.Known.{Known}
-use Rattle.derivations.specs.declared.cutting.Reason.{Reason}
-use Rattle.derivations.specs.declared.cutting.Reason.TheVariants.{Fact, Resolved}
-
--- a package on which some choice makes the terms false has a term
-pub has_term_where_false : (terms : Terms) (pkg : ℕ) (choice : Option ℕ) → true_at terms pkg choice ≡ false → has_term terms pkg ≡ true
-has_term_where_false [] pkg choice h = absurd (true≢false h)
-has_term_where_false (t ∷ rest) pkg choice h = elim (cases_Bool (nat_eq t.0 pkg)) [
-  | inl e ↦ ap (λ b. is_some (if b then Some t.1 else term_on rest pkg)) e
-  | inr e ↦
-      let later : true_at rest pkg choice ≡ false = sym (ap (λ b. if b then true_of t.1 choice else true_at rest pkg choice) e) ∙ h in
-      ap (λ b. is_some (if b then Some t.1 else term_on rest pkg)) e ∙ has_term_where_false rest pkg choice later
-]
-
--- the cause of a derived term has a term on its package: the pivot of conflict resolution
-pub pivot_of_cause : (terms : Terms) (term : Term) (pkg : ℕ) (choice : Option ℕ) → ((c : Option ℕ) → true_at terms pkg c ≡ not (true_of term c)) → true_of term choice ≡ true → has_term terms pkg ≡ true
-pivot_of_cause terms term pkg choice negation t = has_term_where_false terms pkg choice (negation choice ∙ ap not t)
+use Rattle.derivations.specs.declared.known.Known.{Known}
+use Rattle.derivations.specs.declared.known.Reason.{Reason}
+use Rattle.derivations.specs.declared.known.Reason.TheVariants.{Fact, Resolved}
 
 cons_not_nil : (t : ℕ × Term) (rest : Terms) → t ∷ rest ≡ [] → ⊥
 cons_not_nil t rest e = cc

@@ -6,9 +6,9 @@ use Rattle.registry.specs.Registry.{Packages}
 use Rattle.registry.specs.Requests.{Wanted}
 use Rattle.registry.specs.Selections.{Choices, Meets}
 use Rattle.derivations.specs.Known.{AreLawful, AreOrdered, IsBefore, StandsBy}
-use Rattle.derivations.specs.declared.cutting.Known.{Known}
-use Rattle.derivations.specs.declared.cutting.Reason.{Reason}
-use Rattle.derivations.specs.declared.cutting.Reason.TheVariants.{Fact, Resolved}
+use Rattle.derivations.specs.declared.known.Known.{Known}
+use Rattle.derivations.specs.declared.known.Reason.{Reason}
+use Rattle.derivations.specs.declared.known.Reason.TheVariants.{Fact, Resolved}
 use Rattle.derivations.proofs.Soundness.{Refutes, Refutes-Follows, Refutes-fact}
 
 module _ (matched : MatchingIsWhatMeets) (packages : Packages) (wanted : Wanted) (known : List Known) (lawful : AreLawful packages wanted known) (ordered : AreOrdered known)

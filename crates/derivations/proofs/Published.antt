@@ -1,8 +1,8 @@
 -- What packages publish, read one version at a time.
-use Rattle.std.proofs.Common.{◌≡◌, ◌↔◌, ◌<◌, ◌≤◌, ◌+◌, ◌∙◌, ◌⊎◌, inl, inr, ℕ, zero, suc, List, [], ◌∷◌, length, refl, sym, ap, subst, arith, Bool, true, false, true≢false, ◌||◌, nat_eq, nat_le, nat_lt, rules}
-use Rattle.std.proofs.lemmas.Bool.{cases_Bool, cases_eq, eqb-true, eq-eqb}
+use Rattle.std.proofs.Common.{◌≡◌, ◌↔◌, ◌<◌, ◌≤◌, ◌∙◌, ◌⊎◌, inl, inr, ℕ, zero, suc, List, [], ◌∷◌, length, refl, sym, ap, subst, arith, Bool, true, false, true≢false, ◌||◌, nat_eq, nat_le, nat_lt, rules}
+use Rattle.std.proofs.lemmas.Bool.{cases_Bool, eqb-true, eq-eqb}
 use Rattle.std.specs.Prelude.{Option, None, Some, slice_get, is_some, Contains, IsSome, IsTrue}
-use Rattle.versions.specs.Words.{Text, meets}
+use Rattle.versions.specs.Words.{Text}
 use Rattle.terms.specs.Sets.{has}
 use Rattle.terms.specs.declared.term.Term.{Term}
 use Rattle.terms.specs.declared.term.Term.TheVariants.{In}
@@ -40,13 +40,6 @@ depends_iff packages p k target need publication told at e =
 abbrev pub CoversBelow : Packages → Premise → ℕ → Type 0
 CoversBelow packages premise n = (k : ℕ) → k < n → meets_at packages premise.target k premise.need ≡ true → has premise.within k ≡ true
 
-pub covers_more : (packages : Packages) (premise : Premise) (n : ℕ) → CoversBelow packages premise n → (meets_at packages premise.target n premise.need ≡ true → has premise.within n ≡ true)
-    → CoversBelow packages premise (n + 1)
-covers_more packages premise n before here k below met = elim (cases_eq k n) [
-  | inr apart ↦ before k (omega (arith, below, apart)) met
-  | inl same ↦ subst (λ j. has premise.within j ≡ true) (sym same) (here (subst (λ j. meets_at packages premise.target j premise.need ≡ true) same met))
-]
-
 pub covers_all : UnpublishedFrom → (packages : Packages) (premise : Premise) (n : ℕ) → count packages premise.target ≤ n → CoversBelow packages premise n → Covers packages premise
 covers_all unpublished packages premise n le all k met = elim (cases_lt k) [
   | inl lt ↦ all k lt met
@@ -58,10 +51,6 @@ covers_all unpublished packages premise n le all k met = elim (cases_lt k) [
       | inl e ↦ let lt : k < n = search rules in inl lt
       | inr e ↦ let le : n ≤ k = search rules in inr le
     ]
-
--- whether a version meets the requirement is read from its text
-pub meets_read : (packages : Packages) (q k : ℕ) (need : Text) (publication : Publication) → publication_at packages q k ≡ Some publication → meets_at packages q k need ≡ meets need publication.version
-meets_read packages q k need publication at = ap (λ (o : Option Publication). publication_meets o need) at
 
 -- ---- packages
 

@@ -12,12 +12,12 @@ use Rattle.derivations.specs.Known.{AreLawful, AreOrdered, FollowsFrom, IsBefore
 use Rattle.derivations.specs.declared.facts.Cause.{Cause}
 use Rattle.derivations.specs.declared.facts.Cause.TheVariants as cause
 use Rattle.derivations.specs.declared.line.Line.{Line}
-use Rattle.derivations.specs.declared.cutting.Known.{Known}
-use Rattle.derivations.specs.declared.cutting.Reason.{Reason}
-use Rattle.derivations.specs.declared.cutting.Reason.TheVariants.{Fact, Resolved}
+use Rattle.derivations.specs.declared.known.Known.{Known}
+use Rattle.derivations.specs.declared.known.Reason.{Reason}
+use Rattle.derivations.specs.declared.known.Reason.TheVariants.{Fact, Resolved}
 use Rattle.derivations.proofs.Ends.{ends_at}
 use Rattle.derivations.proofs.Soundness.{NoSelection-IsDerivation}
-use Rattle.derivations.proofs.Walking.{AreDerivedBy-push, conclusions-push, get-last, get-left, gives_fact, last-push}
+use Rattle.derivations.proofs.Pushed.{AreDerivedBy-push, conclusions-push, get-last, get-left, gives_fact, last-push}
 
 -- a cause yields these terms after the lines
 abbrev Gives : Packages → Wanted → List Line → Terms → Type 0

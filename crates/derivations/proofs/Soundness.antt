@@ -11,7 +11,7 @@ use Rattle.terms.specs.declared.term.Term.{Term}
 use Rattle.terms.specs.declared.term.Term.TheVariants.{In, NotIn}
 use Rattle.registry.specs.Registry.{Packages, is_named, matching, meets_at, needs_of, number_from, number_of, package_at, publication_at}
 use Rattle.registry.specs.Requests.{Wanted, is_allowed}
-use Rattle.registry.specs.Selections.{Choices, IsSelection, Meets, with_root}
+use Rattle.registry.specs.Selections.{Choices, Meets, with_root}
 use Rattle.derivations.specs.Facts.{AllTrue, DependsOn, Holds, Stands, Terms, dependency, need_terms, need_terms_at, premise_terms}
 use Rattle.derivations.specs.Derivations.{AreDerived, IsDerivation, IsDerivedBy, IsEnd, IsFact, NoSelection, Yields, last_conclusion}
 use Rattle.registry.specs.Laws.{MatchingIsWhatMeets}
@@ -126,12 +126,6 @@ number_of-positive packages name q e = number_from-above 1 packages name q e
 with_root-other : (s : Choices) (p : ℕ) → 1 ≤ p → with_root s p ≡ s p
 with_root-other s zero h = absurd (omega arith)
 with_root-other s (suc n) h = refl
-
--- only published versions of packages from 1 on are selected
-selected-positive : (packages : Packages) (s : Choices) → IsSelection packages s → (p k : ℕ) → s p ≡ Some k → 1 ≤ p
-unfolding publication_at package_at
-selected-positive packages s selection zero k e = absurd (true≢false (sym (selection zero k e)))
-selected-positive packages s selection (suc n) k e = omega arith
 
 -- a premise that stands on packages from 1 on holds of the registry
 Holds-numbered : (packages : Packages) (premise : Premise) → 1 ≤ premise.package → 1 ≤ premise.target → Stands packages premise → Holds packages (premise_terms premise)

@@ -1,17 +1,14 @@
 -- Why derivations and what is learnt can be trusted.
-use Rattle.std.specs.Prelude.{◌≡◌, ℕ, List, [], ◌∷◌, ◌++◌, All, IfSome, None, Some, slice_get}
+use Rattle.std.specs.Prelude.{◌≡◌, ℕ, List, [], IfSome, Some, slice_get}
 use Rattle.terms.specs.Incompats.{Follows}
 use Rattle.registry.specs.Registry.{Packages}
 use Rattle.registry.specs.Requests.{Wanted}
-use Rattle.registry.specs.Step as registry
 use Rattle.registry.specs.Selections.{Choices, Meets, with_root}
-use Rattle.registry.specs.Step.{Change}
 use Rattle.derivations.specs.Facts.{AllTrue, Holds, Stands, Terms, premise_terms}
 use Rattle.derivations.specs.Derivations.{AreDerived, IsDerivation, IsRefuted, NoSelection, last_conclusion}
 use Rattle.derivations.specs.Known.{AreLawful, AreOrdered, EndsAt}
 use Rattle.derivations.specs.Learning.{AllStand, IsLearnt}
-use Rattle.derivations.specs.Stored.{learn_refusal, stored_after}
-use Rattle.derivations.specs.declared.cutting.Known.{Known}
+use Rattle.derivations.specs.declared.known.Known.{Known}
 use Rattle.derivations.specs.declared.facts.Premise.{Premise}
 use Rattle.derivations.specs.declared.line.Line.{Line}
 
@@ -45,22 +42,10 @@ abbrev pub KeptLinesHold : Type 0
 KeptLinesHold = (packages : Packages) (wanted : Wanted) (known : List Known) → AreLawful packages wanted known → AreOrdered known
     → (s : Choices) → Meets packages wanted s → (k : ℕ) (line : Known) → slice_get known k ≡ Some line → AllTrue line.conclusion (with_root s) → ⊥
 
--- ---- what is stored
-
 -- what the lines conclude holds of the packages
 abbrev pub ConclusionHolds : Packages → List Line → Type 0
 ConclusionHolds packages lines = IfSome (last_conclusion lines) (Holds packages)
 
--- what stands before an accepted command, and is stored after it, stands after it
-abbrev pub CommandsKeep : Type 0
-CommandsKeep = (packages : Packages) (change : Change) (members : List (List Line)) → registry.refusal_of packages change ≡ None
-    → All (AllStand packages) members → All (AllStand (registry.after packages change)) (stored_after (registry.after packages change) change members)
-
--- and is still learnt
-abbrev pub CommandsKeepLearnt : Type 0
-CommandsKeepLearnt = (packages : Packages) (change : Change) (members : List (List Line)) → All IsLearnt members → All IsLearnt (stored_after packages change members)
-
--- what is learnt stands, as what was stored before
-abbrev pub LearningKeeps : Type 0
-LearningKeeps = (packages : Packages) (members : List (List Line)) (lines : List Line) → learn_refusal packages members lines ≡ None
-    → All (AllStand packages) members → All (AllStand packages) (members ++ lines ∷ [])
+-- each premise of lines that are derived from facts stands
+abbrev pub DerivedLinesStand : Type 0
+DerivedLinesStand = (packages : Packages) (wanted : Wanted) (lines : List Line) → AreDerived packages wanted [] lines → AllStand packages lines

@@ -14,7 +14,7 @@ use std::alloc::{AllocError, Global};
 use terms::{Incompat, Pkg, resolve};
 
 /// Whether one of the two has a term on the pivot.
-pub fn is_on(one: &Incompat, two: &Incompat, pivot: Pkg) -> bool
+pub fn has_pivot(one: &Incompat, two: &Incompat, pivot: Pkg) -> bool
     ensures { result ≡ (has_term one.now pivot || has_term two.now pivot) }
 {
     one.has_term(pivot) || two.has_term(pivot)
@@ -24,7 +24,7 @@ pub fn is_on(one: &Incompat, two: &Incompat, pivot: Pkg) -> bool
 fn follows(alloc: Global, one: &Incompat, two: &Incompat, line: &Line) -> Result<bool, AllocError>
     ensures { IfOk result (λ yes. IsTrue yes ↔ FollowsOn one.now two.now line.now) }
 {
-    if !is_on(one, two, line.pivot) {
+    if !has_pivot(one, two, line.pivot) {
         return Ok(false);
     }
     let expected = resolve(alloc, one, two, line.pivot)?;

@@ -1,8 +1,8 @@
 // Laws: why derivations and what is learnt can be trusted.
 
-ghost use Rattle.derivations.specs.Laws.{CommandsKeep, CommandsKeepLearnt, DerivationsRefute, EmptyIsNoFact, KeptLinesHold, KeptLinesRefute, LearningKeeps, LearntHolds, PremisesHold, ResolventsHold};
+ghost use Rattle.derivations.specs.Laws.{DerivationsRefute, DerivedLinesStand, EmptyIsNoFact, KeptLinesHold, KeptLinesRefute, LearntHolds, PremisesHold, ResolventsHold};
 
-use registry::{matching_is_what_meets, numbers_last};
+use registry::matching_is_what_meets;
 
 /// What a premise that stands says holds of the registry. It does nothing when it runs.
 pub fn premises_hold()
@@ -27,8 +27,8 @@ pub fn derivations_refute()
     matching_is_what_meets();
 }
 
-/// In the lines of a search one without terms is no fact, so that [`cut`](crate::cut) can be asked
-/// for what it rests on. It does nothing when it runs.
+/// In the lines of a search one without terms is no fact, so that what it rests on can be
+/// extracted. It does nothing when it runs.
 pub fn empty_is_no_fact()
     ensures { EmptyIsNoFact }
 {}
@@ -49,18 +49,7 @@ pub fn kept_lines_hold()
     matching_is_what_meets();
 }
 
-/// What stands before an accepted command, and is still stored after it, stands after it; after a yank
-/// or its undoing that is all. It does nothing when it runs.
-pub fn commands_keep()
-    ensures stand { CommandsKeep }
-    ensures learnt { CommandsKeepLearnt }
-{
-    numbers_last();
-}
-
-/// What is learnt stands, as what was stored before. It does nothing when it runs.
-pub fn learning_keeps()
-    ensures { LearningKeeps }
-{
-    matching_is_what_meets();
-}
+/// Each premise of lines that are derived from facts stands. It does nothing when it runs.
+pub fn derived_lines_stand()
+    ensures { DerivedLinesStand }
+{}

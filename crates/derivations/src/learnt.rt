@@ -5,21 +5,16 @@ ghost use Rattle.std.specs.Bool.{OnTrue};
 ghost use Rattle.terms.specs.Sets.{HasExactly};
 ghost use Rattle.derivations.specs.Derivations.{last_conclusion};
 ghost use Rattle.derivations.specs.Facts.{Holds};
-ghost use Rattle.versions.specs.Words.{meets};
-ghost use Rattle.derivations.specs.Keys.{key_of};
-ghost use Rattle.derivations.specs.Slots.{concludes, is_met};
-ghost use Rattle.derivations.specs.Stored.{cause_is_on, conclusion_of, is_on};
 ghost use Rattle.derivations.specs.Learning.{target_of, targets_of, AllStand, CauseStands, IsLearnt};
 
 use crate::facts::Cause;
 use crate::following::are_offered;
-use crate::keys::key_of;
 use crate::line::{Line, copied, last_conclusion};
 use registry::Registry;
 use std::alloc::{AllocError, Global};
 use std::marker::Model;
-use terms::{Incompat, Pkg, VSet};
-use versions::{Published, Refusal};
+use terms::{Incompat, VSet};
+use versions::Refusal;
 
 /// The most lines of what is learnt.
 pub const LINE_LIMIT: usize = 256;
@@ -68,8 +63,9 @@ impl Learnt {
         Ok(Learnt { lines, targets })
     }
 
-    /// What these lines show, which a caller knows to follow from premises and earlier lines.
-    pub(crate) fn of_derived(alloc: Global, lines: Vec<Line>) -> Result<Learnt, AllocError>
+    /// What these lines show, which a caller knows to follow from premises and earlier lines. They are
+    /// not judged again. Linear in the lines.
+    pub fn of_derived(alloc: Global, lines: Vec<Line>) -> Result<Learnt, AllocError>
         requires { IsLearnt lines.items }
         ensures { IfOk result (λ learnt. learnt ≡ lines.items) }
     {
@@ -107,28 +103,6 @@ impl Learnt {
             (IfSome (last_conclusion self.now) (Holds registry.now.packages)) }
     {
         all_stand(registry, &self.lines)
-    }
-
-    /// Whether it has a premise with this target whose requirement the version meets. Where it does not
-    /// rest on the target, that is one look.
-    pub(crate) fn is_met(&self, target: Pkg, version: &Published) -> bool
-        ensures { result ≡ is_met target version.now self.now }
-    {
-        self.targets.has(target) && is_on(&self.lines, target, version)
-    }
-
-    /// Whether it concludes this.
-    pub(crate) fn concludes(&self, conclusion: &Incompat) -> bool
-        ensures { result ≡ concludes conclusion.now self.now }
-    {
-        self.conclusion().is_same(conclusion)
-    }
-
-    /// The key of its conclusion.
-    pub(crate) fn key(&self) -> u64
-        ensures { result ≡ key_of (conclusion_of self.now) }
-    {
-        key_of(self.conclusion())
     }
 
     /// An equal value. Want of memory is refused by its number.
@@ -171,25 +145,6 @@ fn all_stand(registry: &Registry, lines: &[Line]) -> bool
         left = rest;
     }
     true
-}
-
-/// Whether the cause is a premise with this target whose requirement the version meets.
-fn cause_is_on(cause: &Cause, target: Pkg, version: &Published) -> bool
-    ensures { result ≡ cause_is_on target (λ need. meets need version.now) cause.now }
-{
-    match cause {
-        Cause::Premise(premise) => premise.target == target && premise.need.admits(version),
-        Cause::Line(_) | Cause::Need(_) | Cause::NotAllowed(_, _) | Cause::Root => false,
-    }
-}
-
-/// Whether the lines have such a premise.
-fn is_on(lines: &[Line], target: Pkg, version: &Published) -> bool
-    ensures { result ≡ is_on target (λ need. meets need version.now) lines.now }
-{
-    lines.iter().any(|line| {
-        cause_is_on(&line.causes.0, target, version) || cause_is_on(&line.causes.1, target, version)
-    })
 }
 
 /// Puts the target at the end, where the cause is a premise.

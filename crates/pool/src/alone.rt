@@ -6,10 +6,10 @@ ghost use Rattle.pool.specs.Answering.{IsAnswerTo};
 
 use crate::query::{Answered, Query};
 use crate::work::{Answer, Asked, Finder, answer};
-use derivations::Store;
 use registry::Registry;
 use solver::{Options, Outcome, solve_with};
 use std::alloc::Global;
+use store::Store;
 use versions::Refusal;
 
 /// The effort in which a thread is started, in the packages and lines that answers have.

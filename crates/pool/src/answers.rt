@@ -7,12 +7,12 @@ use crate::gate::Gate;
 use crate::in_order::{Answers, Consumer, answer_in_order, start};
 use crate::query::Query;
 use crate::work::{Answer, Asked, Work};
-use derivations::Store;
 use registry::Registry;
 use std::alloc::{AllocError, Global};
 use std::marker::Brand;
 use std::sync::Wait;
 use std::thread::Threads;
+use store::Store;
 
 /// Who keeps the answers to so many requests.
 #[derive(Drop)]

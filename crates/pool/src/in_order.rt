@@ -15,12 +15,12 @@ use crate::gate::{Gate, Idle};
 use crate::jobs::{Jobs, Taker};
 use crate::query::{Answered, Query};
 use crate::work::{Answer, Asked, Finder, Work};
-use derivations::Store;
 use registry::Registry;
 use std::alloc::Global;
 use std::marker::{Brand, Model};
 use std::sync::Wait;
 use std::thread::{Threads, join_mut};
+use store::Store;
 
 /// Answers to requests, in order. Those behind the next one may still be searched for. Contracts see how many were
 /// handed over.

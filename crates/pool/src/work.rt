@@ -6,11 +6,11 @@ ghost use Rattle.pool.specs.Answering.{IsAnswerTo};
 use crate::alone::answer_soon;
 use crate::gate::Gate;
 use crate::query::{Answered, Query};
-use derivations::Store;
 use registry::{Registry, Request};
 use solver::{Options, Outcome, solve_with};
 use std::alloc::Global;
 use std::marker::{Model, PhantomData};
+use store::Store;
 use versions::Refusal;
 
 /// A request, and how it is to be answered.

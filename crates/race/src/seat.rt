@@ -5,10 +5,10 @@ ghost use Rattle.race.specs.Racing.{seat_ways};
 use answers::{Ledger, Standing};
 use book::Item;
 use chronicle::{Mark, Seat};
-use derivations::Store;
 use registry::Registry;
 use replies::Spot;
 use std::marker::Model;
+use store::Store;
 use versions::Refusal;
 
 /// A seat that answers lines. A contract sees the seat.

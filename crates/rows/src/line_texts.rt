@@ -2,7 +2,8 @@
 
 use crate::answer_text::AnswerText;
 use crate::showing::Shows;
-use derivations::{Cause, Learnt, Line, Premise, Store};
+use derivations::{Cause, Learnt, Line, Premise};
+use store::Store;
 use terms::VSet;
 
 impl Shows for Line {

@@ -1,7 +1,7 @@
 //! What is asked of each member of a store.
 
-use derivations::Store;
 use registry::Registry;
+use store::Store;
 
 /// How many members there are, counted one by one.
 pub fn count(store: &Store) -> usize {

@@ -12,8 +12,8 @@ use Rattle.registry.specs.Registry.{Packages}
 use Rattle.registry.specs.Requests.{Wanted}
 use Rattle.derivations.specs.Known.{IsBefore, StandsBy}
 use Rattle.derivations.specs.declared.facts.Cause.TheVariants as cause
-use Rattle.derivations.specs.declared.cutting.Known.{Known}
-use Rattle.derivations.specs.declared.cutting.Reason.TheVariants.{Fact}
+use Rattle.derivations.specs.declared.known.Known.{Known}
+use Rattle.derivations.specs.declared.known.Reason.TheVariants.{Fact}
 use Rattle.solver.specs.Deciding.{IsPlaced}
 use Rattle.solver.specs.Lines.{root_terms}
 use Rattle.solver.specs.Searching.{IsCausedBy, IsSearch}

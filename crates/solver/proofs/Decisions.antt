@@ -19,7 +19,7 @@ use Rattle.registry.specs.Laws.{PublishedBelow, UnpublishedFrom}
 use Rattle.registry.specs.Registry.{Package, Packages, Publication, needs_of, needs_or_none, package_at, publication_at, versions_or_none}
 use Rattle.registry.specs.Requests.{Wanted, allows_some, is_allowed}
 use Rattle.derivations.specs.Facts.{Terms}
-use Rattle.derivations.specs.declared.cutting.Known.{Known}
+use Rattle.derivations.specs.declared.known.Known.{Known}
 use Rattle.solver.specs.declared.task.Task.{Task}
 use Rattle.solver.specs.declared.search.Search.{Search}
 use Rattle.solver.specs.declared.acting.Acted.{Acted}

@@ -8,7 +8,7 @@ use Rattle.partial.specs.Satisfying.{IsNeither, LeavesAlmost, Satisfied}
 use Rattle.partial.specs.Rank.{rank, FallsBack}
 use Rattle.registry.specs.Registry.{Packages}
 use Rattle.registry.specs.Requests.{Wanted}
-use Rattle.derivations.specs.declared.cutting.Known.{Known}
+use Rattle.derivations.specs.declared.known.Known.{Known}
 use Rattle.solver.specs.Lines.{AtLine}
 use Rattle.solver.specs.Searching.{IsSearch}
 use Rattle.solver.proofs.Kept.{IsSearch-upto}

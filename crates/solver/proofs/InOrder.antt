@@ -18,7 +18,7 @@ use Rattle.registry.specs.Requests.{Wanted, is_allowed}
 use Rattle.registry.specs.Selections.{Choices, Meets, with_root}
 use Rattle.derivations.specs.Facts.{AllTrue}
 use Rattle.derivations.specs.Laws.{KeptLinesHold}
-use Rattle.derivations.specs.declared.cutting.Known.{Known}
+use Rattle.derivations.specs.declared.known.Known.{Known}
 use Rattle.walk.specs.Choosing.{Follows, choice_of}
 use Rattle.walk.specs.declared.listing.Next.{Next}
 use Rattle.walk.specs.Listing.{AreAll, EndsWith, IsListing, IsNext, ListIsSelection, NothingComesNext, OneListInOrder}

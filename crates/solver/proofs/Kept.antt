@@ -17,9 +17,9 @@ use Rattle.registry.specs.Registry.{Packages}
 use Rattle.registry.specs.Requests.{Wanted}
 use Rattle.derivations.specs.Facts.{Terms}
 use Rattle.derivations.specs.Known.{IsBefore, StandsBy}
-use Rattle.derivations.specs.declared.cutting.Known.{Known}
-use Rattle.derivations.specs.declared.cutting.Reason.{Reason}
-use Rattle.derivations.specs.declared.cutting.Reason.TheVariants.{Fact, Resolved}
+use Rattle.derivations.specs.declared.known.Known.{Known}
+use Rattle.derivations.specs.declared.known.Reason.{Reason}
+use Rattle.derivations.specs.declared.known.Reason.TheVariants.{Fact, Resolved}
 use Rattle.solver.specs.Lines.{AreLines, AtLine}
 use Rattle.solver.specs.Searching.{IsCausedBy, IsSearch}
 use Rattle.solver.proofs.Lists.{get-left, get-cases, get-taken, longer}

@@ -14,15 +14,14 @@ use Rattle.partial.specs.declared.assignment.Why.{Why}
 use Rattle.partial.specs.declared.assignment.Why.TheVariants.{Decided, Derived}
 use Rattle.partial.specs.Assignments.{says, decided, decided_by, is_decided, AreAssignments, IsExact, IsPartial}
 use Rattle.partial.specs.Satisfying.{IsNeither}
-use Rattle.derivations.specs.Facts.{Terms, dependency}
+use Rattle.derivations.specs.Facts.{Terms, dependency, need_terms, need_terms_at}
 use Rattle.std.specs.Prelude.{Contains}
 use Rattle.versions.specs.Words.{Text}
 use Rattle.registry.specs.Laws.{MatchingIsWhatMeets}
 use Rattle.registry.specs.Registry.{Packages, Publication, matching, meets_at, needs_of, needs_or_none, number_of, publication_at}
-use Rattle.derivations.specs.Facts.{need_terms, need_terms_at}
 use Rattle.walk.specs.Choosing.{IsUnmet}
 use Rattle.walk.specs.Walks.{IsUnmetAt}
-use Rattle.derivations.specs.declared.cutting.Known.{Known}
+use Rattle.derivations.specs.declared.known.Known.{Known}
 use Rattle.solver.specs.Deciding.{IsTurnAt, IsTurnOf}
 use Rattle.solver.proofs.InOrder.{turn_kept}
 use Rattle.solver.specs.Lines.{AtLine}

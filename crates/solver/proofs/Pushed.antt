@@ -10,8 +10,8 @@ use Rattle.derivations.specs.Derivations.{IsFact}
 use Rattle.derivations.specs.Facts.{Stands, Terms}
 use Rattle.derivations.specs.declared.facts.Cause.{Cause}
 use Rattle.derivations.specs.declared.facts.Premise.{Premise}
-use Rattle.derivations.specs.declared.cutting.Known.{Known}
-use Rattle.derivations.specs.declared.cutting.Reason.TheVariants.{Fact}
+use Rattle.derivations.specs.declared.known.Known.{Known}
+use Rattle.derivations.specs.declared.known.Reason.TheVariants.{Fact}
 use Rattle.solver.specs.Pushing.{AreDependents, SaysAt}
 use Rattle.solver.specs.Searching.{IsSearch}
 use Rattle.solver.proofs.Lists.{get-last}

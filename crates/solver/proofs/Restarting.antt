@@ -10,7 +10,7 @@ use Rattle.partial.specs.declared.assignment.Why.TheVariants.{Decided, Derived}
 use Rattle.partial.specs.Assignments.{AreAssignments, IsExact, IsPartial, decided_by, decisions, is_decision, one_if, says, upto}
 use Rattle.registry.specs.Registry.{Packages}
 use Rattle.registry.specs.Requests.{Wanted}
-use Rattle.derivations.specs.declared.cutting.Known.{Known}
+use Rattle.derivations.specs.declared.known.Known.{Known}
 use Rattle.solver.specs.Deciding.{IsPlaced}
 use Rattle.solver.specs.Searching.{BeginsWithRoot, IsCausedBy, IsSearch}
 use Rattle.solver.proofs.Beginning.{root_placed}

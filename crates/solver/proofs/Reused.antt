@@ -11,8 +11,8 @@ use Rattle.derivations.specs.Facts.{Terms}
 use Rattle.derivations.specs.Derivations.{AreDerivedBy, FollowsOn}
 use Rattle.derivations.specs.Known.{FollowsFrom}
 use Rattle.derivations.specs.Learning.{AllStand, Offers}
-use Rattle.derivations.specs.declared.cutting.Known.{Known}
-use Rattle.derivations.specs.declared.cutting.Reason.TheVariants.{Resolved}
+use Rattle.derivations.specs.declared.known.Known.{Known}
+use Rattle.derivations.specs.declared.known.Reason.TheVariants.{Resolved}
 use Rattle.derivations.specs.declared.line.Line.{Line}
 use Rattle.solver.specs.Pushing.{SaysAt}
 use Rattle.solver.specs.Searching.{IsSearch}

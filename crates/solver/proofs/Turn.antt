@@ -11,8 +11,8 @@ use Rattle.registry.specs.Registry.{Packages}
 use Rattle.registry.specs.Requests.{Wanted}
 use Rattle.derivations.specs.Known.{FollowsFrom, IsResolved, StandsBy}
 use Rattle.derivations.specs.Laws.{EmptyIsNoFact}
-use Rattle.derivations.specs.declared.cutting.Known.{Known}
-use Rattle.derivations.specs.declared.cutting.Reason.TheVariants.{Resolved}
+use Rattle.derivations.specs.declared.known.Known.{Known}
+use Rattle.derivations.specs.declared.known.Reason.TheVariants.{Resolved}
 use Rattle.std.specs.Prelude.{is_some}
 use Rattle.solver.specs.Lines.{AtLine, IsRefusal}
 use Rattle.solver.specs.Searching.{IsCaused, IsCausedBy, IsResolving, IsSearch}

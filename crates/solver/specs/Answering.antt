@@ -14,7 +14,7 @@ use Rattle.solver.specs.declared.task.Task.{Task}
 use Rattle.solver.specs.declared.search.Search.{Search}
 use Rattle.solver.specs.declared.turns.Turned.{Turned}
 use Rattle.solver.specs.declared.turns.Turned.TheVariants as turned
-use Rattle.derivations.specs.declared.cutting.Known.{Known}
+use Rattle.derivations.specs.declared.known.Known.{Known}
 use Rattle.solver.specs.declared.turns.Ended.{Ended}
 use Rattle.solver.specs.declared.turns.Ended.TheVariants as ended
 use Rattle.solver.specs.Lines.{AreLines}

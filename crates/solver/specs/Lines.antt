@@ -5,7 +5,7 @@ use Rattle.registry.specs.Registry.{Packages}
 use Rattle.registry.specs.Requests.{Wanted}
 use Rattle.derivations.specs.Facts.{Terms}
 use Rattle.derivations.specs.Known.{AreLawful, AreOrdered, EndsAt}
-use Rattle.derivations.specs.declared.cutting.Known.{Known}
+use Rattle.derivations.specs.declared.known.Known.{Known}
 
 -- the line at this place is so
 abbrev pub AtLine : List Known → ℕ → (Known → Type 0) → Type 0

@@ -5,7 +5,7 @@ use Rattle.terms.specs.Sets.{has}
 use Rattle.partial.specs.declared.assignment.Assignment.{Assignment}
 use Rattle.registry.specs.Registry.{Packages, needs_of}
 use Rattle.derivations.specs.Facts.{Terms, need_terms}
-use Rattle.derivations.specs.declared.cutting.Known.{Known}
+use Rattle.derivations.specs.declared.known.Known.{Known}
 use Rattle.solver.specs.declared.task.Task.{Task}
 use Rattle.solver.specs.Lines.{AtLine}
 use Rattle.solver.specs.Searching.{IsSearch}

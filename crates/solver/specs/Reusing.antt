@@ -6,7 +6,7 @@ use Rattle.derivations.specs.Facts.{Terms}
 use Rattle.derivations.specs.Derivations.{IsDerivedBy, last_conclusion}
 use Rattle.derivations.specs.Learning.{AllStand, CauseStands, Offers}
 use Rattle.derivations.specs.declared.facts.Cause.{Cause}
-use Rattle.derivations.specs.declared.cutting.Known.{Known}
+use Rattle.derivations.specs.declared.known.Known.{Known}
 use Rattle.derivations.specs.declared.line.Line.{Line}
 use Rattle.solver.specs.declared.task.Task.{Task}
 use Rattle.solver.specs.Pushing.{SaysAt}

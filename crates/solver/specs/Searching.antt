@@ -12,7 +12,7 @@ use Rattle.partial.specs.Satisfying.{IsNeither, LeavesAlmost, Satisfied, Satisfi
 use Rattle.partial.specs.Rank.{rank}
 use Rattle.registry.specs.Registry.{Packages}
 use Rattle.registry.specs.Requests.{Wanted}
-use Rattle.derivations.specs.declared.cutting.Known.{Known}
+use Rattle.derivations.specs.declared.known.Known.{Known}
 use Rattle.solver.specs.declared.task.Task.{Task}
 use Rattle.solver.specs.declared.search.Search.{Search}
 use Rattle.solver.specs.declared.acting.Acted.{Acted}

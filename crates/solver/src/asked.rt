@@ -3,9 +3,9 @@
 // No proof rests on it: it chooses which members are used, and a search that uses fewer is as right.
 
 use crate::task::Task;
-use derivations::Link;
 use partial::{Partial, Standing};
 use std::alloc::{AllocError, Global};
+use store::Link;
 use terms::{Incompat, Pkg, VSet};
 
 /// The most members that are asked when something was settled of a package: the newest that name it.

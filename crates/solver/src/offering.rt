@@ -5,8 +5,10 @@ ghost use Rattle.derivations.specs.Known.{AreLawful, AreOrdered};
 ghost use Rattle.derivations.specs.Learning.{AllStand};
 
 use crate::task::Task;
-use derivations::{Cause, Known, Learnt, Reason, STORE_LIMIT, offers};
+use derivations::{Cause, Known, Learnt, Reason};
+use extraction::offers;
 use std::alloc::AllocError;
+use store::STORE_LIMIT;
 
 /// Whether the line at a place is a fact of the request.
 fn is_asked(known: &[Known], place: usize) -> bool {

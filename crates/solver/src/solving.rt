@@ -21,10 +21,12 @@ use crate::starting::{restart, start};
 use crate::task::Task;
 use crate::turns::{Ended, run};
 use crate::worklist::Worklist;
-use derivations::{Derivation, Learnt, Store, cut, kept_lines_refute};
+use derivations::{Derivation, Learnt, kept_lines_refute};
+use extraction::cut;
 use heuristics::Obstacle;
 use registry::{Registry, Request, ordinals_are_below_the_count};
 use std::alloc::{AllocError, Global};
+use store::Store;
 use terms::Pkg;
 use versions::{Name, Published, Refusal};
 use walk::{

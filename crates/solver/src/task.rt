@@ -1,9 +1,9 @@
 // What is to be solved.
 
-use derivations::Store;
 use heuristics::Question;
 use registry::{Registry, Request};
 use std::alloc::Global;
+use store::Store;
 
 /// A request to a registry, with what is stored of earlier ones, how many conflicts may be met, where
 /// there is a budget of them, and whether the newest selection is asked for.

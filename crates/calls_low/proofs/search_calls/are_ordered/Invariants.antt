@@ -1,7 +1,7 @@
 use Rattle.std.proofs.Common.{◌≡◌, ℕ, ◌<◌}
 use Rattle.std.specs.Prelude.{slice_get, Some}
 use Rattle.derivations.specs.Known.{IsBefore}
-use Rattle.derivations.specs.declared.cutting.Known.{Known}
+use Rattle.derivations.specs.declared.known.Known.{Known}
 use Rattle.calls_low.proofs.search_calls.are_ordered.Given as goal
 
 abbrev pub invariant-loop-place : goal.invariant-loop-place

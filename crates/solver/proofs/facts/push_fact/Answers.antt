@@ -1,5 +1,5 @@
 use Rattle.std.proofs.Common.{ap, length}
-use Rattle.derivations.specs.declared.cutting.Reason.TheVariants.{Fact}
+use Rattle.derivations.specs.declared.known.Reason.TheVariants.{Fact}
 use Rattle.solver.proofs.Pushed.{fact_extends, fact_place}
 use Rattle.solver.proofs.Reused.{Keeps-push}
 use Rattle.solver.proofs.facts.push_fact.Goals as goal

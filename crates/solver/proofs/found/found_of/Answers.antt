@@ -1,6 +1,6 @@
 use Rattle.std.proofs.Common.{List, subst, sym}
 use Rattle.derivations.specs.Known.{AreLawful}
-use Rattle.derivations.specs.declared.cutting.Known.{Known}
+use Rattle.derivations.specs.declared.known.Known.{Known}
 use Rattle.solver.proofs.found.found_of.Goals as goal
 
 pub offered_of-offered-requires-clause-lawful : goal.offered_of-offered-requires-clause-lawful

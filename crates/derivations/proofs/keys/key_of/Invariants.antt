@@ -1,9 +1,0 @@
-use Rattle.std.proofs.Common.{◌≡◌, length}
-use Rattle.derivations.specs.Keys.{key_of, stirred_terms}
-use Rattle.derivations.proofs.keys.key_of.Given as goal
-
-abbrev pub invariant-stir : goal.invariant-stir
-invariant-stir l = stirred_terms l.key l.left ≡ key_of l.conclusion
-
-abbrev pub decreases-stir : goal.decreases-stir
-decreases-stir l = length l.left

@@ -1,8 +1,0 @@
-use Rattle.derivations.proofs.Storing.{commands-keep, learnt_after}
-use Rattle.derivations.proofs.laws.commands_keep.Goals as goal
-
-pub returns-clause-stand : goal.returns-clause-stand
-returns-clause-stand c = commands-keep c.numbers_last.ensures
-
-pub returns-clause-learnt : goal.returns-clause-learnt
-returns-clause-learnt c = learnt_after

@@ -1,0 +1,56 @@
+use Rattle.std.proofs.Common.{◌≡◌, ◌∙◌, ◌<◌, ℕ, List, ap, arith, get_or, length, refl, subst, sym}
+use Rattle.std.proofs.lemmas.Option.{get_or_from_slice_get}
+use Rattle.extraction.specs.Cutting.{IsReady}
+use Rattle.derivations.specs.Known.{IsResolved}
+use Rattle.derivations.specs.declared.known.Known.{Known}
+use Rattle.derivations.specs.declared.known.Reason.TheVariants.{Resolved}
+use Rattle.extraction.proofs.Taken.{said_read}
+use Rattle.extraction.proofs.Walking.{line_by, ready_within}
+use Rattle.extraction.proofs.cutting.step_for.Goals as goal
+
+-- the line is no fact
+own_resolved : (known : List Known) (numbers : List ℕ) (at : ℕ) (own : Known) → IsReady known numbers at → own ≡ get_or known at own → IsResolved own.reason
+own_resolved known numbers at own ready is =
+    let reason : own.reason ≡ Resolved ready.i ready.j ready.pivot = ap (λ (line : Known). line.reason) (is ∙ get_or_from_slice_get known at ready.own own ready.own_at) ∙ ready.reason in
+    subst IsResolved (sym reason) tt
+
+-- the two that it cites stand among the lines
+both_within : (known : List Known) (numbers : List ℕ) (at i j pivot : ℕ) (own : Known) → IsReady known numbers at → own ≡ get_or known at own → own.reason ≡ Resolved i j pivot
+    → (i < length known) × (j < length known)
+both_within known numbers at i j pivot own ready is reason =
+    let reasons : Resolved i j pivot ≡ Resolved ready.i ready.j ready.pivot =
+    sym reason ∙ ap (λ (line : Known). line.reason) (is ∙ get_or_from_slice_get known at ready.own own ready.own_at) ∙ ready.reason in
+    let one : i ≡ ready.i = cc in
+    let two : j ≡ ready.j = cc in
+    let within = ready_within known numbers at ready in
+    (omega (arith, one, within.1), omega (arith, two, within.2))
+
+pub bounds-known-at : goal.bounds-known-at
+bounds-known-at c = (ready_within c.args.known.now c.args.numbers.now c.args.at c.requires.ready).0
+
+pub cites-i-requires : goal.cites-i-requires
+cites-i-requires c = own_resolved c.args.known.now c.args.numbers.now c.args.at c.index-known-at.result c.requires.ready c.index-known-at.is
+
+pub bounds-known-i : goal.bounds-known-i
+bounds-known-i c =
+    (both_within c.args.known.now c.args.numbers.now c.args.at c.cites-i.result.0 c.cites-i.result.1 c.cites-i.result.2 c.index-known-at.result c.requires.ready c.index-known-at.is c.cites-i.ensures).0
+
+pub bounds-known-j : goal.bounds-known-j
+bounds-known-j c =
+    (both_within c.args.known.now c.args.numbers.now c.args.at c.cites-i.result.0 c.cites-i.result.1 c.cites-i.result.2 c.index-known-at.result c.requires.ready c.index-known-at.is c.cites-i.ensures).1
+
+pub bounds-numbers-i : goal.bounds-numbers-i
+bounds-numbers-i c =
+    let both = both_within c.args.known.now c.args.numbers.now c.args.at c.cites-i.result.0 c.cites-i.result.1 c.cites-i.result.2 c.index-known-at.result c.requires.ready c.index-known-at.is c.cites-i.ensures in
+    omega (arith, both.0, c.requires.lengths)
+
+pub bounds-numbers-j : goal.bounds-numbers-j
+bounds-numbers-j c =
+    let both = both_within c.args.known.now c.args.numbers.now c.args.at c.cites-i.result.0 c.cites-i.result.1 c.cites-i.result.2 c.index-known-at.result c.requires.ready c.index-known-at.is c.cites-i.ensures in
+    omega (arith, both.1, c.requires.lengths)
+
+pub returns-clause-same : goal.returns-clause-same
+returns-clause-same c =
+    let within = (ready_within c.args.known.now c.args.numbers.now c.args.at c.requires.ready).0 in
+    line_by c.args.known.now c.args.numbers.now c.args.at c.cites-i.result.0 c.cites-i.result.1 c.cites-i.result.2 c.index-known-at.result c.index-known-i.result c.index-known-j.result _
+    c.requires.ready c.index-known-at.is c.cites-i.ensures c.index-known-i.is c.index-known-j.is (said_read c.args.known.now c.args.at c.index-known-at.result within c.index-known-at.is) refl c.in_ok-first.ensures c.in_ok-second.ensures

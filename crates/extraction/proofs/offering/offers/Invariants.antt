@@ -1,0 +1,16 @@
+use Rattle.std.proofs.Common.{◌≡◌, ◌<◌, ◌≤◌, ◌-◌, length}
+use Rattle.std.specs.Prelude.{All, sum_by}
+use Rattle.extraction.specs.Cutting.{AreClear}
+use Rattle.extraction.specs.Offering.{ShowsOne}
+use Rattle.derivations.specs.declared.learnt.TheConstants.{LINE_LIMIT}
+use Rattle.extraction.specs.declared.offering.TheConstants.{OFFERED_LIMIT}
+use Rattle.extraction.proofs.offering.offers.Given as goal
+
+abbrev pub invariant-loop-at : goal.invariant-loop-at
+invariant-loop-at l = record {
+  clear : AreClear l.known l.numbers.items;
+  shown : All (ShowsOne l.known l.places) l.offered.items;
+  counted : l.taken ≡ sum_by length l.offered.items;
+  few : l.taken ≤ OFFERED_LIMIT;
+  kept : l.at < length l.places → l.taken ≤ OFFERED_LIMIT - LINE_LIMIT;
+}
