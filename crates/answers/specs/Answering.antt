@@ -21,7 +21,7 @@ IsRead read line = Gives asked_of read (request_of line)
 abbrev pub IsReadWithin : Settings → Result Asked Refusal → List ℕ → Type 0
 IsReadWithin settings read line = Gives asked_of read (asked_within settings.budget line)
 
--- Each reply that tells this answer where the ledger stands is such a reply, and leaves it so: of a search, once some of what it offers is learnt.
+-- Each reply that tells this answer where the backend stands is such a reply, and leaves it so: of a search, once some of what it offers is learnt.
 abbrev pub LeadsTo : {S : Type 0} → Ways S → (Reply → S → Type 0) → Answer → S → Type 0
 LeadsTo {S} w is (answer.Told told) here = is (reply_at w here (body_of told)) here
 LeadsTo {S} w is (answer.Found told offered) here = (new : S) → LearnsSome w here new → is (reply_at w here (body_of told)) new

@@ -16,13 +16,13 @@ use Rattle.replies.specs.Replies.{Body, Reply, accepted, refused}
 use Rattle.answers.specs.Outcomes.{TellsFound, TellsListing, TellsSpent, TellsVerdict}
 use Rattle.answers.specs.Told.{reply_from}
 use Rattle.answers.specs.declared.settings.Settings.{Settings}
-use Rattle.answers.specs.declared.told.Standing.{Standing}
+use Rattle.answers.specs.declared.told.ReplyStamp.{ReplyStamp}
 
 -- ---- where lines are answered
 
--- Of a ledger, as contracts see it: where it stands, the registry there, and what its calls do.
+-- Of a backend, as contracts see it: where it stands, the registry there, and what its calls do.
 pub record Ways (S : Type 0) : Type 1 where
-  pub standing : S → Standing
+  pub standing : S → ReplyStamp
   pub packages : S → Packages
   -- it has looked for what others entered, and entered nothing
   pub looks : S → S → Type 0
@@ -80,7 +80,7 @@ FindsAndLearns {S} w wanted explain newest old reply new = (mid : S) × LooksAnd
     × LearnsSome w mid new
 
 -- A request may be answered so, and where what is selected has to be the newest selection, by that one. All but a command is answered of the
--- registry where the ledger then stands.
+-- registry where the backend then stands.
 abbrev pub Answers : {S : Type 0} → Ways S → Bool → Request → S → Reply → S → Type 0
 Answers w newest (command change) old reply new =
     IsEntered w (item_of change) old reply new ⊎ LooksAndRefuses w (λ here refusal. w.refusal here (item_of change) ≡ Some refusal) old reply new

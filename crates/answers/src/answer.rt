@@ -8,13 +8,13 @@ ghost use Rattle.answers.specs.Answering.{IsRead, IsReadWithin, LeadsTo};
 ghost use Rattle.answers.specs.Lawful.{IsLawfulWithin, IsStopped, MayAnswer};
 ghost use Rattle.answers.specs.Outcomes.{TellsFound};
 
-use crate::ledger::Ledger;
+use crate::backend::Backend;
 use crate::settings::Settings;
-use crate::told::{told_of, verdict_on};
+use crate::told::{reply_body_of, verdict_on};
 use book::Item;
 use by_name::NamedDerivation;
 use derivations::Learnt;
-use intake::Intake;
+use intake::RequestReader;
 use registry::{Command, Request};
 use replies::Body;
 use solver::{Options, solve_with};
@@ -22,7 +22,7 @@ use std::alloc::Global;
 use versions::Refusal;
 use wire::Asked;
 
-/// What is answered to a line, where the ledger then stands.
+/// What is answered to a line, where the backend then stands.
 #[derive(Drop)]
 pub enum Answer {
     Told(Body<'static>),
@@ -33,17 +33,17 @@ pub enum Answer {
 }
 
 /// Answers a line, as the settings say where it does not.
-pub fn answer_line<L: Ledger>(
+pub fn answer_line<L: Backend>(
     alloc: Global,
-    ledger: &mut L,
-    intake: &mut Intake,
+    backend: &mut L,
+    intake: &mut RequestReader,
     line: &[u8],
     settings: Settings,
 ) -> Answer
-    ensures { LeadsTo L.ways (IsLawfulWithin settings L.ways line.now ledger.old) result ledger.new }
+    ensures { LeadsTo L.ways (IsLawfulWithin settings L.ways line.now backend.old) result backend.new }
 {
     let read = within(intake.read(alloc, line), settings);
-    answer_read(alloc, ledger, read, settings)
+    answer_read(alloc, backend, read, settings)
 }
 
 /// What was read of a line, with the budget of the settings where it asks to resolve and names none.
@@ -68,16 +68,16 @@ pub fn within(read: Result<Asked, Refusal>, settings: Settings) -> Result<Asked,
 }
 
 /// Answers a line of which this was read within the settings.
-pub fn answer_read<L: Ledger>(
+pub fn answer_read<L: Backend>(
     alloc: Global,
-    ledger: &mut L,
+    backend: &mut L,
     read: Result<Asked, Refusal>,
     settings: Settings,
 ) -> Answer
-    ensures { (line : List ℕ) → IsReadWithin settings read line → LeadsTo L.ways (IsLawfulWithin settings L.ways line ledger.old) result ledger.new }
+    ensures { (line : List ℕ) → IsReadWithin settings read line → LeadsTo L.ways (IsLawfulWithin settings L.ways line backend.old) result backend.new }
 {
     match read {
-        Ok(Asked::Command(command)) => enter(ledger, command),
+        Ok(Asked::Command(command)) => enter(backend, command),
         Ok(
             Asked::Resolve {
                 request,
@@ -86,7 +86,7 @@ pub fn answer_read<L: Ledger>(
             },
         ) => resolve(
             alloc,
-            ledger,
+            backend,
             &request,
             Options {
                 budget,
@@ -99,83 +99,88 @@ pub fn answer_read<L: Ledger>(
                 request,
                 derivation,
             },
-        ) => judge(alloc, ledger, &request, &derivation),
-        Ok(Asked::Listing) => list(ledger),
+        ) => judge(alloc, backend, &request, &derivation),
+        Ok(Asked::Listing) => list(backend),
         Err(fault) => Answer::Told(Body::Refusal(fault)),
     }
 }
 
 /// Enters a command. The answer takes no memory, so that an accepted one is never told as 18.
-fn enter<L: Ledger>(ledger: &mut L, command: Command) -> Answer
-    ensures { (newest : Bool) → LeadsTo L.ways (MayAnswer L.ways newest (shapes.command (change_of command)) ledger.old) result ledger.new }
+fn enter<L: Backend>(backend: &mut L, command: Command) -> Answer
+    ensures { (newest : Bool) → LeadsTo L.ways (MayAnswer L.ways newest (shapes.command (change_of command)) backend.old) result backend.new }
 {
-    match ledger.enter(Item::Command(command)) {
+    match backend.enter(Item::Command(command)) {
         Ok(()) => Answer::Told(Body::Accepted),
         Err(refusal) => Answer::Told(Body::Refusal(refusal)),
     }
 }
 
 /// Answers a request, after a look, with what the solver answers.
-fn resolve<L: Ledger>(alloc: Global, ledger: &mut L, request: &Request, options: Options) -> Answer
-    ensures { LeadsTo L.ways (MayAnswer L.ways options.newest (shapes.resolve request.now options.explain options.budget) ledger.old) result ledger.new }
+fn resolve<L: Backend>(
+    alloc: Global,
+    backend: &mut L,
+    request: &Request,
+    options: Options,
+) -> Answer
+    ensures { LeadsTo L.ways (MayAnswer L.ways options.newest (shapes.resolve request.now options.explain options.budget) backend.old) result backend.new }
 {
-    match found_by(alloc, ledger, request, options) {
+    match found_by(alloc, backend, request, options) {
         Ok((told, offered)) => Answer::Found(told, offered),
         Err(e) => Answer::Told(Body::Refusal(e)),
     }
 }
 
 /// Judges a derivation, after a look.
-fn judge<L: Ledger>(
+fn judge<L: Backend>(
     alloc: Global,
-    ledger: &mut L,
+    backend: &mut L,
     request: &Request,
     derivation: &NamedDerivation,
 ) -> Answer
-    ensures { (newest : Bool) → LeadsTo L.ways (MayAnswer L.ways newest (shapes.check request.now derivation.now) ledger.old) result ledger.new }
+    ensures { (newest : Bool) → LeadsTo L.ways (MayAnswer L.ways newest (shapes.check request.now derivation.now) backend.old) result backend.new }
 {
-    match ledger.look() {
-        Ok(()) => Answer::Told(verdict_on(alloc, ledger.registry(), request, derivation)),
+    match backend.look() {
+        Ok(()) => Answer::Told(verdict_on(alloc, backend.registry(), request, derivation)),
         Err(e) => Answer::Told(Body::Refusal(e)),
     }
 }
 
 /// Lists what is published, after a look.
-fn list<L: Ledger>(ledger: &mut L) -> Answer
-    ensures { (newest : Bool) → LeadsTo L.ways (MayAnswer L.ways newest shapes.listing ledger.old) result ledger.new }
+fn list<L: Backend>(backend: &mut L) -> Answer
+    ensures { (newest : Bool) → LeadsTo L.ways (MayAnswer L.ways newest shapes.listing backend.old) result backend.new }
 {
-    match ledger.look() {
+    match backend.look() {
         Ok(()) => Answer::Listing,
         Err(e) => Answer::Told(Body::Refusal(e)),
     }
 }
 
 /// What is told of a request, after a look, and what is offered to be learnt.
-fn found_by<L: Ledger>(
+fn found_by<L: Backend>(
     alloc: Global,
-    ledger: &mut L,
+    backend: &mut L,
     request: &Request,
     options: Options,
 ) -> Result<(Body<'static>, Vec<Learnt>), Refusal>
-    ensures looks { L.ways.looks ledger.old ledger.new }
-    ensures told { IfOk result (λ r. TellsFound (L.ways.packages ledger.new) request.now options.explain options.newest (body_of r.0)) }
-    ensures only { IfErr result (λ e. IsStopped L.ways ledger.new e ⊎ MayStop (L.ways.packages ledger.new) request.now options.budget e) }
+    ensures looks { L.ways.looks backend.old backend.new }
+    ensures told { IfOk result (λ r. TellsFound (L.ways.packages backend.new) request.now options.explain options.newest (body_of r.0)) }
+    ensures only { IfErr result (λ e. IsStopped L.ways backend.new e ⊎ MayStop (L.ways.packages backend.new) request.now options.budget e) }
 {
-    ledger.look()?;
-    found_here(alloc, ledger, request, options)
+    backend.look()?;
+    found_here(alloc, backend, request, options)
 }
 
-/// What is told of a request where the ledger stands, and what is offered to be learnt.
-fn found_here<L: Ledger>(
+/// What is told of a request where the backend stands, and what is offered to be learnt.
+fn found_here<L: Backend>(
     alloc: Global,
-    ledger: &L,
+    backend: &L,
     request: &Request,
     options: Options,
 ) -> Result<(Body<'static>, Vec<Learnt>), Refusal>
-    ensures told { IfOk result (λ r. TellsFound (L.ways.packages ledger.now) request.now options.explain options.newest (body_of r.0)) }
-    ensures only { IfErr result (MayStop (L.ways.packages ledger.now) request.now options.budget) }
+    ensures told { IfOk result (λ r. TellsFound (L.ways.packages backend.now) request.now options.explain options.newest (body_of r.0)) }
+    ensures only { IfErr result (MayStop (L.ways.packages backend.now) request.now options.budget) }
 {
-    let registry = ledger.registry();
-    let outcome = solve_with(alloc, registry, request, ledger.store(), options)?;
-    Ok(told_of(alloc, registry, request, options, outcome)?)
+    let registry = backend.registry();
+    let outcome = solve_with(alloc, registry, request, backend.store(), options)?;
+    Ok(reply_body_of(alloc, registry, request, options, outcome)?)
 }

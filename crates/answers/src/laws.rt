@@ -2,17 +2,17 @@
 
 ghost use Rattle.answers.specs.Laws.{OneSelectionIsTold, RepliesAddUp};
 
-use crate::ledger::Ledger;
+use crate::backend::Backend;
 use solver::there_is_one_newest_list;
 
 /// Replies that are lawful one after another are lawful together, and what answers a request is so for a line that asks
 /// it. It does nothing when it runs.
-pub fn lawful_replies_add_up<L: Ledger>()
+pub fn lawful_replies_add_up<L: Backend>()
     ensures { RepliesAddUp L.ways }
 {}
 
 /// Where the newest selection has to be told, one selection is told of the same packages and the same request: by any
-/// ledger, whatever it learnt before. It does nothing when it runs.
+/// backend, whatever it learnt before. It does nothing when it runs.
 pub fn one_selection_is_told()
     ensures { OneSelectionIsTold }
 {

@@ -1,9 +1,9 @@
-//! The answer to one line, by a session or by a seat of a race: [`answer_line`] asks the registry of a [`Ledger`], and
-//! [`put_told`] writes what is told as a reply.
+//! The answer to one line, by a session or by a seat of a race: [`answer_line`] asks the registry of a [`Backend`], and
+//! [`put_reply`] writes what is told as a reply.
 //!
 //! | File | What it does |
 //! |---|---|
-//! | `ledger` | what lines are answered by |
+//! | `backend` | what lines are answered by |
 //! | `answer` | the answer to a line: a command is entered, a request resolved, a derivation judged, a listing lent |
 //! | `told` | what is told of what the solver found, and of a derivation |
 //! | `reasons` | why no selection meets a request, by names and with its explanation |
@@ -14,18 +14,18 @@
 #![tactic(auto)]
 
 mod answer;
+mod backend;
 mod fault;
 mod laws;
-mod ledger;
 mod put;
 mod reasons;
 mod settings;
 mod told;
 
 pub use answer::{Answer, answer_line, answer_read, within};
+pub use backend::{Backend, learn_all};
 pub use fault::RunFault;
 pub use laws::{lawful_replies_add_up, one_selection_is_told};
-pub use ledger::{Ledger, learn_all};
-pub use put::{put_listing, put_told, send_told};
+pub use put::{put_listing, put_reply, send_told};
 pub use settings::Settings;
-pub use told::{Standing, told_of};
+pub use told::{ReplyStamp, reply_body_of};

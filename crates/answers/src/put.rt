@@ -6,7 +6,7 @@ ghost use Rattle.replies.specs.Replies as texts;
 ghost use Rattle.answers.specs.Outcomes.{MayTell, TellsListing};
 ghost use Rattle.answers.specs.Told.{reply_from};
 
-use crate::told::Standing;
+use crate::told::ReplyStamp;
 use lines::Outbox;
 use registry::Registry;
 use replies::{Body, Listing, reply_line};
@@ -16,10 +16,10 @@ use std::io::Write;
 use versions::Refusal;
 
 /// Puts the line of what is told. It takes no memory.
-pub fn put_told<W: Write>(
+pub fn put_reply<W: Write>(
     outbox: &mut Outbox,
     writer: &mut W,
-    at: Standing,
+    at: ReplyStamp,
     body: Body<'_>,
 ) -> io::Result<()>
     ensures { Puts (W.contents writer.old) (W.contents writer.new) outbox.old outbox.new result
@@ -31,17 +31,17 @@ pub fn put_told<W: Write>(
     put
 }
 
-/// As [`put_told`], and writes it at once with all that waits.
+/// As [`put_reply`], and writes it at once with all that waits.
 pub fn send_told<W: Write>(
     outbox: &mut Outbox,
     writer: &mut W,
-    at: Standing,
+    at: ReplyStamp,
     body: Body<'_>,
 ) -> io::Result<()>
     ensures { Puts (W.contents writer.old) (W.contents writer.new) outbox.old outbox.new result
         (reply_text (reply_from at (body_of body.entry))) }
 {
-    match put_told(outbox, writer, at, body) {
+    match put_reply(outbox, writer, at, body) {
         Ok(()) => outbox.send(writer),
         Err(e) => Err(e),
     }
@@ -52,14 +52,14 @@ pub fn put_listing<W: Write>(
     alloc: Global,
     outbox: &mut Outbox,
     writer: &mut W,
-    at: Standing,
+    at: ReplyStamp,
     registry: &Registry,
 ) -> io::Result<()>
     ensures { (body : texts.Body) × MayTell (TellsListing registry.now.packages) body
         × Puts (W.contents writer.old) (W.contents writer.new) outbox.old outbox.new result (reply_text (reply_from at body)) }
 {
     match Listing::new(alloc, registry) {
-        Ok(listing) => put_told(outbox, writer, at, Body::Listing(listing)),
-        Err(_) => put_told(outbox, writer, at, Body::Refusal(Refusal::NoMemory)),
+        Ok(listing) => put_reply(outbox, writer, at, Body::Listing(listing)),
+        Err(_) => put_reply(outbox, writer, at, Body::Refusal(Refusal::NoMemory)),
     }
 }

@@ -10,21 +10,21 @@ use crate::reasons::{explained, follows};
 use by_name::NamedDerivation;
 use derivations::{Learnt, derivations_refute};
 use registry::{Registry, Request};
-use replies::{Body, Reply, Spot};
+use replies::{Body, Reply, SeatStamp};
 use solver::{Options, Outcome};
 use std::alloc::{AllocError, Global};
 use versions::Refusal;
 
 /// Where a line is answered, which its reply tells too.
 #[derive(Clone, Copy)]
-pub struct Standing {
+pub struct ReplyStamp {
     /// How many commands were accepted.
     pub revision: u64,
     /// In a race, how many entries the seat has seen, and its number.
-    pub stamp: Option<Spot>,
+    pub stamp: Option<SeatStamp>,
 }
 
-impl Standing {
+impl ReplyStamp {
     /// The reply that tells this here.
     pub fn reply(self, body: Body<'_>) -> Reply<'_>
         ensures { reply_of result ≡ reply_from self (body_of body.entry) }
@@ -38,7 +38,7 @@ impl Standing {
 }
 
 /// What is told of a request for which the solver found this by these options, and what it offers to be learnt.
-pub fn told_of(
+pub fn reply_body_of(
     alloc: Global,
     registry: &Registry,
     request: &Request,

@@ -2,7 +2,10 @@
 
 use crate::order::InOrder;
 use crate::outcomes::{options_at, put_outcome};
-use pool::{Answers, Asked, Consumer, Gate, Query, answer_all, answer_all_with, answer_in_order};
+use pool::{
+    Answers, Consumer, Gate, Query, RequestWithOptions, answer_all, answer_all_with,
+    answer_in_order,
+};
 use registry::Registry;
 use rows::{Answer, AnswerText, Shows, Unread, items, member, request_at, size_at, whole_at};
 use serde_json::Value;
@@ -63,7 +66,7 @@ fn in_order<R: Threads + Wait + Sync>(
 #[derive(Drop)]
 struct First {
     count: usize,
-    taken: Vec<pool::Answer>,
+    taken: Vec<pool::SolveResult>,
 }
 
 impl Consumer for First {
@@ -118,7 +121,7 @@ fn handed_over<R: Threads + Wait + Sync>(
 fn if_answered(
     alloc: Global,
     is_kept: bool,
-    answers: Result<Vec<pool::Answer>, AllocError>,
+    answers: Result<Vec<pool::SolveResult>, AllocError>,
 ) -> Result<Answer, Unread> {
     let answers = answers?;
     let answer = if is_kept {
@@ -132,7 +135,7 @@ fn if_answered(
 
 /// The answers in order, each `{"selected":[["a","1.0.0"]]}`, `{"selected":null}`, `{"derivation":[..]}` or
 /// `{"refused":22}`.
-fn answers_told(alloc: Global, answers: &[pool::Answer]) -> Result<Answer, Unread> {
+fn answers_told(alloc: Global, answers: &[pool::SolveResult]) -> Result<Answer, Unread> {
     let mut is_first = true;
     let mut text = AnswerText::new(alloc);
     text.put("[");
@@ -145,7 +148,7 @@ fn answers_told(alloc: Global, answers: &[pool::Answer]) -> Result<Answer, Unrea
     text.answer()
 }
 
-fn put_answer(text: &mut AnswerText, answer: &pool::Answer) {
+fn put_answer(text: &mut AnswerText, answer: &pool::SolveResult) {
     match answer {
         Ok(outcome) => put_lawful(text, outcome),
         Err(refusal) => Answer::Refused(*refusal).show(text),
@@ -162,7 +165,7 @@ fn order_at(row: &Value) -> Result<InOrder, Unread> {
     Ok(InOrder::new(first, later, whole_at(row, "turns")?))
 }
 
-fn requests_at(alloc: Global, row: &Value) -> Result<Vec<Asked>, Unread> {
+fn requests_at(alloc: Global, row: &Value) -> Result<Vec<RequestWithOptions>, Unread> {
     let mut requests = Vec::new(alloc);
     match put_requests(alloc, row, &mut requests) {
         Ok(()) => Ok(requests),
@@ -173,14 +176,18 @@ fn requests_at(alloc: Global, row: &Value) -> Result<Vec<Asked>, Unread> {
     }
 }
 
-fn put_requests(alloc: Global, row: &Value, requests: &mut Vec<Asked>) -> Result<(), Unread> {
+fn put_requests(
+    alloc: Global,
+    row: &Value,
+    requests: &mut Vec<RequestWithOptions>,
+) -> Result<(), Unread> {
     for one in items(member(row, "requests")?)? {
         requests.push(asked(alloc, one)?)?;
     }
     Ok(())
 }
 
-fn asked(alloc: Global, one: &Value) -> Result<Asked, Unread> {
+fn asked(alloc: Global, one: &Value) -> Result<RequestWithOptions, Unread> {
     let options = options_at(one)?;
     Ok((request_at(alloc, one)?, options))
 }

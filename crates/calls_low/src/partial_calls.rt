@@ -5,7 +5,7 @@ ghost use Rattle.terms.specs.Terms.{true_of};
 ghost use Rattle.partial.specs.Assignments.{is_decided, says, IsOpenTo};
 
 use crate::session::put;
-use partial::{Assignment, Partial, Settled, Standing, Why};
+use partial::{Assignment, Partial, Satisfaction, Settled, Why};
 use rows::{Answer, AnswerText, Shows, Unread, at, done, given_if, shown, size_at, whole_at};
 use serde_json::Value;
 use std::alloc::Global;
@@ -133,9 +133,9 @@ fn on_terms(
 
 fn relation_to(alloc: Global, partial: &Partial, incompat: &Incompat) -> Result<Answer, Unread> {
     match partial.relation(incompat) {
-        Standing::Satisfied => Ok(Answer::Word("satisfied")),
-        Standing::Almost(pkg) => almost(alloc, pkg),
-        Standing::Other => Ok(Answer::Word("other")),
+        Satisfaction::Satisfied => Ok(Answer::Word("satisfied")),
+        Satisfaction::Almost(pkg) => almost(alloc, pkg),
+        Satisfaction::Other => Ok(Answer::Word("other")),
     }
 }
 
@@ -152,7 +152,7 @@ fn satisfier(partial: &Partial, incompat: &Incompat) -> Result<Answer, Unread> {
         return Ok(Answer::Skipped);
     }
     match partial.relation(incompat) {
-        Standing::Satisfied => {
+        Satisfaction::Satisfied => {
             let (first, second) = partial.satisfier(incompat)?;
             Ok(Answer::Places(first, second))
         }

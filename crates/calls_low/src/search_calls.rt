@@ -2,9 +2,9 @@
 
 ghost use Rattle.std.specs.Prelude.{◌≡◌, ◌↔◌, [], IsTrue};
 ghost use Rattle.std.specs.Bool.{OnTrue};
-ghost use Rattle.derivations.specs.Known.{AreOrdered, EndsAt, IsBefore, IsResolved};
+ghost use Rattle.derivations.specs.CausedIncompatibilities.{AreOrdered, EndsAt, IsBefore, IsResolved};
 
-use derivations::{Derivation, Known, Reason};
+use derivations::{CausedIncompatibility, Derivation, Reason};
 use extraction::cut;
 use rows::{Answer, Unread, at, shown, size_at};
 use serde_json::Value;
@@ -18,7 +18,7 @@ pub fn search_call(alloc: Global, name: &str, row: &Value) -> Result<Answer, Unr
     }
 }
 
-fn is_before(line: &Known, place: usize) -> bool
+fn is_before(line: &CausedIncompatibility, place: usize) -> bool
     ensures { IsTrue result ↔ IsBefore place line.now.reason }
 {
     match line.reason {
@@ -28,7 +28,7 @@ fn is_before(line: &Known, place: usize) -> bool
 }
 
 /// Whether each line cites only lines before it.
-fn are_ordered(known: &[Known]) -> bool
+fn are_ordered(known: &[CausedIncompatibility]) -> bool
     ensures { OnTrue result (AreOrdered known.now) }
 {
     for place in 0..known.len() {
@@ -39,7 +39,7 @@ fn are_ordered(known: &[Known]) -> bool
     true
 }
 
-fn is_empty_end(line: &Known) -> bool
+fn is_empty_end(line: &CausedIncompatibility) -> bool
     ensures { IsTrue result ↔ (IsResolved line.now.reason × (line.now.conclusion ≡ [])) }
 {
     match line.reason {
@@ -49,14 +49,14 @@ fn is_empty_end(line: &Known) -> bool
 }
 
 /// Whether the line at the place, if there is one, follows from others and has no terms.
-fn ends_at(known: &[Known], place: usize) -> bool
+fn ends_at(known: &[CausedIncompatibility], place: usize) -> bool
     ensures { OnTrue result (EndsAt known.now place) }
 {
     place < known.len() && is_empty_end(&known[place])
 }
 
 fn cut_at(alloc: Global, row: &Value, place: usize) -> Result<Answer, Unread> {
-    let known = at::<Vec<Known>>(alloc, row, "known")?;
+    let known = at::<Vec<CausedIncompatibility>>(alloc, row, "known")?;
     if !are_ordered(&known) || !ends_at(&known, place) {
         drop(known);
         return Ok(Answer::Skipped);

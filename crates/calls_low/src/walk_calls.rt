@@ -12,8 +12,9 @@ use std::alloc::Global;
 use std::collections::BTreeMap;
 use versions::{Name, Need, Published};
 use walk::{
-    Asker, Chooser, Listed, Next, Order, Preferred, Reached, choose_newest, is_plainly_newest,
-    list_in_order, locked_ordinal, preferred_version, reach, reach_preferred, sort_by_name,
+    Asker, Chooser, NextPackage, Order, Preferred, Reached, WalkListing, choose_newest,
+    is_plainly_newest, list_in_order, locked_ordinal, preferred_version, reach, reach_preferred,
+    sort_by_name,
 };
 
 pub fn walk_call(
@@ -188,7 +189,7 @@ fn gone_on_twice(
     row: &Value,
     request: &Request,
     order: &mut Order,
-) -> Result<Option<Next>, Unread>
+) -> Result<Option<NextPackage>, Unread>
     requires { IsOrder registry.now.packages request.now.needs order.old }
 {
     gone_on(alloc, registry, row, request, "choose", order)?;
@@ -203,7 +204,7 @@ fn gone_on(
     request: &Request,
     name: &str,
     order: &mut Order,
-) -> Result<Option<Next>, Unread>
+) -> Result<Option<NextPackage>, Unread>
     requires { IsOrder registry.now.packages request.now.needs order.old }
     ensures { OnOk result (IsOrder registry.now.packages request.now.needs order.new) }
 {
@@ -213,7 +214,11 @@ fn gone_on(
     Ok(next?)
 }
 
-fn listed_in_order(alloc: Global, registry: &Registry, listed: &Listed) -> Result<Answer, Unread> {
+fn listed_in_order(
+    alloc: Global,
+    registry: &Registry,
+    listed: &WalkListing,
+) -> Result<Answer, Unread> {
     let mut is_first = true;
     let mut text = AnswerText::new(alloc);
     text.put("{\"found\":[");

@@ -5,7 +5,7 @@ use crate::texts::{both_told, written};
 use crate::wire_calls::derivation_at;
 use lines::Outbox;
 use registry::Registry;
-use replies::{Body, Explained, Listing, Reply, Spot, reply_line, write_lock};
+use replies::{Body, Explained, Listing, Reply, SeatStamp, reply_line, write_lock};
 use rows::{Answer, Unread, at, member, refusal, size_at, text_at, whole, whole_at};
 use serde_json::Value;
 use std::alloc::Global;
@@ -126,14 +126,14 @@ fn put(alloc: Global, row: &Value, body: Body<'_>) -> Result<Answer, Unread> {
     answer
 }
 
-fn head_at(row: &Value) -> Result<(u64, Option<Spot>), Unread> {
+fn head_at(row: &Value) -> Result<(u64, Option<SeatStamp>), Unread> {
     let revision = member(row, "revision")?.as_u64().ok_or(Unread::Row)?;
     Ok((revision, spot_at(row)?))
 }
 
-fn spot_at(row: &Value) -> Result<Option<Spot>, Unread> {
+fn spot_at(row: &Value) -> Result<Option<SeatStamp>, Unread> {
     match row.get("place") {
-        Some(place) => Ok(Some(Spot {
+        Some(place) => Ok(Some(SeatStamp {
             place: whole(place)? as usize,
             seat: whole_at(row, "seat")?,
         })),

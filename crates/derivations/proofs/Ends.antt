@@ -10,10 +10,10 @@ use Rattle.registry.specs.Requests.{Wanted}
 use Rattle.derivations.specs.Facts.{Terms, dependency, need_terms_at}
 use Rattle.derivations.proofs.Soundness.{dependency-nil}
 use Rattle.derivations.specs.Derivations.{IsFact}
-use Rattle.derivations.specs.Known.{AreLawful, EndsAt, IsResolved, StandsBy}
+use Rattle.derivations.specs.CausedIncompatibilities.{AreLawful, EndsAt, IsResolved, StandsBy}
 use Rattle.derivations.specs.declared.facts.Cause.{Cause}
 use Rattle.derivations.specs.declared.facts.Cause.TheVariants as cause
-use Rattle.derivations.specs.declared.known.Known.{Known}
+use Rattle.derivations.specs.declared.known.CausedIncompatibility.{CausedIncompatibility}
 use Rattle.derivations.specs.declared.known.Reason.{Reason}
 use Rattle.derivations.specs.declared.known.Reason.TheVariants.{Fact, Resolved}
 
@@ -39,12 +39,12 @@ no_fact_is_empty packages wanted (cause.Need i) terms h e = need_not_nil package
 no_fact_is_empty packages wanted (cause.NotAllowed p versions) terms h e = cons_not_nil _ _ (sym h.2 ∙ e)
 no_fact_is_empty packages wanted cause.Root terms h e = cons_not_nil _ _ (sym h ∙ e)
 
-resolved_by : (packages : Packages) (wanted : Wanted) (known : List Known) (terms : Terms) (reason : Reason) → StandsBy packages wanted known terms reason → terms ≡ [] → IsResolved reason
+resolved_by : (packages : Packages) (wanted : Wanted) (known : List CausedIncompatibility) (terms : Terms) (reason : Reason) → StandsBy packages wanted known terms reason → terms ≡ [] → IsResolved reason
 resolved_by packages wanted known terms (Fact c) h e = no_fact_is_empty packages wanted c terms h e
 resolved_by packages wanted known terms (Resolved i j pivot) h e = tt
 
 -- a line without terms in a lawful list is no fact
-pub ends_at : (packages : Packages) (wanted : Wanted) (known : List Known) (end : ℕ) (line : Known) → AreLawful packages wanted known → slice_get known end ≡ Some line → line.conclusion ≡ [] → EndsAt known end
+pub ends_at : (packages : Packages) (wanted : Wanted) (known : List CausedIncompatibility) (end : ℕ) (line : CausedIncompatibility) → AreLawful packages wanted known → slice_get known end ≡ Some line → line.conclusion ≡ [] → EndsAt known end
 ends_at packages wanted known end line lawful at empty = record {
   line = line;
   at = at;

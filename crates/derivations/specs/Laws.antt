@@ -6,9 +6,9 @@ use Rattle.registry.specs.Requests.{Wanted}
 use Rattle.registry.specs.Selections.{Choices, Meets, with_root}
 use Rattle.derivations.specs.Facts.{AllTrue, Holds, Stands, Terms, premise_terms}
 use Rattle.derivations.specs.Derivations.{AreDerived, IsDerivation, IsRefuted, NoSelection, last_conclusion}
-use Rattle.derivations.specs.Known.{AreLawful, AreOrdered, EndsAt}
+use Rattle.derivations.specs.CausedIncompatibilities.{AreLawful, AreOrdered, EndsAt}
 use Rattle.derivations.specs.Learning.{AllStand, IsLearnt}
-use Rattle.derivations.specs.declared.known.Known.{Known}
+use Rattle.derivations.specs.declared.known.CausedIncompatibility.{CausedIncompatibility}
 use Rattle.derivations.specs.declared.facts.Premise.{Premise}
 use Rattle.derivations.specs.declared.line.Line.{Line}
 
@@ -30,17 +30,17 @@ DerivationsRefute = (packages : Packages) (wanted : Wanted) (lines : List Line) 
 
 -- in lines that are derived from facts the one without terms is no fact, so it ends what can be cut
 abbrev pub EmptyIsNoFact : Type 0
-EmptyIsNoFact = (packages : Packages) (wanted : Wanted) (known : List Known) (end : ℕ) (line : Known) → AreLawful packages wanted known → slice_get known end ≡ Some line → line.conclusion ≡ [] → EndsAt known end
+EmptyIsNoFact = (packages : Packages) (wanted : Wanted) (known : List CausedIncompatibility) (end : ℕ) (line : CausedIncompatibility) → AreLawful packages wanted known → slice_get known end ≡ Some line → line.conclusion ≡ [] → EndsAt known end
 
 -- where lines that are facts, or follow from lines before them, have one without terms, there is a derivation, and no selection meets the request
 abbrev pub KeptLinesRefute : Type 0
-KeptLinesRefute = (packages : Packages) (wanted : Wanted) (known : List Known) (end : ℕ) (line : Known) → AreLawful packages wanted known → AreOrdered known
+KeptLinesRefute = (packages : Packages) (wanted : Wanted) (known : List CausedIncompatibility) (end : ℕ) (line : CausedIncompatibility) → AreLawful packages wanted known → AreOrdered known
     → slice_get known end ≡ Some line → line.conclusion ≡ [] → IsRefuted packages wanted
 
 -- no selection that meets the request makes all terms of a line true, where the lines are facts or follow from lines before them
 abbrev pub KeptLinesHold : Type 0
-KeptLinesHold = (packages : Packages) (wanted : Wanted) (known : List Known) → AreLawful packages wanted known → AreOrdered known
-    → (s : Choices) → Meets packages wanted s → (k : ℕ) (line : Known) → slice_get known k ≡ Some line → AllTrue line.conclusion (with_root s) → ⊥
+KeptLinesHold = (packages : Packages) (wanted : Wanted) (known : List CausedIncompatibility) → AreLawful packages wanted known → AreOrdered known
+    → (s : Choices) → Meets packages wanted s → (k : ℕ) (line : CausedIncompatibility) → slice_get known k ≡ Some line → AllTrue line.conclusion (with_root s) → ⊥
 
 -- what the lines conclude holds of the packages
 abbrev pub ConclusionHolds : Packages → List Line → Type 0

@@ -5,7 +5,7 @@ use Rattle.derivations.specs.Facts.{Terms, Stands, premise_terms}
 use Rattle.derivations.specs.Derivations.{AreDerivedBy, IsConclusion}
 use Rattle.derivations.specs.declared.facts.Cause.{Cause}
 use Rattle.derivations.specs.declared.facts.Cause.TheVariants as cause
-use Rattle.derivations.specs.declared.learnt.TheConstants.{LINE_LIMIT}
+use Rattle.derivations.specs.declared.learnt.TheConstants.{DERIVATION_LINE_LIMIT}
 use Rattle.derivations.specs.declared.line.Line.{Line}
 
 -- the cause gives this incompatibility whatever the registry holds: an earlier line, or a premise with versions whose package is not its target
@@ -19,7 +19,7 @@ Offers earlier cause.Root terms = ⊥
 -- one to LINE_LIMIT lines, derived from premises and earlier lines
 pub record IsLearnt (lines : List Line) : Type 0 where
   pub some : 0 < length lines
-  pub few : length lines ≤ LINE_LIMIT
+  pub few : length lines ≤ DERIVATION_LINE_LIMIT
   pub derived : AreDerivedBy Offers [] lines
 
 -- the premise stands, where the cause is one

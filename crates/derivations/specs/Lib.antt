@@ -3,5 +3,5 @@ pub mod Facts
 pub mod Derivations
 pub mod Causes
 pub mod Learning
-pub mod Known
+pub mod CausedIncompatibilities
 pub mod Laws

@@ -14,7 +14,7 @@ pub enum Reason {
 
 /// A line of a search.
 #[derive(Drop)]
-pub struct Known {
+pub struct CausedIncompatibility {
     pub conclusion: Incompat,
     pub reason: Reason,
 }

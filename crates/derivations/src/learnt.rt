@@ -17,7 +17,7 @@ use terms::{Incompat, VSet};
 use versions::Refusal;
 
 /// The most lines of what is learnt.
-pub const LINE_LIMIT: usize = 256;
+pub const DERIVATION_LINE_LIMIT: usize = 256;
 
 /// An incompatibility that holds wherever certain premises stand, with the lines that show it. It
 /// serves every request.
@@ -45,12 +45,12 @@ impl Learnt {
     /// and what is allowed to it may not be learnt. Linear in the lines.
     pub fn new(alloc: Global, lines: Vec<Line>) -> Result<Learnt, Refusal>
         ensures made { IfOk result (λ learnt. (learnt ≡ lines.items) × IsLearnt lines.items) }
-        ensures too_long { (result ≡ Err Refusal.TooLong) ↔ (LINE_LIMIT < length lines.items) }
+        ensures too_long { (result ≡ Err Refusal.TooLong) ↔ (DERIVATION_LINE_LIMIT < length lines.items) }
         ensures underived { result ≡ Err Refusal.NotADerivation → ¬ IsLearnt lines.items }
         ensures only { IfErr result (λ e.
             (e ≡ Refusal.TooLong) ⊎ (e ≡ Refusal.NotADerivation) ⊎ (e ≡ Refusal.NoMemory)) }
     {
-        if lines.len() > LINE_LIMIT {
+        if lines.len() > DERIVATION_LINE_LIMIT {
             return Err(Refusal::TooLong);
         }
         if lines.is_empty() {

@@ -9,12 +9,12 @@ use Rattle.registry.specs.Registry.{Packages}
 use Rattle.registry.specs.Requests.{Wanted}
 use Rattle.derivations.specs.Facts.{Terms}
 use Rattle.derivations.specs.Derivations.{IsEnd}
-use Rattle.derivations.specs.Known.{AreLawful, AreOrdered, FollowsFrom, IsBefore, IsResolved, StandsBy}
+use Rattle.derivations.specs.CausedIncompatibilities.{AreLawful, AreOrdered, FollowsFrom, IsBefore, IsResolved, StandsBy}
 use Rattle.extraction.specs.Cutting.{IsEndLine, IsResolvedAt}
 use Rattle.extraction.specs.Pairing.{AreMoved, FollowsAs, Grows, IsMovedTo, IsReasonFor, IsSameSearch, Keeps}
 use Rattle.extraction.specs.Taking.{said_at, said_by}
 use Rattle.derivations.specs.declared.facts.Cause.{Cause}
-use Rattle.derivations.specs.declared.known.Known.{Known}
+use Rattle.derivations.specs.declared.known.CausedIncompatibility.{CausedIncompatibility}
 use Rattle.derivations.specs.declared.known.Reason.{Reason}
 use Rattle.derivations.specs.declared.known.Reason.TheVariants.{Fact, Resolved}
 use Rattle.extraction.proofs.Walking.{get-left, get-last}
@@ -52,7 +52,7 @@ nothing_left xs left n is none = none_left xs n (sym is ∙ nil_from_length left
 
 -- ---- one line behind the others
 
-stands_kept : (packages : Packages) (wanted : Wanted) (old new : List Known) → Keeps old new → (terms : Terms) (reason : Reason) → StandsBy packages wanted old terms reason → StandsBy packages wanted new terms reason
+stands_kept : (packages : Packages) (wanted : Wanted) (old new : List CausedIncompatibility) → Keeps old new → (terms : Terms) (reason : Reason) → StandsBy packages wanted old terms reason → StandsBy packages wanted new terms reason
 stands_kept packages wanted old new keeps terms (Fact c) h = h
 stands_kept packages wanted old new keeps terms (Resolved i j pivot) h = record {
   one = h.one;
@@ -63,44 +63,44 @@ stands_kept packages wanted old new keeps terms (Resolved i j pivot) h = record 
   follows = h.follows;
 }
 
-Keeps-push : (lines : List Known) (line : Known) → Keeps lines (lines ++ line ∷ [])
+Keeps-push : (lines : List CausedIncompatibility) (line : CausedIncompatibility) → Keeps lines (lines ++ line ∷ [])
 Keeps-push lines line k x at = get-left lines (line ∷ []) k x at
 
-AreOrdered-push : (lines : List Known) (line : Known) → AreOrdered lines → IsBefore (length lines) line.reason → AreOrdered (lines ++ line ∷ [])
+AreOrdered-push : (lines : List CausedIncompatibility) (line : CausedIncompatibility) → AreOrdered lines → IsBefore (length lines) line.reason → AreOrdered (lines ++ line ∷ [])
 AreOrdered-push lines line ordered before k x at = elim (read_more lines line k x at) [
   | inl e ↦ ordered k x e
-  | inr e ↦ subst (λ (l : Known). IsBefore k l.reason) e.1 (subst (λ n. IsBefore n line.reason) (sym e.0) before)
+  | inr e ↦ subst (λ (l : CausedIncompatibility). IsBefore k l.reason) e.1 (subst (λ n. IsBefore n line.reason) (sym e.0) before)
 ]
 
-AreLawful-push : (packages : Packages) (wanted : Wanted) (lines : List Known) (line : Known) → AreLawful packages wanted lines → StandsBy packages wanted lines line.conclusion line.reason
+AreLawful-push : (packages : Packages) (wanted : Wanted) (lines : List CausedIncompatibility) (line : CausedIncompatibility) → AreLawful packages wanted lines → StandsBy packages wanted lines line.conclusion line.reason
     → AreLawful packages wanted (lines ++ line ∷ [])
 AreLawful-push packages wanted lines line lawful stands k x at = elim (read_more lines line k x at) [
   | inl e ↦ stands_kept packages wanted lines (lines ++ line ∷ []) (Keeps-push lines line) x.conclusion x.reason (lawful k x e)
-  | inr e ↦ subst (λ (l : Known). StandsBy packages wanted (lines ++ line ∷ []) l.conclusion l.reason) e.1
+  | inr e ↦ subst (λ (l : CausedIncompatibility). StandsBy packages wanted (lines ++ line ∷ []) l.conclusion l.reason) e.1
       (stands_kept packages wanted lines (lines ++ line ∷ []) (Keeps-push lines line) line.conclusion line.reason stands)
 ]
 
 -- ---- lines that grow
 
-pub Grows-none : (lines : List Known) → Grows lines lines
+pub Grows-none : (lines : List CausedIncompatibility) → Grows lines lines
 Grows-none lines = record { keeps = λ k line at. at; ordered = λ ordered. ordered; lawful = λ packages wanted lawful. lawful }
 
-pub Grows-more : (old half new : List Known) → Grows old half → Grows half new → Grows old new
+pub Grows-more : (old half new : List CausedIncompatibility) → Grows old half → Grows half new → Grows old new
 Grows-more old half new one two = record {
   keeps = λ k line at. two.keeps k line (one.keeps k line at);
   ordered = λ ordered. two.ordered (one.ordered ordered);
   lawful = λ packages wanted lawful. two.lawful packages wanted (one.lawful packages wanted lawful);
 }
 
-before_end : (lines : List Known) (terms : Terms) (i j pivot : ℕ) → FollowsFrom lines terms i j pivot → (i < length lines) × (j < length lines)
+before_end : (lines : List CausedIncompatibility) (terms : Terms) (i j pivot : ℕ) → FollowsFrom lines terms i j pivot → (i < length lines) × (j < length lines)
 before_end lines terms i j pivot f = (slice_get_within lines i f.one f.one_at, slice_get_within lines j f.two f.two_at)
 
 -- what follows from two lines, behind them
-pub Grows-one : (lines : List Known) (terms : Terms) (i j pivot : ℕ) (lines' : List Known) → FollowsFrom lines terms i j pivot
+pub Grows-one : (lines : List CausedIncompatibility) (terms : Terms) (i j pivot : ℕ) (lines' : List CausedIncompatibility) → FollowsFrom lines terms i j pivot
     → lines' ≡ lines ++ record { conclusion = terms; reason = Resolved i j pivot } ∷ [] → Grows lines lines'
 Grows-one lines terms i j pivot lines' f is =
-    let own : Known = record { conclusion = terms; reason = Resolved i j pivot } in
-    subst (λ (all : List Known). Grows lines all) (sym is) (record {
+    let own : CausedIncompatibility = record { conclusion = terms; reason = Resolved i j pivot } in
+    subst (λ (all : List CausedIncompatibility). Grows lines all) (sym is) (record {
       keeps = Keeps-push lines own;
       ordered = λ ordered. AreOrdered-push lines own ordered (before_end lines terms i j pivot f);
       lawful = λ packages wanted lawful. AreLawful-push packages wanted lines own lawful f;
@@ -109,7 +109,7 @@ Grows-one lines terms i j pivot lines' f is =
 -- ---- the two that a line follows from
 
 -- the same two, where the lines have grown
-pub ends_stay : (old new : List Known) (terms : Terms) (pivot : ℕ) (ends : ℕ × ℕ) → Grows old new → FollowsAs old new terms pivot ends ends
+pub ends_stay : (old new : List CausedIncompatibility) (terms : Terms) (pivot : ℕ) (ends : ℕ × ℕ) → Grows old new → FollowsAs old new terms pivot ends ends
 ends_stay old new terms pivot ends grows = record {
   within = λ one two. (still ends.0 one, still ends.1 two);
   follows = λ f. stands_in f;
@@ -129,11 +129,11 @@ ends_stay old new terms pivot ends grows = record {
     }
 
 -- two others, from which it follows in any case
-pub ends_new : (old new : List Known) (terms : Terms) (pivot : ℕ) (ends two : ℕ × ℕ) → FollowsFrom new terms two.0 two.1 pivot → FollowsAs old new terms pivot ends two
+pub ends_new : (old new : List CausedIncompatibility) (terms : Terms) (pivot : ℕ) (ends two : ℕ × ℕ) → FollowsFrom new terms two.0 two.1 pivot → FollowsAs old new terms pivot ends two
 ends_new old new terms pivot ends two f = record { within = λ one other. before_end new terms two.0 two.1 pivot f; follows = λ before. f }
 
 -- what two lines say on a pivot on which one of them has a term
-pub both_say : (lines : List Known) (i j pivot : ℕ) (one two : Known) (terms : Terms) → i < length lines → j < length lines → one ≡ get_or lines i one → two ≡ get_or lines j two
+pub both_say : (lines : List CausedIncompatibility) (i j pivot : ℕ) (one two : CausedIncompatibility) (terms : Terms) → i < length lines → j < length lines → one ≡ get_or lines i one → two ≡ get_or lines j two
     → (has_term one.conclusion pivot || has_term two.conclusion pivot) ≡ true → Follows terms one.conclusion two.conclusion pivot → FollowsFrom lines terms i j pivot
 both_say lines i j pivot one two terms within_one within_two one_is two_is on follows = record {
   one = one;
@@ -145,22 +145,22 @@ both_say lines i j pivot one two terms within_one within_two one_is two_is on fo
 }
 
 -- what says the same follows, too
-pub said_so : (lines : List Known) (said terms : Terms) (i j pivot : ℕ) → FollowsFrom lines said i j pivot → said ≡ terms → FollowsFrom lines terms i j pivot
+pub said_so : (lines : List CausedIncompatibility) (said terms : Terms) (i j pivot : ℕ) → FollowsFrom lines said i j pivot → said ≡ terms → FollowsFrom lines terms i j pivot
 said_so lines said terms i j pivot f same = subst (λ t. FollowsFrom lines t i j pivot) same f
 
 -- ---- moved lines
 
-moved_later : (old new : List Known) (line : Known) (place : ℕ) → Keeps old new → IsMovedTo old line place → IsMovedTo new line place
+moved_later : (old new : List CausedIncompatibility) (line : CausedIncompatibility) (place : ℕ) → Keeps old new → IsMovedTo old line place → IsMovedTo new line place
 moved_later old new line place keeps m = record { other = m.other; there = keeps place m.other m.there; same = m.same; resolved = m.resolved }
 
-pub AreMoved-none : (known lines : List Known) (places : List ℕ) → lines ≡ [] → places ≡ [] → AreMoved known lines places
-AreMoved-none known lines places no_lines no_places = subst (λ (all : List Known). AreMoved known all places) (sym no_lines) (record {
+pub AreMoved-none : (known lines : List CausedIncompatibility) (places : List ℕ) → lines ≡ [] → places ≡ [] → AreMoved known lines places
+AreMoved-none known lines places no_lines no_places = subst (λ (all : List CausedIncompatibility). AreMoved known all places) (sym no_lines) (record {
   ordered = λ k line at. absurd (none-some line at);
   lawful = λ packages wanted lawful k line at. absurd (none-some line at);
   each = λ k line at lt. absurd (omega (arith, lt, ap length no_places));
 })
 
-pub AreMoved-grown : (known old new : List Known) (places : List ℕ) → Grows old new → AreMoved known old places → AreMoved known new places
+pub AreMoved-grown : (known old new : List CausedIncompatibility) (places : List ℕ) → Grows old new → AreMoved known old places → AreMoved known new places
 AreMoved-grown known old new places grows m = record {
   ordered = grows.ordered m.ordered;
   lawful = λ packages wanted lawful. grows.lawful packages wanted (m.lawful packages wanted lawful);
@@ -168,10 +168,10 @@ AreMoved-grown known old new places grows m = record {
 }
 
 -- one more
-pub AreMoved-one : (known lines : List Known) (places : List ℕ) (line own : Known) (lines' : List Known) (places' : List ℕ) → AreMoved known lines places → slice_get known (length places) ≡ Some line
+pub AreMoved-one : (known lines : List CausedIncompatibility) (places : List ℕ) (line own : CausedIncompatibility) (lines' : List CausedIncompatibility) (places' : List ℕ) → AreMoved known lines places → slice_get known (length places) ≡ Some line
     → own.conclusion ≡ line.conclusion → IsReasonFor known lines line own.reason → lines' ≡ lines ++ own ∷ [] → places' ≡ places ++ length lines ∷ [] → AreMoved known lines' places'
 AreMoved-one known lines places line own lines' places' m line_at same reason lines_are places_are =
-    subst (λ (all : List Known). AreMoved known all places') (sym lines_are) (subst (λ (ps : List ℕ). AreMoved known (lines ++ own ∷ []) ps) (sym places_are) (record {
+    subst (λ (all : List CausedIncompatibility). AreMoved known all places') (sym lines_are) (subst (λ (ps : List ℕ). AreMoved known (lines ++ own ∷ []) ps) (sym places_are) (record {
       ordered = AreOrdered-push lines own m.ordered reason.before;
       lawful = λ packages wanted lawful. AreLawful-push packages wanted lines own (m.lawful packages wanted lawful)
           (subst (λ t. StandsBy packages wanted lines t own.reason) (sym same) (reason.stands packages wanted lawful));
@@ -179,7 +179,7 @@ AreMoved-one known lines places line own lines' places' m line_at same reason li
         | inl here ↦
             let line_same : line ≡ x = same_Some line x (sym line_at ∙ ap (λ n. slice_get known n) (sym here) ∙ at) in
             subst (λ n. IsMovedTo (lines ++ own ∷ []) x n) (sym (get_or_push places (length lines) 0 k (sym here)))
-            (subst (λ (l : Known). IsMovedTo (lines ++ own ∷ []) l (length lines)) line_same
+            (subst (λ (l : CausedIncompatibility). IsMovedTo (lines ++ own ∷ []) l (length lines)) line_same
             (record { other = own; there = get-last lines own; same = same; resolved = reason.resolved }))
         | inr apart ↦
             let within : k < length places = omega (arith, lt, apart, length-append places (length lines ∷ [])) in
@@ -190,7 +190,7 @@ AreMoved-one known lines places line own lines' places' m line_at same reason li
 
 -- ---- why a moved line stands
 
-pub reason_fact : (known lines : List Known) (places : List ℕ) (line : Known) (c : Cause) → slice_get known (length places) ≡ Some line → line.reason ≡ Fact c → IsReasonFor known lines line (Fact c)
+pub reason_fact : (known lines : List CausedIncompatibility) (places : List ℕ) (line : CausedIncompatibility) (c : Cause) → slice_get known (length places) ≡ Some line → line.reason ≡ Fact c → IsReasonFor known lines line (Fact c)
 reason_fact known lines places line c line_at reason = record {
   resolved = λ resolved. subst (λ r. IsResolved r) reason resolved;
   before = tt;
@@ -198,7 +198,7 @@ reason_fact known lines places line c line_at reason = record {
 }
 
 -- by where the two lines are that it cites
-module _ (known lines : List Known) (places : List ℕ) (line : Known) (i j pivot : ℕ) (m : AreMoved known lines places) (line_at : slice_get known (length places) ≡ Some line)
+module _ (known lines : List CausedIncompatibility) (places : List ℕ) (line : CausedIncompatibility) (i j pivot : ℕ) (m : AreMoved known lines places) (line_at : slice_get known (length places) ≡ Some line)
     (reason : line.reason ≡ Resolved i j pivot) (before : IsBefore (length places) line.reason) where
   both_before : (i < length places) × (j < length places)
   both_before = subst (λ r. IsBefore (length places) r) reason before
@@ -224,7 +224,7 @@ module _ (known lines : List Known) (places : List ℕ) (line : Known) (i j pivo
             (subst (λ t. Follows line.conclusion t f.two.conclusion pivot) (sym a.same) f.follows);
       }
 
-  pub reason_resolved : (lines' : List Known) (terms : Terms) (two : ℕ × ℕ) → terms ≡ line.conclusion → FollowsAs lines lines' terms pivot (get_or places i 0, get_or places j 0) two
+  pub reason_resolved : (lines' : List CausedIncompatibility) (terms : Terms) (two : ℕ × ℕ) → terms ≡ line.conclusion → FollowsAs lines lines' terms pivot (get_or places i 0, get_or places j 0) two
       → IsReasonFor known lines' line (Resolved two.0 two.1 pivot)
   reason_resolved lines' terms two said f =
       let g = subst (λ t. FollowsAs lines lines' t pivot (get_or places i 0, get_or places j 0) two) said f in
@@ -236,7 +236,7 @@ module _ (known lines : List Known) (places : List ℕ) (line : Known) (i j pivo
 
 -- ---- the search, and what it has become
 
-pub same_search : (known : List Known) (place : ℕ) → AreOrdered known → IsSameSearch known place known place
+pub same_search : (known : List CausedIncompatibility) (place : ℕ) → AreOrdered known → IsSameSearch known place known place
 same_search known place ordered = record {
   ordered = ordered;
   lawful = λ packages wanted lawful. lawful;
@@ -244,7 +244,7 @@ same_search known place ordered = record {
 }
 
 -- where all lines have moved
-pub moved_search : (known lines : List Known) (places : List ℕ) (place : ℕ) → AreMoved known lines places → length known ≤ length places → IsSameSearch known place lines (get_or places place 0)
+pub moved_search : (known lines : List CausedIncompatibility) (places : List ℕ) (place : ℕ) → AreMoved known lines places → length known ≤ length places → IsSameSearch known place lines (get_or places place 0)
 moved_search known lines places place m all = record {
   ordered = m.ordered;
   lawful = m.lawful;
@@ -252,21 +252,21 @@ moved_search known lines places place m all = record {
 }
 
 -- a place among the lines is one among those that have moved
-pub all_moved : (known : List Known) (places : List ℕ) (place : ℕ) → IsResolvedAt known place → length known ≤ length places → place < length places
+pub all_moved : (known : List CausedIncompatibility) (places : List ℕ) (place : ℕ) → IsResolvedAt known place → length known ≤ length places → place < length places
 all_moved known places place r all = omega (arith, slice_get_within known place r.line r.at, all)
 
 -- ---- the end of a search
 
-pub end_moved : (known : List Known) (place : ℕ) (lines : List Known) (at : ℕ) → IsSameSearch known place lines at → IsEndLine known place → IsEndLine lines at
+pub end_moved : (known : List CausedIncompatibility) (place : ℕ) (lines : List CausedIncompatibility) (at : ℕ) → IsSameSearch known place lines at → IsEndLine known place → IsEndLine lines at
 end_moved known place lines at s e =
     let m = s.own e.line e.at in
     record { line = m.other; at = m.there; resolved = m.resolved e.resolved; ended = subst (λ t. IsEnd t) (sym m.same) e.ended }
 
-pub resolved_there : (known : List Known) (place : ℕ) → IsEndLine known place → IsResolvedAt known place
+pub resolved_there : (known : List CausedIncompatibility) (place : ℕ) → IsEndLine known place → IsResolvedAt known place
 resolved_there known place e = record { line = e.line; at = e.at; resolved = e.resolved }
 
-pub resolved_moved : (known : List Known) (place : ℕ) (lines : List Known) (at : ℕ) → IsSameSearch known place lines at → IsEndLine known place → IsResolvedAt lines at
+pub resolved_moved : (known : List CausedIncompatibility) (place : ℕ) (lines : List CausedIncompatibility) (at : ℕ) → IsSameSearch known place lines at → IsEndLine known place → IsResolvedAt lines at
 resolved_moved known place lines at s e = let m = s.own e.line e.at in record { line = m.other; at = m.there; resolved = m.resolved e.resolved }
 
-pub said_moved : (known : List Known) (place : ℕ) (lines : List Known) (at : ℕ) → IsSameSearch known place lines at → IsEndLine known place → said_at lines at ≡ said_at known place
+pub said_moved : (known : List CausedIncompatibility) (place : ℕ) (lines : List CausedIncompatibility) (at : ℕ) → IsSameSearch known place lines at → IsEndLine known place → said_at lines at ≡ said_at known place
 said_moved known place lines at s e = let m = s.own e.line e.at in ap said_by m.there ∙ m.same ∙ sym (ap said_by e.at)

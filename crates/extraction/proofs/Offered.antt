@@ -12,20 +12,20 @@ use Rattle.extraction.specs.Cutting.{ShowsLine}
 use Rattle.derivations.specs.Learning.{IsLearnt, Offers}
 use Rattle.extraction.specs.Offering.{AreLawfulSomewhere, MayRestOn, RestOnPremises, ShowsOne, StandWhereLawful}
 use Rattle.derivations.specs.Laws.{DerivedLinesStand}
-use Rattle.derivations.specs.declared.known.Known.{Known}
+use Rattle.derivations.specs.declared.known.CausedIncompatibility.{CausedIncompatibility}
 use Rattle.derivations.specs.declared.facts.Cause.{Cause}
 use Rattle.derivations.specs.declared.facts.Cause.TheVariants as cause
-use Rattle.derivations.specs.declared.learnt.TheConstants.{LINE_LIMIT}
+use Rattle.derivations.specs.declared.learnt.TheConstants.{DERIVATION_LINE_LIMIT}
 use Rattle.derivations.specs.declared.line.Line.{Line}
 
 pub if_weaker : {A : Type 0} (P Q : A → Type 0) → ((x : A) → P x → Q x) → (o : Option A) → IfSome o P → IfSome o Q
 if_weaker P Q weaker None some = tt
 if_weaker P Q weaker (Some x) some = weaker x some
 
-pub all_stand : DerivedLinesStand → (known : List Known) (places : List ℕ) (offered : List (List Line)) → All (ShowsOne known places) offered → StandWhereLawful known offered
+pub all_stand : DerivedLinesStand → (known : List CausedIncompatibility) (places : List ℕ) (offered : List (List Line)) → All (ShowsOne known places) offered → StandWhereLawful known offered
 all_stand stand known places offered each packages wanted lawful k d lt = stand packages wanted (get_or offered k d) ((each k d lt).shows.derived packages wanted lawful)
 
-pub all_pushed : (known : List Known) (places : List ℕ) (at d : ℕ) (offered : List (List Line)) (lines : List Line) (pushed : List (List Line)) → All (ShowsOne known places) offered → at < length places
+pub all_pushed : (known : List CausedIncompatibility) (places : List ℕ) (at d : ℕ) (offered : List (List Line)) (lines : List Line) (pushed : List (List Line)) → All (ShowsOne known places) offered → at < length places
     → ShowsLine known (get_or places at d) lines → pushed ≡ offered ++ lines ∷ [] → All (ShowsOne known places) pushed
 all_pushed known places at d offered lines pushed each lt shows is =
     subst (λ all. All (ShowsOne known places) all) (sym is)
@@ -58,7 +58,7 @@ some_lines : (lines : List Line) (terms : Terms) → last_conclusion lines ≡ S
 some_lines [] terms last = absurd (none-some terms last)
 some_lines (line ∷ rest) terms last = omega arith
 
-pub learnt_by : (known : List Known) (place : ℕ) (lines : List Line) → AreLawfulSomewhere known → ShowsLine known place lines → RestOnPremises lines → length lines ≤ LINE_LIMIT → IsLearnt lines
+pub learnt_by : (known : List CausedIncompatibility) (place : ℕ) (lines : List Line) → AreLawfulSomewhere known → ShowsLine known place lines → RestOnPremises lines → length lines ≤ DERIVATION_LINE_LIMIT → IsLearnt lines
 learnt_by known place lines somewhere shows rest few = record {
   some = some_lines lines shows.own.conclusion shows.last;
   few = few;

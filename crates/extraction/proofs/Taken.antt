@@ -9,7 +9,7 @@ use Rattle.extraction.specs.Cutting.{AreNumberedAt, IsOpen}
 use Rattle.extraction.specs.Taking.{AreElsewhere, ArePlaced, line_at, lines_at, places_of, said_at, said_by}
 use Rattle.derivations.specs.declared.line.Line.{Line}
 use Rattle.extraction.specs.declared.taking.Step.{Step}
-use Rattle.derivations.specs.declared.known.Known.{Known}
+use Rattle.derivations.specs.declared.known.CausedIncompatibility.{CausedIncompatibility}
 use Rattle.extraction.proofs.Clearing.{numbered_one}
 use Rattle.extraction.proofs.Walking.{open_within, open_zero}
 
@@ -23,13 +23,13 @@ get_elsewhere (y ∷ xs) (suc i) (suc k) x apart = get_elsewhere xs i k x (λ e.
 
 -- ---- what lines say
 
-pub said_read : (known : List Known) (place : ℕ) (own : Known) → place < length known → own ≡ get_or known place own → said_at known place ≡ own.conclusion
+pub said_read : (known : List CausedIncompatibility) (place : ℕ) (own : CausedIncompatibility) → place < length known → own ≡ get_or known place own → said_at known place ≡ own.conclusion
 said_read known place own lt is = ap said_by (slice_get_read known (length known) place own refl lt is)
 
-pub lines_pushed : (known : List Known) (steps : List Step) (step : Step) (steps' : List Step) → steps' ≡ steps ++ step ∷ [] → lines_at known steps' ≡ lines_at known steps ++ line_at known step ∷ []
+pub lines_pushed : (known : List CausedIncompatibility) (steps : List Step) (step : Step) (steps' : List Step) → steps' ≡ steps ++ step ∷ [] → lines_at known steps' ≡ lines_at known steps ++ line_at known step ∷ []
 lines_pushed known steps step steps' is = ap (lines_at known) is ∙ map_push (line_at known) steps step
 
-pub lines_counted : (known : List Known) (steps : List Step) → length (lines_at known steps) ≡ length steps
+pub lines_counted : (known : List CausedIncompatibility) (steps : List Step) → length (lines_at known steps) ≡ length steps
 lines_counted known steps = length-map steps (line_at known)
 
 -- ---- the steps of a walk, each at a place of its own
@@ -40,7 +40,7 @@ HaveNumbers numbers [] = Unit {0}
 HaveNumbers numbers (step ∷ rest) = (0 < get_or numbers step.place 0) × HaveNumbers numbers rest
 
 -- the places that have a number are those of the steps
-pub record AreStepsTo (known : List Known) (numbers : List ℕ) (steps : List Step) : Type 0 where
+pub record AreStepsTo (known : List CausedIncompatibility) (numbers : List ℕ) (steps : List Step) : Type 0 where
   pub numbered : AreNumberedAt numbers (places_of steps)
   pub have : HaveNumbers numbers steps
   pub placed : ArePlaced (length known) steps
@@ -69,7 +69,7 @@ have_pushed numbers [] step have some = (some, tt)
 have_pushed numbers (s ∷ rest) step have some = (have.0, have_pushed numbers rest step have.1 some)
 
 -- one more step
-pub one_more : (known : List Known) (numbers : List ℕ) (steps : List Step) (at number : ℕ) (step : Step) (steps' : List Step) → AreStepsTo known numbers steps → IsOpen known numbers at → length numbers ≡ length known
+pub one_more : (known : List CausedIncompatibility) (numbers : List ℕ) (steps : List Step) (at number : ℕ) (step : Step) (steps' : List Step) → AreStepsTo known numbers steps → IsOpen known numbers at → length numbers ≡ length known
     → step.place ≡ at → 0 < number → steps' ≡ steps ++ step ∷ [] → AreStepsTo known (set numbers at number) steps'
 one_more known numbers steps at number step steps' s open_there lengths here some is =
     let none : get_or numbers at 0 ≡ 0 = open_zero known numbers at open_there in
@@ -88,14 +88,14 @@ abbrev pub line_saying : Step → Terms → Line
 line_saying step terms = record { conclusion = terms; causes = step.causes; pivot = step.pivot }
 
 -- what is taken from one place changes nothing elsewhere
-pub same_elsewhere : (known known' : List Known) (place : ℕ) (steps : List Step) → AreElsewhere place steps → ((k : ℕ) → k ≢ place → slice_get known' k ≡ slice_get known k) → lines_at known' steps ≡ lines_at known steps
+pub same_elsewhere : (known known' : List CausedIncompatibility) (place : ℕ) (steps : List Step) → AreElsewhere place steps → ((k : ℕ) → k ≢ place → slice_get known' k ≡ slice_get known k) → lines_at known' steps ≡ lines_at known steps
 same_elsewhere known known' place [] apart others = refl
 same_elsewhere known known' place (s ∷ rest) apart others =
     ap (λ (terms : Terms). line_saying s terms ∷ lines_at known' rest) (ap said_by (others s.place apart.0))
     ∙ ap (λ (lines : List Line). line_at known s ∷ lines) (same_elsewhere known known' place rest apart.1 others)
 
 -- one line more is written
-pub one_written : (known known' : List Known) (lines lines' : List Line) (terms : Terms) (step : Step) (left rest : List Step) (all : List Line) → lines ++ lines_at known left ≡ all → left ≡ step ∷ rest
+pub one_written : (known known' : List CausedIncompatibility) (lines lines' : List Line) (terms : Terms) (step : Step) (left rest : List Step) (all : List Line) → lines ++ lines_at known left ≡ all → left ≡ step ∷ rest
     → terms ≡ said_at known step.place → lines_at known' rest ≡ lines_at known rest → lines' ≡ lines ++ line_saying step terms ∷ [] → lines' ++ lines_at known' rest ≡ all
 one_written known known' lines lines' terms step left rest all split first said same is =
     ap (λ (ls : List Line). ls ++ lines_at known' rest) is

@@ -8,10 +8,10 @@ use Rattle.derivations.specs.Derivations.{AreDerived, IsEnd, last_conclusion}
 use Rattle.derivations.specs.declared.facts.Cause.{Cause}
 use Rattle.derivations.specs.declared.facts.Cause.TheVariants as cause
 use Rattle.derivations.specs.declared.line.Line.{Line}
-use Rattle.derivations.specs.declared.known.Known.{Known}
+use Rattle.derivations.specs.declared.known.CausedIncompatibility.{CausedIncompatibility}
 use Rattle.derivations.specs.declared.known.Reason.{Reason}
 use Rattle.derivations.specs.declared.known.Reason.TheVariants.{Fact, Resolved}
-use Rattle.derivations.specs.Known.{AreLawful, IsResolved}
+use Rattle.derivations.specs.CausedIncompatibilities.{AreLawful, IsResolved}
 
 -- the line at place m is one of the two that it follows from
 abbrev pub Reads : Reason → ℕ → Type 0
@@ -19,8 +19,8 @@ Reads (Fact c) m = ⊥
 Reads (Resolved i j pivot) m = (i ≡ m) ⊎ (j ≡ m)
 
 -- the line at m is one of the two that the line at k follows from
-pub record IsCauseOf (known : List Known) (m k : ℕ) : Type 0 where
-  pub line : Known
+pub record IsCauseOf (known : List CausedIncompatibility) (m k : ℕ) : Type 0 where
+  pub line : CausedIncompatibility
   pub at : slice_get known k ≡ Some line
   pub reads : Reads line.reason m
 
@@ -35,16 +35,16 @@ cited (Fact c) number = c
 cited (Resolved i j pivot) number = cause.Line number
 
 -- the place of a line that is still to be written
-pub record IsOpen (known : List Known) (numbers : List ℕ) (m : ℕ) : Type 0 where
-  pub line : Known
+pub record IsOpen (known : List CausedIncompatibility) (numbers : List ℕ) (m : ℕ) : Type 0 where
+  pub line : CausedIncompatibility
   pub at : slice_get known m ≡ Some line
   pub open_there : is_open line.reason (get_or numbers m 0) ≡ true
 
 -- the place of a line whose two causes are written
-pub record IsReady (known : List Known) (numbers : List ℕ) (m : ℕ) : Type 0 where
-  pub own : Known
-  pub one : Known
-  pub two : Known
+pub record IsReady (known : List CausedIncompatibility) (numbers : List ℕ) (m : ℕ) : Type 0 where
+  pub own : CausedIncompatibility
+  pub one : CausedIncompatibility
+  pub two : CausedIncompatibility
   pub i : ℕ
   pub j : ℕ
   pub pivot : ℕ
@@ -56,7 +56,7 @@ pub record IsReady (known : List Known) (numbers : List ℕ) (m : ℕ) : Type 0 
   pub ready_two : is_open two.reason (get_or numbers j 0) ≡ false
 
 -- the line for this place
-pub record IsLineFor (known : List Known) (numbers : List ℕ) (m : ℕ) (line : Line) : Type 0 where
+pub record IsLineFor (known : List CausedIncompatibility) (numbers : List ℕ) (m : ℕ) (line : Line) : Type 0 where
   pub ready : IsReady known numbers m
   pub conclusion : line.conclusion ≡ ready.own.conclusion
   pub pivot : line.pivot ≡ ready.pivot
@@ -64,7 +64,7 @@ pub record IsLineFor (known : List Known) (numbers : List ℕ) (m : ℕ) (line :
   pub second : line.causes.1 ≡ cited ready.two.reason (get_or numbers ready.j 0)
 
 -- a zero for each line
-pub record AreClear (known : List Known) (numbers : List ℕ) : Type 0 where
+pub record AreClear (known : List CausedIncompatibility) (numbers : List ℕ) : Type 0 where
   pub lengths : length numbers ≡ length known
   pub zeros : (k : ℕ) → get_or numbers k 0 ≡ 0
 
@@ -73,26 +73,26 @@ abbrev pub AreNumberedAt : List ℕ → List ℕ → Type 0
 AreNumberedAt numbers places = (k : ℕ) → (get_or numbers k 0 ≡ 0) ⊎ Contains places k
 
 -- the line at this place is no fact
-pub record IsResolvedAt (known : List Known) (place : ℕ) : Type 0 where
-  pub line : Known
+pub record IsResolvedAt (known : List CausedIncompatibility) (place : ℕ) : Type 0 where
+  pub line : CausedIncompatibility
   pub at : slice_get known place ≡ Some line
   pub resolved : IsResolved line.reason
 
 -- the line at this place may end a derivation, and is no fact
-pub record IsEndLine (known : List Known) (end : ℕ) : Type 0 where
-  pub line : Known
+pub record IsEndLine (known : List CausedIncompatibility) (end : ℕ) : Type 0 where
+  pub line : CausedIncompatibility
   pub at : slice_get known end ≡ Some line
   pub resolved : IsResolved line.reason
   pub ended : IsEnd line.conclusion
 
 -- the line follows from others, and says only that the root is chosen, so that it may end a derivation
-abbrev pub SaysRootAlone : Known → Type 0
+abbrev pub SaysRootAlone : CausedIncompatibility → Type 0
 SaysRootAlone line = IsResolved line.reason × (line.conclusion ≡ (0, In (0 ∷ [])) ∷ [])
 
 -- the first line that the end cites may end a derivation already
-pub record EndsBefore (known : List Known) (end : ℕ) : Type 0 where
-  pub own : Known
-  pub before : Known
+pub record EndsBefore (known : List CausedIncompatibility) (end : ℕ) : Type 0 where
+  pub own : CausedIncompatibility
+  pub before : CausedIncompatibility
   pub i : ℕ
   pub j : ℕ
   pub pivot : ℕ
@@ -120,10 +120,10 @@ abbrev pub AreCited : List Line → Type 0
 AreCited lines = (place : ℕ) → suc place < length lines → IsCitedLater lines place
 
 -- these lines show, from facts, what the line at this place says
-pub record ShowsLine (known : List Known) (place : ℕ) (lines : List Line) : Type 0 where
+pub record ShowsLine (known : List CausedIncompatibility) (place : ℕ) (lines : List Line) : Type 0 where
   -- each is derived from facts, whatever the registry and the request that the search was lawful for
   pub derived : (packages : Packages) (wanted : Wanted) → AreLawful packages wanted known → AreDerived packages wanted [] lines
-  pub own : Known
+  pub own : CausedIncompatibility
   pub own_at : slice_get known place ≡ Some own
   pub last : last_conclusion lines ≡ Some own.conclusion
   pub cited : AreCited lines

@@ -2,16 +2,16 @@
 use Rattle.std.specs.Prelude.{ℕ, List, [], ◌∷◌, All, Contains}
 use Rattle.registry.specs.Registry.{Packages}
 use Rattle.registry.specs.Requests.{Wanted}
-use Rattle.derivations.specs.Known.{AreLawful}
+use Rattle.derivations.specs.CausedIncompatibilities.{AreLawful}
 use Rattle.extraction.specs.Cutting.{ShowsLine}
 use Rattle.derivations.specs.Learning.{AllStand}
 use Rattle.derivations.specs.declared.facts.Cause.{Cause}
 use Rattle.derivations.specs.declared.facts.Cause.TheVariants as cause
-use Rattle.derivations.specs.declared.known.Known.{Known}
+use Rattle.derivations.specs.declared.known.CausedIncompatibility.{CausedIncompatibility}
 use Rattle.derivations.specs.declared.line.Line.{Line}
 
 -- the lines are lawful for some registry and request
-pub record AreLawfulSomewhere (known : List Known) : Type 0 where
+pub record AreLawfulSomewhere (known : List CausedIncompatibility) : Type 0 where
   pub packages : Packages
   pub wanted : Wanted
   pub lawful : AreLawful packages wanted known
@@ -30,11 +30,11 @@ RestOnPremises [] = Unit {0}
 RestOnPremises (line ∷ rest) = MayRestOn line.causes.0 × MayRestOn line.causes.1 × RestOnPremises rest
 
 -- the lines show what the one at one of these places says
-pub record ShowsOne (known : List Known) (places : List ℕ) (lines : List Line) : Type 0 where
+pub record ShowsOne (known : List CausedIncompatibility) (places : List ℕ) (lines : List Line) : Type 0 where
   pub place : ℕ
   pub asked : Contains places place
   pub shows : ShowsLine known place lines
 
 -- each stands in every registry that the search is lawful for
-abbrev pub StandWhereLawful : List Known → List (List Line) → Type 0
+abbrev pub StandWhereLawful : List CausedIncompatibility → List (List Line) → Type 0
 StandWhereLawful known offered = (packages : Packages) (wanted : Wanted) → AreLawful packages wanted known → All (AllStand packages) offered

@@ -1,25 +1,25 @@
 -- The steps of a walk over the lines of a search, and the lines of a derivation that they make.
 use Rattle.std.specs.Prelude.{◌≢◌, ◌<◌, ℕ, List, [], ◌∷◌, Option, None, Some, map, slice_get}
 use Rattle.derivations.specs.Facts.{Terms}
-use Rattle.derivations.specs.declared.known.Known.{Known}
+use Rattle.derivations.specs.declared.known.CausedIncompatibility.{CausedIncompatibility}
 use Rattle.derivations.specs.declared.line.Line.{Line}
 use Rattle.extraction.specs.declared.taking.Step.{Step}
 
 -- what a line says, nothing where there is none
-abbrev pub said_by : Option Known → Terms
+abbrev pub said_by : Option CausedIncompatibility → Terms
 said_by None = []
 said_by (Some line) = line.conclusion
 
 -- what the line at a place says
-abbrev pub said_at : List Known → ℕ → Terms
+abbrev pub said_at : List CausedIncompatibility → ℕ → Terms
 said_at known place = said_by (slice_get known place)
 
 -- the line that a step makes
-abbrev pub line_at : List Known → Step → Line
+abbrev pub line_at : List CausedIncompatibility → Step → Line
 line_at known step = record { conclusion = said_at known step.place; causes = step.causes; pivot = step.pivot }
 
 -- the lines that steps make
-abbrev pub lines_at : List Known → List Step → List Line
+abbrev pub lines_at : List CausedIncompatibility → List Step → List Line
 lines_at known steps = map (line_at known) steps
 
 -- where the steps stand among the lines of the search

@@ -5,19 +5,19 @@ ghost use Rattle.registry.specs.Registry.{Packages};
 ghost use Rattle.registry.specs.Requests.{Wanted};
 ghost use Rattle.derivations.specs.Derivations.{IsDerivation, last_conclusion};
 ghost use Rattle.extraction.specs.Cutting.{cited, is_open, AreCited, AreClear, AreNumberedAt, EndsBefore, IsCauseOf, IsEndLine, IsLineFor, IsOpen, IsReady, IsResolvedAt, SaysRootAlone, ShowsLine};
-ghost use Rattle.derivations.specs.Known.{AreLawful, AreOrdered, EndsAt, IsResolved};
+ghost use Rattle.derivations.specs.CausedIncompatibilities.{AreLawful, AreOrdered, EndsAt, IsResolved};
 ghost use Rattle.extraction.specs.Taking.{line_at, lines_at, places_of, said_at, ArePlaced};
 ghost use Rattle.terms.specs.declared.term.Term.TheVariants.{In};
 
 use crate::pairing::paired;
 use crate::runs::count_at;
 use crate::taking::{Step, lines_copied, lines_taken};
-use derivations::{Cause, Derivation, Known, Line, Reason, is_root_alone};
+use derivations::{Cause, CausedIncompatibility, Derivation, Line, Reason, is_root_alone};
 use std::alloc::{AllocError, Global};
 use terms::Pkg;
 
 /// Whether the line is one that a derivation has to write, and has no number yet.
-fn is_open(line: &Known, number: usize) -> bool
+fn is_open(line: &CausedIncompatibility, number: usize) -> bool
     ensures { result ≡ is_open line.now.reason number }
 {
     match line.reason {
@@ -27,7 +27,7 @@ fn is_open(line: &Known, number: usize) -> bool
 }
 
 /// How a line is cited: a fact by itself, another by its number.
-fn cited(alloc: Global, line: &Known, number: usize) -> Result<Cause, AllocError>
+fn cited(alloc: Global, line: &CausedIncompatibility, number: usize) -> Result<Cause, AllocError>
     ensures { IfOk result (λ cause. cause ≡ cited line.now.reason number) }
 {
     match &line.reason {
@@ -37,7 +37,7 @@ fn cited(alloc: Global, line: &Known, number: usize) -> Result<Cause, AllocError
 }
 
 /// The two lines that a line cites, and the pivot.
-fn cites(line: &Known) -> (usize, usize, Pkg)
+fn cites(line: &CausedIncompatibility) -> (usize, usize, Pkg)
     requires { IsResolved line.now.reason }
     ensures { line.now.reason ≡ Reason.Resolved result.0 result.1 result.2 }
 {
@@ -49,7 +49,7 @@ fn cites(line: &Known) -> (usize, usize, Pkg)
 
 /// How many lines each line takes with those that it rests on, of which one that is cited twice
 /// counts twice. Facts take none.
-fn weights_of(alloc: Global, known: &[Known]) -> Result<Vec<usize>, AllocError> {
+fn weights_of(alloc: Global, known: &[CausedIncompatibility]) -> Result<Vec<usize>, AllocError> {
     let mut weights: Vec<usize> = Vec::with_capacity(alloc, known.len())?;
     'count: for line in known {
         let taken = match line.reason {
@@ -65,7 +65,12 @@ fn weights_of(alloc: Global, known: &[Known]) -> Result<Vec<usize>, AllocError> 
 
 /// One of the two lines that a line cites which is still to be written: the one that takes more
 /// lines, so that the shorter part stands right before the line that cites both.
-fn open_cause(known: &[Known], weights: &[usize], numbers: &[usize], at: usize) -> Option<usize>
+fn open_cause(
+    known: &[CausedIncompatibility],
+    weights: &[usize],
+    numbers: &[usize],
+    at: usize,
+) -> Option<usize>
     requires ordered { AreOrdered known.now }
     requires lengths { length numbers.now ≡ length known.now }
     requires here { IsOpen known.now numbers.now at }
@@ -90,7 +95,7 @@ fn open_cause(known: &[Known], weights: &[usize], numbers: &[usize], at: usize) 
 /// The step to the line at a place, whose causes are written.
 fn step_for(
     alloc: Global,
-    known: &[Known],
+    known: &[CausedIncompatibility],
     numbers: &[usize],
     at: usize,
 ) -> Result<Step, AllocError>
@@ -179,7 +184,7 @@ fn is_beyond(limit: Option<usize>, written: usize, waiting: usize) -> bool
 /// as it has met more lines than that, each of which would have to be written.
 fn numbered_steps(
     alloc: Global,
-    known: &[Known],
+    known: &[CausedIncompatibility],
     weights: &[usize],
     zeros: Vec<usize>,
     place: usize,
@@ -236,7 +241,7 @@ fn numbered_steps(
 /// search is given and handed back, so that it costs no more than as many lines as the limit.
 pub fn few_lines_of(
     alloc: Global,
-    known: &[Known],
+    known: &[CausedIncompatibility],
     zeros: Vec<usize>,
     place: usize,
     limit: usize,
@@ -259,7 +264,11 @@ pub fn few_lines_of(
 /// written once and before the lines that cite it. Of two lines that are first cited together the one
 /// that takes more lines comes first, so that each stands as near as it can to the first line that
 /// cites it. Linear in the lines of the search, without recursion.
-fn steps_of(alloc: Global, known: &[Known], place: usize) -> Result<Vec<Step>, AllocError>
+fn steps_of(
+    alloc: Global,
+    known: &[CausedIncompatibility],
+    place: usize,
+) -> Result<Vec<Step>, AllocError>
     requires ordered { AreOrdered known.now }
     requires resolved { IsResolvedAt known.now place }
     ensures shows { IfOk result (λ steps. ShowsLine known.now place (lines_at known.now steps.items)) }
@@ -272,7 +281,7 @@ fn steps_of(alloc: Global, known: &[Known], place: usize) -> Result<Vec<Step>, A
 }
 
 /// Whether the line follows from others.
-pub fn is_resolved(line: &Known) -> bool
+pub fn is_resolved(line: &CausedIncompatibility) -> bool
     ensures { IsTrue result ↔ IsResolved line.now.reason }
 {
     match line.reason {
@@ -282,14 +291,14 @@ pub fn is_resolved(line: &Known) -> bool
 }
 
 /// Whether the line follows from others, and says only that the root is chosen.
-fn says_root_alone(line: &Known) -> bool
+fn says_root_alone(line: &CausedIncompatibility) -> bool
     ensures { IsTrue result ↔ SaysRootAlone line.now }
 {
     is_resolved(line) && is_root_alone(&line.conclusion)
 }
 
 /// The end, or the line that it resolves with the root's fact.
-fn last_step(known: &[Known], end: usize) -> usize
+fn last_step(known: &[CausedIncompatibility], end: usize) -> usize
     requires ordered { AreOrdered known.now }
     requires end { EndsAt known.now end }
     ensures ends { IsEndLine known.now result }
@@ -307,7 +316,11 @@ fn last_step(known: &[Known], end: usize) -> usize
 /// end a derivation, the derivation ends with that line. Long runs of lines on one pivot are put
 /// together pairwise. What they say is moved and not copied. Linear in the lines of the search, but
 /// for the versions that the lines name which are put together anew.
-pub fn cut(alloc: Global, known: Vec<Known>, end: usize) -> Result<Derivation, AllocError>
+pub fn cut(
+    alloc: Global,
+    known: Vec<CausedIncompatibility>,
+    end: usize,
+) -> Result<Derivation, AllocError>
     requires ordered { AreOrdered known.items }
     requires end { EndsAt known.items end }
     ensures derived { IfOk result (λ derivation. (packages : Packages) (wanted : Wanted) →

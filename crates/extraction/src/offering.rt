@@ -3,14 +3,16 @@
 ghost use Rattle.std.specs.Prelude.{◌≡◌, ◌≤◌, ◌+◌, ◌-◌, ◌↔◌, false, length, sum_by, All, IfNone, IfOk, IfSome, IsTrue};
 ghost use Rattle.std.specs.Bool.{OnTrue};
 ghost use Rattle.extraction.specs.Cutting.{AreClear, IsResolvedAt, ShowsLine};
-ghost use Rattle.derivations.specs.Known.{AreOrdered};
+ghost use Rattle.derivations.specs.CausedIncompatibilities.{AreOrdered};
 ghost use Rattle.derivations.specs.Learning.{IsLearnt};
 ghost use Rattle.extraction.specs.Offering.{AreLawfulSomewhere, MayRestOn, RestOnPremises, ShowsOne, StandWhereLawful};
-ghost use Rattle.derivations.specs.declared.learnt.TheConstants.{LINE_LIMIT};
+ghost use Rattle.derivations.specs.declared.learnt.TheConstants.{DERIVATION_LINE_LIMIT};
 ghost use Rattle.extraction.specs.declared.offering.TheConstants.{OFFERED_LIMIT};
 
 use crate::cutting::{few_lines_of, is_resolved, zeros};
-use derivations::{Cause, Known, LINE_LIMIT, Learnt, Line, Reason, derived_lines_stand};
+use derivations::{
+    Cause, CausedIncompatibility, DERIVATION_LINE_LIMIT, Learnt, Line, Reason, derived_lines_stand,
+};
 use std::alloc::{AllocError, Global};
 
 /// The most lines that all offers of one search have together.
@@ -19,16 +21,16 @@ const OFFERED_LIMIT: usize = 1_024;
 /// How many lines one more offer may have behind so many lines of others: as many as are left, but for
 /// those that are kept for the last one.
 fn room_behind(taken: usize, is_last: bool) -> usize
-    ensures few { result ≤ LINE_LIMIT }
-    ensures kept { is_last ≡ false → taken ≤ OFFERED_LIMIT - LINE_LIMIT → taken + result ≤ OFFERED_LIMIT - LINE_LIMIT }
+    ensures few { result ≤ DERIVATION_LINE_LIMIT }
+    ensures kept { is_last ≡ false → taken ≤ OFFERED_LIMIT - DERIVATION_LINE_LIMIT → taken + result ≤ OFFERED_LIMIT - DERIVATION_LINE_LIMIT }
 {
     if is_last {
-        return LINE_LIMIT;
+        return DERIVATION_LINE_LIMIT;
     }
     OFFERED_LIMIT
-        .saturating_sub(LINE_LIMIT)
+        .saturating_sub(DERIVATION_LINE_LIMIT)
         .saturating_sub(taken)
-        .min(LINE_LIMIT)
+        .min(DERIVATION_LINE_LIMIT)
 }
 
 /// How many lines the line at a place takes at least, by what was counted: endlessly many where it was
@@ -54,7 +56,11 @@ fn least_by(least: &[usize], reason: &Reason) -> usize {
 
 /// Counts how many lines each line takes at least, up to the one at a place. Nothing but the cost of a
 /// search's offers, and which are left out, rests on the counts.
-fn count_up_to(least: &mut Vec<usize>, known: &[Known], place: usize) -> Result<(), AllocError> {
+fn count_up_to(
+    least: &mut Vec<usize>,
+    known: &[CausedIncompatibility],
+    place: usize,
+) -> Result<(), AllocError> {
     for at in least.len()..place.saturating_add(1) {
         let Some(line) = known.get(at) else {
             return Ok(());
@@ -74,7 +80,7 @@ fn correct(least: &mut Vec<usize>, place: usize, count: usize) {
 }
 
 /// Whether the line at the place, if there is one, follows from others.
-pub fn is_resolved_at(known: &[Known], place: usize) -> bool
+pub fn is_resolved_at(known: &[CausedIncompatibility], place: usize) -> bool
     ensures { OnTrue result (IsResolvedAt known.now place) }
 {
     place < known.len() && is_resolved(&known[place])
@@ -106,8 +112,8 @@ fn rest_on_premises(lines: &[Line]) -> bool
 
 /// What may be learnt of these lines, if anything, and if there is room for them. They are not judged again.
 fn learnable(alloc: Global, lines: Vec<Line>, room: usize) -> Result<Option<Learnt>, AllocError>
-    requires learnt { RestOnPremises lines.items → length lines.items ≤ LINE_LIMIT → IsLearnt lines.items }
-    requires room { room ≤ LINE_LIMIT }
+    requires learnt { RestOnPremises lines.items → length lines.items ≤ DERIVATION_LINE_LIMIT → IsLearnt lines.items }
+    requires room { room ≤ DERIVATION_LINE_LIMIT }
     ensures same { IfOk result (λ found. IfSome found (λ learnt. learnt ≡ lines.items)) }
     ensures few { IfOk result (λ found. IfSome found (λ learnt. length learnt ≤ room)) }
 {
@@ -122,7 +128,7 @@ fn learnable(alloc: Global, lines: Vec<Line>, room: usize) -> Result<Option<Lear
 /// each line of the search, are handed back.
 fn offer(
     alloc: Global,
-    known: &[Known],
+    known: &[CausedIncompatibility],
     least: &mut Vec<usize>,
     zeros: Vec<usize>,
     place: usize,
@@ -131,7 +137,7 @@ fn offer(
     requires ordered { AreOrdered known.now }
     requires lawful { AreLawfulSomewhere known.now }
     requires clear { AreClear known.now zeros.items }
-    requires room { room ≤ LINE_LIMIT }
+    requires room { room ≤ DERIVATION_LINE_LIMIT }
     ensures shows { IfOk result (λ made. IfSome made.0 (ShowsLine known.now place)) }
     ensures few { IfOk result (λ made. IfSome made.0 (λ learnt. length learnt ≤ room)) }
     ensures clear { IfOk result (λ made. AreClear known.now made.1.items) }
@@ -165,14 +171,18 @@ fn count_lines(found: &Option<Learnt>) -> usize
 }
 
 /// What may be learnt of the lines at these places, each with its whole derivation: of those that
-/// rest on premises alone, by no more than [`LINE_LIMIT`](derivations::LINE_LIMIT) lines, and by no more than
+/// rest on premises alone, by no more than [`DERIVATION_LINE_LIMIT`](derivations::LINE_LIMIT) lines, and by no more than
 /// 1,024 lines all together. Those that come first are offered first; for the last one there is always
 /// room. Places that hold a fact, or nothing, are passed over.
 ///
 /// What a search's lines say is taken on its word, which a caller proves: they are cut and looked
 /// over, and not judged again. Linear in the lines of the search and in the limit for each place. Places
 /// that ascend cost least: what rests on a line that takes too many lines is then told at a look.
-pub fn offers(alloc: Global, known: &[Known], places: &[usize]) -> Result<Vec<Learnt>, AllocError>
+pub fn offers(
+    alloc: Global,
+    known: &[CausedIncompatibility],
+    places: &[usize],
+) -> Result<Vec<Learnt>, AllocError>
     requires ordered { AreOrdered known.now }
     requires lawful { AreLawfulSomewhere known.now }
     ensures stand { IfOk result (λ offered. StandWhereLawful known.now offered.items) }

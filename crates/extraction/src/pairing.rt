@@ -6,13 +6,13 @@
 // here, but asked of each run.
 
 ghost use Rattle.std.specs.Prelude.{◌≡◌, ◌+◌, ℕ, List, Some, IfOk, IfSome, OnOk, length, slice_get};
-ghost use Rattle.derivations.specs.Known.{AreOrdered, FollowsFrom, IsBefore};
+ghost use Rattle.derivations.specs.CausedIncompatibilities.{AreOrdered, FollowsFrom, IsBefore};
 ghost use Rattle.extraction.specs.Cutting.{IsResolvedAt};
 ghost use Rattle.extraction.specs.Pairing.{AreMoved, FollowsAs, Grows, IsReasonFor, IsSameSearch};
-ghost use Rattle.derivations.specs.declared.known.Known.{Known};
+ghost use Rattle.derivations.specs.declared.known.CausedIncompatibility.{CausedIncompatibility};
 
 use crate::runs::{Run, count_at, long_runs, parts_in, run_to};
-use derivations::{Known, Reason, has_pivot};
+use derivations::{CausedIncompatibility, Reason, has_pivot};
 use std::alloc::{AllocError, Global};
 use terms::{Incompat, Pkg, resolve};
 
@@ -20,7 +20,7 @@ use terms::{Incompat, Pkg, resolve};
 /// term on it.
 fn said_by_both(
     alloc: Global,
-    lines: &[Known],
+    lines: &[CausedIncompatibility],
     places: (usize, usize),
     pivot: Pkg,
 ) -> Result<Option<Incompat>, AllocError>
@@ -45,7 +45,7 @@ fn said_by_both(
 /// Puts what follows from two lines on a pivot behind the lines: its place, if it follows.
 fn push_both(
     alloc: Global,
-    lines: &mut Vec<Known>,
+    lines: &mut Vec<CausedIncompatibility>,
     places: (usize, usize),
     pivot: Pkg,
 ) -> Result<Option<usize>, AllocError>
@@ -55,7 +55,7 @@ fn push_both(
         return Ok(None);
     };
     let at = lines.as_slice().len();
-    lines.push(Known {
+    lines.push(CausedIncompatibility {
         conclusion,
         reason: Reason::Resolved(places.0, places.1, pivot),
     })?;
@@ -66,7 +66,7 @@ fn push_both(
 /// part where it has no neighbour; none where something does not follow.
 fn push_pairs(
     alloc: Global,
-    lines: &mut Vec<Known>,
+    lines: &mut Vec<CausedIncompatibility>,
     parts: &[usize],
     pivot: Pkg,
 ) -> Result<Option<Vec<usize>>, AllocError>
@@ -90,7 +90,7 @@ fn push_pairs(
 /// The line that is left when these parts are put together pairwise again and again.
 fn push_all(
     alloc: Global,
-    lines: &mut Vec<Known>,
+    lines: &mut Vec<CausedIncompatibility>,
     parts: Vec<usize>,
     pivot: Pkg,
 ) -> Result<Option<usize>, AllocError>
@@ -127,7 +127,7 @@ fn places_among(
 /// put together pairwise, and the last part.
 fn paired_ends(
     alloc: Global,
-    lines: &mut Vec<Known>,
+    lines: &mut Vec<CausedIncompatibility>,
     conclusion: &Incompat,
     parts: Vec<usize>,
     pivot: Pkg,
@@ -155,7 +155,7 @@ fn paired_ends(
 /// the two from which it follows already.
 fn ends_for(
     alloc: Global,
-    lines: &mut Vec<Known>,
+    lines: &mut Vec<CausedIncompatibility>,
     places: &[usize],
     conclusion: &Incompat,
     ends: (usize, usize),
@@ -178,27 +178,27 @@ fn ends_for(
 /// A line of the search as it is to stand behind the moved ones, and the run that it ends, if any.
 fn line_among(
     alloc: Global,
-    lines: &mut Vec<Known>,
+    lines: &mut Vec<CausedIncompatibility>,
     places: &[usize],
-    line: Known,
+    line: CausedIncompatibility,
     run: Option<&Run>,
-) -> Result<Known, AllocError>
+) -> Result<CausedIncompatibility, AllocError>
     requires { IsBefore (length places.now) line.reason }
     ensures grows { OnOk result (Grows lines.old.items lines.new.items) }
     ensures same { IfOk result (λ own. own.conclusion ≡ line.conclusion) }
-    ensures stands { IfOk result (λ own. (known : List Known) → slice_get known (length places.now) ≡ Some line
+    ensures stands { IfOk result (λ own. (known : List CausedIncompatibility) → slice_get known (length places.now) ≡ Some line
         → AreMoved known lines.old.items places.now → IsReasonFor known lines.new.items line own.reason) }
 {
-    let Known { conclusion, reason } = line;
+    let CausedIncompatibility { conclusion, reason } = line;
     match reason {
-        Reason::Fact(cause) => Ok(Known {
+        Reason::Fact(cause) => Ok(CausedIncompatibility {
             conclusion,
             reason: Reason::Fact(cause),
         }),
         Reason::Resolved(i, j, pivot) => {
             let ends = (places[i], places[j]);
             let two = ends_for(alloc, lines, places, &conclusion, ends, pivot, run)?;
-            Ok(Known {
+            Ok(CausedIncompatibility {
                 conclusion,
                 reason: Reason::Resolved(two.0, two.1, pivot),
             })
@@ -210,14 +210,14 @@ fn line_among(
 /// pairwise before it.
 fn move_line(
     alloc: Global,
-    lines: &mut Vec<Known>,
+    lines: &mut Vec<CausedIncompatibility>,
     places: &mut Vec<usize>,
-    line: Known,
+    line: CausedIncompatibility,
     run: Option<&Run>,
 ) -> Result<(), AllocError>
     requires { IsBefore (length places.old.items) line.reason }
     ensures counted { OnOk result (length places.new.items ≡ length places.old.items + 1) }
-    ensures moved { OnOk result ((known : List Known) → slice_get known (length places.old.items) ≡ Some line
+    ensures moved { OnOk result ((known : List CausedIncompatibility) → slice_get known (length places.old.items) ≡ Some line
         → AreMoved known lines.old.items places.old.items → AreMoved known lines.new.items places.new.items) }
 {
     let own = line_among(alloc, lines, places, line, run)?;
@@ -232,9 +232,9 @@ fn move_line(
 /// versions that the new lines name.
 pub fn paired(
     alloc: Global,
-    known: Vec<Known>,
+    known: Vec<CausedIncompatibility>,
     place: usize,
-) -> Result<(Vec<Known>, usize), AllocError>
+) -> Result<(Vec<CausedIncompatibility>, usize), AllocError>
     requires ordered { AreOrdered known.items }
     requires resolved { IsResolvedAt known.items place }
     ensures { IfOk result (λ made. IsSameSearch known.items place made.0.items made.1) }
@@ -244,7 +244,7 @@ pub fn paired(
         return Ok((known, place));
     }
     let room = known.len().saturating_add(parts_in(&runs));
-    let mut lines: Vec<Known> = Vec::with_capacity(alloc, room)?;
+    let mut lines: Vec<CausedIncompatibility> = Vec::with_capacity(alloc, room)?;
     let mut places: Vec<usize> = Vec::with_capacity(alloc, known.len())?;
     let mut left = runs.as_slice();
     for line in known {

@@ -4,7 +4,7 @@
 // how a derivation is put together, and nothing else: no proof rests on them.
 
 use crate::cutting::zeros;
-use derivations::{Known, Reason};
+use derivations::{CausedIncompatibility, Reason};
 use std::alloc::{AllocError, Global};
 use terms::Pkg;
 
@@ -36,7 +36,7 @@ fn count_one(counts: &mut Vec<usize>, place: usize) {
 }
 
 /// Counts one more for each of the two lines that a line cites.
-fn count_causes(counts: &mut Vec<usize>, line: &Known) {
+fn count_causes(counts: &mut Vec<usize>, line: &CausedIncompatibility) {
     match line.reason {
         Reason::Fact(_) => {}
         Reason::Resolved(i, j, _) => {
@@ -48,7 +48,11 @@ fn count_causes(counts: &mut Vec<usize>, line: &Known) {
 
 /// How often each line is cited by those that the one at a place rests on, which counts as cited once
 /// itself.
-fn uses_of(alloc: Global, known: &[Known], place: usize) -> Result<Vec<usize>, AllocError> {
+fn uses_of(
+    alloc: Global,
+    known: &[CausedIncompatibility],
+    place: usize,
+) -> Result<Vec<usize>, AllocError> {
     let mut uses = zeros(alloc, known.len())?;
     count_one(&mut uses, place);
     for at in (0..known.len()).rev() {
@@ -62,7 +66,7 @@ fn uses_of(alloc: Global, known: &[Known], place: usize) -> Result<Vec<usize>, A
 /// The two lines that the one at a place follows from, where it does so on this pivot and is cited
 /// once, as a line within a run is.
 fn cited_within(
-    known: &[Known],
+    known: &[CausedIncompatibility],
     uses: &[usize],
     place: usize,
     pivot: Pkg,
@@ -83,7 +87,7 @@ fn cited_within(
 /// How many lines the run on this pivot has that ends at a place. Its only user goes on with it, so
 /// that it ends there no more.
 fn taken_over(
-    known: &[Known],
+    known: &[CausedIncompatibility],
     uses: &[usize],
     lengths: &mut Vec<usize>,
     place: usize,
@@ -100,7 +104,12 @@ fn taken_over(
 }
 
 /// How many lines the run has that ends at the next line, which has this reason.
-fn length_to(known: &[Known], uses: &[usize], lengths: &mut Vec<usize>, reason: &Reason) -> usize {
+fn length_to(
+    known: &[CausedIncompatibility],
+    uses: &[usize],
+    lengths: &mut Vec<usize>,
+    reason: &Reason,
+) -> usize {
     match reason {
         Reason::Fact(_) => 0,
         Reason::Resolved(i, j, pivot) => {
@@ -116,7 +125,11 @@ fn length_to(known: &[Known], uses: &[usize], lengths: &mut Vec<usize>, reason: 
 
 /// Beside each line, how many the run has that ends there: 0 at a fact, within a run, and where nothing
 /// is cited.
-fn lengths_of(alloc: Global, known: &[Known], uses: &[usize]) -> Result<Vec<usize>, AllocError> {
+fn lengths_of(
+    alloc: Global,
+    known: &[CausedIncompatibility],
+    uses: &[usize],
+) -> Result<Vec<usize>, AllocError> {
     let mut lengths: Vec<usize> = Vec::with_capacity(alloc, known.len())?;
     'lines: for line in known {
         let length = length_to(known, uses, &mut lengths, &line.reason);
@@ -129,7 +142,7 @@ fn lengths_of(alloc: Global, known: &[Known], uses: &[usize]) -> Result<Vec<usiz
 /// this pivot.
 fn parts_of(
     alloc: Global,
-    known: &[Known],
+    known: &[CausedIncompatibility],
     uses: &[usize],
     ends: (usize, usize),
     pivot: Pkg,
@@ -157,7 +170,11 @@ fn parts_of(
 
 /// The long runs among the lines that the one at a place rests on, in the order of their ends. Linear
 /// in the lines of the search.
-pub fn long_runs(alloc: Global, known: &[Known], place: usize) -> Result<Vec<Run>, AllocError> {
+pub fn long_runs(
+    alloc: Global,
+    known: &[CausedIncompatibility],
+    place: usize,
+) -> Result<Vec<Run>, AllocError> {
     let uses = uses_of(alloc, known, place)?;
     let lengths = lengths_of(alloc, known, &uses)?;
     let mut runs: Vec<Run> = Vec::new(alloc);

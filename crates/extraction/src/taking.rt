@@ -3,7 +3,7 @@
 ghost use Rattle.std.specs.Prelude.{◌≡◌, ◌≢◌, ◌<◌, ◌++◌, ◌∷◌, [], ℕ, length, slice_get, IfOk, OnOk};
 ghost use Rattle.extraction.specs.Taking.{line_at, lines_at, said_at, ArePlaced};
 
-use derivations::{Cause, Known, Line};
+use derivations::{Cause, CausedIncompatibility, Line};
 use std::alloc::{AllocError, Global};
 use std::mem;
 use terms::{Incompat, Pkg};
@@ -19,7 +19,7 @@ pub struct Step {
 /// Puts the line of a step behind the others, with a copy of what the search's line says.
 fn copy_line(
     alloc: Global,
-    known: &[Known],
+    known: &[CausedIncompatibility],
     lines: &mut Vec<Line>,
     step: Step,
 ) -> Result<(), AllocError>
@@ -50,7 +50,7 @@ fn copy_line(
 /// The lines of these steps, with copies of what the search's lines say.
 pub fn lines_copied(
     alloc: Global,
-    known: &[Known],
+    known: &[CausedIncompatibility],
     steps: Vec<Step>,
 ) -> Result<Vec<Line>, AllocError>
     requires { ArePlaced (length known.now) steps.items }
@@ -80,7 +80,7 @@ fn nothing(alloc: Global) -> Incompat
 }
 
 /// Takes out what the line at a place says.
-fn take_at(alloc: Global, known: &mut Vec<Known>, place: usize) -> Incompat
+fn take_at(alloc: Global, known: &mut Vec<CausedIncompatibility>, place: usize) -> Incompat
     requires { place < length known.old.items }
     ensures said { result ≡ said_at known.old.items place }
     ensures length { length known.new.items ≡ length known.old.items }
@@ -93,7 +93,7 @@ fn take_at(alloc: Global, known: &mut Vec<Known>, place: usize) -> Incompat
 /// The lines of these steps, with what the search's lines say, which are used up.
 pub fn lines_taken(
     alloc: Global,
-    known: Vec<Known>,
+    known: Vec<CausedIncompatibility>,
     steps: Vec<Step>,
 ) -> Result<Vec<Line>, AllocError>
     requires { ArePlaced (length known.items) steps.items }

@@ -1,12 +1,12 @@
 // Which lines are looked at, and which package is decided.
 
+use crate::inactive::Inactive;
 use crate::late::Late;
 use crate::left::Left;
-use crate::lines::Lines;
+use crate::lines::SearchLines;
 use crate::occurrences::Occurrences;
-use crate::question::{Question, ROOM};
+use crate::question::{PACKAGES_ROOM, Question};
 use crate::queue::Queue;
-use crate::spent::Spent;
 use crate::watches::{Situation, Watches};
 use partial::Partial;
 use std::alloc::{AllocError, Global};
@@ -27,7 +27,7 @@ pub struct Agenda {
     /// The packages that are to be decided.
     queue: Queue,
     /// Lines that are not looked at until the search jumps back.
-    spent: Spent,
+    spent: Inactive,
     /// Lines that derived something later than they could have.
     late: Late,
 }
@@ -39,10 +39,10 @@ impl Agenda {
             occurrences: Occurrences::new(alloc, room)?,
             left: Left::new(alloc),
             watches: Watches::new(alloc),
-            ripe: Vec::with_capacity(alloc, ROOM)?,
-            used: Vec::with_capacity(alloc, ROOM)?,
+            ripe: Vec::with_capacity(alloc, PACKAGES_ROOM)?,
+            used: Vec::with_capacity(alloc, PACKAGES_ROOM)?,
             queue: Queue::new(alloc, room)?,
-            spent: Spent::new(alloc, room.saturating_mul(2))?,
+            spent: Inactive::new(alloc, room.saturating_mul(2))?,
             late: Late::new(alloc),
         })
     }
@@ -110,7 +110,7 @@ impl Agenda {
 
     /// Looks at a package of which something was settled: puts it into the queue, if it is to be
     /// decided, and gathers the lines from which something may follow now.
-    pub fn look<L: Lines>(
+    pub fn look<L: SearchLines>(
         &mut self,
         question: &Question<'_>,
         partial: &Partial,
@@ -131,7 +131,7 @@ impl Agenda {
     }
 
     /// Gathers the lines from which something may follow, of those that are watched from a package.
-    fn gather_watched<L: Lines>(
+    fn gather_watched<L: SearchLines>(
         &mut self,
         alloc: Global,
         partial: &Partial,

@@ -12,7 +12,7 @@ const LISTED: usize = 32;
 /// The versions of a package whose dependency on a target stands among the lines: a version has at most
 /// one on it.
 #[derive(Drop)]
-struct Listed {
+struct CoveredTarget {
     target: Pkg,
     versions: Term,
     /// The number of the package's next target in the list, 0 at its last one.
@@ -32,7 +32,7 @@ pub(crate) struct Targets {
 /// number of an element is one more than its index.
 #[derive(Drop)]
 pub(crate) struct Covered {
-    listed: Vec<Listed>,
+    listed: Vec<CoveredTarget>,
     /// By the numbers of a package and of a target that does not stand in the list.
     beyond: IndexMap<(Pkg, Pkg), Term>,
 }
@@ -124,7 +124,7 @@ impl Covered {
         target: Pkg,
         versions: Term,
     ) -> Result<Targets, AllocError> {
-        self.listed.push(Listed {
+        self.listed.push(CoveredTarget {
             target,
             versions,
             next: targets.first,

@@ -9,7 +9,7 @@ use crate::alike::depend_alike;
 use crate::numbers::{index_of, set_number};
 use crate::obstacle::Obstacle;
 use crate::order::Order;
-use crate::question::{Question, ROOM, locked_version, needs, room_for};
+use crate::question::{PACKAGES_ROOM, Question, locked_version, needs, room_for};
 use indexmap::IndexMap;
 use registry::Matching;
 use std::alloc::AllocError;
@@ -114,10 +114,10 @@ fn locked_ordinal(question: &Question<'_>, pkg: Pkg) -> Option<u32> {
 impl Greedy {
     fn new(question: &Question<'_>, obstacle: Option<Obstacle>) -> Result<Greedy, AllocError> {
         Ok(Greedy {
-            numbers: Vec::with_capacity(question.alloc, ROOM)?,
-            needed: Vec::with_capacity(question.alloc, ROOM)?,
-            order: Order::new(question.alloc, ROOM)?,
-            alike: Vec::with_capacity(question.alloc, ROOM)?,
+            numbers: Vec::with_capacity(question.alloc, PACKAGES_ROOM)?,
+            needed: Vec::with_capacity(question.alloc, PACKAGES_ROOM)?,
+            order: Order::new(question.alloc, PACKAGES_ROOM)?,
+            alike: Vec::with_capacity(question.alloc, PACKAGES_ROOM)?,
             met: 0,
             beside: Vec::new(question.alloc),
             obstacle,

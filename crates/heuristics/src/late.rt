@@ -3,7 +3,7 @@
 // Where a search jumps back to a level between, the line of the conflict derives there, though it could
 // have at a lower one. Once a later jump takes that back, the line derives again at once.
 
-use crate::lines::Lines;
+use crate::lines::SearchLines;
 use partial::Partial;
 use std::alloc::{AllocError, Global};
 use terms::{Incompat, Pkg, Relation, Term, relation};
@@ -105,7 +105,11 @@ impl Late {
     }
 
     /// Notes that the lines that were handed out were used, unless one of them was in a conflict.
-    pub fn settle<L: Lines>(&mut self, partial: &Partial, lines: &L) -> Result<(), AllocError> {
+    pub fn settle<L: SearchLines>(
+        &mut self,
+        partial: &Partial,
+        lines: &L,
+    ) -> Result<(), AllocError> {
         let Some(level) = self.handed_out.take() else {
             return Ok(());
         };

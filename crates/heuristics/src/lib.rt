@@ -13,12 +13,12 @@
 //! | `watches.rt` | learnt lines of three terms or more, each looked at from two packages | Unit Propagation |
 //! | `left.rt` | what is left of packages, a word each | Unit Propagation |
 //! | `late.rt` | lines that derived later than they could have | Unit Propagation |
-//! | `kept.rt` | what is kept of a package that lines name | Unit Propagation, Decision Making |
+//! | `package_state.rt` | what is kept of a package that lines name | Unit Propagation, Decision Making |
 //! | `numbers.rt` | the index at which a list has what is known of a package | |
-//! | `spent.rt` | the lines that are not looked at until the search jumps back | Unit Propagation |
+//! | `inactive.rt` | the lines that are not looked at until the search jumps back | Unit Propagation |
 //! | `queue.rt` | the packages that are to be decided | Decision Making |
 //! | `order.rt` | the order of decisions | Decision Making |
-//! | `heat.rt` | how much packages had to do with the last conflicts | Decision Making |
+//! | `activity.rt` | how much packages had to do with the last conflicts | Decision Making |
 //! | `covered.rt` | which dependencies are among the lines | Decision Making |
 //! | `alike.rt` | packages whose versions all depend on the same | Decision Making |
 //! | `sharing.rt` | where versions of a package may have the same dependency | Decision Making |
@@ -26,12 +26,12 @@
 //! | `obstacle.rt` | what stands in the way of the preferred selection | |
 #![tactic(auto)]
 
+mod activity;
 mod agenda;
 mod alike;
 mod covered;
 mod greedy;
-mod heat;
-mod kept;
+mod inactive;
 mod late;
 mod left;
 mod lines;
@@ -39,16 +39,16 @@ mod numbers;
 mod obstacle;
 mod occurrences;
 mod order;
+mod package_state;
 mod question;
 mod queue;
 mod sharing;
-mod spent;
 mod watches;
 
 pub use agenda::Agenda;
 pub use greedy::{Attempt, decide_greedily};
 pub use late::FAR;
-pub use lines::Lines;
+pub use lines::SearchLines;
 pub use obstacle::{Obstacle, obstacle_at};
 pub use question::{Question, locked_version};
-pub use sharing::{Place, Sharing};
+pub use sharing::{DependencyPlace, Sharing};

@@ -3,7 +3,7 @@
 use terms::Incompat;
 
 /// The lines of a search, each known by its place.
-pub trait Lines {
+pub trait SearchLines {
     /// What the line at a place concludes, if there is one.
     fn conclusion(&self, at: usize) -> Option<&Incompat>;
 }

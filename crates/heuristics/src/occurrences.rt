@@ -2,10 +2,10 @@
 
 use crate::alike::several_depend_alike;
 use crate::covered::Covered;
-use crate::kept::Kept;
+use crate::inactive::Inactive;
 use crate::numbers::{index_of, set_number};
+use crate::package_state::PackageState;
 use crate::question::Question;
-use crate::spent::Spent;
 use partial::Partial;
 use std::alloc::{AllocError, Global};
 use terms::{Incompat, Pkg, Relation, Term, relation};
@@ -27,7 +27,7 @@ struct Occurrence {
 
 /// What a line says of a package that it names.
 #[derive(Drop)]
-struct Saying {
+struct Literal {
     pkg: Pkg,
     term: Term,
     /// The number of the line's other occurrence, 0 where there are not two.
@@ -46,9 +46,9 @@ pub(crate) struct Occurrences {
     /// Where it stands what is kept of a package. So a look costs two steps, and few packages take little
     /// memory.
     numbers: Vec<usize>,
-    kept: Vec<Kept>,
+    kept: Vec<PackageState>,
     occurrences: Vec<Occurrence>,
-    sayings: Vec<Saying>,
+    sayings: Vec<Literal>,
     /// How many occurrences are put aside. Their lines are spent.
     aside: usize,
     covered: Covered,
@@ -80,18 +80,18 @@ impl Occurrences {
     }
 
     /// What is kept of a package, if a line names it.
-    fn get(&self, pkg: Pkg) -> Option<&Kept> {
+    fn get(&self, pkg: Pkg) -> Option<&PackageState> {
         self.kept.as_slice().get(index_of(&self.numbers, pkg)?)
     }
 
     /// As `get`, to write there.
-    fn get_mut(&mut self, pkg: Pkg) -> Option<&mut Kept> {
+    fn get_mut(&mut self, pkg: Pkg) -> Option<&mut PackageState> {
         let index = index_of(&self.numbers, pkg)?;
         self.kept.as_mut_slice().get_mut(index)
     }
 
     /// Begins to keep something of a package that has none.
-    fn add(&mut self, pkg: Pkg, kept: Kept) -> Result<(), AllocError> {
+    fn add(&mut self, pkg: Pkg, kept: PackageState) -> Result<(), AllocError> {
         self.kept.push(kept)?;
         set_number(&mut self.numbers, pkg, self.kept.len())
     }
@@ -117,14 +117,14 @@ impl Occurrences {
         let pkg = entry.0;
         let number = self.next_number();
         self.occurrences.push(Occurrence { at, next: 0 })?;
-        self.sayings.push(Saying {
+        self.sayings.push(Literal {
             pkg,
             term: entry.1.copy(alloc)?,
             other,
             aside: None,
         })?;
         match self.get_mut(pkg) {
-            None => self.add(pkg, Kept::new(alloc, number)),
+            None => self.add(pkg, PackageState::new(alloc, number)),
             Some(kept) => {
                 let before = kept.last;
                 kept.last = number;
@@ -215,7 +215,7 @@ impl Occurrences {
     }
 
     /// Takes back what was spent above a level.
-    pub fn backjump(&mut self, spent: &mut Spent, level: usize) {
+    pub fn backjump(&mut self, spent: &mut Inactive, level: usize) {
         if self.aside > 0 {
             for (at, _) in spent.above(level).iter().rev() {
                 self.put_back_line(*at);
@@ -233,13 +233,13 @@ impl Occurrences {
 
     /// What is said at the occurrence of this number, if there is one.
     #[inline(always)]
-    fn saying_of(&self, number: u32) -> Option<&Saying> {
+    fn saying_of(&self, number: u32) -> Option<&Literal> {
         let index = number.checked_sub(1)?;
         self.sayings.as_slice().get(index as usize)
     }
 
     /// As `saying_of`, to write there.
-    fn saying_mut(&mut self, number: u32) -> Option<&mut Saying> {
+    fn saying_mut(&mut self, number: u32) -> Option<&mut Literal> {
         let index = number.checked_sub(1)?;
         self.sayings.as_mut_slice().get_mut(index as usize)
     }
@@ -366,7 +366,7 @@ impl Occurrences {
     }
 
     /// Puts the spent lines of a package aside.
-    fn sweep(&mut self, pkg: Pkg, spent: &Spent) {
+    fn sweep(&mut self, pkg: Pkg, spent: &Inactive) {
         let mut before = 0;
         let mut number = self.after(pkg, 0);
         for _ in 0..self.occurrences.len() {
@@ -391,7 +391,7 @@ impl Occurrences {
         partial: &Partial,
         pkg: Pkg,
         said: &Term,
-        spent: &mut Spent,
+        spent: &mut Inactive,
         ripe: &mut Vec<usize>,
     ) -> Result<usize, AllocError> {
         let level = partial.level();
@@ -422,7 +422,7 @@ impl Occurrences {
         partial: &Partial,
         pkg: Pkg,
         said: &Term,
-        spent: &mut Spent,
+        spent: &mut Inactive,
         ripe: &mut Vec<usize>,
     ) -> Result<(), AllocError> {
         if self.gather_ripe(partial, pkg, said, spent, ripe)? > PASSED {

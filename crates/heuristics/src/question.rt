@@ -10,7 +10,7 @@ use versions::{Name, Need, Published};
 
 /// For at least so many packages room is made before a search, so that a small one need not move its lists
 /// again and again while they grow.
-pub(crate) const ROOM: usize = 128;
+pub(crate) const PACKAGES_ROOM: usize = 128;
 
 /// For how many packages room is made for each that is known to be needed before a search: the others that
 /// it comes to are needed by these.
@@ -18,7 +18,7 @@ const REACHED: usize = 4;
 
 /// For how many packages room is made before a search, where so many are known to be needed.
 pub(crate) fn room_for(needed: usize) -> usize {
-    needed.saturating_mul(REACHED).max(ROOM)
+    needed.saturating_mul(REACHED).max(PACKAGES_ROOM)
 }
 
 /// A request to a registry.

@@ -2,7 +2,7 @@
 
 ghost use Rattle.std.specs.Prelude.{◌≡◌};
 
-use crate::heat::{Heat, count_at};
+use crate::activity::{Activity, count_at};
 use crate::occurrences::Occurrences;
 use crate::order::Order;
 use crate::question::Question;
@@ -26,7 +26,7 @@ pub(crate) struct Queue {
     /// By number of the package: the lowest rank that is known among its entries, `NONE` where it has none.
     held: Vec<u64>,
     /// Which of several packages with equally few versions is decided first.
-    heat: Heat,
+    activity: Activity,
 }
 
 /// What is said of a package that is selected and has no decision.
@@ -61,7 +61,7 @@ impl Queue {
             decided: Vec::with_capacity(alloc, room)?,
             last: None,
             held: Vec::new(alloc),
-            heat: Heat::new(alloc),
+            activity: Activity::new(alloc),
         })
     }
 
@@ -79,7 +79,7 @@ impl Queue {
     fn put(&mut self, pkg: Pkg, count: usize) -> Result<(), AllocError>
         ensures { self.new.decided.items ≡ self.old.decided.items }
     {
-        let rank = self.heat.rank(pkg, count);
+        let rank = self.activity.rank(pkg, count);
         if self.held_of(pkg) <= rank {
             return Ok(());
         }
@@ -112,13 +112,13 @@ impl Queue {
         partial: &Partial,
         pkg: Pkg,
     ) -> Result<(), AllocError> {
-        self.heat.add(pkg)?;
+        self.activity.add(pkg)?;
         self.offer(question, occurrences, partial, pkg)
     }
 
     /// Notes a conflict more.
     pub fn count_conflict(&mut self) {
-        self.heat.count_conflict();
+        self.activity.count_conflict();
     }
 
     /// Puts back into the queue what was decided and is not any more, after the search jumped back.
@@ -139,7 +139,7 @@ impl Queue {
     }
 
     /// The package that comes first in the queue and is to be decided: the one with the fewest versions
-    /// to choose from, of several the hottest, where heat is minded, and the one with the lowest number. It
+    /// to choose from, of several the hottest, where activity is minded, and the one with the lowest number. It
     /// leaves the queue, unless it is not decided then.
     pub fn next(
         &mut self,

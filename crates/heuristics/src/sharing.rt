@@ -10,22 +10,22 @@ use versions::{Name, Need};
 
 /// Up to this many dependencies of a package are compared with each that is looked for, which takes less
 /// than a table of them.
-const FEW: usize = 256;
+const MOST_COMPARED_DEPENDENCIES: usize = 256;
 
 /// Packages with at most so many versions have few dependencies, whatever each depends on.
-const FEW_VERSIONS: usize = FEW / NEED_LIMIT;
+const FEW_VERSIONS: usize = MOST_COMPARED_DEPENDENCIES / NEED_LIMIT;
 
 /// Where a dependency stands: the ordinal of its version, and its index there.
 #[derive(Clone, Copy)]
-pub struct Place {
+pub struct DependencyPlace {
     pub ordinal: u32,
     pub index: usize,
 }
 
 /// A dependency in the table.
 #[derive(Clone, Copy)]
-struct Listed {
-    place: Place,
+struct SharedDependency {
+    place: DependencyPlace,
     /// The number of the one before it with the same key, 0 where there is none.
     before: usize,
 }
@@ -37,11 +37,11 @@ pub struct Sharing {
     /// Whether a package has many dependencies, once that was asked.
     has_many: IndexMap<Pkg, bool>,
     /// Their numbers are one more than their indexes.
-    listed: Vec<Listed>,
+    listed: Vec<SharedDependency>,
     /// By the package and the key of a dependency, the number of the last one.
     last: IndexMap<(Pkg, u64), usize>,
     /// What was found last.
-    found: Vec<Place>,
+    found: Vec<DependencyPlace>,
 }
 
 /// A key of a dependency: equal ones have the same, and others hardly ever.
@@ -69,7 +69,7 @@ fn has_many(question: &Question<'_>, pkg: Pkg) -> bool {
         if !is_repeated(question, pkg, ordinal) {
             count = count.saturating_add(needs(question.registry, pkg, ordinal).len());
         }
-        if count > FEW {
+        if count > MOST_COMPARED_DEPENDENCIES {
             return true;
         }
     }
@@ -120,20 +120,25 @@ impl Sharing {
         ordinal: u32,
     ) -> Result<(), AllocError> {
         for (index, entry) in needs(question.registry, pkg, ordinal).iter().enumerate() {
-            self.list(pkg, Place { ordinal, index }, entry)?;
+            self.list(pkg, DependencyPlace { ordinal, index }, entry)?;
         }
         Ok(())
     }
 
-    fn list(&mut self, pkg: Pkg, place: Place, entry: &(Name, Need)) -> Result<(), AllocError> {
+    fn list(
+        &mut self,
+        pkg: Pkg,
+        place: DependencyPlace,
+        entry: &(Name, Need),
+    ) -> Result<(), AllocError> {
         let number = self.listed.len().saturating_add(1);
         let before = self.last.insert((pkg, key_of(entry)), number)?.unwrap_or(0);
-        self.listed.push(Listed { place, before })?;
+        self.listed.push(SharedDependency { place, before })?;
         Ok(())
     }
 
     /// The dependency of a number in the table, if there is one.
-    fn listed_at(&self, number: usize) -> Option<Listed> {
+    fn listed_at(&self, number: usize) -> Option<SharedDependency> {
         self.listed.as_slice().get(number.checked_sub(1)?).copied()
     }
 
@@ -165,7 +170,7 @@ impl Sharing {
         &mut self,
         question: &Question<'_>,
         pkg: Pkg,
-        place: Place,
+        place: DependencyPlace,
     ) -> Result<(), AllocError> {
         self.found.push(place)?;
         let index = place.index;
@@ -173,13 +178,13 @@ impl Sharing {
             if !is_repeated(question, pkg, ordinal) {
                 return Ok(());
             }
-            self.found.push(Place { ordinal, index })?;
+            self.found.push(DependencyPlace { ordinal, index })?;
         }
         Ok(())
     }
 
     /// The places that were found last.
-    pub fn found(&self) -> &[Place] {
+    pub fn found(&self) -> &[DependencyPlace] {
         &self.found
     }
 }

@@ -10,7 +10,7 @@
 // a watched term nor the search for another one reads the line, or what is said of a package.
 
 use crate::left::{Left, contradicts, is_unsatisfied, ruled_out, satisfies};
-use crate::lines::Lines;
+use crate::lines::SearchLines;
 use partial::Partial;
 use std::alloc::{AllocError, Global};
 use std::mem;
@@ -18,7 +18,7 @@ use terms::{Pkg, Relation, Term, relation};
 
 /// What is settled, and what the lines conclude.
 #[derive(Drop)]
-pub(crate) struct Situation<'a, L: Lines> {
+pub(crate) struct Situation<'a, L: SearchLines> {
     pub alloc: Global,
     pub partial: &'a Partial,
     pub left: &'a Left,
@@ -140,7 +140,7 @@ impl Watched {
     }
 }
 
-impl<'a, L: Lines> Situation<'a, L> {
+impl<'a, L: SearchLines> Situation<'a, L> {
     /// How what is said stands to the term of a line at an index, by the sets themselves.
     fn relation_at(&self, line: Watched, index: u32) -> Relation {
         let Some(conclusion) = self.lines.conclusion(line.at) else {
@@ -197,7 +197,12 @@ impl Watches {
 
     /// Whether the term of a line at an index is satisfied; no index beyond its terms is.
     #[inline(always)]
-    fn is_satisfied<L: Lines>(&self, now: &Situation<'_, L>, line: Watched, index: u32) -> bool {
+    fn is_satisfied<L: SearchLines>(
+        &self,
+        now: &Situation<'_, L>,
+        line: Watched,
+        index: u32,
+    ) -> bool {
         self.condition(line, index)
             .is_some_and(|condition| now.satisfies(line, index, condition))
     }
@@ -272,7 +277,7 @@ impl Watches {
 
     /// The first index, besides two, at which a term of a line is not satisfied.
     #[inline(always)]
-    fn unsatisfied<L: Lines>(
+    fn unsatisfied<L: SearchLines>(
         &self,
         now: &Situation<'_, L>,
         line: Watched,
@@ -290,7 +295,11 @@ impl Watches {
     }
 
     /// Looks at a line that is watched, since its watched term may be satisfied.
-    fn see<L: Lines>(&mut self, now: &Situation<'_, L>, watch: Watch) -> Result<Seen, AllocError> {
+    fn see<L: SearchLines>(
+        &mut self,
+        now: &Situation<'_, L>,
+        watch: Watch,
+    ) -> Result<Seen, AllocError> {
         let Some(line) = self.lines.as_slice().get(watch.line as usize).copied() else {
             return Ok(Seen::Idle);
         };
@@ -339,7 +348,7 @@ impl Watches {
 
     /// Gathers the places of the lines from which something may follow, since a watched term on a package
     /// is satisfied by what is said of it.
-    pub fn gather<L: Lines>(
+    pub fn gather<L: SearchLines>(
         &mut self,
         now: &Situation<'_, L>,
         pkg: Pkg,

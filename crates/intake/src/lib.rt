@@ -1,11 +1,11 @@
-//! Lines, read one after another by one [`Intake`]: request lines, each as `wire` reads it, and the publish lines of a
+//! Lines, read one after another by one [`RequestReader`]: request lines, each as `wire` reads it, and the publish lines of a
 //! journal's file. A publish line in its usual form takes one pass, and its names and requirements are judged where they
 //! come for the first time.
 #![tactic(auto)]
 
-mod known;
 mod publication;
+mod read_texts;
 mod reading;
 mod written;
 
-pub use reading::Intake;
+pub use reading::RequestReader;

@@ -6,12 +6,12 @@ use Rattle.std.proofs.lemmas.Option.{none-some, same_Some, slice_get_within, sli
 use Rattle.std.specs.Prelude.{Option, None, Some, is_some, slice_get}
 use Rattle.std.specs.Option.{option_flatten, option_or, option_to_list}
 use Rattle.partial.specs.declared.assignment.Assignment.{Assignment}
-use Rattle.partial.specs.declared.ledger.Note.{Note}
+use Rattle.partial.specs.declared.trail.Note.{Note}
 use Rattle.partial.specs.declared.assignment.Why.{Why}
 use Rattle.partial.specs.declared.assignment.Why.TheVariants.{Decided, Derived}
 use Rattle.terms.specs.Terms.{true_of}
 use Rattle.partial.specs.Assignments.{says, is_decided, decided, decided_by}
-use Rattle.partial.specs.Ledger.{last_place, through, IsNote, IsNoted, IsPlaceOn}
+use Rattle.partial.specs.Trail.{last_place, through, IsNote, IsNoted, IsPlaceOn}
 use Rattle.partial.proofs.Lists.{get-cases, get-front, get-last, take-front, take-whole}
 use Rattle.partial.proofs.Deciding.{decided-push}
 use Rattle.partial.proofs.Places.{last_place-push, last_on_package, decided-last}

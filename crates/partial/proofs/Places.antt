@@ -8,7 +8,7 @@ use Rattle.terms.specs.Terms.{true_of}
 use Rattle.terms.specs.declared.term.Term.{Term}
 use Rattle.partial.specs.declared.assignment.Assignment.{Assignment}
 use Rattle.partial.specs.Assignments.{says, decided, decided_by}
-use Rattle.partial.specs.Ledger.{last_place, through, IsPlaceOn}
+use Rattle.partial.specs.Trail.{last_place, through, IsPlaceOn}
 
 pub last_place-push : (made : List Assignment) (a : Assignment) (p : ℕ) → last_place (made ++ a ∷ []) p ≡ (if nat_eq a.pkg p then Some (length made) else last_place made p)
 last_place-push [] a p = refl

@@ -10,7 +10,7 @@ use Rattle.terms.specs.declared.term.Term.{Term}
 use Rattle.partial.specs.declared.assignment.Assignment.{Assignment}
 use Rattle.partial.specs.Assignments.{says}
 use Rattle.partial.specs.Satisfying.{Satisfied, SatisfiedBut}
-use Rattle.partial.specs.Ledger.{last_place, through, IsPlaceOn}
+use Rattle.partial.specs.Trail.{last_place, through, IsPlaceOn}
 use Rattle.partial.specs.Reach.{Holds, IsLeast, IsReach, IsShortestOn}
 use Rattle.partial.proofs.Says.{says-take, says-push_other}
 use Rattle.partial.proofs.Places.{says-last}

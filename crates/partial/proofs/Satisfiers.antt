@@ -8,10 +8,10 @@ use Rattle.terms.specs.Terms.{true_of, Exception, Implies}
 use Rattle.terms.specs.Incompats.{true_at, IsIncompat}
 use Rattle.terms.specs.declared.term.Term.{Term}
 use Rattle.partial.specs.declared.assignment.Assignment.{Assignment}
-use Rattle.partial.specs.declared.ledger.Note.{Note}
+use Rattle.partial.specs.declared.trail.Note.{Note}
 use Rattle.partial.specs.Assignments.{says, decisions}
 use Rattle.partial.specs.Satisfying.{Satisfied, SatisfiedBut, IsSatisfier}
-use Rattle.partial.specs.Ledger.{last_place, through, IsNoted, IsPlaceOn}
+use Rattle.partial.specs.Trail.{last_place, through, IsNoted, IsPlaceOn}
 use Rattle.partial.specs.Reach.{Holds, IsLeast, IsReach, IsShortestOn}
 use Rattle.partial.proofs.Says.{says-push_own, says-push_other}
 use Rattle.partial.proofs.Places.{last_on_package, says-last, through-within, IsPlaceOn-taken}

@@ -3,8 +3,8 @@ use Rattle.std.proofs.Common.{◌≡◌, ◌∙◌, ℕ, refl, sym, ap, true≢f
 use Rattle.std.proofs.lemmas.Bool.{cases_eq}
 use Rattle.terms.specs.declared.term.Term.{Term}
 use Rattle.partial.specs.declared.assignment.Assignment.{Assignment}
-use Rattle.partial.specs.declared.standing.Standing.{Standing}
-use Rattle.partial.specs.declared.standing.Standing.TheVariants as standing
+use Rattle.partial.specs.declared.satisfaction.Satisfaction.{Satisfaction}
+use Rattle.partial.specs.declared.satisfaction.Satisfaction.TheVariants as standing
 use Rattle.partial.specs.Satisfying.{Satisfied, AlmostSatisfied, IsNeither, Stands}
 
 satisfied_not_almost : (made : List Assignment) (terms : List (ℕ × Term)) (out : ℕ) → Satisfied made terms → AlmostSatisfied made terms out → ⊥
@@ -23,7 +23,7 @@ same_out made terms p q v w = elim (cases_eq p q) [
   | inr apart ↦ absurd (true≢false (sym (w.others p v.can_be_false.0 apart v.can_be_false.2) ∙ v.can_be_false.3))
 ]
 
-pub stands-one : (made : List Assignment) (terms : List (ℕ × Term)) (first second : Standing) → Stands made terms first → Stands made terms second → first ≡ second
+pub stands-one : (made : List Assignment) (terms : List (ℕ × Term)) (first second : Satisfaction) → Stands made terms first → Stands made terms second → first ≡ second
 stands-one made terms standing.Satisfied standing.Satisfied h k = refl
 stands-one made terms standing.Satisfied (standing.Almost q) h k = absurd (satisfied_not_almost made terms q h k)
 stands-one made terms standing.Satisfied standing.Other h k = absurd (satisfied_not_neither made terms h k)

@@ -10,9 +10,9 @@ use Rattle.terms.specs.Sets.{has}
 use Rattle.terms.specs.Terms.{true_of}
 use Rattle.terms.specs.declared.term.Term.{Term}
 use Rattle.partial.specs.declared.assignment.Assignment.{Assignment}
-use Rattle.partial.specs.declared.ledger.Note.{Note}
+use Rattle.partial.specs.declared.trail.Note.{Note}
 use Rattle.partial.specs.Assignments.{says, decided, is_decided, is_undecided, has_positive_derivation}
-use Rattle.partial.specs.Ledger.{IsNoted}
+use Rattle.partial.specs.Trail.{IsNoted}
 use Rattle.partial.proofs.Deciding.{positive-says}
 use Rattle.partial.proofs.Places.{says-nothing}
 

@@ -2,5 +2,5 @@
 pub mod Assignments
 pub mod Satisfying
 pub mod Rank
-pub mod Ledger
+pub mod Trail
 pub mod Reach

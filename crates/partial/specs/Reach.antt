@@ -4,7 +4,7 @@ use Rattle.terms.specs.Terms.{true_of}
 use Rattle.terms.specs.declared.term.Term.{Term}
 use Rattle.partial.specs.declared.assignment.Assignment.{Assignment}
 use Rattle.partial.specs.Assignments.{says}
-use Rattle.partial.specs.Ledger.{IsPlaceOn, through}
+use Rattle.partial.specs.Trail.{IsPlaceOn, through}
 use Rattle.partial.specs.Satisfying.{Satisfied, SatisfiedBut}
 
 -- the assignments leave of the package no choice of which the term is false

@@ -4,8 +4,8 @@ use Rattle.terms.specs.Terms.{true_of, IsChoice}
 use Rattle.terms.specs.Incompats.{true_at}
 use Rattle.terms.specs.declared.term.Term.{Term}
 use Rattle.partial.specs.declared.assignment.Assignment.{Assignment}
-use Rattle.partial.specs.declared.standing.Standing.{Standing}
-use Rattle.partial.specs.declared.standing.Standing.TheVariants as standing
+use Rattle.partial.specs.declared.satisfaction.Satisfaction.{Satisfaction}
+use Rattle.partial.specs.declared.satisfaction.Satisfaction.TheVariants as standing
 use Rattle.partial.specs.Assignments.{says, decisions, upto, LeavesChoices}
 
 -- each term must be true: what the assignments say of its package leaves no other choice
@@ -31,14 +31,14 @@ pub record IsNeither (made : List Assignment) (terms : List (ℕ × Term)) : Typ
   pub not_almost : (out : ℕ) → SatisfiedBut made terms out → (choice : Option ℕ) → says made out choice ≡ true → true_at terms out choice ≡ true → ⊥
 
 -- how terms stand to assignments
-abbrev pub Stands : List Assignment → List (ℕ × Term) → Standing → Type 0
+abbrev pub Stands : List Assignment → List (ℕ × Term) → Satisfaction → Type 0
 Stands made terms standing.Satisfied = Satisfied made terms
 Stands made terms (standing.Almost out) = AlmostSatisfied made terms out
 Stands made terms standing.Other = IsNeither made terms
 
 -- terms stand to assignments in one way
 abbrev pub OneStanding : Type 0
-OneStanding = (made : List Assignment) (terms : List (ℕ × Term)) (first second : Standing) → Stands made terms first → Stands made terms second → first ≡ second
+OneStanding = (made : List Assignment) (terms : List (ℕ × Term)) (first second : Satisfaction) → Stands made terms first → Stands made terms second → first ≡ second
 
 -- ---- the satisfier
 

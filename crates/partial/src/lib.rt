@@ -8,10 +8,10 @@
 
 mod assignment;
 mod laws;
-mod ledger;
+mod satisfaction;
 mod satisfier;
 mod solution;
-mod standing;
+mod trail;
 mod undecided;
 
 pub use assignment::{Assignment, Why};
@@ -19,5 +19,5 @@ pub use laws::{
     beginnings_leave_choices, levels_count_decisions, one_standing, package_by_package,
     undecided_is_selected,
 };
+pub use satisfaction::Satisfaction;
 pub use solution::{Partial, Settled};
-pub use standing::Standing;

@@ -5,16 +5,16 @@ ghost use Rattle.std.specs.List.Sorted.{IsStrictlyIncreasing};
 ghost use Rattle.terms.specs.Sets.{has};
 ghost use Rattle.terms.specs.Terms.{true_of};
 ghost use Rattle.partial.specs.Assignments.{decided, decision_after, decisions, is_decided, is_undecided, says, upto, IsOpenTo, IsPartial, SaysOnly};
-ghost use Rattle.partial.specs.Ledger.{last_place};
+ghost use Rattle.partial.specs.Trail.{last_place};
 ghost use Rattle.partial.specs.Rank.{rank, FallsBack, TakesAway};
 ghost use Rattle.partial.specs.Satisfying.{CanGoBack, IsSatisfier, Satisfied, Stands};
 
 use crate::assignment::{Assignment, Why};
-use crate::ledger::{
-    Ledger, add, decided_at, decided_on, empty, go_back, last_on, level_of, said_at, with_room,
-};
+use crate::satisfaction::{Satisfaction, standing_of};
 use crate::satisfier::satisfier_of;
-use crate::standing::{Standing, standing_of};
+use crate::trail::{
+    Trail, add, decided_at, decided_on, empty, go_back, last_on, level_of, said_at, with_room,
+};
 use crate::undecided::undecided_in;
 use std::alloc::{AllocError, Global};
 use std::marker::Model;
@@ -24,7 +24,7 @@ use terms::{Incompat, Pkg, Term, VSet};
 /// Solution"). What they say of a package is at hand, whatever the number of the others.
 #[derive(Drop)]
 pub struct Partial {
-    ledger: Ledger,
+    trail: Trail,
     alloc: Global,
 }
 
@@ -32,13 +32,13 @@ impl Model for Partial {
     ghost use Rattle.std.specs.Prelude.{List};
     ghost use Rattle.partial.specs.declared.assignment.Assignment.{Assignment};
     ghost use Rattle.partial.specs.Assignments.{IsPartial};
-    ghost use Rattle.partial.specs.Ledger.{IsLedger};
+    ghost use Rattle.partial.specs.Trail.{IsTrail};
 
     ghost Value = { List Assignment };
 
-    ghost view = { λ p. p.ledger.made.items };
+    ghost view = { λ p. p.trail.made.items };
 
-    ghost invariant = { λ p. IsPartial p.ledger.made.items × IsLedger p.ledger };
+    ghost invariant = { λ p. IsPartial p.trail.made.items × IsTrail p.trail };
 }
 
 /// What is settled of a package that assignments are on.
@@ -63,7 +63,7 @@ impl Partial {
         ensures { result ≡ [] }
     {
         Partial {
-            ledger: empty(alloc),
+            trail: empty(alloc),
             alloc,
         }
     }
@@ -73,7 +73,7 @@ impl Partial {
         ensures { IfOk result (λ partial. partial ≡ []) }
     {
         Ok(Partial {
-            ledger: with_room(alloc, room)?,
+            trail: with_room(alloc, room)?,
             alloc,
         })
     }
@@ -83,14 +83,14 @@ impl Partial {
         ensures same { result.now ≡ self.now }
         ensures lawful { IsPartial self.now }
     {
-        self.ledger.made.as_slice()
+        self.trail.made.as_slice()
     }
 
     /// How many decisions there are.
     pub fn level(&self) -> usize
         ensures { result ≡ decisions self.now }
     {
-        level_of(&self.ledger.made)
+        level_of(&self.trail.made)
     }
 
     /// What the assignments on a package say together, none where there is no assignment on it.
@@ -99,10 +99,10 @@ impl Partial {
         ensures none { IfNone result ((choice : Option ℕ) → says self.now pkg choice ≡ true) }
         ensures lawful { IsPartial self.now }
     {
-        let last = last_on(&self.ledger, pkg);
+        let last = last_on(&self.trail, pkg);
         match last {
             None => None,
-            Some(_) => Some(said_at(&self.ledger, last)),
+            Some(_) => Some(said_at(&self.trail, last)),
         }
     }
 
@@ -115,12 +115,12 @@ impl Partial {
         ensures undecided { IfNone result (decided self.now pkg ≡ None) }
         ensures lawful { IsPartial self.now }
     {
-        let last = last_on(&self.ledger, pkg);
+        let last = last_on(&self.trail, pkg);
         match last {
             None => None,
             Some(_) => {
-                let said = said_at(&self.ledger, last);
-                let decision = decided_at(&self.ledger, last);
+                let said = said_at(&self.trail, last);
+                let decision = decided_at(&self.trail, last);
                 Some(Settled { said, decision })
             }
         }
@@ -130,7 +130,7 @@ impl Partial {
     pub fn last_on(&self, pkg: Pkg) -> Option<usize>
         ensures { result ≡ last_place self.now pkg }
     {
-        last_on(&self.ledger, pkg)
+        last_on(&self.trail, pkg)
     }
 
     /// The ordinal that is decided of a package.
@@ -139,7 +139,7 @@ impl Partial {
         ensures only { IfSome result (λ ordinal. (choice : Option ℕ) → says self.now pkg choice ≡ true → choice ≡ Some ordinal) }
         ensures lawful { IsPartial self.now }
     {
-        decided_on(&self.ledger, pkg)
+        decided_on(&self.trail, pkg)
     }
 
     /// The packages with a positive derivation and no decision, in rising order. It looks at each number
@@ -149,15 +149,15 @@ impl Partial {
         ensures rising { IfOk result (λ found. IsStrictlyIncreasing found.items) }
         ensures lawful { IsPartial self.now }
     {
-        undecided_in(self.alloc, &self.ledger)
+        undecided_in(self.alloc, &self.trail)
     }
 
     /// How an incompatibility stands to the assignments, by one look at each of its packages.
-    pub fn relation(&self, incompat: &Incompat) -> Standing
+    pub fn relation(&self, incompat: &Incompat) -> Satisfaction
         ensures stands { Stands self.now incompat.now result }
         ensures lawful { IsPartial self.now }
     {
-        standing_of(&self.ledger, incompat.terms())
+        standing_of(&self.trail, incompat.terms())
     }
 
     /// The place of the satisfier of an incompatibility, and the previous level, at least 1
@@ -170,7 +170,7 @@ impl Partial {
         ensures early { IfOk result (λ found. (bound : ℕ) → Satisfied (take bound self.now) incompat.now → found.0 < bound) }
         ensures back { IfOk result (λ found. CanGoBack self.now incompat.now found.0 found.1) }
     {
-        satisfier_of(self.alloc, &self.ledger, incompat.terms())
+        satisfier_of(self.alloc, &self.trail, incompat.terms())
     }
 
     /// Adds a derivation at the present level, with the place of its cause in the caller's list.
@@ -182,8 +182,8 @@ impl Partial {
         ensures err { OnErr result (self.new ≡ self.old) }
     {
         let level = self.level();
-        let last = last_on(&self.ledger, pkg);
-        let said = match said_at(&self.ledger, last).and(self.alloc, &term) {
+        let last = last_on(&self.trail, pkg);
+        let said = match said_at(&self.trail, last).and(self.alloc, &term) {
             Ok(said) => said,
             Err(error) => {
                 drop(term);
@@ -196,7 +196,7 @@ impl Partial {
             level,
             why: Why::Derived(cause),
         };
-        add(&mut self.ledger, derivation, last, said)?;
+        add(&mut self.trail, derivation, last, said)?;
         Ok(())
     }
 
@@ -217,14 +217,14 @@ impl Partial {
                 return Err(error);
             }
         };
-        let last = last_on(&self.ledger, pkg);
+        let last = last_on(&self.trail, pkg);
         let decision = Assignment {
             pkg,
             term,
             level,
             why: Why::Decided(ordinal),
         };
-        add(&mut self.ledger, decision, last, said)?;
+        add(&mut self.trail, decision, last, said)?;
         Ok(())
     }
 
@@ -232,6 +232,6 @@ impl Partial {
     pub fn back_to(&mut self, level: usize)
         ensures { self.new ≡ upto level self.old }
     {
-        go_back(&mut self.ledger, level);
+        go_back(&mut self.trail, level);
     }
 }

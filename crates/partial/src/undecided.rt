@@ -5,9 +5,9 @@ ghost use Rattle.std.specs.List.Sorted.{IsStrictlyIncreasing};
 ghost use Rattle.terms.specs.Sets.{has};
 ghost use Rattle.terms.specs.Terms.{true_of};
 ghost use Rattle.partial.specs.Assignments.{is_undecided};
-ghost use Rattle.partial.specs.Ledger.{IsLedger};
+ghost use Rattle.partial.specs.Trail.{IsTrail};
 
-use crate::ledger::{Ledger, decided_at, last_on, said_at};
+use crate::trail::{Trail, decided_at, last_on, said_at};
 use std::alloc::{AllocError, Global};
 use terms::{Pkg, Term};
 
@@ -22,27 +22,27 @@ fn is_positive(term: &Term) -> bool
 }
 
 /// Whether a package is to be decided, by one look at it.
-fn is_undecided(ledger: &Ledger, pkg: Pkg) -> bool
-    requires { IsLedger ledger.now }
-    ensures { result ≡ is_undecided ledger.now.made.items pkg }
+fn is_undecided(trail: &Trail, pkg: Pkg) -> bool
+    requires { IsTrail trail.now }
+    ensures { result ≡ is_undecided trail.now.made.items pkg }
 {
-    let last = last_on(ledger, pkg);
-    match decided_at(ledger, last) {
+    let last = last_on(trail, pkg);
+    match decided_at(trail, last) {
         Some(_) => false,
-        None => is_positive(said_at(ledger, last)),
+        None => is_positive(said_at(trail, last)),
     }
 }
 
 /// The packages to decide, in rising order.
-pub(crate) fn undecided_in(alloc: Global, ledger: &Ledger) -> Result<Vec<Pkg>, AllocError>
-    requires { IsLedger ledger.now }
-    ensures exactly { IfOk result (λ found. (pkg : ℕ) → has found.items pkg ≡ is_undecided ledger.now.made.items pkg) }
+pub(crate) fn undecided_in(alloc: Global, trail: &Trail) -> Result<Vec<Pkg>, AllocError>
+    requires { IsTrail trail.now }
+    ensures exactly { IfOk result (λ found. (pkg : ℕ) → has found.items pkg ≡ is_undecided trail.now.made.items pkg) }
     ensures rising { IfOk result (λ found. IsStrictlyIncreasing found.items) }
 {
     let mut found = Vec::new(alloc);
-    'heads: for index in 0..ledger.heads.len() {
+    'heads: for index in 0..trail.heads.len() {
         let pkg = index as Pkg;
-        if is_undecided(ledger, pkg) {
+        if is_undecided(trail, pkg) {
             found.push(pkg)?;
         }
     }

@@ -5,7 +5,7 @@ ghost use Rattle.pool.specs.Ahead.{AreFirst};
 ghost use Rattle.pool.specs.Answering.{IsAnswerTo};
 
 use crate::query::{Answered, Query};
-use crate::work::{Answer, Asked, Finder, answer};
+use crate::work::{Finder, RequestWithOptions, SolveResult, answer};
 use registry::Registry;
 use solver::{Options, Outcome, solve_with};
 use std::alloc::Global;
@@ -20,7 +20,7 @@ pub const THREAD: usize = 64;
 const REFUSED: usize = 4;
 
 /// With how many conflicts a request is still answered before any thread is started.
-const FEW: u32 = 8;
+const CONFLICTS_WITHOUT_THREADS: u32 = 8;
 
 /// The most effort after which a thread wakes the calling one, in the packages and lines that answers have, where each
 /// request takes little.
@@ -86,17 +86,20 @@ pub fn answer_soon(
     alloc: Global,
     registry: &Registry,
     store: &Store,
-    asked: &Asked,
-) -> Option<Answer>
+    asked: &RequestWithOptions,
+) -> Option<SolveResult>
     requires { All (AllStand registry.now.packages) store.now.members }
     ensures { IfSome result (IsAnswerTo registry.now.packages asked.now) }
 {
     let (request, options) = asked;
-    if options.budget.is_some_and(|budget| budget <= FEW) {
+    if options
+        .budget
+        .is_some_and(|budget| budget <= CONFLICTS_WITHOUT_THREADS)
+    {
         return Some(answer(alloc, registry, store, asked));
     }
     let few = Options {
-        budget: Some(FEW),
+        budget: Some(CONFLICTS_WITHOUT_THREADS),
         explain: options.explain,
         newest: options.newest,
     };
@@ -109,7 +112,7 @@ pub fn answer_soon(
 
 /// How much there was to do: what was selected or cited, or, where something was learnt, at least as much
 /// as starting a thread takes.
-pub fn effort_of(answer: &Answer) -> usize {
+pub fn effort_of(answer: &SolveResult) -> usize {
     match answer {
         Ok(Outcome::Selection(list, offered)) if offered.is_empty() => list.len().saturating_add(1),
         Ok(Outcome::NoSelection(offered)) if offered.is_empty() => REFUSED,

@@ -6,7 +6,7 @@ ghost use Rattle.pool.specs.Answering.{AreAnswers};
 use crate::gate::Gate;
 use crate::in_order::{Answers, Consumer, answer_in_order, start};
 use crate::query::Query;
-use crate::work::{Answer, Asked, Work};
+use crate::work::{RequestWithOptions, SolveResult, Work};
 use registry::Registry;
 use std::alloc::{AllocError, Global};
 use std::marker::Brand;
@@ -17,7 +17,7 @@ use store::Store;
 /// Who keeps the answers to so many requests.
 #[derive(Drop)]
 struct Keeping {
-    answers: Vec<Answer>,
+    answers: Vec<SolveResult>,
     count: usize,
 }
 
@@ -47,9 +47,9 @@ pub fn answer_all<R: Threads + Wait + Sync>(
     alloc: Global,
     registry: &Registry,
     store: &Store,
-    requests: Vec<Asked>,
+    requests: Vec<RequestWithOptions>,
     workers: usize,
-) -> Result<Vec<Answer>, AllocError>
+) -> Result<Vec<SolveResult>, AllocError>
     requires { All (AllStand registry.now.packages) store.now.members }
     ensures { IfOk result (λ answers. AreAnswers registry.now.packages requests.items answers.items) }
 {
@@ -70,10 +70,10 @@ pub fn answer_all_with<R: Threads + Wait + Sync, G: Gate + Sync>(
     alloc: Global,
     registry: &Registry,
     store: &Store,
-    requests: Vec<Asked>,
+    requests: Vec<RequestWithOptions>,
     workers: usize,
     gate: &G,
-) -> Result<Vec<Answer>, AllocError>
+) -> Result<Vec<SolveResult>, AllocError>
     requires { All (AllStand registry.now.packages) store.now.members }
     ensures { IfOk result (λ answers. AreAnswers registry.now.packages requests.items answers.items) }
 {

@@ -14,7 +14,7 @@ use crate::board::Board;
 use crate::gate::{Gate, Idle};
 use crate::jobs::{Jobs, Taker};
 use crate::query::{Answered, Query};
-use crate::work::{Answer, Asked, Finder, Work};
+use crate::work::{Finder, RequestWithOptions, SolveResult, Work};
 use registry::Registry;
 use std::alloc::Global;
 use std::marker::{Brand, Model};
@@ -77,7 +77,7 @@ impl<'a, G: Gate, Q: Query> Answers<'a, G, Q> {
     }
 
     /// The next answer, once it and all before it are there.
-    pub fn next<R: Wait>(&mut self, rt: &R) -> Answer
+    pub fn next<R: Wait>(&mut self, rt: &R) -> SolveResult
         requires { self.old < length Q.asked }
         ensures answer { IsAnswerAt Q.packages Q.asked self.old result }
         ensures one { self.new ≡ self.old + 1 }
@@ -188,7 +188,7 @@ pub fn answer_in_order<R: Threads + Wait + Sync, C: Consumer>(
     alloc: Global,
     registry: &Registry,
     store: &Store,
-    requests: &[Asked],
+    requests: &[RequestWithOptions],
     workers: usize,
     consumer: &mut C,
 ) -> C::Output

@@ -18,4 +18,4 @@ pub use gate::Gate;
 pub use in_order::{Answers, Consumer, answer_in_order};
 pub use jobs::{Jobs, Taker};
 pub use query::Query;
-pub use work::{Answer, Asked};
+pub use work::{RequestWithOptions, SolveResult};

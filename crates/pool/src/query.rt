@@ -5,7 +5,7 @@ ghost use Rattle.registry.specs.Requests.{Wanted};
 ghost use Rattle.solver.specs.declared.solving.Options.{Options};
 ghost use Rattle.pool.specs.Answering.{IsAnswerAt};
 
-use crate::work::Answer;
+use crate::work::SolveResult;
 use std::marker::{Brand, Model, PhantomData};
 
 /// The packages and the requests of one call. What crosses threads has them in its type, so that an answer is known
@@ -33,7 +33,7 @@ impl Query for Brand {
 #[derive(Drop)]
 pub(crate) struct Answered<Q: Query> {
     index: usize,
-    answer: Answer,
+    answer: SolveResult,
     query: PhantomData<Q>,
 }
 
@@ -49,7 +49,7 @@ impl<Q: Query> Model for Answered<Q> {
 }
 
 impl<Q: Query> Answered<Q> {
-    pub(crate) fn new(index: usize, answer: Answer) -> Answered<Q>
+    pub(crate) fn new(index: usize, answer: SolveResult) -> Answered<Q>
         requires { IsAnswerAt Q.packages Q.asked index answer }
         ensures { result ≡ index }
     {
@@ -66,11 +66,11 @@ impl<Q: Query> Answered<Q> {
         self.index
     }
 
-    pub(crate) fn answer(&self) -> &Answer {
+    pub(crate) fn answer(&self) -> &SolveResult {
         &self.answer
     }
 
-    pub(crate) fn into_answer(self) -> Answer
+    pub(crate) fn into_answer(self) -> SolveResult
         ensures { IsAnswerAt Q.packages Q.asked self result }
     {
         let Answered {

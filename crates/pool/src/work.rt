@@ -14,10 +14,10 @@ use store::Store;
 use versions::Refusal;
 
 /// A request, and how it is to be answered.
-pub type Asked = (Request, Options);
+pub type RequestWithOptions = (Request, Options);
 
 /// What a request is answered, or why it is left without an answer.
-pub type Answer = Result<Outcome, Refusal>;
+pub type SolveResult = Result<Outcome, Refusal>;
 
 /// The requests of one call, and what they are answered from.
 #[derive(Drop)]
@@ -25,12 +25,17 @@ pub(crate) struct Work<'a, G> {
     pub(crate) alloc: Global,
     pub(crate) registry: &'a Registry,
     pub(crate) store: &'a Store,
-    pub(crate) asked: &'a [Asked],
+    pub(crate) asked: &'a [RequestWithOptions],
     pub(crate) gate: &'a G,
 }
 
 /// Answers a request.
-pub(crate) fn answer(alloc: Global, registry: &Registry, store: &Store, asked: &Asked) -> Answer
+pub(crate) fn answer(
+    alloc: Global,
+    registry: &Registry,
+    store: &Store,
+    asked: &RequestWithOptions,
+) -> SolveResult
     requires { All (AllStand registry.now.packages) store.now.members }
     ensures { IsAnswerTo registry.now.packages asked.now result }
 {

@@ -1,3 +1,3 @@
 pub mod Racing
-pub mod Kept
+pub mod KeptReply
 pub mod Race

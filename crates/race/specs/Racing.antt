@@ -6,7 +6,7 @@ use Rattle.versions.specs.declared.refusal.Refusal.TheVariants.{Stray}
 use Rattle.book.specs.declared.item.Item.{Item}
 use Rattle.chronicle.specs.Cells.{Cells}
 use Rattle.chronicle.specs.Journals.{Begins, items_of, packages_of, refusal_at, revision_of}
-use Rattle.chronicle.specs.Seats.{Accepted, IsStray, MayHaveSeen, Place}
+use Rattle.chronicle.specs.Seats.{Accepted, IsStray, MayHaveSeen, SeatState}
 use Rattle.chronicle.specs.declared.entry.Entry.{Entry}
 use Rattle.chronicle.specs.declared.entry.Stamp.{Stamp}
 use Rattle.chronicle.specs.declared.row.TheConstants.{CAPACITY_LIMIT}
@@ -28,11 +28,11 @@ file_of journal = saved_text (packages_of journal) (items_of journal)
 abbrev pub Loads : List Entry → Type 0
 Loads journal = IsJournalOf (kept (packages_of journal) (items_of journal)) (file_of journal)
 
--- ---- a seat's ledger
+-- ---- a seat's backend
 
 -- A look may show what others entered. An item that is accepted stands behind all that the seat had seen. A call goes no further where the
 -- next cell has an entry of the seat's number that it did not make.
-abbrev pub seat_ways : Ways Place
+abbrev pub seat_ways : Ways SeatState
 seat_ways = record {
   standing = λ seat. record { revision = revision_of seat.journal; stamp = Some (record { place = length seat.journal; seat = seat.number }) };
   packages = λ seat. packages_of seat.journal;
@@ -43,14 +43,14 @@ seat_ways = record {
 }
 
 -- the seat of a row with this number, before it has seen anything
-abbrev pub fresh_seat : Cells → ℕ → Place
+abbrev pub fresh_seat : Cells → ℕ → SeatState
 fresh_seat row number = record { row = row; number = number; journal = []; stray = None }
 
 -- ---- files
 
 -- These may be the replies to a file's lines within such settings by the seat of the row with this number, which has then seen these entries.
 pub record IsRun (settings : Settings) (row : Cells) (number : ℕ) (file : Text) (replies : List Reply) (seen : List Entry) : Type 0 where
-  pub end : Place
+  pub end : SeatState
   pub session : AreLawfulWithin settings seat_ways (lines_of file) (fresh_seat row number) replies end
   pub journal : seen ≡ end.journal
 

@@ -2,13 +2,13 @@
 //!
 //! | File | What it does |
 //! |---|---|
-//! | `seat` | a seat as a ledger |
+//! | `seat` | a seat as a backend |
 //! | `running` | one seat, which answers the lines of a file |
 //! | `kept` | replies, which are kept until all seats are done |
 //! | `racing` | all seats, and what is written of them |
 #![tactic(auto)]
 
-mod kept;
+mod kept_reply;
 mod racing;
 mod running;
 mod seat;

@@ -2,15 +2,15 @@
 ghost use Rattle.std.specs.Prelude.{◌≡◌, ◌≤◌, List, [], length, vec_capacity, IfOk};
 ghost use Rattle.lines.specs.Lines.{lines_of};
 ghost use Rattle.replies.specs.Replies.{Reply, replies_text, reply_text};
-ghost use Rattle.race.specs.Kept.{Answered, AnsweredTo, kept_line, kept_text};
+ghost use Rattle.race.specs.KeptReply.{Answered, AnsweredTo, kept_line, kept_text};
 ghost use Rattle.answers.specs.Lawful.{AreLawfulWithin, IsLawfulWithin};
 ghost use Rattle.race.specs.Racing.{seat_ways};
 
-use crate::kept::{Kept, keep_listing};
+use crate::kept_reply::{KeptReply, keep_listing};
 use crate::seat::Racer;
-use answers::{Answer, Ledger, Settings, answer_line, lawful_replies_add_up, learn_all};
+use answers::{Answer, Backend, Settings, answer_line, lawful_replies_add_up, learn_all};
 use chronicle::{Mark, Seat};
-use intake::Intake;
+use intake::RequestReader;
 use lines::{count_lines, first_line};
 use std::alloc::{AllocError, Global};
 use versions::Refusal;
@@ -21,19 +21,19 @@ use versions::Refusal;
 pub struct Job<'a> {
     pub seat: Seat<'a>,
     pub file: Vec<u8>,
-    pub replies: Vec<Kept>,
+    pub replies: Vec<KeptReply>,
     pub alloc: Global,
 }
 
 /// What it hands back: its replies, and a mark of all that its seat has seen.
 #[derive(Drop)]
-pub struct Run<'a> {
-    pub replies: Vec<Kept>,
+pub struct FileRun<'a> {
+    pub replies: Vec<KeptReply>,
     pub mark: Result<Mark<'a>, Refusal>,
 }
 
 /// Makes room for a reply to each line of a file.
-pub fn room_for(alloc: Global, file: &[u8]) -> Result<Vec<Kept>, AllocError>
+pub fn room_for(alloc: Global, file: &[u8]) -> Result<Vec<KeptReply>, AllocError>
     ensures empty { IfOk result (λ replies. replies.items ≡ []) }
     ensures room { IfOk result (λ replies. length (lines_of file.now) ≤ vec_capacity replies) }
 {
@@ -41,7 +41,7 @@ pub fn room_for(alloc: Global, file: &[u8]) -> Result<Vec<Kept>, AllocError>
 }
 
 /// Answers the lines of a file, in order, with the seat.
-pub fn run_file<'a>(job: Job<'a>, settings: Settings) -> Run<'a>
+pub fn run_file<'a>(job: Job<'a>, settings: Settings) -> FileRun<'a>
     requires empty { job.replies.items ≡ [] }
     requires room { length (lines_of job.file.items) ≤ vec_capacity job.replies }
     ensures row { IfOk result.mark (λ m. m.row ≡ job.entry.seat.row) }
@@ -59,7 +59,7 @@ pub fn run_file<'a>(job: Job<'a>, settings: Settings) -> Run<'a>
     let mark = racer.mark();
     drop(racer);
     drop(file);
-    Run { replies, mark }
+    FileRun { replies, mark }
 }
 
 /// Answers lines one after another, and keeps the replies.
@@ -67,7 +67,7 @@ fn answer_lines(
     alloc: Global,
     seat: &mut Racer<'_>,
     file: &[u8],
-    replies: &mut Vec<Kept>,
+    replies: &mut Vec<KeptReply>,
     settings: Settings,
 )
     requires empty { replies.old.items ≡ [] }
@@ -77,7 +77,7 @@ fn answer_lines(
 {
     lawful_replies_add_up::<Racer>();
     let mut rest = file;
-    let mut intake = Intake::new(alloc);
+    let mut intake = RequestReader::new(alloc);
     'answering: while let Some((line, behind)) = first_line(rest) {
         let kept = answer(alloc, seat, &mut intake, line, settings);
         replies.push_reserved(kept);
@@ -89,18 +89,18 @@ fn answer_lines(
 fn answer(
     alloc: Global,
     seat: &mut Racer<'_>,
-    intake: &mut Intake,
+    intake: &mut RequestReader,
     line: &[u8],
     settings: Settings,
-) -> Kept
+) -> KeptReply
     ensures { (reply : Reply) × IsLawfulWithin settings seat_ways line.now seat.old reply seat.new × (kept_line result ≡ reply_text reply) }
 {
     match answer_line(alloc, seat, intake, line, settings) {
-        Answer::Told(body) => Kept::Reply(seat.standing().reply(body)),
+        Answer::Told(body) => KeptReply::Reply(seat.standing().reply(body)),
         Answer::Found(body, offered) => {
             let reply = seat.standing().reply(body);
             learn_all(seat, offered);
-            Kept::Reply(reply)
+            KeptReply::Reply(reply)
         }
         Answer::Listing => keep_listing(alloc, seat.standing(), seat.registry()),
     }

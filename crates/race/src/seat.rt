@@ -1,12 +1,12 @@
-//! A seat of a race as a ledger.
+//! A seat of a race as a backend.
 ghost use Rattle.std.specs.Prelude.{◌≡◌, ◌⊎◌, All, Some, IfErr, IfOk, OnOk};
 ghost use Rattle.race.specs.Racing.{seat_ways};
 
-use answers::{Ledger, Standing};
+use answers::{Backend, ReplyStamp};
 use book::Item;
 use chronicle::{Mark, Seat};
 use registry::Registry;
-use replies::Spot;
+use replies::SeatStamp;
 use std::marker::Model;
 use store::Store;
 use versions::Refusal;
@@ -18,9 +18,9 @@ pub struct Racer<'a> {
 }
 
 impl<'a> Model for Racer<'a> {
-    ghost use Rattle.chronicle.specs.Seats.{Place};
+    ghost use Rattle.chronicle.specs.Seats.{SeatState};
 
-    ghost Value = { Place };
+    ghost Value = { SeatState };
 
     ghost view = { λ r. r.seat };
 }
@@ -43,15 +43,15 @@ impl<'a> Racer<'a> {
     }
 }
 
-impl<'a> Ledger for Racer<'a> {
+impl<'a> Backend for Racer<'a> {
     ghost ways = { seat_ways };
 
-    fn standing(&self) -> Standing {
-        let spot = Spot {
+    fn standing(&self) -> ReplyStamp {
+        let spot = SeatStamp {
             place: self.seat.place(),
             seat: self.seat.number(),
         };
-        Standing {
+        ReplyStamp {
             revision: self.seat.revision(),
             stamp: Some(spot),
         }

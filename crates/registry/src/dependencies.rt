@@ -4,21 +4,21 @@ ghost use Rattle.std.specs.Prelude.{◌≡◌, ◌≢◌, ◌↔◌, ◌∷◌, 
 ghost use Rattle.registry.specs.Needs.{has_name, repeats_name};
 
 use crate::by_name::{places_by_name, repeats};
-use crate::listed::{Listed, Place};
+use crate::need_list::{NeedList, PlaceHint};
 use std::alloc::{AllocError, Global};
 use std::marker::Model;
 use std::sync::Arc;
 use versions::{Name, Need};
 
 /// Up to this many needs are compared each with each, which takes less time than to sort them.
-const FEW: usize = 8;
+const MOST_COMPARED_NEEDS: usize = 8;
 
 /// What a version depends on: names of packages, each with a requirement, in order.
 ///
 /// Copies share the list. Whether a name comes twice is found once, when the list is made.
 #[derive(Drop)]
 pub struct Dependencies {
-    listed: Arc<Listed, Global>,
+    listed: Arc<NeedList, Global>,
     repeats: bool,
 }
 
@@ -53,7 +53,7 @@ impl Dependencies {
     {
         let repeats = repeats_name(alloc, &needs)?;
         Ok(Dependencies {
-            listed: Arc::new(alloc, Listed::new(alloc, needs))?,
+            listed: Arc::new(alloc, NeedList::new(alloc, needs))?,
             repeats,
         })
     }
@@ -66,7 +66,7 @@ impl Dependencies {
     }
 
     /// Where a registry may keep the name and the requirement at an index.
-    pub(crate) fn place(&self, index: usize) -> Place {
+    pub(crate) fn place(&self, index: usize) -> PlaceHint {
         self.listed.place(index)
     }
 
@@ -81,7 +81,7 @@ impl Dependencies {
     pub(crate) fn with_handles(
         &self,
         alloc: Global,
-        listed: Listed,
+        listed: NeedList,
     ) -> Result<Dependencies, AllocError>
         requires { listed ≡ self.now }
         ensures { IfOk result (λ dependencies. dependencies ≡ self.now) }
@@ -140,7 +140,7 @@ fn repeats_among_few(needs: &[(Name, Need)]) -> bool
 fn repeats_name(alloc: Global, needs: &[(Name, Need)]) -> Result<bool, AllocError>
     ensures { IfOk result (λ repeats. repeats ≡ repeats_name needs.now) }
 {
-    if needs.len() <= FEW {
+    if needs.len() <= MOST_COMPARED_NEEDS {
         return Ok(repeats_among_few(needs));
     }
     let places = places_by_name(alloc, needs)?;

@@ -7,7 +7,7 @@ mod dependencies;
 mod growing;
 mod laws;
 mod limits;
-mod listed;
+mod need_list;
 mod publications;
 mod ready;
 mod registry;

@@ -11,7 +11,7 @@ ghost use Rattle.registry.specs.Registry.{has_version, has_yank, needs_or_none, 
 ghost use Rattle.registry.specs.Step.{set_yanked, unyank_refusal, yank_of, yank_refusal};
 
 use crate::dependencies::{Dependencies, are_same};
-use crate::listed::Place;
+use crate::need_list::PlaceHint;
 use releases::{Matching, Release, Releases};
 use std::alloc::{AllocError, Global};
 use std::marker::Model;
@@ -161,10 +161,10 @@ impl Publications {
 
     /// Where the last one has its need at an index; any where there is none. The next one's is mostly on
     /// the same package, and often the same.
-    pub fn last_place(&self, index: usize) -> Place {
+    pub fn last_place(&self, index: usize) -> PlaceHint {
         match self.needs.last() {
             Some(needs) => needs.place(index),
-            None => Place::new(0, 0),
+            None => PlaceHint::new(0, 0),
         }
     }
 

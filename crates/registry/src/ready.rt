@@ -9,7 +9,7 @@ ghost use Rattle.registry.specs.Publications.{lists_of, rooms_of};
 ghost use Rattle.registry.specs.Rooms.{names_beside, names_in, publication_for, room_where, AreEmpty, IsReady};
 
 use crate::dependencies::{Dependencies, are_same};
-use crate::listed::{Listed, Place};
+use crate::need_list::{NeedList, PlaceHint};
 use crate::publications::Publications;
 use indexmap::IndexSet;
 use std::alloc::{AllocError, Global};
@@ -70,7 +70,7 @@ fn new_package(alloc: Global, need: &(Name, Need)) -> Result<(Name, Publications
 struct Named {
     /// The same needs, in texts that the registry keeps already where it has equal ones, with the
     /// places of these texts once the publication is entered.
-    needs: Listed,
+    needs: NeedList,
     /// The names that are new, each with its list of publications.
     added: Vec<(Name, Publications)>,
 }
@@ -147,13 +147,13 @@ fn add_known(
     name: &Name,
     need: &Need,
     hint: usize,
-    same: &mut Listed,
+    same: &mut NeedList,
 ) -> Result<(), AllocError>
     ensures publications { list.new.publications ≡ list.old.publications }
     ensures same { OnOk result (same.new ≡ same.old ++ (name.now, need.now) ∷ []) }
 {
     let (shared, place) = kept(list, name, need, hint)?;
-    same.push(shared, Place::new(index, place))
+    same.push(shared, PlaceHint::new(index, place))
 }
 
 /// Adds a need of a package that is new.
@@ -168,19 +168,19 @@ fn add_new(
     ensures empty { OnOk result (AreEmpty named.old.added.items → AreEmpty named.new.added.items) }
 {
     // The first requirement that is named on a package has the place 0.
-    let place = Place::new(next.saturating_add(named.added.len()), 0);
+    let place = PlaceHint::new(next.saturating_add(named.added.len()), 0);
     named.added.push(new_package(alloc, need)?)?;
     named.needs.push(copied(need)?, place)
 }
 
 /// Where the last publication of a package has its need at an index; any where there is none.
-fn hint_at(lists: &[Publications], own: Option<usize>, index: usize) -> Place {
+fn hint_at(lists: &[Publications], own: Option<usize>, index: usize) -> PlaceHint {
     match own {
         Some(place) => match lists.get(place) {
             Some(list) => list.last_place(index),
-            None => Place::new(0, 0),
+            None => PlaceHint::new(0, 0),
         },
-        None => Place::new(0, 0),
+        None => PlaceHint::new(0, 0),
     }
 }
 
@@ -191,7 +191,7 @@ fn add_need(
     lists: &mut Vec<Publications>,
     need: &(Name, Need),
     next: usize,
-    hint: Place,
+    hint: PlaceHint,
     named: &mut Named,
 ) -> Result<(), AllocError>
     requires paired { length names.now.keys ≡ length lists.old.items }
@@ -228,7 +228,7 @@ fn name_needs(
     ensures empty { IfOk result (λ named. AreEmpty named.added.items) }
 {
     let mut named = Named {
-        needs: Listed::with_capacity(alloc, needs.len())?,
+        needs: NeedList::with_capacity(alloc, needs.len())?,
         added: Vec::new(alloc),
     };
     for need in needs {

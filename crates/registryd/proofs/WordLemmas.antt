@@ -7,7 +7,7 @@ use Rattle.journals.specs.declared.load.LoadFault.{LoadFault}
 use Rattle.journals.specs.declared.load.LoadFault.TheVariants as unloaded
 use Rattle.command_line.specs.CommandLine.{program_app}
 use Rattle.endings.specs.Ending.{IsUnread, end_of_load, end_of_run}
-use Rattle.registryd.specs.Obeyed.{BreaksFrom, Ends, Falls, HasBroken, HasFallen, HasKept, HasNoJournal, HasNotBegun, HasServed, HasStopped, ServesFrom, Stops, TellsOfFile}
+use Rattle.registryd.specs.CommandOutcomes.{BreaksFrom, Ends, Falls, HasBroken, HasFallen, HasKept, HasNoJournal, HasNotBegun, HasServed, HasStopped, ServesFrom, Stops, TellsOfFile}
 use Rattle.session.specs.Streams.{AreUntouched, streams}
 use Rattle.command_line.specs.Words.{AreMixed, AreOpposed, AskToKeep, AskToRace, AskToServe, HasManyFiles, HasMixedFiles, HasOpposedFlags, IsKeep, IsServe, Says, SaysNewest}
 use Rattle.command_line.specs.declared.words.TheConstants.{MOST_FILES}

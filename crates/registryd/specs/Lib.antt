@@ -1,3 +1,3 @@
-pub mod Obeyed
+pub mod CommandOutcomes
 pub mod Repairs
 pub mod Unbegun

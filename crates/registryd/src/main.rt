@@ -6,10 +6,10 @@ ghost use Rattle.std.specs.Prelude.{◌≡◌, drop};
 mod files;
 mod folder;
 mod freed;
+mod journal_devices;
 mod journal_file;
-mod kept;
-mod obey;
 mod recovered;
+mod run_command;
 mod system;
 mod target;
 
@@ -17,7 +17,7 @@ use command_line::{Words, read_words};
 use endings::{End, ending};
 use freed::keep_what_is_freed;
 use lines::write_text;
-use obey::{Obeyed, obey};
+use run_command::{CommandOutcome, run_command};
 use std::alloc::{Alloc, Global};
 use std::env::Env;
 use std::io::{IsTerminal, Write};
@@ -35,7 +35,7 @@ fn main(rt: HostRuntime) -> ExitCode {
             if input.is_terminal() {
                 greet(rt.alloc(), after_name(words.as_slice()), &mut rt.stderr());
             }
-            let Obeyed { end, writer: _ } = obey(
+            let CommandOutcome { end, writer: _ } = run_command(
                 &rt,
                 rt.alloc(),
                 after_name(words.as_slice()),

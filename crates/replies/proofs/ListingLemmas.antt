@@ -13,7 +13,7 @@ use Rattle.std.proofs.lemmas.List.Sorted.{IsPermutation-map}
 use Rattle.versions.specs.Words.{Text}
 use Rattle.registry.specs.Registry.{Package, Packages, Publication, is_published, package_at, publication_at, versions_or_none}
 use Rattle.replies.specs.Entries.{row_at}
-use Rattle.replies.specs.declared.listing.Entry.{Entry}
+use Rattle.replies.specs.declared.listing.ListingEntry.{ListingEntry}
 use Rattle.replies.specs.Listings.{IsListing, Row, is_listed, row_of, rows_of, versions_in}
 
 -- packages are numbered from 1
@@ -70,8 +70,8 @@ IsSortedBy-map view lt (x ∷ xs) sorted = λ k d low high.
     rw (get_or-map view (x ∷ xs) (k + 1) x d next, get_or-map view (x ∷ xs) k x d here) (sorted k x low next)
 
 -- what was found, in order of the names, is a listing
-pub IsListing-sorted : (packages : Packages) (found sorted : List Entry) → map (row_at packages) found ≡ rows_of packages → IsPermutation found sorted
-    → IsSortedBy (λ (a b : Entry). is_lt (slice_cmp nat_cmp a.name.now b.name.now)) sorted → IsListing packages (map (row_at packages) sorted)
+pub IsListing-sorted : (packages : Packages) (found sorted : List ListingEntry) → map (row_at packages) found ≡ rows_of packages → IsPermutation found sorted
+    → IsSortedBy (λ (a b : ListingEntry). is_lt (slice_cmp nat_cmp a.name.now b.name.now)) sorted → IsListing packages (map (row_at packages) sorted)
 IsListing-sorted packages found sorted rows same ascending = record {
   whole = subst (λ (l : List Row). IsPermutation l (map (row_at packages) sorted)) rows (IsPermutation-map (row_at packages) found sorted same);
   ascending = IsSortedBy-map (row_at packages) (λ (x y : Row). is_lt (slice_cmp nat_cmp x.0 y.0)) sorted ascending;

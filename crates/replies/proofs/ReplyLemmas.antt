@@ -16,14 +16,14 @@ use Rattle.replies.specs.Joined.{closing, found_text, joined, joined_after, verd
 use Rattle.replies.specs.Locks.{lock_text}
 use Rattle.registry.specs.Registry.{Packages, Publication, package_at, versions_or_none}
 use Rattle.replies.specs.Entries.{entry_json, publication_json, row_at}
-use Rattle.replies.specs.declared.listing.Entry.{Entry}
+use Rattle.replies.specs.declared.listing.ListingEntry.{ListingEntry}
 use Rattle.replies.specs.Listings.{Row, versions_in}
-use Rattle.replies.specs.declared.reply.Spot.{Spot}
+use Rattle.replies.specs.declared.reply.SeatStamp.{SeatStamp}
 use Rattle.replies.specs.NamedJson.{derivation_json}
 use Rattle.by_name.specs.declared.derivation.NamedLine.{NamedLine}
 use Rattle.replies.specs.Replies.{accepted, explained, follows, listed, no_selection, pair_json, refused, reply_text, row_json, selected, texts_json, version_json}
 
-pub accepted_text : (stamp : Option Spot) (revision : ℕ) → (codes "{\"ok\":true," ++ []) ++ (found_text stamp revision [] ++ codes "}\n")
+pub accepted_text : (stamp : Option SeatStamp) (revision : ℕ) → (codes "{\"ok\":true," ++ []) ++ (found_text stamp revision [] ++ codes "}\n")
     ≡ reply_text (record { revision = revision; stamp = stamp; body = accepted })
 unfolding serde_json_on_literals reply_text
 accepted_text None revision = simp append_assoc
@@ -53,14 +53,14 @@ name_plain TooLong = refl
 name_plain NotADerivation = refl
 name_plain BudgetSpent = refl
 
-pub refused_text : (e : Refusal) (stamp : Option Spot) (revision : ℕ)
+pub refused_text : (e : Refusal) (stamp : Option SeatStamp) (revision : ℕ)
     → (codes "{\"error\":" ++ (decimal (number_of e) ++ (codes ",\"name\":\"" ++ (name_of e ++ (codes "\"," ++ []))))) ++ (found_text stamp revision [] ++ codes "}\n")
     ≡ reply_text (record { revision = revision; stamp = stamp; body = refused e })
 unfolding serde_json_on_literals reply_text
 refused_text e None revision = simp (append_assoc, escape-plain (name_of e) (name_plain e))
 refused_text e (Some spot) revision = simp (append_assoc, escape-plain (name_of e) (name_plain e))
 
-pub no_selection_text : (stamp : Option Spot) (revision : ℕ) → (codes "{" ++ []) ++ (found_text stamp revision (codes "\"refused\":true,") ++ codes "}\n")
+pub no_selection_text : (stamp : Option SeatStamp) (revision : ℕ) → (codes "{" ++ []) ++ (found_text stamp revision (codes "\"refused\":true,") ++ codes "}\n")
     ≡ reply_text (record { revision = revision; stamp = stamp; body = no_selection })
 unfolding serde_json_on_literals reply_text
 no_selection_text None revision = simp append_assoc
@@ -73,7 +73,7 @@ reason_nowhere : (derivation explanation : List ℕ) (revision : ℕ)
 unfolding serde_json_on_literals
 reason_nowhere derivation explanation revision = simp append_assoc
 
-reason_at : (derivation explanation : List ℕ) (spot : Spot) (revision : ℕ)
+reason_at : (derivation explanation : List ℕ) (spot : SeatStamp) (revision : ℕ)
     → (codes "{\"derivation\":" ++ (derivation ++ (codes ",\"explanation\":" ++ (explanation ++ (codes "," ++ []))))) ++ (found_text (Some spot) revision (codes "\"refused\":true,") ++ codes "}\n")
     ≡ (codes "{\"derivation\":" ++ (derivation ++ (codes ",\"explanation\":" ++ (explanation ++ (codes ",\"place\":" ++ (decimal spot.place
     ++ (codes ",\"refused\":true,\"revision\":" ++ (decimal revision ++ (codes ",\"seat\":" ++ (decimal spot.seat ++ 125 ∷ [])))))))))) ++ 10 ∷ []
@@ -81,7 +81,7 @@ unfolding serde_json_on_literals
 reason_at derivation explanation spot revision = simp append_assoc
 
 -- a refusal with its reason
-pub explained_text : (lines : List NamedLine) (texts : List Text) (stamp : Option Spot) (revision : ℕ)
+pub explained_text : (lines : List NamedLine) (texts : List Text) (stamp : Option SeatStamp) (revision : ℕ)
     → (codes "{\"derivation\":" ++ (compact_text (derivation_json lines) ++ (codes ",\"explanation\":" ++ (compact_text (texts_json texts) ++ (codes "," ++ [])))))
     ++ (found_text stamp revision (codes "\"refused\":true,") ++ codes "}\n")
     ≡ reply_text (record { revision = revision; stamp = stamp; body = explained lines texts })
@@ -90,7 +90,7 @@ explained_text lines texts None revision = reason_nowhere (compact_text (derivat
 explained_text lines texts (Some spot) revision = reason_at (compact_text (derivation_json lines)) (compact_text (texts_json texts)) spot revision
 
 -- whether a derivation follows
-pub follows_text : (yes : Bool) (stamp : Option Spot) (revision : ℕ) → (verdict yes ++ []) ++ (found_text stamp revision [] ++ codes "}\n")
+pub follows_text : (yes : Bool) (stamp : Option SeatStamp) (revision : ℕ) → (verdict yes ++ []) ++ (found_text stamp revision [] ++ codes "}\n")
     ≡ reply_text (record { revision = revision; stamp = stamp; body = follows yes })
 unfolding serde_json_on_literals reply_text
 follows_text true None revision = simp append_assoc
@@ -130,13 +130,13 @@ end_nowhere : (front : List ℕ) (revision : ℕ) → front ++ ((codes "," ++ []
 unfolding serde_json_on_literals
 end_nowhere front revision = simp append_assoc
 
-end_at : (front : List ℕ) (spot : Spot) (revision : ℕ) → front ++ ((codes "," ++ []) ++ (found_text (Some spot) revision [] ++ codes "}\n"))
+end_at : (front : List ℕ) (spot : SeatStamp) (revision : ℕ) → front ++ ((codes "," ++ []) ++ (found_text (Some spot) revision [] ++ codes "}\n"))
     ≡ (front ++ (codes ",\"place\":" ++ (decimal spot.place ++ (codes ",\"revision\":" ++ (decimal revision ++ (codes ",\"seat\":" ++ (decimal spot.seat ++ 125 ∷ []))))))) ++ 10 ∷ []
 unfolding serde_json_on_literals
 end_at front spot revision = simp append_assoc
 
 -- a listing
-pub listed_text : (rows : List Row) (stamp : Option Spot) (revision : ℕ)
+pub listed_text : (rows : List Row) (stamp : Option SeatStamp) (revision : ℕ)
     → codes "{\"packages\":" ++ (compact_text (array (items_of (map row_json rows))) ++ ((codes "," ++ []) ++ (found_text stamp revision [] ++ codes "}\n")))
     ≡ reply_text (record { revision = revision; stamp = stamp; body = listed rows })
 unfolding serde_json_on_literals reply_text
@@ -152,7 +152,7 @@ unfolding serde_json_on_literals
 pair_text later name version named versioned = simp (append_assoc, escape-plain name named, escape-plain version versioned)
 
 -- a selection
-pub selected_text : (pairs : List (Text × Text)) (stamp : Option Spot) (revision : ℕ)
+pub selected_text : (pairs : List (Text × Text)) (stamp : Option SeatStamp) (revision : ℕ)
     → ((codes "{" ++ []) ++ (found_text stamp revision [] ++ codes ",\"selected\":[")) ++ (joined (map pair_json pairs) ++ codes "]}\n")
     ≡ reply_text (record { revision = revision; stamp = stamp; body = selected pairs })
 unfolding serde_json_on_literals reply_text
@@ -197,7 +197,7 @@ pub versions_json : (publications : List Publication) → map version_json (vers
 versions_json publications = map-map version_json (λ (p : Publication). (p.version, p.yanked)) publications
 
 -- the rows of entries
-pub rows_json : (packages : Packages) (entries : List Entry) → map row_json (map (row_at packages) entries) ≡ map (entry_json packages) entries
+pub rows_json : (packages : Packages) (entries : List ListingEntry) → map row_json (map (row_at packages) entries) ≡ map (entry_json packages) entries
 rows_json packages entries = map-map row_json (row_at packages) entries
 
 -- three texts make this one
@@ -205,7 +205,7 @@ pub record Makes (first second third text : List ℕ) : Type 0 where
   pub whole : first ++ (second ++ third) ≡ text
 
 -- the parts in which an entry's row is put
-pub row_parts : (packages : Packages) (entry : Entry) (later : Bool) (start name : Text) → start ≡ comma_if later ++ codes "[\"" → name ≡ entry.name.now → is_name entry.name.now ≡ true
+pub row_parts : (packages : Packages) (entry : ListingEntry) (later : Bool) (start name : Text) → start ≡ comma_if later ++ codes "[\"" → name ≡ entry.name.now → is_name entry.name.now ≡ true
     → Makes (start ++ (name ++ codes "\",[")) (joined (map publication_json (versions_or_none (package_at packages entry.number)))) (codes "]]")
     (comma_if later ++ compact_text (entry_json packages entry))
 row_parts packages entry later start name starts named valid =
@@ -214,7 +214,7 @@ row_parts packages entry later start name starts named valid =
     record { whole = versions ∙ rw (starts, named) (row_text later entry.name.now (versions_in publications) (name-plain entry.name.now valid)) }
 
 -- the parts in which packages are put
-pub packages_parts : (packages : Packages) (entries : List Entry) (rows : List Row) → map (row_at packages) entries ≡ rows
+pub packages_parts : (packages : Packages) (entries : List ListingEntry) (rows : List Row) → map (row_at packages) entries ≡ rows
     → Makes (91 ∷ []) (joined (map (entry_json packages) entries)) (93 ∷ []) (compact_text (array (items_of (map row_json rows))))
 packages_parts packages entries rows is = record {
   whole = ap (λ (ds : List Data). (91 ∷ []) ++ (joined ds ++ 93 ∷ [])) (sym (rows_json packages entries) ∙ ap (λ (rs : List Row). map row_json rs) is)
@@ -222,7 +222,7 @@ packages_parts packages entries rows is = record {
 }
 
 -- the parts in which the reply with a listing is put
-pub listed_parts : (rows : List Row) (stamp : Option Spot) (revision : ℕ)
+pub listed_parts : (rows : List Row) (stamp : Option SeatStamp) (revision : ℕ)
     → Makes (codes "{\"packages\":") (compact_text (array (items_of (map row_json rows)))) ((codes "," ++ []) ++ (found_text stamp revision [] ++ codes "}\n"))
     (reply_text (record { revision = revision; stamp = stamp; body = listed rows }))
 listed_parts rows stamp revision = record { whole = listed_text rows stamp revision }
@@ -240,23 +240,23 @@ lock_parts lines = record {
 }
 
 -- the parts in which the reply with a selection is put
-pub selected_parts : (pairs : List (Text × Text)) (stamp : Option Spot) (revision : ℕ)
+pub selected_parts : (pairs : List (Text × Text)) (stamp : Option SeatStamp) (revision : ℕ)
     → Makes ((codes "{" ++ []) ++ (found_text stamp revision [] ++ codes ",\"selected\":[")) (joined (map pair_json pairs)) (codes "]}\n")
     (reply_text (record { revision = revision; stamp = stamp; body = selected pairs }))
 selected_parts pairs stamp revision = record { whole = selected_text pairs stamp revision }
 
 -- the parts in which a text round what was found is put
-pub found_parts : (before after between : List ℕ) (stamp : Option Spot) (revision : ℕ)
+pub found_parts : (before after between : List ℕ) (stamp : Option SeatStamp) (revision : ℕ)
     → Makes before (found_text stamp revision between) after (before ++ (found_text stamp revision between ++ after))
 found_parts before after between stamp revision = record { whole = refl }
 
 -- what is put of no place and no seat
-pub found_nowhere : (stamp : Option Spot) (revision : ℕ) (between text digits : List ℕ) → stamp ≡ None → text ≡ between → digits ≡ decimal revision
+pub found_nowhere : (stamp : Option SeatStamp) (revision : ℕ) (between text digits : List ℕ) → stamp ≡ None → text ≡ between → digits ≡ decimal revision
     → text ++ (codes "\"revision\":" ++ (digits ++ [])) ≡ found_text stamp revision between
 found_nowhere stamp revision between text digits nowhere text_is digits_is = rw (nowhere, text_is, digits_is, append-nil) refl
 
 -- what is put of a place and a seat
-pub found_somewhere : (stamp : Option Spot) (spot : Spot) (revision : ℕ) (between place text digits seat : List ℕ) → stamp ≡ Some spot → place ≡ decimal spot.place → text ≡ between
+pub found_somewhere : (stamp : Option SeatStamp) (spot : SeatStamp) (revision : ℕ) (between place text digits seat : List ℕ) → stamp ≡ Some spot → place ≡ decimal spot.place → text ≡ between
     → digits ≡ decimal revision → seat ≡ decimal spot.seat
     → codes "\"place\":" ++ (place ++ (codes "," ++ (text ++ (codes "\"revision\":" ++ (digits ++ (codes ",\"seat\":" ++ (seat ++ []))))))) ≡ found_text stamp revision between
 found_somewhere stamp spot revision between place text digits seat at place_is text_is digits_is seat_is = rw (at, place_is, text_is, digits_is, seat_is, append-nil) refl

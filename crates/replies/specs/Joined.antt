@@ -3,7 +3,7 @@ use Rattle.std.specs.Prelude.{◌≡◌, ℕ, ◌+◌, ◌≤◌, List, [], ◌�
 use Rattle.lines.specs.Texts.{outbox_room}
 use Rattle.serde_json.specs.Data.{Data}
 use Rattle.serde_json.specs.Written.{comma_if, compact_text}
-use Rattle.replies.specs.declared.reply.Spot.{Spot}
+use Rattle.replies.specs.declared.reply.SeatStamp.{SeatStamp}
 
 -- the texts of values, each after a comma but the first where nothing stands before
 abbrev pub joined_after : Bool → List Data → List ℕ
@@ -20,7 +20,7 @@ closing true = codes "\",true]"
 closing false = codes "\",false]"
 
 -- where and at which revision a line was answered, with what stands between the place and the revision
-abbrev pub found_text : Option Spot → ℕ → List ℕ → List ℕ
+abbrev pub found_text : Option SeatStamp → ℕ → List ℕ → List ℕ
 found_text None revision between = between ++ (codes "\"revision\":" ++ decimal revision)
 found_text (Some spot) revision between =
     codes "\"place\":" ++ (decimal spot.place ++ (codes "," ++ (between ++ (codes "\"revision\":" ++ (decimal revision ++ (codes ",\"seat\":" ++ decimal spot.seat))))))

@@ -10,7 +10,7 @@ use Rattle.replies.specs.NamedJson.{derivation_json}
 use Rattle.replies.specs.Objects.{members}
 use Rattle.by_name.specs.declared.derivation.NamedLine.{NamedLine}
 use Rattle.versions.specs.declared.refusal.Refusal.{Refusal}
-use Rattle.replies.specs.declared.reply.Spot.{Spot}
+use Rattle.replies.specs.declared.reply.SeatStamp.{SeatStamp}
 
 -- what is replied
 pub data Body : Type 0 where
@@ -29,7 +29,7 @@ pub data Body : Type 0 where
 -- what is replied, and the revision at which it was found; in a race also the place, and the seat
 pub record Reply : Type 0 where
   pub revision : ℕ
-  pub stamp : Option Spot
+  pub stamp : Option SeatStamp
   pub body : Body
 
 -- ---- as JSON
@@ -62,7 +62,7 @@ body_members (follows holds) = (codes "follows", boolean holds) ∷ []
 body_members (listed rows) = (codes "packages", array (items_of (map row_json rows))) ∷ []
 
 -- the members that tell where a reply of a race was found
-abbrev pub stamp_members : Option Spot → List (Text × Data)
+abbrev pub stamp_members : Option SeatStamp → List (Text × Data)
 stamp_members None = []
 stamp_members (Some spot) = (codes "place", number (unsigned spot.place)) ∷ (codes "seat", number (unsigned spot.seat)) ∷ []
 

@@ -20,6 +20,6 @@ pub use listing::Listing;
 pub use lock::write_lock;
 pub use needs::put_needs;
 pub use parts::put_parts;
-pub use reply::{Body, Reply, Spot, reply_line};
+pub use reply::{Body, Reply, SeatStamp, reply_line};
 pub use told::Explained;
 pub use written::derivation_text;

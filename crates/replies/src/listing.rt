@@ -22,12 +22,12 @@ use versions::Name;
 #[derive(Drop)]
 pub struct Listing<'r> {
     registry: &'r Registry,
-    entries: Vec<Entry<'r>>,
+    entries: Vec<ListingEntry<'r>>,
 }
 
 /// A package that is listed.
 #[derive(Drop)]
-pub struct Entry<'r> {
+pub struct ListingEntry<'r> {
     name: &'r Name,
     number: Pkg,
 }
@@ -56,7 +56,7 @@ impl<'r> Listing<'r> {
 }
 
 /// The packages with at least one publication, in order of their numbers.
-fn published(alloc: Global, registry: &Registry) -> Result<Vec<Entry<'_>>, AllocError>
+fn published(alloc: Global, registry: &Registry) -> Result<Vec<ListingEntry<'_>>, AllocError>
     ensures reachable { IsRegistry registry.now.packages }
     ensures rows { IfOk result (λ v. map (row_at registry.now.packages) v.items ≡ rows_of registry.now.packages) }
 {
@@ -66,14 +66,14 @@ fn published(alloc: Global, registry: &Registry) -> Result<Vec<Entry<'_>>, Alloc
         let number = place as u32 + 1;
         if registry.versions(number) > 0 {
             let name = registry.name(number);
-            entries.push(Entry { name, number })?;
+            entries.push(ListingEntry { name, number })?;
         }
     }
     Ok(entries)
 }
 
 /// The same entries in byte order of their names.
-fn sorted(mut entries: Vec<Entry<'_>>) -> Vec<Entry<'_>>
+fn sorted(mut entries: Vec<ListingEntry<'_>>) -> Vec<ListingEntry<'_>>
     ensures same { IsPermutation entries.entry.items result.items }
     ensures ascending { IsSortedBy (λ a b. is_lt (slice_cmp nat_cmp a.name.now b.name.now)) result.items }
 {

@@ -17,7 +17,7 @@ use versions::{Name, Published, Refusal};
 
 /// Where a reply of a race was found: after so many entries of the journal, by the seat of this number.
 #[derive(Clone, Copy, Debug, PartialEq, Eq)]
-pub struct Spot {
+pub struct SeatStamp {
     pub place: usize,
     pub seat: u32,
 }
@@ -28,7 +28,7 @@ pub struct Reply<'r> {
     /// The revision of the registry at which the line was answered.
     pub revision: u64,
     /// Where it was answered, in a race.
-    pub stamp: Option<Spot>,
+    pub stamp: Option<SeatStamp>,
     pub body: Body<'r>,
 }
 
@@ -79,7 +79,7 @@ fn put_accepted<W: Write>(
     outbox: &mut Outbox,
     writer: &mut W,
     revision: u64,
-    stamp: Option<Spot>,
+    stamp: Option<SeatStamp>,
 ) -> io::Result<()>
     ensures text { Puts (W.contents writer.old) (W.contents writer.new) outbox.old outbox.new result
         (reply_text (record { revision = revision; stamp = stamp; body = accepted })) }
@@ -104,7 +104,7 @@ fn put_refusal<W: Write>(
     writer: &mut W,
     refusal: Refusal,
     revision: u64,
-    stamp: Option<Spot>,
+    stamp: Option<SeatStamp>,
 ) -> io::Result<()>
     ensures text { Puts (W.contents writer.old) (W.contents writer.new) outbox.old outbox.new result
         (reply_text (record { revision = revision; stamp = stamp; body = refused refusal })) }
@@ -136,7 +136,7 @@ fn put_selection<W: Write>(
     writer: &mut W,
     pairs: &[(Name, Published)],
     revision: u64,
-    stamp: Option<Spot>,
+    stamp: Option<SeatStamp>,
 ) -> io::Result<()>
     ensures text { Puts (W.contents writer.old) (W.contents writer.new) outbox.old outbox.new result
         (reply_text (record { revision = revision; stamp = stamp; body = selected pairs.now })) }
@@ -162,7 +162,7 @@ fn put_no_selection<W: Write>(
     outbox: &mut Outbox,
     writer: &mut W,
     revision: u64,
-    stamp: Option<Spot>,
+    stamp: Option<SeatStamp>,
 ) -> io::Result<()>
     ensures text { Puts (W.contents writer.old) (W.contents writer.new) outbox.old outbox.new result
         (reply_text (record { revision = revision; stamp = stamp; body = no_selection })) }
@@ -187,7 +187,7 @@ fn put_explained<W: Write>(
     writer: &mut W,
     reason: &Explained,
     revision: u64,
-    stamp: Option<Spot>,
+    stamp: Option<SeatStamp>,
 ) -> io::Result<()>
     ensures text { Puts (W.contents writer.old) (W.contents writer.new) outbox.old outbox.new result
         (reply_text (record { revision = revision; stamp = stamp; body = explained reason.now.lines reason.now.texts })) }
@@ -229,7 +229,7 @@ fn put_follows<W: Write>(
     writer: &mut W,
     yes: bool,
     revision: u64,
-    stamp: Option<Spot>,
+    stamp: Option<SeatStamp>,
 ) -> io::Result<()>
     ensures text { Puts (W.contents writer.old) (W.contents writer.new) outbox.old outbox.new result
         (reply_text (record { revision = revision; stamp = stamp; body = follows yes })) }
@@ -254,7 +254,7 @@ fn put_listing<W: Write>(
     writer: &mut W,
     listing: &Listing<'_>,
     revision: u64,
-    stamp: Option<Spot>,
+    stamp: Option<SeatStamp>,
 ) -> io::Result<()>
     ensures text { Puts (W.contents writer.old) (W.contents writer.new) outbox.old outbox.new result
         (reply_text (record { revision = revision; stamp = stamp; body = listed listing.now })) }
@@ -274,7 +274,7 @@ fn put_around<W: Write>(
     writer: &mut W,
     before: &[&[u8]],
     revision: u64,
-    stamp: Option<Spot>,
+    stamp: Option<SeatStamp>,
     between: &str,
     after: &[u8],
 ) -> io::Result<()>
@@ -295,7 +295,7 @@ fn put_found<W: Write>(
     outbox: &mut Outbox,
     writer: &mut W,
     revision: u64,
-    stamp: Option<Spot>,
+    stamp: Option<SeatStamp>,
     between: &str,
 ) -> io::Result<()>
     ensures text { Puts (W.contents writer.old) (W.contents writer.new) outbox.old outbox.new result

@@ -3,7 +3,7 @@
 use crate::answer::Answer;
 use crate::published::request_at;
 use crate::reading::{Given, Unread, at, both, size_at, three, whole_at};
-use derivations::{Cause, Derivation, Known, Learnt, Line, Premise, Reason, check};
+use derivations::{Cause, CausedIncompatibility, Derivation, Learnt, Line, Premise, Reason, check};
 use registry::{Registry, Request};
 use serde_json::Value;
 use std::alloc::Global;
@@ -91,11 +91,11 @@ impl Given for Premise {
 /// A line of a search, as `{"conclusion":[..],"fact":..}`, where the fact is a cause, or as
 /// `{"conclusion":[..],"from":[0,1],"pivot":1}`, where it follows from the lines at two places counted
 /// from 0.
-impl Given for Known {
-    fn of(alloc: Global, value: &Value) -> Result<Known, Unread> {
+impl Given for CausedIncompatibility {
+    fn of(alloc: Global, value: &Value) -> Result<CausedIncompatibility, Unread> {
         let conclusion = at::<Incompat>(alloc, value, "conclusion")?;
         match Reason::of(alloc, value) {
-            Ok(reason) => Ok(Known { conclusion, reason }),
+            Ok(reason) => Ok(CausedIncompatibility { conclusion, reason }),
             Err(why) => {
                 drop(conclusion);
                 Err(why)

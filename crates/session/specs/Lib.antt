@@ -1,4 +1,4 @@
-pub mod Served
+pub mod SessionState
 pub mod Putting
 pub mod Streams
 pub mod Session

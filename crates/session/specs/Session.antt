@@ -1,4 +1,4 @@
--- A session: its ledger, which is known by the items that it accepted, and what it reads and writes.
+-- A session: its backend, which is known by the items that it accepted, and what it reads and writes.
 use Rattle.std.specs.Prelude.{◌≡◌, ◌⊎◌, ◌≤◌, ℕ, List, [], ◌∷◌, ◌++◌, length, take, Option, None}
 use Rattle.std.specs.Io.KnownBytes.{Appends, Consumes, IsAtEnd}
 use Rattle.versions.specs.declared.refusal.Refusal.{Refusal}
@@ -11,10 +11,10 @@ use Rattle.lines.specs.Texts.{IsBeginning}
 use Rattle.replies.specs.Replies.{Reply, replies_text}
 use Rattle.answers.specs.Lawful.{AreLawfulWithin, Ways}
 use Rattle.answers.specs.declared.settings.Settings.{Settings}
-use Rattle.session.specs.Served.{is_full}
+use Rattle.session.specs.SessionState.{is_full}
 use Rattle.session.specs.Streams.{Streams}
 
--- ---- its ledger
+-- ---- its backend
 
 -- the lowest refusal that applies to an item after these; the journal is full where as many of its kind are accepted as may be
 abbrev pub refusal_after : List Item → Item → Option Refusal

@@ -13,15 +13,15 @@ ghost use Rattle.session.specs.Putting.{PutsReplies};
 ghost use Rattle.session.specs.Session.{session_ways};
 
 use crate::committed::Committed;
-use crate::served::Served;
+use crate::session_state::SessionState;
 use crate::telling::tell_in_order;
 use crate::telling_kept::tell_kept_in_order;
-use answers::{Ledger, lawful_replies_add_up, learn_all, put_told, told_of};
+use answers::{Backend, lawful_replies_add_up, learn_all, put_reply, reply_body_of};
 use book::journals_grow;
 use commits::Devices;
 use derivations::Learnt;
 use lines::Outbox;
-use pool::{Answer, Asked, THREAD, answer_soon, effort_of};
+use pool::{RequestWithOptions, SolveResult, THREAD, answer_soon, effort_of};
 use registry::{Registry, Request};
 use replies::{Body, puts_add_up};
 use solver::Options;
@@ -39,7 +39,7 @@ pub const BATCH_LIMIT: usize = 256;
 /// Requests that wait to be answered, and how many threads may answer them. A contract sees the requests.
 #[derive(Drop)]
 pub struct Batch {
-    asked: Vec<Asked>,
+    asked: Vec<RequestWithOptions>,
     workers: usize,
 }
 
@@ -71,7 +71,7 @@ impl Batch {
         &mut self,
         rt: &H,
         alloc: Global,
-        served: &mut Served,
+        served: &mut SessionState,
         outbox: &mut Outbox,
         writer: &mut W,
     ) -> io::Result<()>
@@ -113,7 +113,7 @@ impl Batch {
         &mut self,
         rt: &H,
         alloc: Global,
-        served: &mut Served,
+        served: &mut SessionState,
         outbox: &mut Outbox,
         writer: &mut W,
         none_behind: bool,
@@ -142,7 +142,7 @@ impl Batch {
         &mut self,
         rt: &H,
         alloc: Global,
-        served: &Served,
+        served: &SessionState,
         outbox: &mut Outbox,
         writer: &mut W,
         none_behind: bool,
@@ -171,7 +171,7 @@ impl Batch {
     pub fn reply_soon<W: Write>(
         &mut self,
         alloc: Global,
-        served: &Served,
+        served: &SessionState,
         outbox: &mut Outbox,
         writer: &mut W,
         most: usize,
@@ -201,7 +201,7 @@ impl Batch {
         &mut self,
         rt: &H,
         alloc: Global,
-        served: &Served,
+        served: &SessionState,
         outbox: &mut Outbox,
         writer: &mut W,
         offered: &mut Vec<Learnt>,
@@ -225,7 +225,7 @@ impl Batch {
         rt: &H,
         alloc: Global,
         devices: &mut D,
-        served: &Served,
+        served: &SessionState,
         outbox: &mut Outbox,
         held: &mut Vec<u8>,
         at: &mut Committed,
@@ -266,7 +266,7 @@ pub(crate) fn send_if<W: Write>(asked: bool, outbox: &mut Outbox, writer: &mut W
 }
 
 /// The first requests, so many at most.
-fn first_of(asked: &[Asked], most: usize) -> &[Asked]
+fn first_of(asked: &[RequestWithOptions], most: usize) -> &[RequestWithOptions]
     ensures { result.now ≡ take most asked.now }
 {
     &asked[..most.min(asked.len())]
@@ -276,10 +276,10 @@ fn first_of(asked: &[Asked], most: usize) -> &[Asked]
 /// whether the next one may be answered so.
 fn put_soon<W: Write>(
     alloc: Global,
-    served: &Served,
+    served: &SessionState,
     outbox: &mut Outbox,
     writer: &mut W,
-    asked: &[Asked],
+    asked: &[RequestWithOptions],
     most: usize,
     offered: &mut Vec<Learnt>,
     count: &mut usize,
@@ -308,7 +308,7 @@ fn put_soon<W: Write>(
 }
 
 /// What a request is answered, unless more than a few conflicts stand in its way.
-fn soon(alloc: Global, served: &Served, asked: &Asked) -> Option<Answer>
+fn soon(alloc: Global, served: &SessionState, asked: &RequestWithOptions) -> Option<SolveResult>
     ensures { IfSome result (IsAnswerTo (packages_of served.now) asked.now) }
 {
     answer_soon(alloc, served.registry(), served.store(), asked)
@@ -317,24 +317,24 @@ fn soon(alloc: Global, served: &Served, asked: &Asked) -> Option<Answer>
 /// Puts the reply to a request that was answered so, and has what the answer offers stand behind what was offered before.
 pub(crate) fn put_answer<W: Write>(
     alloc: Global,
-    served: &Served,
+    served: &SessionState,
     outbox: &mut Outbox,
     writer: &mut W,
-    asked: &Asked,
-    answer: Answer,
+    asked: &RequestWithOptions,
+    answer: SolveResult,
     offered: &mut Vec<Learnt>,
 ) -> io::Result<()>
     requires { IsAnswerTo (packages_of served.now) asked.now answer }
     ensures { Tells (W.contents writer.old) (W.contents writer.new) outbox.old outbox.new result
         (asked.now ∷ []) [] served.now offered.old.items offered.new.items }
 {
-    lawful_replies_add_up::<Served>();
+    lawful_replies_add_up::<SessionState>();
     match told_to(alloc, served.registry(), asked, answer) {
         Ok((body, more)) => {
             add_offers(offered, more);
-            put_told(outbox, writer, served.standing(), body)
+            put_reply(outbox, writer, served.standing(), body)
         }
-        Err(e) => put_told(outbox, writer, served.standing(), Body::Refusal(e)),
+        Err(e) => put_reply(outbox, writer, served.standing(), Body::Refusal(e)),
     }
 }
 
@@ -346,7 +346,7 @@ fn add_offers(offered: &mut Vec<Learnt>, mut more: Vec<Learnt>)
 }
 
 /// Learns what is offered, in order. Where nothing is, nothing changes.
-pub fn learn_offered(served: &mut Served, offered: Vec<Learnt>)
+pub fn learn_offered(served: &mut SessionState, offered: Vec<Learnt>)
     ensures { LearnsOf offered.items served.old served.new }
 {
     if offered.is_empty() {
@@ -359,13 +359,13 @@ pub fn learn_offered(served: &mut Served, offered: Vec<Learnt>)
 fn told_to(
     alloc: Global,
     registry: &Registry,
-    asked: &Asked,
-    answer: Answer,
+    asked: &RequestWithOptions,
+    answer: SolveResult,
 ) -> Result<(Body<'static>, Vec<Learnt>), Refusal>
     requires { IsAnswerTo registry.now.packages asked.now answer }
     ensures told { IfOk result (λ r. TellsFound registry.now.packages asked.now.0 asked.now.1.explain asked.now.1.newest (body_of r.0)) }
     ensures only { IfErr result (MayStop registry.now.packages asked.now.0 asked.now.1.budget) }
 {
     let outcome = answer?;
-    Ok(told_of(alloc, registry, &asked.0, asked.1, outcome)?)
+    Ok(reply_body_of(alloc, registry, &asked.0, asked.1, outcome)?)
 }

@@ -8,12 +8,12 @@ ghost use Rattle.session.specs.Putting.{PutsReply};
 ghost use Rattle.session.specs.Session.{session_ways};
 
 use crate::batch::Batch;
-use crate::served::Served;
+use crate::session_state::SessionState;
 use answers::{
-    Answer, Ledger, Settings, answer_read, lawful_replies_add_up, learn_all, put_listing, put_told,
-    send_told, within,
+    Answer, Backend, Settings, answer_read, lawful_replies_add_up, learn_all, put_listing,
+    put_reply, send_told, within,
 };
-use intake::Intake;
+use intake::RequestReader;
 use lines::{LineBuffer, Next, Outbox};
 use replies::puts_add_up;
 use solver::Options;
@@ -28,7 +28,7 @@ use wire::Asked;
 /// Reads what the line asks that was found, within these settings.
 pub fn read_found(
     alloc: Global,
-    intake: &mut Intake,
+    intake: &mut RequestReader,
     lines: &LineBuffer,
     found: Next,
     settings: Settings,
@@ -48,7 +48,7 @@ pub fn read_found(
 pub fn take<H: Threads + Wait + Sync, W: Write>(
     rt: &H,
     alloc: Global,
-    served: &mut Served,
+    served: &mut SessionState,
     batch: &mut Batch,
     outbox: &mut Outbox,
     writer: &mut W,
@@ -58,7 +58,7 @@ pub fn take<H: Threads + Wait + Sync, W: Write>(
     ensures { (waiting : List (List ℕ)) (line : List ℕ) → AreAsked settings waiting batch.old → IsReadWithin settings read line
         → Takes settings (W.contents writer.old) (W.contents writer.new) outbox.old outbox.new result (waiting ++ line ∷ []) served.old served.new batch.new }
 {
-    lawful_replies_add_up::<Served>();
+    lawful_replies_add_up::<SessionState>();
     match read {
         Ok(
             Asked::Resolve {
@@ -103,7 +103,7 @@ pub fn take<H: Threads + Wait + Sync, W: Write>(
 fn reply_behind<H: Threads + Wait + Sync, W: Write>(
     rt: &H,
     alloc: Global,
-    served: &mut Served,
+    served: &mut SessionState,
     batch: &mut Batch,
     outbox: &mut Outbox,
     writer: &mut W,
@@ -114,7 +114,7 @@ fn reply_behind<H: Threads + Wait + Sync, W: Write>(
         → Takes settings (W.contents writer.old) (W.contents writer.new) outbox.old outbox.new result (waiting ++ line ∷ []) served.old served.new batch.new }
 {
     puts_add_up();
-    lawful_replies_add_up::<Served>();
+    lawful_replies_add_up::<SessionState>();
     match batch.reply(rt, alloc, served, outbox, writer, false) {
         Ok(()) => reply_to(alloc, served, outbox, writer, read, settings),
         Err(e) => {
@@ -128,7 +128,7 @@ fn reply_behind<H: Threads + Wait + Sync, W: Write>(
 /// once, and then it is learnt what the search offers: such a line comes here only as the last one of a text.
 pub fn reply_to<W: Write>(
     alloc: Global,
-    served: &mut Served,
+    served: &mut SessionState,
     outbox: &mut Outbox,
     writer: &mut W,
     read: Result<Asked, Refusal>,
@@ -138,7 +138,7 @@ pub fn reply_to<W: Write>(
         → PutsReply (λ reply. IsLawfulWithin settings session_ways line served.old reply served.new) (W.contents writer.old) (W.contents writer.new) outbox.old outbox.new result }
 {
     match answer_read(alloc, served, read, settings) {
-        Answer::Told(body) => put_told(outbox, writer, served.standing(), body),
+        Answer::Told(body) => put_reply(outbox, writer, served.standing(), body),
         Answer::Found(body, offered) => {
             let put = send_told(outbox, writer, served.standing(), body);
             learn_all(served, offered);

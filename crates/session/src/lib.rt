@@ -1,5 +1,5 @@
 //! A session: [`serve_session`] replies to the lines of a reader, one after another, and keeps what it accepts in a
-//! [`Served`], which [`load`] begins from a journal's file and [`save_session`] writes to one.
+//! [`SessionState`], which [`load`] begins from a journal's file and [`save_session`] writes to one.
 //!
 //! | File | What it does |
 //! |---|---|
@@ -24,7 +24,7 @@ mod journal;
 mod laws;
 mod limits;
 mod serve;
-mod served;
+mod session_state;
 mod telling;
 mod telling_kept;
 
@@ -36,4 +36,4 @@ pub use laws::{
 };
 pub use limits::limits_in_numbers;
 pub use serve::{run, serve_session};
-pub use served::Served;
+pub use session_state::SessionState;

@@ -4,12 +4,12 @@ ghost use Rattle.book.specs.Items.{packages_of};
 ghost use Rattle.session.specs.Batches.{Tells};
 
 use crate::batch::{put_answer, send_if};
-use crate::served::Served;
-use answers::Ledger;
+use crate::session_state::SessionState;
+use answers::Backend;
 use book::journals_grow;
 use derivations::Learnt;
 use lines::Outbox;
-use pool::{Answers, Asked, Consumer, Gate, Query, answer_in_order};
+use pool::{Answers, Consumer, Gate, Query, RequestWithOptions, answer_in_order};
 use replies::puts_add_up;
 use std::alloc::Global;
 use std::io;
@@ -21,10 +21,10 @@ use std::thread::Threads;
 #[derive(Drop)]
 struct Telling<'a, W> {
     alloc: Global,
-    served: &'a Served,
+    served: &'a SessionState,
     outbox: &'a mut Outbox,
     writer: &'a mut W,
-    asked: &'a [Asked],
+    asked: &'a [RequestWithOptions],
     offered: &'a mut Vec<Learnt>,
 }
 
@@ -65,10 +65,10 @@ impl<'a, W: Write> Consumer for Telling<'a, W> {
 pub(crate) fn tell_in_order<H: Threads + Wait + Sync, W: Write>(
     rt: &H,
     alloc: Global,
-    served: &Served,
+    served: &SessionState,
     outbox: &mut Outbox,
     writer: &mut W,
-    asked: &[Asked],
+    asked: &[RequestWithOptions],
     workers: usize,
     offered: &mut Vec<Learnt>,
 ) -> io::Result<()>
@@ -99,10 +99,10 @@ fn tell_each<G: Gate, Q: Query, R: Wait, W: Write>(
     rt: &R,
     answers: &mut Answers<'_, G, Q>,
     alloc: Global,
-    served: &Served,
+    served: &SessionState,
     outbox: &mut Outbox,
     writer: &mut W,
-    asked: &[Asked],
+    asked: &[RequestWithOptions],
     offered: &mut Vec<Learnt>,
 ) -> io::Result<()>
     requires packages { Q.packages ≡ packages_of served.now }

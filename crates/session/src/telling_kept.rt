@@ -7,13 +7,13 @@ ghost use Rattle.session.specs.Committing.{TellsOn};
 use crate::batch::put_answer;
 use crate::committed::Committed;
 use crate::durable::commit_if;
-use crate::served::Served;
-use answers::Ledger;
+use crate::session_state::SessionState;
+use answers::Backend;
 use book::journals_grow;
 use commits::Devices;
 use derivations::Learnt;
 use lines::{Outbox, lines_end_at_feeds};
-use pool::{Answers, Asked, Consumer, Gate, Query, answer_in_order};
+use pool::{Answers, Consumer, Gate, Query, RequestWithOptions, answer_in_order};
 use replies::puts_add_up;
 use std::alloc::Global;
 use std::io;
@@ -25,11 +25,11 @@ use std::thread::Threads;
 struct TellingKept<'a, D> {
     alloc: Global,
     devices: &'a mut D,
-    served: &'a Served,
+    served: &'a SessionState,
     outbox: &'a mut Outbox,
     held: &'a mut Vec<u8>,
     at: &'a mut Committed,
-    asked: &'a [Asked],
+    asked: &'a [RequestWithOptions],
     offered: &'a mut Vec<Learnt>,
 }
 
@@ -75,11 +75,11 @@ pub(crate) fn tell_kept_in_order<H: Threads + Wait + Sync, D: Devices>(
     rt: &H,
     alloc: Global,
     devices: &mut D,
-    served: &Served,
+    served: &SessionState,
     outbox: &mut Outbox,
     held: &mut Vec<u8>,
     at: &mut Committed,
-    asked: &[Asked],
+    asked: &[RequestWithOptions],
     workers: usize,
     offered: &mut Vec<Learnt>,
 ) -> io::Result<()>
@@ -113,11 +113,11 @@ fn tell_each<G: Gate, Q: Query, R: Wait, D: Devices>(
     answers: &mut Answers<'_, G, Q>,
     alloc: Global,
     devices: &mut D,
-    served: &Served,
+    served: &SessionState,
     outbox: &mut Outbox,
     held: &mut Vec<u8>,
     at: &mut Committed,
-    asked: &[Asked],
+    asked: &[RequestWithOptions],
     offered: &mut Vec<Learnt>,
 ) -> io::Result<()>
     requires packages { Q.packages ≡ packages_of served.now }

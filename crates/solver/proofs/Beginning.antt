@@ -10,15 +10,15 @@ use Rattle.partial.specs.declared.assignment.Why.TheVariants.{Decided, Derived}
 use Rattle.partial.specs.Assignments.{says}
 use Rattle.registry.specs.Registry.{Packages}
 use Rattle.registry.specs.Requests.{Wanted}
-use Rattle.derivations.specs.Known.{IsBefore, StandsBy}
+use Rattle.derivations.specs.CausedIncompatibilities.{IsBefore, StandsBy}
 use Rattle.derivations.specs.declared.facts.Cause.TheVariants as cause
-use Rattle.derivations.specs.declared.known.Known.{Known}
+use Rattle.derivations.specs.declared.known.CausedIncompatibility.{CausedIncompatibility}
 use Rattle.derivations.specs.declared.known.Reason.TheVariants.{Fact}
 use Rattle.solver.specs.Deciding.{IsPlaced}
 use Rattle.solver.specs.Lines.{root_terms}
 use Rattle.solver.specs.Searching.{IsCausedBy, IsSearch}
 
-abbrev pub root_known : Known
+abbrev pub root_known : CausedIncompatibility
 root_known = record { conclusion = root_terms; reason = Fact cause.Root }
 
 abbrev root_derived : Assignment
@@ -54,12 +54,12 @@ start_search in_order packages wanted = record {
   caused = λ i a at. caused i a at;
 }
   where
-    lawful : (k : ℕ) (line : Known) → slice_get (root_known ∷ []) k ≡ Some line → StandsBy packages wanted (root_known ∷ []) line.conclusion line.reason
-    lawful zero line at = subst (λ (l : Known). StandsBy packages wanted (root_known ∷ []) l.conclusion l.reason) (same_Some root_known line at) refl
+    lawful : (k : ℕ) (line : CausedIncompatibility) → slice_get (root_known ∷ []) k ≡ Some line → StandsBy packages wanted (root_known ∷ []) line.conclusion line.reason
+    lawful zero line at = subst (λ (l : CausedIncompatibility). StandsBy packages wanted (root_known ∷ []) l.conclusion l.reason) (same_Some root_known line at) refl
     lawful (suc k) line at = absurd (none-some line at)
 
-    ordered : (k : ℕ) (line : Known) → slice_get (root_known ∷ []) k ≡ Some line → IsBefore k line.reason
-    ordered zero line at = subst (λ (l : Known). IsBefore 0 l.reason) (same_Some root_known line at) tt
+    ordered : (k : ℕ) (line : CausedIncompatibility) → slice_get (root_known ∷ []) k ≡ Some line → IsBefore k line.reason
+    ordered zero line at = subst (λ (l : CausedIncompatibility). IsBefore 0 l.reason) (same_Some root_known line at) tt
     ordered (suc k) line at = absurd (none-some line at)
 
     both : (c : Option ℕ) → says (root_derived ∷ root_decided ∷ []) 0 c ≡ true → true_of (In (0 ∷ [])) c ≡ true

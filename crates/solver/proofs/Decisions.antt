@@ -19,7 +19,7 @@ use Rattle.registry.specs.Laws.{PublishedBelow, UnpublishedFrom}
 use Rattle.registry.specs.Registry.{Package, Packages, Publication, needs_of, needs_or_none, package_at, publication_at, versions_or_none}
 use Rattle.registry.specs.Requests.{Wanted, allows_some, is_allowed}
 use Rattle.derivations.specs.Facts.{Terms}
-use Rattle.derivations.specs.declared.known.Known.{Known}
+use Rattle.derivations.specs.declared.known.CausedIncompatibility.{CausedIncompatibility}
 use Rattle.solver.specs.declared.task.Task.{Task}
 use Rattle.solver.specs.declared.search.Search.{Search}
 use Rattle.solver.specs.declared.acting.Acted.{Acted}
@@ -103,13 +103,13 @@ not_neither_alone made p versions left n = elim (cases_eq p n.pkg) [
 ]
 
 -- a decision goes on
-pub decided_search : {in_order : Bool} (packages : Packages) (wanted : Wanted) (made new : List Assignment) (known : List Known) (p k level : ℕ) → IsPlaced in_order packages wanted made p k → IsSearch in_order packages wanted made known
+pub decided_search : {in_order : Bool} (packages : Packages) (wanted : Wanted) (made new : List Assignment) (known : List CausedIncompatibility) (p k level : ℕ) → IsPlaced in_order packages wanted made p k → IsSearch in_order packages wanted made known
     → new ≡ made ++ record { pkg = p; term = In (k ∷ []); level = level; why = Decided k } ∷ [] → IsSearch in_order packages wanted new known
 decided_search {in_order} packages wanted made new known p k level placed h is =
     rw is (IsSearch-push packages wanted made known (record { pkg = p; term = In (k ∷ []); level = level; why = Decided k }) h placed)
 
 -- a decision after lines were added and none could be used
-pub decided_goes : {in_order : Bool} (packages : Packages) (wanted : Wanted) (made mid new : List Assignment) (known after : List Known) (p k level : ℕ) → IsPlaced in_order packages wanted made p k → mid ≡ made → after ≡ known → IsSearch in_order packages wanted made known
+pub decided_goes : {in_order : Bool} (packages : Packages) (wanted : Wanted) (made mid new : List Assignment) (known after : List CausedIncompatibility) (p k level : ℕ) → IsPlaced in_order packages wanted made p k → mid ≡ made → after ≡ known → IsSearch in_order packages wanted made known
     → new ≡ mid ++ record { pkg = p; term = In (k ∷ []); level = level; why = Decided k } ∷ [] → rank new < rank mid → IsSearch in_order packages wanted new after × (rank new < rank made)
 decided_goes {in_order} packages wanted made mid new known after p k level placed same kept h is falls = (
   rw kept (decided_search packages wanted made new known p k level placed h (is ∙ ap (λ xs. xs ++ record { pkg = p; term = In (k ∷ []); level = level; why = Decided k } ∷ []) same)),

@@ -8,17 +8,17 @@ use Rattle.partial.specs.Satisfying.{IsNeither, LeavesAlmost, Satisfied}
 use Rattle.partial.specs.Rank.{rank, FallsBack}
 use Rattle.registry.specs.Registry.{Packages}
 use Rattle.registry.specs.Requests.{Wanted}
-use Rattle.derivations.specs.declared.known.Known.{Known}
+use Rattle.derivations.specs.declared.known.CausedIncompatibility.{CausedIncompatibility}
 use Rattle.solver.specs.Lines.{AtLine}
 use Rattle.solver.specs.Searching.{IsSearch}
 use Rattle.solver.proofs.Kept.{IsSearch-upto}
 
 -- the line at a place, as it was read
-pub place : (known : List Known) (at : ℕ) (x : Known) → at < length known → x ≡ get_or known at x → slice_get known at ≡ Some x
+pub place : (known : List CausedIncompatibility) (at : ℕ) (x : CausedIncompatibility) → at < length known → x ≡ get_or known at x → slice_get known at ≡ Some x
 place known at x lt read = slice_get_read known (length known) at x refl lt read
 
-module _ (old now : List Assignment) (known : List Known) (at level : ℕ) (back : AtLine known at (λ l. LeavesAlmost old l.conclusion level))
-    (x : Known) (read : x ≡ get_or known at x) (is_now : now ≡ upto level old) where
+module _ (old now : List Assignment) (known : List CausedIncompatibility) (at level : ℕ) (back : AtLine known at (λ l. LeavesAlmost old l.conclusion level))
+    (x : CausedIncompatibility) (read : x ≡ get_or known at x) (is_now : now ≡ upto level old) where
   same_line : back.0 ≡ x
   same_line = sym (get_or_from_slice_get known at back.0 x back.1) ∙ sym read
 

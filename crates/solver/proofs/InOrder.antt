@@ -18,9 +18,9 @@ use Rattle.registry.specs.Requests.{Wanted, is_allowed}
 use Rattle.registry.specs.Selections.{Choices, Meets, with_root}
 use Rattle.derivations.specs.Facts.{AllTrue}
 use Rattle.derivations.specs.Laws.{KeptLinesHold}
-use Rattle.derivations.specs.declared.known.Known.{Known}
+use Rattle.derivations.specs.declared.known.CausedIncompatibility.{CausedIncompatibility}
 use Rattle.walk.specs.Choosing.{Follows, choice_of}
-use Rattle.walk.specs.declared.listing.Next.{Next}
+use Rattle.walk.specs.declared.listing.NextPackage.{NextPackage}
 use Rattle.walk.specs.Listing.{AreAll, EndsWith, IsListing, IsNext, ListIsSelection, NothingComesNext, OneListInOrder}
 use Rattle.walk.specs.Newest.{Has, IsAhead, IsNewest, next_package}
 use Rattle.walk.specs.Walks.{IsUnmetAt}
@@ -32,8 +32,8 @@ use Rattle.solver.specs.Searching.{IsCaused, IsCausedBy, IsSearch, Searches}
 -- ---- what assignments say of other selections
 
 -- no line has all its terms true of the choices
-abbrev Obeys : List Known → Choices → Type 0
-Obeys known t = (k : ℕ) (line : Known) → slice_get known k ≡ Some line → AllTrue line.conclusion (with_root t) → ⊥
+abbrev Obeys : List CausedIncompatibility → Choices → Type 0
+Obeys known t = (k : ℕ) (line : CausedIncompatibility) → slice_get known k ≡ Some line → AllTrue line.conclusion (with_root t) → ⊥
 
 -- the choices make the first i decisions true
 abbrev Shares : Choices → List Assignment → ℕ → Type 0
@@ -77,7 +77,7 @@ get_last [] i x at = absurd (none-some x at)
 get_last (y ∷ xs) zero x at = at
 get_last (y ∷ xs) (suc i) x at = get_last xs i x at
 
-module _ (packages : Packages) (wanted : Wanted) (known : List Known) (made : List Assignment) (t : Choices)
+module _ (packages : Packages) (wanted : Wanted) (known : List CausedIncompatibility) (made : List Assignment) (t : Choices)
     (caused : (i : ℕ) (a : Assignment) → slice_get made i ≡ Some a → IsCausedBy true packages wanted known (take i made) a a.why) (obeys : Obeys known t) where
   -- an assignment is true of choices that make those before it true
   next_true : (i : ℕ) (a : Assignment) → slice_get made i ≡ Some a → ((pkg : ℕ) → says (take i made) pkg (with_root t pkg) ≡ true) → Shares t made (suc i)
@@ -256,7 +256,7 @@ in_own k = rw (eq-eqb k k refl) refl
 
 -- ---- in the order of the walk
 
-module _ (packages : Packages) (wanted : Wanted) (known : List Known) (made : List Assignment) (search : IsSearch true packages wanted made known) (partial : IsPartial made) where
+module _ (packages : Packages) (wanted : Wanted) (known : List CausedIncompatibility) (made : List Assignment) (search : IsSearch true packages wanted made known) (partial : IsPartial made) where
   placed_at : (d : ℕ) (a : Assignment) (k : ℕ) → slice_get made d ≡ Some a → a.why ≡ Decided k → IsPlaced true packages wanted (take d made) a.pkg k
   placed_at d a k at why = subst (λ w. IsCausedBy true packages wanted known (take d made) a w) why (search.caused d a at)
 
@@ -277,7 +277,7 @@ module _ (packages : Packages) (wanted : Wanted) (known : List Known) (made : Li
   all p k from chosen = sym (decided-choice made p from) ∙ chosen
 
   -- what is listed by the decisions are the decisions
-  pub listed : OneListInOrder → (found : List (ℕ × ℕ)) (next : Option Next) → IsListing packages wanted.needs (decided made) found → EndsWith packages wanted.needs (decided made) found next → found ≡ decisions_in made
+  pub listed : OneListInOrder → (found : List (ℕ × ℕ)) (next : Option NextPackage) → IsListing packages wanted.needs (decided made) found → EndsWith packages wanted.needs (decided made) found next → found ≡ decisions_in made
   listed one found next here ends = one packages wanted.needs (decided made) found (decisions_in made) next here ends listing all
 
   module _ (hold : KeptLinesHold) (t : Choices) (meets : Meets packages wanted t) where
@@ -348,7 +348,7 @@ entry_of (e ∷ list) p k h = elim (cases_Bool (nat_eq p e.0)) [
   | inr f ↦ let rest = entry_of list p k (rw f at h) in (suc rest.0, rest.1)
 ]
 
-module _ (packages : Packages) (wanted : Wanted) (known : List Known) (made : List Assignment) (search : IsSearch true packages wanted made known) (partial : IsPartial made) where
+module _ (packages : Packages) (wanted : Wanted) (known : List CausedIncompatibility) (made : List Assignment) (search : IsSearch true packages wanted made known) (partial : IsPartial made) where
   found_decided : (p k : ℕ) → choice_of (decisions_in made) p ≡ Some k → decided made p ≡ Some k
   found_decided p k e = let place = entry_of (decisions_in made) p k e in (listing packages wanted known made search partial).chosen place.0 (p, k) place.1
 
@@ -445,12 +445,12 @@ module _ (task : Task) (search : Search) (searches : Searches task search) (part
       (numbered_from task.registry.now.packages q named) chosen index line p at numbered undecided)
 
   -- what the walk lists are the decisions
-  listed_decisions : task.newest ≡ true → OneListInOrder → (found : List (ℕ × ℕ)) (next : Option Next) → IsListing task.registry.now.packages task.request.now.needs (decided search.partial) found
+  listed_decisions : task.newest ≡ true → OneListInOrder → (found : List (ℕ × ℕ)) (next : Option NextPackage) → IsListing task.registry.now.packages task.request.now.needs (decided search.partial) found
       → EndsWith task.registry.now.packages task.request.now.needs (decided search.partial) found next → found ≡ decisions_in search.partial
   listed_decisions asked one found next listing ends =
       listed task.registry.now.packages task.request.now search.known.items search.partial (in_order task search asked searches) partial one found next listing ends
 
-  pub next_turn : task.newest ≡ true → OneListInOrder → (found : List (ℕ × ℕ)) → IsListing task.registry.now.packages task.request.now.needs (decided search.partial) found → (next : Next)
+  pub next_turn : task.newest ≡ true → OneListInOrder → (found : List (ℕ × ℕ)) → IsListing task.registry.now.packages task.request.now.needs (decided search.partial) found → (next : NextPackage)
       → IsNext task.registry.now.packages task.request.now.needs (decided search.partial) found next → IsTurnOf task search.partial next.pkg
   next_turn asked one found listing next comes again =
       ap (next_package task.registry.now.packages task.request.now.needs) (sym (listed_decisions asked one found (Some next) listing comes)) ∙ comes.comes

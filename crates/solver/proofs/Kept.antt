@@ -16,8 +16,8 @@ use Rattle.partial.specs.Rank.{TakesAway}
 use Rattle.registry.specs.Registry.{Packages}
 use Rattle.registry.specs.Requests.{Wanted}
 use Rattle.derivations.specs.Facts.{Terms}
-use Rattle.derivations.specs.Known.{IsBefore, StandsBy}
-use Rattle.derivations.specs.declared.known.Known.{Known}
+use Rattle.derivations.specs.CausedIncompatibilities.{IsBefore, StandsBy}
+use Rattle.derivations.specs.declared.known.CausedIncompatibility.{CausedIncompatibility}
 use Rattle.derivations.specs.declared.known.Reason.{Reason}
 use Rattle.derivations.specs.declared.known.Reason.TheVariants.{Fact, Resolved}
 use Rattle.solver.specs.Lines.{AreLines, AtLine}
@@ -28,7 +28,7 @@ use Rattle.solver.proofs.Telling.{has_from_false}
 
 -- ---- lines
 
-stands_later : (packages : Packages) (wanted : Wanted) (known more : List Known) (terms : Terms) (reason : Reason) → StandsBy packages wanted known terms reason
+stands_later : (packages : Packages) (wanted : Wanted) (known more : List CausedIncompatibility) (terms : Terms) (reason : Reason) → StandsBy packages wanted known terms reason
     → StandsBy packages wanted (known ++ more) terms reason
 stands_later packages wanted known more terms (Fact c) h = h
 stands_later packages wanted known more terms (Resolved i j pivot) h = record {
@@ -40,11 +40,11 @@ stands_later packages wanted known more terms (Resolved i j pivot) h = record {
   follows = h.follows;
 }
 
-before_end : (packages : Packages) (wanted : Wanted) (known : List Known) (terms : Terms) (reason : Reason) → StandsBy packages wanted known terms reason → IsBefore (length known) reason
+before_end : (packages : Packages) (wanted : Wanted) (known : List CausedIncompatibility) (terms : Terms) (reason : Reason) → StandsBy packages wanted known terms reason → IsBefore (length known) reason
 before_end packages wanted known terms (Fact c) h = tt
 before_end packages wanted known terms (Resolved i j pivot) h = (slice_get_within known i h.one h.one_at, slice_get_within known j h.two h.two_at)
 
-pub AreLines-push : (packages : Packages) (wanted : Wanted) (known : List Known) (line : Known) → AreLines packages wanted known → StandsBy packages wanted known line.conclusion line.reason
+pub AreLines-push : (packages : Packages) (wanted : Wanted) (known : List CausedIncompatibility) (line : CausedIncompatibility) → AreLines packages wanted known → StandsBy packages wanted known line.conclusion line.reason
     → AreLines packages wanted (known ++ line ∷ [])
 AreLines-push packages wanted known line h stands = record {
   lawful = λ k x at. elim (get-cases known line k x at) [
@@ -58,7 +58,7 @@ AreLines-push packages wanted known line h stands = record {
   root = (h.root.0, get-left known (line ∷ []) 0 h.root.0 h.root.1, h.root.2);
 }
 
-caused_later : (in_order : Bool) (packages : Packages) (wanted : Wanted) (known more : List Known) (before : List Assignment) (a : Assignment) (why : Why) → IsCausedBy in_order packages wanted known before a why → IsCausedBy in_order packages wanted (known ++ more) before a why
+caused_later : (in_order : Bool) (packages : Packages) (wanted : Wanted) (known more : List CausedIncompatibility) (before : List Assignment) (a : Assignment) (why : Why) → IsCausedBy in_order packages wanted known before a why → IsCausedBy in_order packages wanted (known ++ more) before a why
 caused_later in_order packages wanted known more before a (Decided ordinal) h = h
 caused_later in_order packages wanted known more before a (Derived k) h = record {
   line = h.line;
@@ -68,7 +68,7 @@ caused_later in_order packages wanted known more before a (Derived k) h = record
   others = h.others;
 }
 
-pub IsSearch-line : {in_order : Bool} (packages : Packages) (wanted : Wanted) (made : List Assignment) (known : List Known) (line : Known) → IsSearch in_order packages wanted made known
+pub IsSearch-line : {in_order : Bool} (packages : Packages) (wanted : Wanted) (made : List Assignment) (known : List CausedIncompatibility) (line : CausedIncompatibility) → IsSearch in_order packages wanted made known
     → StandsBy packages wanted known line.conclusion line.reason → IsSearch in_order packages wanted made (known ++ line ∷ [])
 IsSearch-line {in_order} packages wanted made known line h stands = record {
   lines = AreLines-push packages wanted known line h.lines stands;
@@ -78,7 +78,7 @@ IsSearch-line {in_order} packages wanted made known line h stands = record {
 
 -- ---- assignments
 
-pub IsSearch-push : {in_order : Bool} (packages : Packages) (wanted : Wanted) (made : List Assignment) (known : List Known) (a : Assignment) → IsSearch in_order packages wanted made known → IsCausedBy in_order packages wanted known made a a.why
+pub IsSearch-push : {in_order : Bool} (packages : Packages) (wanted : Wanted) (made : List Assignment) (known : List CausedIncompatibility) (a : Assignment) → IsSearch in_order packages wanted made known → IsCausedBy in_order packages wanted known made a a.why
     → IsSearch in_order packages wanted (made ++ a ∷ []) known
 IsSearch-push {in_order} packages wanted made known a h new = record {
   lines = h.lines;
@@ -109,7 +109,7 @@ upto-two b (x ∷ y ∷ made) h two one le =
     let second : nat_le y.level b ≡ true = le-leb y.level b (omega (arith, h.1.0, one)) in
     rw (first, second) (omega arith, refl)
 
-pub IsSearch-upto : {in_order : Bool} (packages : Packages) (wanted : Wanted) (b : ℕ) (made : List Assignment) (known : List Known) → IsPartial made → 1 ≤ b → IsSearch in_order packages wanted made known
+pub IsSearch-upto : {in_order : Bool} (packages : Packages) (wanted : Wanted) (b : ℕ) (made : List Assignment) (known : List CausedIncompatibility) → IsPartial made → 1 ≤ b → IsSearch in_order packages wanted made known
     → IsSearch in_order packages wanted (upto b made) known
 IsSearch-upto {in_order} packages wanted b made known partial le h =
     let front = upto-beginning b 0 made partial.levels in
@@ -137,8 +137,8 @@ twice true false e = refl
 twice false true e = refl
 twice false false e = e
 
-module _ (made : List Assignment) (known : List Known) (at pkg : ℕ) (term : Term) (almost : AtLine known at (λ line. AlmostSatisfied made line.conclusion pkg))
-    (line : Known) (read : line ≡ get_or known at line) (negated : (c : Option ℕ) → true_of term c ≡ not (true_at line.conclusion pkg c)) where
+module _ (made : List Assignment) (known : List CausedIncompatibility) (at pkg : ℕ) (term : Term) (almost : AtLine known at (λ line. AlmostSatisfied made line.conclusion pkg))
+    (line : CausedIncompatibility) (read : line ≡ get_or known at line) (negated : (c : Option ℕ) → true_of term c ≡ not (true_at line.conclusion pkg c)) where
   same_line : almost.0 ≡ line
   same_line = sym (get_or_from_slice_get known at almost.0 line almost.1) ∙ sym read
 

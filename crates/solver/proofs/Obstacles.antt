@@ -21,7 +21,7 @@ use Rattle.registry.specs.Laws.{MatchingIsWhatMeets}
 use Rattle.registry.specs.Registry.{Packages, Publication, matching, meets_at, needs_of, needs_or_none, number_of, publication_at}
 use Rattle.walk.specs.Choosing.{IsUnmet}
 use Rattle.walk.specs.Walks.{IsUnmetAt}
-use Rattle.derivations.specs.declared.known.Known.{Known}
+use Rattle.derivations.specs.declared.known.CausedIncompatibility.{CausedIncompatibility}
 use Rattle.solver.specs.Deciding.{IsTurnAt, IsTurnOf}
 use Rattle.solver.proofs.InOrder.{turn_kept}
 use Rattle.solver.specs.Lines.{AtLine}
@@ -196,18 +196,18 @@ module _ (packages : Packages) (made : List Assignment) (p v i : ℕ) (publicati
       subst (λ (x : Text × Text). IsUnmet packages (decided made) x.0 x.1) (sym (get_or_from_slice_get publication.needs i (unmet.name, unmet.need) r asked)) unmet.unmet
 
 -- a dependency that is not met and can't be used
-pub dependency_decides : (task : Task) (made new : List Assignment) (known : List Known) (at p v q : ℕ) (d : Text × Text) (versions within : List ℕ) → IsPartial made → p ≢ q → decided made p ≡ Some v
+pub dependency_decides : (task : Task) (made new : List Assignment) (known : List CausedIncompatibility) (at p v q : ℕ) (d : Text × Text) (versions within : List ℕ) → IsPartial made → p ≢ q → decided made p ≡ Some v
     → has versions v ≡ true → number_of task.registry.now.packages d.0 ≡ Some q → IsUnmet task.registry.now.packages (decided made) d.0 d.1
     → ((k : ℕ) → has within k ≡ meets_at task.registry.now.packages q k d.1)
     → SaysAt known (dependency p versions q within) at → new ≡ made → AtLine known at (λ line. IsNeither made line.conclusion) → IsToDecide task new q
 dependency_decides task made new known at p v q d versions within h apart chosen here numbered unmet meeting place same unused =
     let line_is : unused.0 ≡ place.0 = same_Some unused.0 place.0 (sym unused.1 ∙ place.1) in
-    let n : IsNeither made (dependency p versions q within) = subst (λ (t : Terms). IsNeither made t) (ap (λ (l : Known). l.conclusion) line_is ∙ place.2) unused.2 in
+    let n : IsNeither made (dependency p versions q within) = subst (λ (t : Terms). IsNeither made t) (ap (λ (l : CausedIncompatibility). l.conclusion) line_is ∙ place.2) unused.2 in
     let blame = dependency_blames task.registry.now.packages made p v d.0 d.1 q versions within h apart chosen here numbered unmet meeting in
     subst (λ (m : List Assignment). IsToDecide task m q) (sym same) (blamed_decides task made (dependency p versions q within) d.0 q h numbered blame n)
 
 -- a need that is not met and can't be used
-module _ (task : Task) (made : List Assignment) (known : List Known) (at i : ℕ) (needs : List (Text × Text)) (r : Text × Text) (begins : BeginsWithRoot made)
+module _ (task : Task) (made : List Assignment) (known : List CausedIncompatibility) (at i : ℕ) (needs : List (Text × Text)) (r : Text × Text) (begins : BeginsWithRoot made)
     (place : IsForNeed task.registry.now.packages needs known i at) (unmet : IsUnmetAt task.registry.now.packages (decided made) needs i)
     (unused : AtLine known at (λ line. IsNeither made line.conclusion)) (read : r ≡ get_or needs i r) where
   need_is : place.need ≡ r
@@ -216,7 +216,7 @@ module _ (task : Task) (made : List Assignment) (known : List Known) (at i : ℕ
   need_neither : IsNeither made (need_terms task.registry.now.packages r.0 r.1)
   need_neither =
       let line_is : unused.0 ≡ place.line.0 = same_Some unused.0 place.line.0 (sym unused.1 ∙ place.line.1) in
-      let n : IsNeither made (need_terms task.registry.now.packages place.need.0 place.need.1) = subst (λ (t : Terms). IsNeither made t) (ap (λ (l : Known). l.conclusion) line_is ∙ place.line.2) unused.2 in
+      let n : IsNeither made (need_terms task.registry.now.packages place.need.0 place.need.1) = subst (λ (t : Terms). IsNeither made t) (ap (λ (l : CausedIncompatibility). l.conclusion) line_is ∙ place.line.2) unused.2 in
       subst (λ (d : Text × Text). IsNeither made (need_terms task.registry.now.packages d.0 d.1)) need_is n
 
   need_unmet : IsUnmet task.registry.now.packages (decided made) r.0 r.1

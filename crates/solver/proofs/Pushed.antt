@@ -10,7 +10,7 @@ use Rattle.derivations.specs.Derivations.{IsFact}
 use Rattle.derivations.specs.Facts.{Stands, Terms}
 use Rattle.derivations.specs.declared.facts.Cause.{Cause}
 use Rattle.derivations.specs.declared.facts.Premise.{Premise}
-use Rattle.derivations.specs.declared.known.Known.{Known}
+use Rattle.derivations.specs.declared.known.CausedIncompatibility.{CausedIncompatibility}
 use Rattle.derivations.specs.declared.known.Reason.TheVariants.{Fact}
 use Rattle.solver.specs.Pushing.{AreDependents, SaysAt}
 use Rattle.solver.specs.Searching.{IsSearch}
@@ -18,12 +18,12 @@ use Rattle.solver.proofs.Lists.{get-last}
 use Rattle.solver.proofs.Kept.{IsSearch-line}
 
 -- a fact behind the lines
-pub fact_extends : {in_order : Bool} (packages : Packages) (wanted : Wanted) (old new : List Known) (cause : Cause) (terms : Terms) → IsFact packages wanted cause terms
+pub fact_extends : {in_order : Bool} (packages : Packages) (wanted : Wanted) (old new : List CausedIncompatibility) (cause : Cause) (terms : Terms) → IsFact packages wanted cause terms
     → new ≡ old ++ record { conclusion = terms; reason = Fact cause } ∷ [] → (made : List Assignment) → IsSearch in_order packages wanted made old → IsSearch in_order packages wanted made new
 fact_extends packages wanted old new cause terms fact is made search =
     rw is (IsSearch-line packages wanted made old (record { conclusion = terms; reason = Fact cause }) search fact)
 
-pub fact_place : (old new : List Known) (cause : Cause) (terms : Terms) (at : ℕ) → new ≡ old ++ record { conclusion = terms; reason = Fact cause } ∷ [] → at ≡ length old → SaysAt new terms at
+pub fact_place : (old new : List CausedIncompatibility) (cause : Cause) (terms : Terms) (at : ℕ) → new ≡ old ++ record { conclusion = terms; reason = Fact cause } ∷ [] → at ≡ length old → SaysAt new terms at
 fact_place old new cause terms at is place =
     rw (is, place) (record { conclusion = terms; reason = Fact cause }, get-last old (record { conclusion = terms; reason = Fact cause }), refl)
 

@@ -10,7 +10,7 @@ use Rattle.partial.specs.declared.assignment.Why.TheVariants.{Decided, Derived}
 use Rattle.partial.specs.Assignments.{AreAssignments, IsExact, IsPartial, decided_by, decisions, is_decision, one_if, says, upto}
 use Rattle.registry.specs.Registry.{Packages}
 use Rattle.registry.specs.Requests.{Wanted}
-use Rattle.derivations.specs.declared.known.Known.{Known}
+use Rattle.derivations.specs.declared.known.CausedIncompatibility.{CausedIncompatibility}
 use Rattle.solver.specs.Deciding.{IsPlaced}
 use Rattle.solver.specs.Searching.{BeginsWithRoot, IsCausedBy, IsSearch}
 use Rattle.solver.proofs.Beginning.{root_placed}
@@ -86,7 +86,7 @@ root_alone made i a k h begins at why = (root, number)
     number = sym (same_Some 0 k (only (Some 0) (subst (λ q. says (take 2 made) q (Some 0) ≡ true) (sym root) begins.chosen)))
 
 -- what is kept at the root's level is a search in any order
-pub restart_search : (in_order : Bool) (packages : Packages) (wanted : Wanted) (made : List Assignment) (known : List Known) → IsPartial made → IsSearch false packages wanted made known
+pub restart_search : (in_order : Bool) (packages : Packages) (wanted : Wanted) (made : List Assignment) (known : List CausedIncompatibility) → IsPartial made → IsSearch false packages wanted made known
     → IsSearch in_order packages wanted (upto 1 made) known
 restart_search in_order packages wanted made known h search =
     let low = IsSearch-upto packages wanted 1 made known h (omega arith) search in

@@ -9,9 +9,9 @@ use Rattle.registry.specs.Registry.{Packages}
 use Rattle.registry.specs.Requests.{Wanted}
 use Rattle.derivations.specs.Facts.{Terms}
 use Rattle.derivations.specs.Derivations.{AreDerivedBy, FollowsOn}
-use Rattle.derivations.specs.Known.{FollowsFrom}
+use Rattle.derivations.specs.CausedIncompatibilities.{FollowsFrom}
 use Rattle.derivations.specs.Learning.{AllStand, Offers}
-use Rattle.derivations.specs.declared.known.Known.{Known}
+use Rattle.derivations.specs.declared.known.CausedIncompatibility.{CausedIncompatibility}
 use Rattle.derivations.specs.declared.known.Reason.TheVariants.{Resolved}
 use Rattle.derivations.specs.declared.line.Line.{Line}
 use Rattle.solver.specs.Pushing.{SaysAt}
@@ -22,17 +22,17 @@ use Rattle.solver.proofs.Lists.{get-left, get-last, get-cases}
 
 -- ---- lines that are there are there later
 
-pub Keeps-push : (known : List Known) (line : Known) → Keeps known (known ++ line ∷ [])
+pub Keeps-push : (known : List CausedIncompatibility) (line : CausedIncompatibility) → Keeps known (known ++ line ∷ [])
 Keeps-push known line k x at = get-left known (line ∷ []) k x at
 
-said_later : (old new : List Known) (terms : Terms) (at : ℕ) → Keeps old new → SaysAt old terms at → SaysAt new terms at
+said_later : (old new : List CausedIncompatibility) (terms : Terms) (at : ℕ) → Keeps old new → SaysAt old terms at → SaysAt new terms at
 said_later old new terms at keeps h = (h.0, keeps at h.0 h.1, h.2)
 
-pub AreAt-later : (old new : List Known) (said : List Terms) (places : List ℕ) → Keeps old new → AreAt old said places → AreAt new said places
+pub AreAt-later : (old new : List CausedIncompatibility) (said : List Terms) (places : List ℕ) → Keeps old new → AreAt old said places → AreAt new said places
 AreAt-later old new said places keeps h = record { lengths = h.lengths; each = λ i terms e. said_later old new terms (get_or places i 0) keeps (h.each i terms e) }
 
 -- one more that stands at its place
-AreAt-push : (old new : List Known) (said : List Terms) (places : List ℕ) (terms : Terms) (at : ℕ) → Keeps old new → AreAt old said places → SaysAt new terms at
+AreAt-push : (old new : List CausedIncompatibility) (said : List Terms) (places : List ℕ) (terms : Terms) (at : ℕ) → Keeps old new → AreAt old said places → SaysAt new terms at
     → AreAt new (said ++ terms ∷ []) (places ++ at ∷ [])
 AreAt-push old new said places terms at keeps h here = record {
   lengths = length-append places (at ∷ []) ∙ ap (λ n. n + 1) h.lengths ∙ sym (length-append said (terms ∷ []));
@@ -47,7 +47,7 @@ AreAt-push old new said places terms at keeps h here = record {
 
 -- ---- one line
 
-follows_from : (known : List Known) (i j : ℕ) (one two terms : Terms) (line : Line) → SaysAt known one i → SaysAt known two j → terms ≡ line.conclusion → FollowsOn one two line
+follows_from : (known : List CausedIncompatibility) (i j : ℕ) (one two terms : Terms) (line : Line) → SaysAt known one i → SaysAt known two j → terms ≡ line.conclusion → FollowsOn one two line
     → FollowsFrom known terms i j line.pivot
 follows_from known i j one two terms line at_i at_j same f = record {
   one = at_i.0;
@@ -61,7 +61,7 @@ follows_from known i j one two terms line at_i at_j same f = record {
       (subst (λ t. Follows line.conclusion t two line.pivot) (sym at_i.2) f.follows));
 }
 
-module _ (packages : Packages) (wanted : Wanted) (old half both new : List Known) (places : List ℕ) (line : Line) (i j : ℕ) (terms : Terms) (d : IsDerivedAt packages old places line)
+module _ (packages : Packages) (wanted : Wanted) (old half both new : List CausedIncompatibility) (places : List ℕ) (line : Line) (i j : ℕ) (terms : Terms) (d : IsDerivedAt packages old places line)
     (keeps_one : Keeps old half) (keeps_two : Keeps half both)
     (gives_one : (t : Terms) → IsGivenAt old places line.causes.0 t → SaysAt half t i)
     (gives_two : (t : Terms) → IsGivenAt half places line.causes.1 t → SaysAt both t j)
@@ -85,14 +85,14 @@ module _ (packages : Packages) (wanted : Wanted) (old half both new : List Known
 -- ---- all lines of a member
 
 -- those that are left are derived from premises that stand and from what stands at the places
-pub record AreLeft (packages : Packages) (known : List Known) (places : List ℕ) (at : ℕ) (lines left : List Line) : Type 0 where
+pub record AreLeft (packages : Packages) (known : List CausedIncompatibility) (places : List ℕ) (at : ℕ) (lines left : List Line) : Type 0 where
   pub earlier : List Terms
   pub said : AreAt known earlier places
   pub derived : AreDerivedBy Offers earlier left
   pub stand : AllStand packages left
   pub ends : EndsSo known at lines left
 
-pub AreLeft-start : (packages : Packages) (known : List Known) (places : List ℕ) (at : ℕ) (lines left : List Line) → places ≡ [] → left ≡ lines → AreDerivedBy Offers [] lines → AllStand packages lines
+pub AreLeft-start : (packages : Packages) (known : List CausedIncompatibility) (places : List ℕ) (at : ℕ) (lines left : List Line) → places ≡ [] → left ≡ lines → AreDerivedBy Offers [] lines → AllStand packages lines
     → AreLeft packages known places at lines left
 AreLeft-start packages known places at lines left none all derived stand = record {
   earlier = [];
@@ -106,15 +106,15 @@ AreLeft-start packages known places at lines left none all derived stand = recor
     whole [] = λ terms e. absurd (none-some terms e)
     whole (x ∷ rest) = refl
 
-pub AreLeft-line : (packages : Packages) (known : List Known) (places : List ℕ) (at : ℕ) (lines : List Line) (line : Line) (rest : List Line) → AreLeft packages known places at lines (line ∷ rest)
+pub AreLeft-line : (packages : Packages) (known : List CausedIncompatibility) (places : List ℕ) (at : ℕ) (lines : List Line) (line : Line) (rest : List Line) → AreLeft packages known places at lines (line ∷ rest)
     → IsDerivedAt packages known places line
 AreLeft-line packages known places at lines line rest h = record { earlier = h.earlier; said = h.said; derived = h.derived.0; first = h.stand.0; second = h.stand.1 }
 
-ends_next : (old new : List Known) (at next : ℕ) (lines : List Line) (line : Line) (rest : List Line) → SaysAt new line.conclusion next → EndsSo old at lines (line ∷ rest) → EndsSo new next lines rest
+ends_next : (old new : List CausedIncompatibility) (at next : ℕ) (lines : List Line) (line : Line) (rest : List Line) → SaysAt new line.conclusion next → EndsSo old at lines (line ∷ rest) → EndsSo new next lines rest
 ends_next old new at next lines line [] here e = λ terms last. subst (λ t. SaysAt new t next) (same_Some line.conclusion terms (e ∙ last)) here
 ends_next old new at next lines line (y ∷ rest) here e = e
 
-pub AreLeft-next : (packages : Packages) (old new : List Known) (places more : List ℕ) (at next : ℕ) (lines : List Line) (line : Line) (rest : List Line) → Keeps old new → SaysAt new line.conclusion next
+pub AreLeft-next : (packages : Packages) (old new : List CausedIncompatibility) (places more : List ℕ) (at next : ℕ) (lines : List Line) (line : Line) (rest : List Line) → Keeps old new → SaysAt new line.conclusion next
     → more ≡ places ++ next ∷ [] → AreLeft packages old places at lines (line ∷ rest) → AreLeft packages new more next lines rest
 AreLeft-next packages old new places more at next lines line rest keeps here is h = record {
   earlier = h.earlier ++ line.conclusion ∷ [];
@@ -137,16 +137,16 @@ nothing_left [] (suc i) le = refl
 nothing_left (x ∷ rest) zero le = absurd (omega (arith, le))
 nothing_left (x ∷ rest) (suc i) le = nothing_left rest i (omega (arith, le))
 
-pub AreLeft-at : (packages : Packages) (known : List Known) (places : List ℕ) (at i : ℕ) (lines : List Line) (line : Line) → slice_get lines i ≡ Some line → AreLeft packages known places at lines (drop i lines)
+pub AreLeft-at : (packages : Packages) (known : List CausedIncompatibility) (places : List ℕ) (at i : ℕ) (lines : List Line) (line : Line) → slice_get lines i ≡ Some line → AreLeft packages known places at lines (drop i lines)
     → IsDerivedAt packages known places line
 AreLeft-at packages known places at i lines line here h = AreLeft-line packages known places at lines line (drop (suc i) lines) (subst (λ ls. AreLeft packages known places at lines ls) (dropped lines i line here) h)
 
-pub AreLeft-more : (packages : Packages) (old new : List Known) (places more : List ℕ) (at next i : ℕ) (lines : List Line) (line : Line) → slice_get lines i ≡ Some line → Keeps old new
+pub AreLeft-more : (packages : Packages) (old new : List CausedIncompatibility) (places more : List ℕ) (at next i : ℕ) (lines : List Line) (line : Line) → slice_get lines i ≡ Some line → Keeps old new
     → SaysAt new line.conclusion next → more ≡ places ++ next ∷ [] → AreLeft packages old places at lines (drop i lines) → AreLeft packages new more next lines (drop (i + 1) lines)
 AreLeft-more packages old new places more at next i lines line there keeps here is h =
     let count : suc i ≡ i + 1 = omega arith in
     subst (λ n. AreLeft packages new more next lines (drop n lines)) count
     (AreLeft-next packages old new places more at next lines line (drop (suc i) lines) keeps here is (subst (λ ls. AreLeft packages old places at lines ls) (dropped lines i line there) h))
 
-pub AreLeft-end : (packages : Packages) (known : List Known) (places : List ℕ) (at i : ℕ) (lines : List Line) → length lines ≤ i → AreLeft packages known places at lines (drop i lines) → IsForMember known lines at
+pub AreLeft-end : (packages : Packages) (known : List CausedIncompatibility) (places : List ℕ) (at i : ℕ) (lines : List Line) → length lines ≤ i → AreLeft packages known places at lines (drop i lines) → IsForMember known lines at
 AreLeft-end packages known places at i lines le h = (subst (λ ls. AreLeft packages known places at lines ls) (nothing_left lines i le) h).ends

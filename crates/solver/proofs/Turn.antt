@@ -9,9 +9,9 @@ use Rattle.partial.specs.Assignments.{decided_by, IsPartial}
 use Rattle.partial.specs.Satisfying.{CanGoBack, IsSatisfier, LeavesAlmost, Satisfied}
 use Rattle.registry.specs.Registry.{Packages}
 use Rattle.registry.specs.Requests.{Wanted}
-use Rattle.derivations.specs.Known.{FollowsFrom, IsResolved, StandsBy}
+use Rattle.derivations.specs.CausedIncompatibilities.{FollowsFrom, IsResolved, StandsBy}
 use Rattle.derivations.specs.Laws.{EmptyIsNoFact}
-use Rattle.derivations.specs.declared.known.Known.{Known}
+use Rattle.derivations.specs.declared.known.CausedIncompatibility.{CausedIncompatibility}
 use Rattle.derivations.specs.declared.known.Reason.TheVariants.{Resolved}
 use Rattle.std.specs.Prelude.{is_some}
 use Rattle.solver.specs.Lines.{AtLine, IsRefusal}
@@ -21,7 +21,7 @@ use Rattle.solver.proofs.Says.{says-take}
 use Rattle.solver.proofs.Back.{prior_before, so_far, decision_above, root_only}
 use Rattle.solver.proofs.Kept.{AreLines-push, IsSearch-line}
 
-module _ {in_order : Bool} (packages : Packages) (wanted : Wanted) (made : List Assignment) (known : List Known) (at bound : ℕ) (m : IsResolving in_order packages wanted made known at bound) where
+module _ {in_order : Bool} (packages : Packages) (wanted : Wanted) (made : List Assignment) (known : List CausedIncompatibility) (at bound : ℕ) (m : IsResolving in_order packages wanted made known at bound) where
   pub at_within : at < length known
   at_within = slice_get_within known at m.here.0 m.here.1
 
@@ -31,7 +31,7 @@ module _ {in_order : Bool} (packages : Packages) (wanted : Wanted) (made : List 
       let root = m.search.lines.root in
       (root.0, root.1, ap (λ terms. has_term terms 0) root.2)
 
-  module _ (line : Known) (read : line ≡ get_or known at line) where
+  module _ (line : CausedIncompatibility) (read : line ≡ get_or known at line) where
     same_line : m.here.0 ≡ line
     same_line = sym (get_or_from_slice_get known at m.here.0 line m.here.1) ∙ sym read
 
@@ -72,7 +72,7 @@ module _ {in_order : Bool} (packages : Packages) (wanted : Wanted) (made : List 
       cause_second a cause is why = let by = cause_of a cause is why in (by.line, by.at, by.on_package)
 
       -- the line that resolving gives
-      module _ (next : Known) (cause pivot : ℕ) (reason : next.reason ≡ Resolved at cause pivot) (follows : FollowsFrom known next.conclusion at cause pivot) (lawful : IsIncompat next.conclusion) where
+      module _ (next : CausedIncompatibility) (cause pivot : ℕ) (reason : next.reason ≡ Resolved at cause pivot) (follows : FollowsFrom known next.conclusion at cause pivot) (lawful : IsIncompat next.conclusion) where
         stands : StandsBy packages wanted known next.conclusion next.reason
         stands = subst (λ r. StandsBy packages wanted known next.conclusion r) (sym reason) follows
 

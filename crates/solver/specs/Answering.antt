@@ -14,7 +14,7 @@ use Rattle.solver.specs.declared.task.Task.{Task}
 use Rattle.solver.specs.declared.search.Search.{Search}
 use Rattle.solver.specs.declared.turns.Turned.{Turned}
 use Rattle.solver.specs.declared.turns.Turned.TheVariants as turned
-use Rattle.derivations.specs.declared.known.Known.{Known}
+use Rattle.derivations.specs.declared.known.CausedIncompatibility.{CausedIncompatibility}
 use Rattle.solver.specs.declared.turns.Ended.{Ended}
 use Rattle.solver.specs.declared.turns.Ended.TheVariants as ended
 use Rattle.solver.specs.Lines.{AreLines}
@@ -43,6 +43,6 @@ StopsBy task search (ended.Selected list) = Searches task search × IsAnswer tas
 StopsBy task search (ended.Refused end) = Refuses task search.known.items end
 
 -- a selection that meets the request, with lawful lines, or the place of a line that shows that none does
-abbrev pub EndsBy : Task → List Known → Ended → Type 0
+abbrev pub EndsBy : Task → List CausedIncompatibility → Ended → Type 0
 EndsBy task known (ended.Selected list) = AreLines task.registry.now.packages task.request.now known × IsAnswer task list.items
 EndsBy task known (ended.Refused end) = Refuses task known end

@@ -6,7 +6,7 @@ use Rattle.derivations.specs.Facts.{Terms}
 use Rattle.derivations.specs.Derivations.{IsDerivedBy, last_conclusion}
 use Rattle.derivations.specs.Learning.{AllStand, CauseStands, Offers}
 use Rattle.derivations.specs.declared.facts.Cause.{Cause}
-use Rattle.derivations.specs.declared.known.Known.{Known}
+use Rattle.derivations.specs.declared.known.CausedIncompatibility.{CausedIncompatibility}
 use Rattle.derivations.specs.declared.line.Line.{Line}
 use Rattle.solver.specs.declared.task.Task.{Task}
 use Rattle.solver.specs.Pushing.{SaysAt}
@@ -16,22 +16,22 @@ abbrev pub StoreStands : Task → Type 0
 StoreStands task = All (AllStand task.registry.now.packages) task.store.now.members
 
 -- each line that was there is there
-abbrev pub Keeps : List Known → List Known → Type 0
-Keeps old new = (k : ℕ) (line : Known) → slice_get old k ≡ Some line → slice_get new k ≡ Some line
+abbrev pub Keeps : List CausedIncompatibility → List CausedIncompatibility → Type 0
+Keeps old new = (k : ℕ) (line : CausedIncompatibility) → slice_get old k ≡ Some line → slice_get new k ≡ Some line
 
 -- what these say, one after the other, stands at these places
-pub record AreAt (known : List Known) (said : List Terms) (places : List ℕ) : Type 0 where
+pub record AreAt (known : List CausedIncompatibility) (said : List Terms) (places : List ℕ) : Type 0 where
   pub lengths : length places ≡ length said
   pub each : (i : ℕ) (terms : Terms) → slice_get said i ≡ Some terms → SaysAt known terms (get_or places i 0)
 
 -- the cause gives this, with earlier conclusions that stand at these places
-pub record IsGivenAt (known : List Known) (places : List ℕ) (c : Cause) (terms : Terms) : Type 0 where
+pub record IsGivenAt (known : List CausedIncompatibility) (places : List ℕ) (c : Cause) (terms : Terms) : Type 0 where
   pub earlier : List Terms
   pub said : AreAt known earlier places
   pub offers : Offers earlier c terms
 
 -- the line is derived from premises that stand and from earlier conclusions, which stand at these places
-pub record IsDerivedAt (packages : Packages) (known : List Known) (places : List ℕ) (line : Line) : Type 0 where
+pub record IsDerivedAt (packages : Packages) (known : List CausedIncompatibility) (places : List ℕ) (line : Line) : Type 0 where
   pub earlier : List Terms
   pub said : AreAt known earlier places
   pub derived : IsDerivedBy (Offers earlier) line
@@ -39,10 +39,10 @@ pub record IsDerivedAt (packages : Packages) (known : List Known) (places : List
   pub second : CauseStands packages line.causes.1
 
 -- the place of what a member's last line says
-abbrev pub IsForMember : List Known → List Line → ℕ → Type 0
+abbrev pub IsForMember : List CausedIncompatibility → List Line → ℕ → Type 0
 IsForMember known lines at = (terms : Terms) → last_conclusion lines ≡ Some terms → SaysAt known terms at
 
 -- what is left of the lines ends as they do, and where nothing is left that is said at a place
-abbrev pub EndsSo : List Known → ℕ → List Line → List Line → Type 0
+abbrev pub EndsSo : List CausedIncompatibility → ℕ → List Line → List Line → Type 0
 EndsSo known at lines [] = IsForMember known lines at
 EndsSo known at lines (line ∷ rest) = last_conclusion (line ∷ rest) ≡ last_conclusion lines

@@ -12,7 +12,7 @@ use Rattle.partial.specs.Satisfying.{IsNeither, LeavesAlmost, Satisfied, Satisfi
 use Rattle.partial.specs.Rank.{rank}
 use Rattle.registry.specs.Registry.{Packages}
 use Rattle.registry.specs.Requests.{Wanted}
-use Rattle.derivations.specs.declared.known.Known.{Known}
+use Rattle.derivations.specs.declared.known.CausedIncompatibility.{CausedIncompatibility}
 use Rattle.solver.specs.declared.task.Task.{Task}
 use Rattle.solver.specs.declared.search.Search.{Search}
 use Rattle.solver.specs.declared.acting.Acted.{Acted}
@@ -25,15 +25,15 @@ use Rattle.solver.specs.Lines.{AreLines, AtLine, IsRefusal}
 -- ---- what a search keeps
 
 -- the assignment is the negation of the term of the line at place k, whose other terms are satisfied by what came before
-pub record IsCaused (known : List Known) (before : List Assignment) (a : Assignment) (k : ℕ) : Type 0 where
-  pub line : Known
+pub record IsCaused (known : List CausedIncompatibility) (before : List Assignment) (a : Assignment) (k : ℕ) : Type 0 where
+  pub line : CausedIncompatibility
   pub at : slice_get known k ≡ Some line
   pub on_package : has_term line.conclusion a.pkg ≡ true
   pub negation : (choice : Option ℕ) → true_at line.conclusion a.pkg choice ≡ not (true_of a.term choice)
   pub others : SatisfiedBut before line.conclusion a.pkg
 
 -- a decision needs no cause, but has its place in the order of the walk where that is asked
-abbrev pub IsCausedBy : Bool → Packages → Wanted → List Known → List Assignment → Assignment → Why → Type 0
+abbrev pub IsCausedBy : Bool → Packages → Wanted → List CausedIncompatibility → List Assignment → Assignment → Why → Type 0
 IsCausedBy in_order packages wanted known before a (Decided ordinal) = IsPlaced in_order packages wanted before a.pkg ordinal
 IsCausedBy in_order packages wanted known before a (Derived k) = IsCaused known before a k
 
@@ -46,7 +46,7 @@ pub record BeginsWithRoot (made : List Assignment) : Type 0 where
   pub alone : (pkg : ℕ) (choice : Option ℕ) → (pkg ≡ 0 → ⊥) → says (take 2 made) pkg choice ≡ true
 
 -- the lines are lawful, the root comes first, each derivation is caused by a line, and decisions are placed in the order of the walk where that is asked
-pub record IsSearch (in_order : Bool) (packages : Packages) (wanted : Wanted) (made : List Assignment) (known : List Known) : Type 0 where
+pub record IsSearch (in_order : Bool) (packages : Packages) (wanted : Wanted) (made : List Assignment) (known : List CausedIncompatibility) : Type 0 where
   pub lines : AreLines packages wanted known
   pub begins : BeginsWithRoot made
   pub caused : (i : ℕ) (a : Assignment) → slice_get made i ≡ Some a → IsCausedBy in_order packages wanted known (take i made) a a.why
@@ -56,18 +56,18 @@ abbrev pub Searches : Task → Search → Type 0
 Searches task search = IsSearch task.newest task.registry.now.packages task.request.now search.partial search.known.items
 
 -- no selection meets the task's request, as the line at this place shows
-abbrev pub Refuses : Task → List Known → ℕ → Type 0
+abbrev pub Refuses : Task → List CausedIncompatibility → ℕ → Type 0
 Refuses task known end = IsRefusal task.registry.now.packages task.request.now known end
 
 -- ---- what a conflict ends in
 
 -- the line of a conflict, which the assignments before `bound` satisfy
-pub record IsResolving (in_order : Bool) (packages : Packages) (wanted : Wanted) (made : List Assignment) (known : List Known) (at bound : ℕ) : Type 0 where
+pub record IsResolving (in_order : Bool) (packages : Packages) (wanted : Wanted) (made : List Assignment) (known : List CausedIncompatibility) (at bound : ℕ) : Type 0 where
   pub search : IsSearch in_order packages wanted made known
   pub here : AtLine known at (λ line. Satisfied (take bound made) line.conclusion)
 
 -- a line that a jump back to the level leaves almost satisfied, or a line without terms
-abbrev pub ResolvesBy : Task → List Assignment → List Known → Resolution → Type 0
+abbrev pub ResolvesBy : Task → List Assignment → List CausedIncompatibility → Resolution → Type 0
 ResolvesBy task made known (resolution.Back at level) = AtLine known at (λ line. LeavesAlmost made line.conclusion level)
 ResolvesBy task made known (resolution.Refused end) = Refuses task known end
 

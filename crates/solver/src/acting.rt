@@ -13,8 +13,8 @@ use crate::conflict::{Resolution, resolve_conflict};
 use crate::lines::negation;
 use crate::search::Search;
 use crate::task::Task;
-use derivations::Known;
-use partial::{Partial, Standing};
+use derivations::CausedIncompatibility;
+use partial::{Partial, Satisfaction};
 use std::alloc::AllocError;
 use terms::Pkg;
 use versions::Refusal;
@@ -37,7 +37,7 @@ pub(crate) enum Acted {
 fn derive_by(
     task: &Task<'_>,
     partial: &mut Partial,
-    known: &[Known],
+    known: &[CausedIncompatibility],
     at: usize,
     pkg: Pkg,
 ) -> Result<(), AllocError>
@@ -86,8 +86,8 @@ fn meet_conflict(task: &Task<'_>, search: &mut Search, at: usize) -> Result<Acte
         Resolution::Back(line, level) => {
             search.partial.back_to(level);
             match search.partial.relation(&search.known[line].conclusion) {
-                Standing::Satisfied | Standing::Other => unreachable!(),
-                Standing::Almost(pkg) => {
+                Satisfaction::Satisfied | Satisfaction::Other => unreachable!(),
+                Satisfaction::Almost(pkg) => {
                     derive_by(task, &mut search.partial, &search.known, line, pkg)?;
                     Ok(Acted::Backjumped(line, pkg))
                 }
@@ -97,18 +97,22 @@ fn meet_conflict(task: &Task<'_>, search: &mut Search, at: usize) -> Result<Acte
 }
 
 /// Uses the line at a place: it is a conflict, or derives something, or is of no use now.
-pub(crate) fn act(task: &Task<'_>, search: &mut Search, at: usize) -> Result<Acted, Refusal>
+pub(crate) fn propagate_incompatibility(
+    task: &Task<'_>,
+    search: &mut Search,
+    at: usize,
+) -> Result<Acted, Refusal>
     requires within { at < length search.old.known.items }
     requires search { Searches task.now search.old }
     ensures acts { IfOk result (ActsBy task.now search.old search.new (IsUnused search.old search.new at)) }
     ensures only { IfErr result (MayRefuse task.now.budget) }
 {
     match search.partial.relation(&search.known[at].conclusion) {
-        Standing::Other => Ok(Acted::Neither),
-        Standing::Almost(pkg) => {
+        Satisfaction::Other => Ok(Acted::Neither),
+        Satisfaction::Almost(pkg) => {
             derive_by(task, &mut search.partial, &search.known, at, pkg)?;
             Ok(Acted::Derived(pkg))
         }
-        Standing::Satisfied => Ok(meet_conflict(task, search, at)?),
+        Satisfaction::Satisfied => Ok(meet_conflict(task, search, at)?),
     }
 }

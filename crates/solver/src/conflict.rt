@@ -8,7 +8,7 @@ ghost use Rattle.solver.specs.Searching.{IsSearch, ResolvesBy};
 
 use crate::lines::line_from;
 use crate::task::Task;
-use derivations::{Known, ROOT, empty_is_no_fact};
+use derivations::{CausedIncompatibility, ROOT, empty_is_no_fact};
 use heuristics::FAR;
 use partial::{Partial, Why};
 use std::alloc::AllocError;
@@ -23,7 +23,7 @@ pub(crate) enum Resolution {
 }
 
 /// Up to how many terms a line has to do with few of the packages that are decided.
-const FEW: usize = 3;
+const SHORT_LINE: usize = 3;
 
 /// The level to jump back to, from the one at which a line of so many terms is almost satisfied up to
 /// that at which it is satisfied. Where they lie far apart, and the terms are few, the search jumps back
@@ -34,7 +34,7 @@ fn level_between(least: usize, own: usize, terms: usize, stride: usize) -> usize
     ensures below { result < own }
 {
     let far = own - least;
-    if terms <= FEW && far > FAR && stride >= 1 && stride <= far {
+    if terms <= SHORT_LINE && far > FAR && stride >= 1 && stride <= far {
         own - stride
     } else {
         least
@@ -46,7 +46,7 @@ fn level_between(least: usize, own: usize, terms: usize, stride: usize) -> usize
 pub(crate) fn resolve_conflict(
     task: &Task<'_>,
     partial: &Partial,
-    known: &mut Vec<Known>,
+    known: &mut Vec<CausedIncompatibility>,
     first: usize,
     stride: usize,
 ) -> Result<Resolution, AllocError>

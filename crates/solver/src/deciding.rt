@@ -9,7 +9,7 @@ ghost use Rattle.solver.specs.Deciding.{IsPlaced, IsTurnOf};
 ghost use Rattle.solver.specs.Picking.{IsToDecide};
 ghost use Rattle.solver.specs.Searching.{ActsBy, MayRefuse, Searches};
 
-use crate::acting::{Acted, act};
+use crate::acting::{Acted, propagate_incompatibility};
 use crate::entering::enter;
 use crate::facts::push_barred;
 use crate::picking::{Picked, pick};
@@ -37,7 +37,7 @@ pub(crate) fn bar(
 {
     let at = push_barred(task, &mut search.known, pkg, versions)?;
     worklist.note(task.alloc, &search.known, at)?;
-    Ok(act(task, search, at)?)
+    Ok(propagate_incompatibility(task, search, at)?)
 }
 
 /// Decides for a version, unless one of its dependencies would be satisfied then, which is used instead

@@ -6,7 +6,7 @@ ghost use Rattle.registry.specs.Registry.{Repeats, is_published, needs_of};
 ghost use Rattle.solver.specs.Pushing.{AreDependents};
 
 use crate::task::Task;
-use heuristics::{Place, Sharing};
+use heuristics::{DependencyPlace, Sharing};
 use registry::ordinals_are_below_the_count;
 use std::alloc::AllocError;
 use terms::{Pkg, VSet};
@@ -77,7 +77,7 @@ pub(crate) fn versions_with(
 }
 
 /// Whether a version has this dependency at a place.
-fn is_at(task: &Task<'_>, pkg: Pkg, place: Place, entry: &(Name, Need)) -> bool
+fn is_at(task: &Task<'_>, pkg: Pkg, place: DependencyPlace, entry: &(Name, Need)) -> bool
     ensures { result ≡ true → Contains (needs_of task.now.registry.now.packages pkg place.ordinal) entry.now }
 {
     let Some(facts) = task.registry.facts_at(pkg, place.ordinal) else {
@@ -96,7 +96,7 @@ fn versions_among(
     pkg: Pkg,
     ordinal: u32,
     entry: &(Name, Need),
-    places: &[Place],
+    places: &[DependencyPlace],
 ) -> Result<VSet, AllocError>
     requires { Contains (needs_of task.now.registry.now.packages pkg ordinal) entry.now }
     ensures { IfOk result (AreDependents task.now.registry.now.packages pkg entry.now) }

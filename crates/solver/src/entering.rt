@@ -9,7 +9,7 @@ use crate::facts::push_dependency;
 use crate::picking::is_open;
 use crate::task::Task;
 use crate::worklist::Worklist;
-use derivations::Known;
+use derivations::CausedIncompatibility;
 use partial::Partial;
 use registry::ordinals_are_below_the_count;
 use std::alloc::AllocError;
@@ -18,7 +18,7 @@ use terms::Pkg;
 /// Puts the dependency of a version at an index behind the lines, unless it is there.
 fn add_dependency(
     task: &Task<'_>,
-    known: &mut Vec<Known>,
+    known: &mut Vec<CausedIncompatibility>,
     worklist: &mut Worklist,
     pkg: Pkg,
     ordinal: u32,
@@ -51,7 +51,7 @@ fn add_dependency(
 pub(crate) fn enter_alike(
     task: &Task<'_>,
     partial: &Partial,
-    known: &mut Vec<Known>,
+    known: &mut Vec<CausedIncompatibility>,
     worklist: &mut Worklist,
     pkg: Pkg,
 ) -> Result<(), AllocError>
@@ -71,7 +71,7 @@ pub(crate) fn enter_alike(
 /// Puts the dependencies of a version behind the lines, all of them before it is first decided.
 pub(crate) fn enter(
     task: &Task<'_>,
-    known: &mut Vec<Known>,
+    known: &mut Vec<CausedIncompatibility>,
     worklist: &mut Worklist,
     pkg: Pkg,
     ordinal: u32,
@@ -88,7 +88,7 @@ pub(crate) fn enter(
 /// Puts the dependencies of a version behind the lines that are not there.
 fn add_dependencies(
     task: &Task<'_>,
-    known: &mut Vec<Known>,
+    known: &mut Vec<CausedIncompatibility>,
     worklist: &mut Worklist,
     pkg: Pkg,
     ordinal: u32,

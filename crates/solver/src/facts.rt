@@ -10,7 +10,7 @@ ghost use Rattle.solver.specs.Pushing.{AreDependents, Extends, IsForNeed, SaysAt
 ghost use Rattle.solver.specs.Reusing.{Keeps};
 
 use crate::task::Task;
-use derivations::{Cause, Known, Premise, Reason, need_incompat};
+use derivations::{Cause, CausedIncompatibility, Premise, Reason, need_incompat};
 use std::alloc::AllocError;
 use terms::{Incompat, Pkg, Term, VSet};
 use versions::{Name, Need};
@@ -18,7 +18,7 @@ use versions::{Name, Need};
 /// Puts a fact behind the lines, and answers its place.
 fn push_fact(
     task: &Task<'_>,
-    known: &mut Vec<Known>,
+    known: &mut Vec<CausedIncompatibility>,
     conclusion: Incompat,
     cause: Cause,
 ) -> Result<usize, AllocError>
@@ -28,7 +28,7 @@ fn push_fact(
     ensures place { IfOk result (SaysAt known.new.items conclusion) }
 {
     let at = known.as_slice().len();
-    known.push(Known {
+    known.push(CausedIncompatibility {
         conclusion,
         reason: Reason::Fact(cause),
     })?;
@@ -40,7 +40,7 @@ fn push_fact(
 /// Puts what a premise says behind the lines.
 pub(crate) fn push_premise(
     task: &Task<'_>,
-    known: &mut Vec<Known>,
+    known: &mut Vec<CausedIncompatibility>,
     premise: Premise,
 ) -> Result<usize, AllocError>
     requires { Stands task.now.registry.now.packages premise }
@@ -58,7 +58,7 @@ pub(crate) fn push_premise(
 /// meets it, which are those within a set. Where none does, they can't be chosen.
 pub(crate) fn push_dependency(
     task: &Task<'_>,
-    known: &mut Vec<Known>,
+    known: &mut Vec<CausedIncompatibility>,
     pkg: Pkg,
     versions: VSet,
     entry: &(Name, Need),
@@ -87,7 +87,7 @@ pub(crate) fn push_dependency(
 /// Puts the need with this index behind the lines.
 pub(crate) fn push_need(
     task: &Task<'_>,
-    known: &mut Vec<Known>,
+    known: &mut Vec<CausedIncompatibility>,
     index: usize,
 ) -> Result<usize, AllocError>
     requires { index < length task.now.request.now.needs }
@@ -102,7 +102,7 @@ pub(crate) fn push_need(
 /// Puts behind the lines that none of these versions of a package is allowed.
 pub(crate) fn push_barred(
     task: &Task<'_>,
-    known: &mut Vec<Known>,
+    known: &mut Vec<CausedIncompatibility>,
     pkg: Pkg,
     versions: VSet,
 ) -> Result<usize, AllocError>

@@ -6,7 +6,7 @@ ghost use Rattle.solver.specs.Finding.{IsFound};
 use crate::offering::offered_of;
 use crate::task::Task;
 use crate::turns::Ended;
-use derivations::{Known, Learnt};
+use derivations::{CausedIncompatibility, Learnt};
 use terms::Pkg;
 
 /// What was found for a request, and what may be learnt of it.
@@ -15,11 +15,16 @@ pub(crate) enum Found {
     /// Packages with the ordinals of their versions.
     Selected(Vec<(Pkg, u32)>, Vec<Learnt>),
     /// The lines of a search, and the place of one without terms.
-    Refused(Vec<Known>, usize, Vec<Learnt>),
+    Refused(Vec<CausedIncompatibility>, usize, Vec<Learnt>),
 }
 
 /// What a search found that ended so, with what it offers of the lines at these places and of a refusal.
-pub(crate) fn found_of(task: &Task<'_>, ended: Ended, known: Vec<Known>, learnt: &[usize]) -> Found
+pub(crate) fn found_of(
+    task: &Task<'_>,
+    ended: Ended,
+    known: Vec<CausedIncompatibility>,
+    learnt: &[usize],
+) -> Found
     requires { EndsBy task.now known.items ended }
     ensures { IsFound task.now result }
 {

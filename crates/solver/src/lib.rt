@@ -23,11 +23,10 @@
 //! | `reusing.rt` | what is used of the store | | `IsForMember` |
 //! | `offering.rt` | what is offered to be learnt | | `AllStand` |
 //! | `search.rt`, `task.rt` | the state of a search, and what it is to solve | | `Searches` |
-//! | `worklist.rt`, `asked.rt` | what is looked at, and what is asked of the store | | none |
+//! | `worklist.rt`, `store_lookups.rt` | what is looked at, and what is asked of the store | | none |
 #![tactic(auto)]
 
 mod acting;
-mod asked;
 mod conflict;
 mod deciding;
 mod dependents;
@@ -45,6 +44,7 @@ mod reusing;
 mod search;
 mod solving;
 mod starting;
+mod store_lookups;
 mod task;
 mod turns;
 mod worklist;

@@ -3,10 +3,10 @@
 ghost use Rattle.std.specs.Prelude.{◌≡◌, ◌<◌, ℕ, Option, length, not, true, IfOk};
 ghost use Rattle.terms.specs.Terms.{true_of};
 ghost use Rattle.terms.specs.Incompats.{has_term, true_at, IsIncompat};
-ghost use Rattle.derivations.specs.Known.{FollowsFrom};
+ghost use Rattle.derivations.specs.CausedIncompatibilities.{FollowsFrom};
 ghost use Rattle.solver.specs.Lines.{AtLine};
 
-use derivations::{Known, Reason};
+use derivations::{CausedIncompatibility, Reason};
 use std::alloc::{AllocError, Global};
 use terms::{Incompat, Pkg, Term, VSet, resolve};
 
@@ -23,11 +23,11 @@ pub(crate) fn negation(alloc: Global, incompat: &Incompat, pkg: Pkg) -> Result<T
 /// What follows from the lines at two places on a pivot (doc/solver.md, "Conflict Resolution").
 pub(crate) fn line_from(
     alloc: Global,
-    known: &[Known],
+    known: &[CausedIncompatibility],
     i: usize,
     j: usize,
     pivot: Pkg,
-) -> Result<Known, AllocError>
+) -> Result<CausedIncompatibility, AllocError>
     requires first { i < length known.now }
     requires second { AtLine known.now j (λ line. has_term line.conclusion pivot ≡ true) }
     ensures follows { IfOk result (λ line. FollowsFrom known.now line.conclusion i j pivot) }
@@ -37,7 +37,7 @@ pub(crate) fn line_from(
     let first = &known[i];
     let second = &known[j];
     let conclusion = resolve(alloc, &first.conclusion, &second.conclusion, pivot)?;
-    Ok(Known {
+    Ok(CausedIncompatibility {
         conclusion,
         reason: Reason::Resolved(i, j, pivot),
     })

@@ -11,7 +11,7 @@ ghost use Rattle.walk.specs.Listing.{EndsWith, IsListing, IsOrder};
 ghost use Rattle.solver.specs.Deciding.{IsTurnAt};
 ghost use Rattle.solver.specs.Searching.{ActsBy, MayRefuse, Searches};
 
-use crate::acting::{Acted, act};
+use crate::acting::{Acted, propagate_incompatibility};
 use crate::deciding::{bar, decide_on};
 use crate::dependents::versions_with;
 use crate::facts::{push_dependency, push_need};
@@ -23,7 +23,7 @@ use registry::{matching_is_what_meets, publications_are_lawful};
 use std::alloc::AllocError;
 use terms::{Pkg, VSet};
 use versions::Refusal;
-use walk::{Chooser, Next, Order, Reached, reach};
+use walk::{Chooser, NextPackage, Order, Reached, reach};
 
 /// Chooses what is decided.
 #[derive(Clone, Copy)]
@@ -53,7 +53,7 @@ pub(crate) fn next_in_order(
     task: &Task<'_>,
     partial: &Partial,
     order: &mut Order,
-) -> Result<Option<Next>, AllocError>
+) -> Result<Option<NextPackage>, AllocError>
     requires { IsOrder task.now.registry.now.packages task.now.request.now.needs order.old }
     ensures order { OnOk result (IsOrder task.now.registry.now.packages task.now.request.now.needs order.new) }
     ensures listing { OnOk result (IsListing task.now.registry.now.packages task.now.request.now.needs (decided partial.now) order.new.found.entries) }
@@ -81,7 +81,7 @@ pub(crate) fn meet_need(
     let entry = &task.request.needs()[index];
     let at = push_need(task, &mut search.known, index)?;
     worklist.note(task.alloc, &search.known, at)?;
-    let acted = act(task, search, at)?;
+    let acted = propagate_incompatibility(task, search, at)?;
     match acted {
         Acted::Neither => match task.registry.number(&entry.0) {
             None => unreachable!(),
@@ -128,7 +128,7 @@ pub(crate) fn meet_dependency(
         within,
     )?;
     worklist.note(task.alloc, &search.known, at)?;
-    let acted = act(task, search, at)?;
+    let acted = propagate_incompatibility(task, search, at)?;
     match acted {
         Acted::Neither => Ok(decide_on(task, search, worklist, target)?),
         Acted::Derived(_) | Acted::Backjumped(_, _) | Acted::Refused(_) => Ok(acted),

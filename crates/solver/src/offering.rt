@@ -1,17 +1,17 @@
 // What a search offers to be learnt.
 
 ghost use Rattle.std.specs.Prelude.{All, IfOk};
-ghost use Rattle.derivations.specs.Known.{AreLawful, AreOrdered};
+ghost use Rattle.derivations.specs.CausedIncompatibilities.{AreLawful, AreOrdered};
 ghost use Rattle.derivations.specs.Learning.{AllStand};
 
 use crate::task::Task;
-use derivations::{Cause, Known, Learnt, Reason};
+use derivations::{Cause, CausedIncompatibility, Learnt, Reason};
 use extraction::offers;
 use std::alloc::AllocError;
 use store::STORE_LIMIT;
 
 /// Whether the line at a place is a fact of the request.
-fn is_asked(known: &[Known], place: usize) -> bool {
+fn is_asked(known: &[CausedIncompatibility], place: usize) -> bool {
     match known.get(place) {
         None => false,
         Some(line) => match &line.reason {
@@ -22,7 +22,7 @@ fn is_asked(known: &[Known], place: usize) -> bool {
 }
 
 /// The places of the two lines from which the one at a place follows.
-fn causes_at(known: &[Known], place: usize) -> Option<(usize, usize)> {
+fn causes_at(known: &[CausedIncompatibility], place: usize) -> Option<(usize, usize)> {
     match &known.get(place)?.reason {
         Reason::Fact(_) => None,
         Reason::Resolved(first, second, _) => Some((*first, *second)),
@@ -32,7 +32,7 @@ fn causes_at(known: &[Known], place: usize) -> Option<(usize, usize)> {
 /// The line from which a refusal follows by what the request says: on the way from the last conflict to
 /// the refusal, the last one before a fact of the request. Where there is no such fact it is the line of
 /// the refusal, of which nothing may be learnt.
-fn source_of(known: &[Known], end: usize) -> usize {
+fn source_of(known: &[CausedIncompatibility], end: usize) -> usize {
     let mut source = end;
     let mut at = end;
     for _ in 0..known.len() {
@@ -48,12 +48,16 @@ fn source_of(known: &[Known], end: usize) -> usize {
 }
 
 /// Whether the line at a place, if there is one, says what the store doesn't.
-fn is_new(task: &Task<'_>, known: &[Known], place: usize) -> bool {
+fn is_new(task: &Task<'_>, known: &[CausedIncompatibility], place: usize) -> bool {
     place < known.len() && !task.store.has(&known[place].conclusion)
 }
 
 /// The place of the line from which a refusal follows, where it says what the store doesn't.
-fn new_source(task: &Task<'_>, known: &[Known], end: Option<usize>) -> Option<usize> {
+fn new_source(
+    task: &Task<'_>,
+    known: &[CausedIncompatibility],
+    end: Option<usize>,
+) -> Option<usize> {
     let source = source_of(known, end?);
     if is_new(task, known, source) {
         Some(source)
@@ -63,7 +67,7 @@ fn new_source(task: &Task<'_>, known: &[Known], end: Option<usize>) -> Option<us
 }
 
 /// Whether the line at a place says what the source of a refusal does, if there is one.
-fn says_source(known: &[Known], source: Option<usize>, place: usize) -> bool {
+fn says_source(known: &[CausedIncompatibility], source: Option<usize>, place: usize) -> bool {
     match source {
         None => false,
         Some(source) => {
@@ -79,7 +83,7 @@ fn says_source(known: &[Known], source: Option<usize>, place: usize) -> bool {
 /// would refuse.
 fn new_places(
     task: &Task<'_>,
-    known: &[Known],
+    known: &[CausedIncompatibility],
     places: &[usize],
     end: Option<usize>,
 ) -> Result<Vec<usize>, AllocError> {
@@ -102,7 +106,7 @@ fn new_places(
 /// What may be learnt of the lines at these places and of a refusal that the store doesn't have.
 fn find_offers(
     task: &Task<'_>,
-    known: &[Known],
+    known: &[CausedIncompatibility],
     places: &[usize],
     end: Option<usize>,
 ) -> Result<Vec<Learnt>, AllocError>
@@ -118,7 +122,7 @@ fn find_offers(
 /// An answer doesn't depend on memory for it: where that is wanting, nothing is offered.
 pub(crate) fn offered_of(
     task: &Task<'_>,
-    known: &[Known],
+    known: &[CausedIncompatibility],
     places: &[usize],
     end: Option<usize>,
 ) -> Vec<Learnt>

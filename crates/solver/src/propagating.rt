@@ -4,13 +4,13 @@ ghost use Rattle.std.specs.Prelude.{◌≡◌, ◌<◌, Ok, length, IfErr, IfOk}
 ghost use Rattle.solver.specs.Searching.{ActsBy, IsIdle, IsUnchanged, MayRefuse, Searches};
 ghost use Rattle.solver.specs.Reusing.{StoreStands};
 
-use crate::acting::{Acted, act};
+use crate::acting::{Acted, propagate_incompatibility};
 use crate::entering::enter_alike;
 use crate::reusing::use_stored;
 use crate::search::Search;
 use crate::task::Task;
 use crate::worklist::Worklist;
-use partial::Standing;
+use partial::Satisfaction;
 use terms::Pkg;
 use versions::Refusal;
 
@@ -33,7 +33,7 @@ fn use_places(
     for i in (0..places.len()).rev() {
         let at = places[i];
         if at < search.known.as_slice().len() {
-            match act(task, search, at)? {
+            match propagate_incompatibility(task, search, at)? {
                 Acted::Neither => {}
                 Acted::Derived(pkg) => {
                     used.push(at)?;
@@ -110,7 +110,7 @@ pub(crate) fn use_from(
 {
     for at in from..search.known.as_slice().len() {
         if is_in_the_way(search, pkg, at) {
-            return Ok(act(task, search, at)?);
+            return Ok(propagate_incompatibility(task, search, at)?);
         }
     }
     Ok(Acted::Neither)
@@ -121,8 +121,8 @@ fn is_in_the_way(search: &Search, pkg: Pkg, at: usize) -> bool
     requires { at < length search.now.known.items }
 {
     match search.partial.relation(&search.known[at].conclusion) {
-        Standing::Satisfied => true,
-        Standing::Almost(left) => left == pkg,
-        Standing::Other => false,
+        Satisfaction::Satisfied => true,
+        Satisfaction::Almost(left) => left == pkg,
+        Satisfaction::Other => false,
     }
 }

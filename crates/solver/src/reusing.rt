@@ -10,13 +10,13 @@ ghost use Rattle.solver.specs.Pushing.{Extends, SaysAt};
 ghost use Rattle.solver.specs.Searching.{ActsBy, IsIdle, MayRefuse, Searches};
 ghost use Rattle.solver.specs.Reusing.{IsDerivedAt, IsForMember, IsGivenAt, Keeps, StoreStands};
 
-use crate::acting::{Acted, act};
+use crate::acting::{Acted, propagate_incompatibility};
 use crate::facts::push_premise;
 use crate::search::Search;
 use crate::task::Task;
 use crate::worklist::Worklist;
-use derivations::{Cause, Known, Learnt, Line, Reason};
-use partial::Standing;
+use derivations::{Cause, CausedIncompatibility, Learnt, Line, Reason};
+use partial::Satisfaction;
 use std::alloc::AllocError;
 use terms::Pkg;
 use versions::Refusal;
@@ -25,7 +25,7 @@ use versions::Refusal;
 /// premise is put behind the lines.
 fn place_of(
     task: &Task<'_>,
-    known: &mut Vec<Known>,
+    known: &mut Vec<CausedIncompatibility>,
     places: &[usize],
     cause: &Cause,
 ) -> Result<usize, AllocError>
@@ -45,7 +45,7 @@ fn place_of(
 /// Puts a member's line behind the lines, with its premises.
 fn push_line(
     task: &Task<'_>,
-    known: &mut Vec<Known>,
+    known: &mut Vec<CausedIncompatibility>,
     places: &[usize],
     line: &Line,
 ) -> Result<usize, AllocError>
@@ -58,7 +58,7 @@ fn push_line(
     let second = place_of(task, known, places, &line.causes.1)?;
     let conclusion = line.conclusion.copy(task.alloc)?;
     let at = known.as_slice().len();
-    known.push(Known {
+    known.push(CausedIncompatibility {
         conclusion,
         reason: Reason::Resolved(first, second, line.pivot),
     })?;
@@ -68,7 +68,7 @@ fn push_line(
 /// Puts all lines of a member behind the lines, and answers the place of the last one.
 pub(crate) fn push_learnt(
     task: &Task<'_>,
-    known: &mut Vec<Known>,
+    known: &mut Vec<CausedIncompatibility>,
     learnt: &Learnt,
 ) -> Result<usize, AllocError>
     requires { AllStand task.now.registry.now.packages learnt.now }
@@ -111,8 +111,8 @@ fn enter_member(
         return Ok(None);
     };
     match search.partial.relation(learnt.conclusion()) {
-        Standing::Other => Ok(None),
-        Standing::Almost(_) | Standing::Satisfied => {
+        Satisfaction::Other => Ok(None),
+        Satisfaction::Almost(_) | Satisfaction::Satisfied => {
             let at = push_learnt(task, &mut search.known, learnt)?;
             worklist.take(task.alloc, &search.known, place, at)?;
             Ok(Some(at))
@@ -137,7 +137,7 @@ fn use_member(
         None => Ok(Acted::Neither),
         Some(at) => {
             worklist.agenda.used.push(at)?;
-            Ok(act(task, search, at)?)
+            Ok(propagate_incompatibility(task, search, at)?)
         }
     }
 }

@@ -1,7 +1,7 @@
 // The state of a search.
 
-use derivations::Known;
-use heuristics::Lines;
+use derivations::CausedIncompatibility;
+use heuristics::SearchLines;
 use partial::Partial;
 use terms::Incompat;
 
@@ -10,14 +10,14 @@ use terms::Incompat;
 #[derive(Drop)]
 pub(crate) struct Search {
     pub partial: Partial,
-    pub known: Vec<Known>,
+    pub known: Vec<CausedIncompatibility>,
     pub conflicts: u32,
     /// How many levels the search jumps back at the next conflict, where it could use the line far below:
     /// twice as many as at the last one, if nothing was decided since.
     pub stride: usize,
 }
 
-impl Lines for Search {
+impl SearchLines for Search {
     #[inline(always)]
     fn conclusion(&self, at: usize) -> Option<&Incompat> {
         Some(&self.known.as_slice().get(at)?.conclusion)

@@ -9,17 +9,17 @@ use crate::facts::push_need;
 use crate::search::Search;
 use crate::task::Task;
 use crate::worklist::Worklist;
-use derivations::{Cause, Known, ROOT, Reason};
+use derivations::{Cause, CausedIncompatibility, ROOT, Reason};
 use partial::Partial;
 use std::alloc::AllocError;
 use terms::{Incompat, Term, VSet};
 
 /// That the root is chosen.
-fn root_line(task: &Task<'_>) -> Result<Known, AllocError>
+fn root_line(task: &Task<'_>) -> Result<CausedIncompatibility, AllocError>
     ensures { IfOk result (λ line. line ≡ record { conclusion = root_terms; reason = Reason.Fact Cause.Root }) }
 {
     let term = Term::NotIn(VSet::single(task.alloc, 0)?);
-    Ok(Known {
+    Ok(CausedIncompatibility {
         conclusion: Incompat::single(task.alloc, ROOT, term)?,
         reason: Reason::Fact(Cause::Root),
     })
@@ -64,7 +64,7 @@ fn begin(task: &Task<'_>, room: usize) -> Result<Search, AllocError>
 /// Puts all needs behind the lines. They stand at the root's level, whatever is decided later.
 fn add_needs(
     task: &Task<'_>,
-    known: &mut Vec<Known>,
+    known: &mut Vec<CausedIncompatibility>,
     worklist: &mut Worklist,
 ) -> Result<(), AllocError>
     ensures { OnOk result (Extends task.now known.old.items known.new.items) }

@@ -20,8 +20,8 @@ use derivations::kept_lines_hold;
 use terms::Pkg;
 use versions::Refusal;
 use walk::{
-    Asker, Next, Order, Reached, a_list_in_order_is_its_selection, there_is_one_list_in_order,
-    what_is_asked_is_listed,
+    Asker, NextPackage, Order, Reached, a_list_in_order_is_its_selection,
+    there_is_one_list_in_order, what_is_asked_is_listed,
 };
 
 /// What a turn of the search did.
@@ -84,7 +84,7 @@ fn decide_next(
     task: &Task<'_>,
     search: &mut Search,
     worklist: &mut Worklist,
-    next: Next,
+    next: NextPackage,
 ) -> Result<Acted, Refusal>
     requires search { Searches task.now search.old }
     requires turn { IsTurnOf task.now search.old.partial next.pkg }

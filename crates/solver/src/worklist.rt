@@ -6,9 +6,9 @@
 ghost use Rattle.std.specs.Prelude.{◌≡◌};
 
 use crate::acting::Acted;
-use crate::asked::Asked;
+use crate::store_lookups::StoreLookups;
 use crate::task::Task;
-use derivations::{Known, Reason};
+use derivations::{CausedIncompatibility, Reason};
 use heuristics::{Agenda, Sharing};
 use partial::Partial;
 use std::alloc::{AllocError, Global};
@@ -26,7 +26,7 @@ pub(crate) struct Worklist {
     /// Which versions may have the same dependency.
     pub sharing: Sharing,
     /// What was asked of the store.
-    pub asked: Asked,
+    pub asked: StoreLookups,
 }
 
 impl Worklist {
@@ -39,7 +39,7 @@ impl Worklist {
             learnt: Vec::new(alloc),
             agenda,
             sharing: Sharing::new(alloc),
-            asked: Asked::new(alloc),
+            asked: StoreLookups::new(alloc),
         })
     }
 
@@ -56,7 +56,12 @@ impl Worklist {
     }
 
     /// Notes the line at a place with each package that it names.
-    pub fn note(&mut self, alloc: Global, known: &[Known], at: usize) -> Result<(), AllocError>
+    pub fn note(
+        &mut self,
+        alloc: Global,
+        known: &[CausedIncompatibility],
+        at: usize,
+    ) -> Result<(), AllocError>
         ensures { self.new.changed.items ≡ self.old.changed.items }
     {
         match known.get(at) {
@@ -69,7 +74,7 @@ impl Worklist {
     pub fn note_dependency(
         &mut self,
         alloc: Global,
-        known: &[Known],
+        known: &[CausedIncompatibility],
         at: usize,
         pkg: Pkg,
         target: Pkg,
@@ -89,7 +94,7 @@ impl Worklist {
     pub fn take(
         &mut self,
         alloc: Global,
-        known: &[Known],
+        known: &[CausedIncompatibility],
         place: u32,
         at: usize,
     ) -> Result<(), AllocError>
@@ -107,7 +112,7 @@ impl Worklist {
         &mut self,
         task: &Task<'_>,
         partial: &Partial,
-        known: &[Known],
+        known: &[CausedIncompatibility],
         before: usize,
         acted: Acted,
     ) -> Result<(), AllocError> {
@@ -130,7 +135,7 @@ impl Worklist {
         &mut self,
         task: &Task<'_>,
         partial: &Partial,
-        known: &[Known],
+        known: &[CausedIncompatibility],
         before: usize,
     ) -> Result<(), AllocError> {
         for line in known.iter().skip(before) {
@@ -150,7 +155,7 @@ impl Worklist {
         &mut self,
         task: &Task<'_>,
         partial: &Partial,
-        known: &[Known],
+        known: &[CausedIncompatibility],
         conclusion: &Incompat,
         before: usize,
         at: usize,

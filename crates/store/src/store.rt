@@ -15,7 +15,7 @@ use crate::laws::{commands_keep, learning_keeps};
 use crate::members::{Members, members_in};
 use crate::slots::{add_all_names, add_key, add_keys, add_names, has_concluded, member_at};
 use crate::wants::{Wants, add_all_rests, add_rests};
-use derivations::{LINE_LIMIT, Learnt};
+use derivations::{DERIVATION_LINE_LIMIT, Learnt};
 use registry::{Command, Registry, matching_is_what_meets};
 use std::alloc::{AllocError, Global};
 use std::marker::Model;
@@ -29,10 +29,10 @@ pub const STORE_LIMIT: usize = 4_096;
 const MOST_EMPTY: usize = 256;
 
 /// The most requirements that lines rest on.
-const MOST_RESTS: usize = 2 * LINE_LIMIT;
+const MOST_RESTS: usize = 2 * DERIVATION_LINE_LIMIT;
 
 /// The most packages that a conclusion names.
-const MOST_NAMES: usize = 4 * LINE_LIMIT;
+const MOST_NAMES: usize = 4 * DERIVATION_LINE_LIMIT;
 
 /// What was learnt, in order of learning.
 ///

@@ -8,7 +8,7 @@ use Rattle.semver.specs.Parse.{IsRefused, is_memory, memory_error, req_of, versi
 use Rattle.semver.specs.declared.error.Error.{Error}
 use Rattle.versions.proofs.NeverMemory.{NeverMemory, req_of-NeverMemory, version_parts-NeverMemory}
 use Rattle.versions.specs.declared.need.TheConstants.{REQUIREMENT_LIMIT}
-use Rattle.versions.specs.declared.published.TheConstants.{VERSION_LIMIT}
+use Rattle.versions.specs.declared.published.TheConstants.{VERSION_TEXT_LIMIT}
 use Rattle.versions.specs.declared.refusal.Refusal.{Refusal}
 use Rattle.versions.specs.declared.refusal.Refusal.TheVariants.{BadRequirement, BadVersion, NoMemory}
 use Rattle.semver.specs.declared.Comparator.{Comparator}
@@ -43,12 +43,12 @@ told_apart (Err found) result fault answer bad never apart is how refused memory
     (λ e. refl, λ e. other (λ same. not_memory found never (err-same result found fault refused is ∙ same)))
 
 -- the same of a version's text, which is short enough
-pub refused_version : {T : Type 0} (text : Text) (result : Result T Error) (fault : Error) (answer : Refusal) → length text ≤ VERSION_LIMIT
+pub refused_version : {T : Type 0} (text : Text) (result : Result T Error) (fault : Error) (answer : Refusal) → length text ≤ VERSION_TEXT_LIMIT
     → result ≡ Err fault → (fault ≡ memory_error) ⊎ (version_parts text ≡ Err fault) → IsRefused (version_parts text) result
     → (fault ≡ memory_error → answer ≡ NoMemory) → ((fault ≡ memory_error → ⊥) → answer ≡ BadVersion)
     → (answer ≡ BadVersion) ↔ (is_version text ≡ false)
 refused_version text result fault answer short is how refused memory other =
-    let le : nat_le (length text) VERSION_LIMIT ≡ true = search rules in
+    let le : nat_le (length text) VERSION_TEXT_LIMIT ≡ true = search rules in
     let apart : BadVersion ≡ NoMemory → ⊥ = λ e. cc e in
     rw le (told_apart (version_parts text) result fault answer BadVersion (version_parts-NeverMemory text) apart is how refused memory other)
 

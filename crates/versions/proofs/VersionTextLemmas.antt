@@ -6,7 +6,7 @@ use Rattle.semver.specs.Parse.{Parts, version_parts}
 use Rattle.semver.specs.declared.error.Error.{Error}
 use Rattle.versions.specs.VersionTexts.{VersionsAreThoseOfTheGrammar, WritesOut}
 use Rattle.versions.specs.Words.{Text}
-use Rattle.versions.specs.declared.published.TheConstants.{VERSION_LIMIT}
+use Rattle.versions.specs.declared.published.TheConstants.{VERSION_TEXT_LIMIT}
 
 -- what a reader that does not fail read
 read-value : {A : Type 0} (r : Result A Error) → is_ok r ≡ true → (x : A) × (r ≡ Ok x)
@@ -25,10 +25,10 @@ reads-in text parts w = rw (← w.written) (rw (version_parts-complete parts w.v
 pub versions-of_the_grammar : VersionsAreThoseOfTheGrammar
 versions-of_the_grammar text = (
   λ is.
-      let short : length text ≤ VERSION_LIMIT = search rules in
+      let short : length text ≤ VERSION_TEXT_LIMIT = search rules in
       let read : is_ok (version_parts text) ≡ true = search rules in
       (short, reads-out text read),
   λ told.
-      let short : nat_le (length text) VERSION_LIMIT ≡ true = search (rules, told.0) in
+      let short : nat_le (length text) VERSION_TEXT_LIMIT ≡ true = search (rules, told.0) in
       rw (short, reads-in text told.1.0 told.1.1) refl,
 )

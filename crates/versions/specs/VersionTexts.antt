@@ -4,7 +4,7 @@ use Rattle.semver.specs.Grammar.{IsValid}
 use Rattle.semver.specs.Identifiers.{parts_text}
 use Rattle.semver.specs.Parse.{Parts}
 use Rattle.versions.specs.Words.{Text, is_version}
-use Rattle.versions.specs.declared.published.TheConstants.{VERSION_LIMIT}
+use Rattle.versions.specs.declared.published.TheConstants.{VERSION_TEXT_LIMIT}
 
 -- numbers of 64 bits, a pre-release and build metadata, each of the grammar, that a text writes out
 pub record WritesOut (text : Text) (parts : Parts) : Type 0 where
@@ -13,4 +13,4 @@ pub record WritesOut (text : Text) (parts : Parts) : Type 0 where
 
 -- a text is a version exactly where it has at most VERSION_LIMIT bytes and writes out such parts
 abbrev pub VersionsAreThoseOfTheGrammar : Type 0
-VersionsAreThoseOfTheGrammar = (text : Text) → IsTrue (is_version text) ↔ ((length text ≤ VERSION_LIMIT) × ((parts : Parts) × WritesOut text parts))
+VersionsAreThoseOfTheGrammar = (text : Text) → IsTrue (is_version text) ↔ ((length text ≤ VERSION_TEXT_LIMIT) × ((parts : Parts) × WritesOut text parts))

@@ -8,10 +8,10 @@
 
 mod bounds;
 mod faults;
-mod kept;
 mod limits;
 mod name;
 mod need;
+mod parsed_text;
 mod precedence;
 mod published;
 mod refusal;
@@ -21,5 +21,5 @@ pub use limits::limits_in_numbers;
 pub use name::{NAME_LIMIT, Name, is_name_text};
 pub use need::{Need, REQUIREMENT_LIMIT, pre_releases_are_named};
 pub use precedence::{equal_precedence_is_an_equivalence, order, precedence_is_a_total_preorder};
-pub use published::{Published, VERSION_LIMIT, versions_are_those_of_the_grammar};
+pub use published::{Published, VERSION_TEXT_LIMIT, versions_are_those_of_the_grammar};
 pub use refusal::Refusal;

@@ -13,7 +13,7 @@ ghost use Rattle.versions.specs.Refusals.{Gives};
 ghost use Rattle.versions.specs.Words.{is_requirement, meets};
 
 use crate::faults::refusal_of;
-use crate::kept::Kept;
+use crate::parsed_text::ParsedText;
 use crate::published::Published;
 use crate::refusal::Refusal;
 use semver::VersionReq;
@@ -31,7 +31,7 @@ pub const REQUIREMENT_LIMIT: usize = 256;
 /// requirements. A copy shares the text and what was read from it.
 #[derive(Drop)]
 pub struct Need {
-    kept: Arc<Kept<VersionReq>>,
+    kept: Arc<ParsedText<VersionReq>>,
 }
 
 impl Model for Need {
@@ -99,7 +99,7 @@ impl Need {
                 parsed.comparators.shrink_to_fit();
                 let text = String::from_str(alloc, text)?;
                 Ok(Need {
-                    kept: Arc::new(alloc, Kept { text, parsed })?,
+                    kept: Arc::new(alloc, ParsedText { text, parsed })?,
                 })
             }
             Err(fault) => Err(refusal_of(fault, Refusal::BadRequirement)),

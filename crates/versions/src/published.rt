@@ -8,7 +8,7 @@ ghost use Rattle.versions.specs.VersionTexts.{VersionsAreThoseOfTheGrammar};
 ghost use Rattle.versions.specs.Words.{is_version};
 
 use crate::faults::refusal_of;
-use crate::kept::Kept;
+use crate::parsed_text::ParsedText;
 use crate::refusal::Refusal;
 use semver::Version;
 use std::alloc::{AllocError, Global};
@@ -16,7 +16,7 @@ use std::marker::Model;
 use std::sync::Arc;
 
 /// The bytes that a version's text may have.
-pub const VERSION_LIMIT: usize = 256;
+pub const VERSION_TEXT_LIMIT: usize = 256;
 
 /// A version that a package can publish, by its text (Semantic Versioning 2.0.0).
 ///
@@ -24,7 +24,7 @@ pub const VERSION_LIMIT: usize = 256;
 /// text and what was read from it.
 #[derive(Drop)]
 pub struct Published {
-    kept: Arc<Kept<Version>>,
+    kept: Arc<ParsedText<Version>>,
 }
 
 impl Model for Published {
@@ -32,13 +32,13 @@ impl Model for Published {
     ghost use Rattle.std.specs.Arc.{arc_value};
     ghost use Rattle.semver.specs.Identifiers.{parts_of};
     ghost use Rattle.semver.specs.Parse.{version_parts};
-    ghost use Rattle.versions.specs.declared.published.TheConstants.{VERSION_LIMIT};
+    ghost use Rattle.versions.specs.declared.published.TheConstants.{VERSION_TEXT_LIMIT};
 
     ghost Value = { List ℕ };
 
     ghost view = { λ p. string_bytes (arc_value p.kept).text };
 
-    ghost invariant = { λ p. (length (string_bytes (arc_value p.kept).text) ≤ VERSION_LIMIT)
+    ghost invariant = { λ p. (length (string_bytes (arc_value p.kept).text) ≤ VERSION_TEXT_LIMIT)
         × (version_parts (string_bytes (arc_value p.kept).text) ≡ Ok (parts_of (arc_value p.kept).parsed)) };
 }
 
@@ -54,19 +54,19 @@ impl Clone for Published {
 
 impl Published {
     /// Reads a version and keeps its text. Any other text is [`Refusal::BadVersion`], also one above
-    /// [`VERSION_LIMIT`] bytes.
+    /// [`VERSION_TEXT_LIMIT`] bytes.
     pub fn read(alloc: Global, text: &str) -> Result<Published, Refusal>
         ensures gives { Gives (λ version. version) result (version_in text.now) }
         ensures refused { (result ≡ Err Refusal.BadVersion) ↔ (is_version text.now ≡ false) }
     {
-        if text.len() > VERSION_LIMIT {
+        if text.len() > VERSION_TEXT_LIMIT {
             return Err(Refusal::BadVersion);
         }
         match Version::parse(alloc, text) {
             Ok(parsed) => {
                 let text = String::from_str(alloc, text)?;
                 Ok(Published {
-                    kept: Arc::new(alloc, Kept { text, parsed })?,
+                    kept: Arc::new(alloc, ParsedText { text, parsed })?,
                 })
             }
             Err(fault) => Err(refusal_of(fault, Refusal::BadVersion)),

@@ -8,7 +8,7 @@ use Rattle.registry.specs.Registry.{Packages, is_named, needs_of, number_from, n
 use Rattle.registry.specs.Requests.{Wanted}
 use Rattle.registry.specs.Selections.{Choices, IsMet, Meets}
 use Rattle.walk.specs.Choosing.{Follows, choice_of}
-use Rattle.walk.specs.declared.listing.Next.{Next}
+use Rattle.walk.specs.declared.listing.NextPackage.{NextPackage}
 use Rattle.walk.specs.Listing.{AreAll, EndsWith, IsListing}
 use Rattle.walk.specs.Newest.{dependencies_of, first_new, in_name_order, new_or_later, next_package}
 use Rattle.walk.proofs.Lists.{choice-entry}
@@ -50,9 +50,9 @@ published_numbered packages (suc n) k e = omega arith
 
 -- ---- one list
 
-module _ (packages : Packages) (needs : List (Text × Text)) (chooses : Choices) (found list : List (ℕ × ℕ)) (next : Option Next) (one : IsListing packages needs chooses found) (ends : EndsWith packages needs chooses found next)
+module _ (packages : Packages) (needs : List (Text × Text)) (chooses : Choices) (found list : List (ℕ × ℕ)) (next : Option NextPackage) (one : IsListing packages needs chooses found) (ends : EndsWith packages needs chooses found next)
     (two : IsListing packages needs chooses list) (all : AreAll chooses list) where
-  not_ended : (o : Option Next) → EndsWith packages needs chooses found o → (p k : ℕ) → next_package packages needs found ≡ Some p → chooses p ≡ Some k → ⊥
+  not_ended : (o : Option NextPackage) → EndsWith packages needs chooses found o → (p k : ℕ) → next_package packages needs found ≡ Some p → chooses p ≡ Some k → ⊥
   not_ended None e p k comes chosen = none-some p (sym e ∙ comes)
   not_ended (Some q) e p k comes chosen = none-some k (sym e.none ∙ ap chooses (same_Some q.pkg p (sym e.comes ∙ comes)) ∙ chosen)
 
@@ -88,7 +88,7 @@ module _ (packages : Packages) (needs : List (Text × Text)) (chooses : Choices)
       let m : length list + length found ≡ length found + length list = omega arith in
       sym (take_whole found n (past found (length list))) ∙ same_to n ∙ take_whole list n (subst (λ k. slice_get list k ≡ None) m (past list (length found)))
 
-pub one-list : (packages : Packages) (needs : List (Text × Text)) (chooses : Choices) (found list : List (ℕ × ℕ)) (next : Option Next) → IsListing packages needs chooses found → EndsWith packages needs chooses found next
+pub one-list : (packages : Packages) (needs : List (Text × Text)) (chooses : Choices) (found list : List (ℕ × ℕ)) (next : Option NextPackage) → IsListing packages needs chooses found → EndsWith packages needs chooses found next
     → IsListing packages needs chooses list → AreAll chooses list → found ≡ list
 one-list packages needs chooses found list next one ends two all = one_list packages needs chooses found list next one ends two all
 

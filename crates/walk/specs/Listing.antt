@@ -7,8 +7,8 @@ use Rattle.registry.specs.Requests.{Wanted}
 use Rattle.registry.specs.Selections.{Choices, Meets}
 use Rattle.walk.specs.Choosing.{Follows, choice_of}
 use Rattle.walk.specs.Newest.{in_name_order, insert_by_name, next_package}
-use Rattle.walk.specs.declared.listing.Listed.{Listed}
-use Rattle.walk.specs.declared.listing.Next.{Next}
+use Rattle.walk.specs.declared.listing.WalkListing.{WalkListing}
+use Rattle.walk.specs.declared.listing.NextPackage.{NextPackage}
 use Rattle.walk.specs.declared.order.Order.{Order}
 use Rattle.walk.specs.declared.reached.Asker.{Asker}
 use Rattle.walk.specs.declared.reached.Asker.TheVariants as asker
@@ -29,24 +29,24 @@ AsksBy chooses asker.Request = Unit {0}
 AsksBy chooses (asker.Version p k) = chooses p ≡ Some k
 
 -- the package is named by the line at this place
-pub record IsAskedAt (packages : Packages) (needs : List (Text × Text)) (chooses : Choices) (next : Next) : Type 0 where
+pub record IsAskedAt (packages : Packages) (needs : List (Text × Text)) (chooses : Choices) (next : NextPackage) : Type 0 where
   pub line : Text × Text
   pub asks : AsksBy chooses next.asker
   pub at : slice_get (lines_of packages needs next.asker) next.index ≡ Some line
   pub numbered : number_of packages line.0 ≡ Some next.pkg
 
 -- the package comes next, by the line at this place, and nothing is chosen of it
-pub record IsNext (packages : Packages) (needs : List (Text × Text)) (chooses : Choices) (found : List (ℕ × ℕ)) (next : Next) : Type 0 where
+pub record IsNext (packages : Packages) (needs : List (Text × Text)) (chooses : Choices) (found : List (ℕ × ℕ)) (next : NextPackage) : Type 0 where
   pub comes : next_package packages needs found ≡ Some next.pkg
   pub none : chooses next.pkg ≡ None
   pub asked : IsAskedAt packages needs chooses next
 
-abbrev pub EndsWith : Packages → List (Text × Text) → Choices → List (ℕ × ℕ) → Option Next → Type 0
+abbrev pub EndsWith : Packages → List (Text × Text) → Choices → List (ℕ × ℕ) → Option NextPackage → Type 0
 EndsWith packages needs chooses found None = next_package packages needs found ≡ None
 EndsWith packages needs chooses found (Some next) = IsNext packages needs chooses found next
 
 -- what is listed, up to a package of which nothing is chosen, or to the end
-pub record IsListed (packages : Packages) (needs : List (Text × Text)) (chooses : Choices) (listed : Listed) : Type 0 where
+pub record IsListed (packages : Packages) (needs : List (Text × Text)) (chooses : Choices) (listed : WalkListing) : Type 0 where
   pub listing : IsListing packages needs chooses listed.found.items
   pub ends : EndsWith packages needs chooses listed.found.items listed.next
 
@@ -68,7 +68,7 @@ AllPassed packages found lines = (j : ℕ) (line : Text × Text) → slice_get l
 
 -- there is one list in the order of the walk, to the end, and one that has all that is chosen is it
 abbrev pub OneListInOrder : Type 0
-OneListInOrder = (packages : Packages) (needs : List (Text × Text)) (chooses : Choices) (found list : List (ℕ × ℕ)) (next : Option Next) → IsListing packages needs chooses found → EndsWith packages needs chooses found next
+OneListInOrder = (packages : Packages) (needs : List (Text × Text)) (chooses : Choices) (found list : List (ℕ × ℕ)) (next : Option NextPackage) → IsListing packages needs chooses found → EndsWith packages needs chooses found next
     → IsListing packages needs chooses list → AreAll chooses list → found ≡ list
 
 -- behind a list after which nothing comes next, what the needs and each version of it ask for was found

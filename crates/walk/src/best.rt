@@ -24,7 +24,7 @@ use crate::chooser::Chooser;
 use crate::listing::{needs_count, places_in_order};
 use crate::preferred::locked_ordinal;
 use crate::reached::Reached;
-use crate::walking::{ROOM, reach};
+use crate::walking::{WALK_ROOM, reach};
 use indexmap::IndexMap;
 use registry::{Matching, Pkg, Registry, Request};
 use std::alloc::{AllocError, Global};
@@ -117,11 +117,11 @@ impl Choosing {
         ensures { IfOk result (λ c. (c.found.entries ≡ []) × (c.asked.items ≡ []) × (c.needed.items ≡ []) × (c.fresh.items ≡ [])) }
     {
         Ok(Choosing {
-            found: IndexMap::with_capacity(alloc, ROOM)?,
-            asked: Vec::with_capacity(alloc, ROOM)?,
-            needed: Vec::with_capacity(alloc, ROOM)?,
-            numbers: Vec::with_capacity(alloc, ROOM)?,
-            fresh: Vec::with_capacity(alloc, ROOM)?,
+            found: IndexMap::with_capacity(alloc, WALK_ROOM)?,
+            asked: Vec::with_capacity(alloc, WALK_ROOM)?,
+            needed: Vec::with_capacity(alloc, WALK_ROOM)?,
+            numbers: Vec::with_capacity(alloc, WALK_ROOM)?,
+            fresh: Vec::with_capacity(alloc, WALK_ROOM)?,
         })
     }
 

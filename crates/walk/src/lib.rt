@@ -24,7 +24,7 @@ pub use laws::{
     the_preferred_is_the_newest, there_is_one_list_in_order, there_is_one_newest_selection,
     what_is_asked_is_listed,
 };
-pub use listing::{Listed, Next, list_in_order};
+pub use listing::{NextPackage, WalkListing, list_in_order};
 pub use names::sort_by_name;
 pub use newest::is_plainly_newest;
 pub use order::Order;

@@ -18,16 +18,16 @@ use versions::{Name, Need};
 
 /// Packages in the order of the walk, by versions that were given.
 #[derive(Drop)]
-pub struct Listed {
+pub struct WalkListing {
     /// Packages with the ordinals of their versions, each package once.
     pub found: Vec<(Pkg, u32)>,
     /// What comes next; none where nothing does.
-    pub next: Option<Next>,
+    pub next: Option<NextPackage>,
 }
 
 /// A package for which no version was given, with the first line that names it.
 #[derive(Clone, Copy)]
-pub struct Next {
+pub struct NextPackage {
     pub pkg: Pkg,
     /// Who asks for it.
     pub asker: Asker,
@@ -142,7 +142,7 @@ pub(crate) fn pass_needs<C: Chooser>(
     request: &Request,
     chooser: &C,
     found: &mut IndexMap<Pkg, u32>,
-) -> Result<Option<Next>, AllocError>
+) -> Result<Option<NextPackage>, AllocError>
     requires { IsListing registry.now.packages request.now.needs (C.chooses chooser.now) found.old.entries }
     ensures listing { OnOk result (IsListing registry.now.packages request.now.needs (C.chooses chooser.now) found.new.entries) }
     ensures grown { OnOk result (Grows found.old.entries found.new.entries) }
@@ -155,7 +155,7 @@ pub(crate) fn pass_needs<C: Chooser>(
         let index = places[i];
         if let Some(pkg) = pass_need(registry, needs, chooser, index, found)? {
             let asker = Asker::Request;
-            return Ok(Some(Next { pkg, asker, index }));
+            return Ok(Some(NextPackage { pkg, asker, index }));
         }
     }
     Ok(None)
@@ -169,7 +169,7 @@ pub(crate) fn pass_dependencies<C: Chooser>(
     chooser: &C,
     place: usize,
     found: &mut IndexMap<Pkg, u32>,
-) -> Result<Option<Next>, AllocError>
+) -> Result<Option<NextPackage>, AllocError>
     requires within { place < length found.old.entries }
     requires listing { IsListing registry.now.packages request.now.needs (C.chooses chooser.now) found.old.entries }
     requires passed { IsPassedTo registry.now.packages request.now.needs found.old.entries place }
@@ -183,7 +183,7 @@ pub(crate) fn pass_dependencies<C: Chooser>(
     for index in 0..count {
         if let Some(pkg) = pass_dependency(registry, chooser, version, index, found)? {
             let asker = Asker::Version(version.0, version.1);
-            return Ok(Some(Next { pkg, asker, index }));
+            return Ok(Some(NextPackage { pkg, asker, index }));
         }
     }
     Ok(None)
@@ -210,12 +210,12 @@ pub fn list_in_order<C: Chooser>(
     registry: &Registry,
     request: &Request,
     chooser: &C,
-) -> Result<Listed, AllocError>
+) -> Result<WalkListing, AllocError>
     ensures { IfOk result (IsListed registry.now.packages request.now.needs (C.chooses chooser.now)) }
 {
     let mut order = Order::new(alloc);
     let next = order.go_on(alloc, registry, request, chooser)?;
-    Ok(Listed {
+    Ok(WalkListing {
         found: entries_of(alloc, &order.found)?,
         next,
     })

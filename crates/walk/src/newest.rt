@@ -32,7 +32,7 @@ impl Chooser for Chosen<'_> {
 
 /// A dependency: the package that it names, the version that has it, and at which index.
 #[derive(Clone, Copy)]
-struct Line {
+struct DependencyLine {
     target: Pkg,
     asker: (Pkg, u32),
     index: usize,
@@ -47,14 +47,14 @@ struct Behind<'a> {
     registry: &'a Registry,
     request: &'a Request,
     before: &'a IndexMap<Pkg, u32>,
-    lines: &'a [Line],
+    lines: &'a [DependencyLine],
 }
 
 // ---- versions that are not to be had
 
 /// Whether a dependency of a version before excludes a version of a package. Where memory is short, it
 /// is not seen.
-fn is_excluded_by(behind: &Behind<'_>, line: Line, pkg: Pkg, ordinal: u32) -> bool
+fn is_excluded_by(behind: &Behind<'_>, line: DependencyLine, pkg: Pkg, ordinal: u32) -> bool
     ensures { result ≡ true → IsExcluded behind.now.registry.now.packages behind.now.request.now behind.now.before.now.entries pkg ordinal }
 {
     let (asker, own) = line.asker;
@@ -203,12 +203,12 @@ fn choices_of(alloc: Global, list: &[(Pkg, u32)]) -> Result<IndexMap<Pkg, u32>, 
 fn add_lines(
     registry: &Registry,
     asker: (Pkg, u32),
-    lines: &mut Vec<Line>,
+    lines: &mut Vec<DependencyLine>,
 ) -> Result<(), AllocError> {
     let count = needs_count(registry, asker);
     for index in 0..count {
         let (target, _) = registry.dependency(asker.0, asker.1, index)?;
-        lines.push(Line {
+        lines.push(DependencyLine {
             target,
             asker,
             index,
@@ -222,7 +222,7 @@ fn lines_of(
     alloc: Global,
     registry: &Registry,
     list: &[(Pkg, u32)],
-) -> Result<Vec<Line>, AllocError> {
+) -> Result<Vec<DependencyLine>, AllocError> {
     let mut lines = Vec::new(alloc);
     for i in 0..list.len() {
         add_lines(registry, list[i], &mut lines)?;

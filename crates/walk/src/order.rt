@@ -7,7 +7,7 @@ ghost use Rattle.walk.specs.Listing.{AreChosen, EndsWith, IsListing, IsNext, IsO
 ghost use Rattle.walk.specs.Walks.{Grows};
 
 use crate::chooser::Chooser;
-use crate::listing::{Next, pass_dependencies, pass_needs};
+use crate::listing::{NextPackage, pass_dependencies, pass_needs};
 use crate::walking::entry_at;
 use indexmap::IndexMap;
 use registry::{Pkg, Registry, Request};
@@ -83,7 +83,7 @@ impl Order {
         registry: &Registry,
         request: &Request,
         chooser: &C,
-    ) -> Result<Option<Next>, AllocError>
+    ) -> Result<Option<NextPackage>, AllocError>
         requires order { IsOrder registry.now.packages request.now.needs self.old }
         requires listing { IsListing registry.now.packages request.now.needs (C.chooses chooser.now) self.old.found.entries }
         requires within { self.old.stage ≤ length self.old.found.entries }
@@ -115,7 +115,7 @@ impl Order {
         registry: &Registry,
         request: &Request,
         chooser: &C,
-    ) -> Result<Option<Next>, AllocError>
+    ) -> Result<Option<NextPackage>, AllocError>
         requires { IsOrder registry.now.packages request.now.needs self.old }
         ensures order { OnOk result (IsOrder registry.now.packages request.now.needs self.new) }
         ensures listing { OnOk result (IsListing registry.now.packages request.now.needs (C.chooses chooser.now) self.new.found.entries) }
@@ -140,7 +140,7 @@ fn pass_lines<C: Chooser>(
     chooser: &C,
     stage: usize,
     found: &mut IndexMap<Pkg, u32>,
-) -> Result<Option<Next>, AllocError>
+) -> Result<Option<NextPackage>, AllocError>
     requires listing { IsListing registry.now.packages request.now.needs (C.chooses chooser.now) found.old.entries }
     requires come { IsStage registry.now.packages request.now.needs found.old.entries stage }
     requires within { stage ≤ length found.old.entries }

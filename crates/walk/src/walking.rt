@@ -17,7 +17,7 @@ use versions::Need;
 
 /// For how many packages room is made before a walk, so that a short one need not move them again and
 /// again.
-pub(crate) const ROOM: usize = 128;
+pub(crate) const WALK_ROOM: usize = 128;
 
 /// Whether a version of a package is published and meets a requirement.
 fn meets(registry: &Registry, pkg: Pkg, ordinal: u32, need: &Need) -> bool
@@ -168,7 +168,7 @@ pub fn reach<C: Chooser>(
 ) -> Result<Reached, AllocError>
     ensures { IfOk result (ReachesBy registry.now.packages request.now (C.chooses chooser.now)) }
 {
-    let mut found = IndexMap::with_capacity(alloc, ROOM)?;
+    let mut found = IndexMap::with_capacity(alloc, WALK_ROOM)?;
     reach_into(alloc, registry, request, chooser, &mut found)
 }
 

@@ -11,7 +11,7 @@ ghost use Rattle.replies.specs.Entries.{entry_json, publication_json};
 ghost use Rattle.replies.specs.Joined.{Waits, closing, joined};
 ghost use Rattle.replies.specs.Replies.{row_json, version_json};
 
-use super::{Entry, Listing};
+use super::{Listing, ListingEntry};
 use crate::parts::{opening, put_parts};
 use lines::Outbox;
 use registry::{Pkg, Registry};
@@ -42,7 +42,7 @@ fn put_rows<W: Write>(
     outbox: &mut Outbox,
     writer: &mut W,
     registry: &Registry,
-    entries: &[Entry<'_>],
+    entries: &[ListingEntry<'_>],
 ) -> io::Result<()>
     requires { IsRegistry registry.now.packages }
     ensures text { Puts (W.contents writer.old) (W.contents writer.new) outbox.old outbox.new result
@@ -63,7 +63,7 @@ fn put_row<W: Write>(
     outbox: &mut Outbox,
     writer: &mut W,
     registry: &Registry,
-    entry: &Entry<'_>,
+    entry: &ListingEntry<'_>,
     later: bool,
 ) -> io::Result<()>
     requires { IsRegistry registry.now.packages }

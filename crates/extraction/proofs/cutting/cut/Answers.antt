@@ -5,7 +5,7 @@ use Rattle.derivations.specs.Facts.{Terms}
 use Rattle.derivations.specs.Derivations.{IsDerivation, last_conclusion}
 use Rattle.extraction.specs.Cutting.{EndsBefore, IsEndLine, ShowsLine}
 use Rattle.extraction.specs.Taking.{lines_at, said_at, said_by}
-use Rattle.derivations.specs.declared.known.Known.{Known}
+use Rattle.derivations.specs.declared.known.CausedIncompatibility.{CausedIncompatibility}
 use Rattle.derivations.specs.declared.line.Line.{Line}
 use Rattle.extraction.proofs.Moving.{end_moved, resolved_moved, resolved_there, said_moved}
 use Rattle.extraction.proofs.Walking.{derivation_by}
@@ -13,14 +13,14 @@ use Rattle.extraction.proofs.cutting.cut.Goals as goal
 
 pub paired-requires-clause-resolved : goal.paired-requires-clause-resolved
 paired-requires-clause-resolved c =
-    resolved_there c.args.known.items c.last_step-place.result (subst (λ (all : List Known). IsEndLine all c.last_step-place.result) c.deref.ensures.value c.last_step-place.ensures.ends)
+    resolved_there c.args.known.items c.last_step-place.result (subst (λ (all : List CausedIncompatibility). IsEndLine all c.last_step-place.result) c.deref.ensures.value c.last_step-place.ensures.ends)
 
 pub steps_of-requires-clause-ordered : goal.steps_of-requires-clause-ordered
 steps_of-requires-clause-ordered c = rw c.deref-2.ensures.value c.in_ok-lines.ensures.ordered
 
 pub steps_of-requires-clause-resolved : goal.steps_of-requires-clause-resolved
 steps_of-requires-clause-resolved c =
-    let ends = subst (λ (all : List Known). IsEndLine all c.last_step-place.result) c.deref.ensures.value c.last_step-place.ensures.ends in
+    let ends = subst (λ (all : List CausedIncompatibility). IsEndLine all c.last_step-place.result) c.deref.ensures.value c.last_step-place.ensures.ends in
     rw c.deref-2.ensures.value (resolved_moved c.args.known.items c.last_step-place.result c.in_ok-lines.lines.items c.in_ok-lines.at c.in_ok-lines.ensures ends)
 
 pub returns-clause-derived : goal.returns-clause-derived
@@ -30,8 +30,8 @@ returns-clause-derived c = λ packages wanted lawful.
     let lines = c.in_ok-lines.lines.items in
     let at = c.in_ok-lines.at in
     let steps = c.in_ok-steps.steps.items in
-    let ends = subst (λ (all : List Known). IsEndLine all place) c.deref.ensures.value c.last_step-place.ensures.ends in
-    let shows = subst (λ (all : List Known). ShowsLine all at (lines_at all steps)) c.deref-2.ensures.value c.in_ok-steps.ensures.shows in
+    let ends = subst (λ (all : List CausedIncompatibility). IsEndLine all place) c.deref.ensures.value c.last_step-place.ensures.ends in
+    let shows = subst (λ (all : List CausedIncompatibility). ShowsLine all at (lines_at all steps)) c.deref-2.ensures.value c.in_ok-steps.ensures.shows in
     subst (λ (all : List Line). IsDerivation packages wanted all) (sym (c.new.ensures ∙ c.in_ok-taken.ensures))
     (derivation_by lines at (lines_at lines steps) shows (end_moved known place lines at c.in_ok-lines.ensures ends) packages wanted (c.in_ok-lines.ensures.lawful packages wanted lawful))
 
@@ -43,9 +43,9 @@ returns-clause-early c = λ before.
     let at = c.in_ok-lines.at in
     let steps = c.in_ok-steps.steps.items in
     let root : Terms = (0, In (0 ∷ [])) ∷ [] in
-    let there = subst (λ (all : List Known). EndsBefore all c.args.end) (sym c.deref.ensures.value) before in
-    let says = subst (λ (all : List Known). said_at all place ≡ root) c.deref.ensures.value (c.last_step-place.ensures.early there) in
-    let ends = subst (λ (all : List Known). IsEndLine all place) c.deref.ensures.value c.last_step-place.ensures.ends in
-    let shows = subst (λ (all : List Known). ShowsLine all at (lines_at all steps)) c.deref-2.ensures.value c.in_ok-steps.ensures.shows in
+    let there = subst (λ (all : List CausedIncompatibility). EndsBefore all c.args.end) (sym c.deref.ensures.value) before in
+    let says = subst (λ (all : List CausedIncompatibility). said_at all place ≡ root) c.deref.ensures.value (c.last_step-place.ensures.early there) in
+    let ends = subst (λ (all : List CausedIncompatibility). IsEndLine all place) c.deref.ensures.value c.last_step-place.ensures.ends in
+    let shows = subst (λ (all : List CausedIncompatibility). ShowsLine all at (lines_at all steps)) c.deref-2.ensures.value c.in_ok-steps.ensures.shows in
     subst (λ (all : List Line). last_conclusion all ≡ Some root) (sym (c.new.ensures ∙ c.in_ok-taken.ensures))
     (shows.last ∙ ap (λ (terms : Terms). Some terms) (sym (ap said_by shows.own_at) ∙ said_moved known place lines at c.in_ok-lines.ensures ends ∙ says))

@@ -1,15 +1,15 @@
 use Rattle.std.proofs.Common.{◌≡◌, ◌∙◌, ◌<◌, ℕ, List, arith, get_or, inl, inr, length, refl, subst, sym}
 use Rattle.std.proofs.lemmas.Bool.{iff_false}
 use Rattle.std.proofs.lemmas.Option.{get_or_from_slice_get, slice_get_read, slice_get_within}
-use Rattle.derivations.specs.Known.{AreOrdered, EndsAt, IsResolved}
-use Rattle.derivations.specs.declared.known.Known.{Known}
+use Rattle.derivations.specs.CausedIncompatibilities.{AreOrdered, EndsAt, IsResolved}
+use Rattle.derivations.specs.declared.known.CausedIncompatibility.{CausedIncompatibility}
 use Rattle.derivations.specs.declared.known.Reason.TheVariants.{Resolved}
 use Rattle.extraction.proofs.Early.{early}
 use Rattle.extraction.proofs.Walking.{before_by}
 use Rattle.extraction.proofs.cutting.last_step.Goals as goal
 
 -- the first line that the end cites stands among the lines
-first_within : (known : List Known) (end i j pivot : ℕ) (own : Known) → AreOrdered known → EndsAt known end → own ≡ get_or known end own → own.reason ≡ Resolved i j pivot → i < length known
+first_within : (known : List CausedIncompatibility) (end i j pivot : ℕ) (own : CausedIncompatibility) → AreOrdered known → EndsAt known end → own ≡ get_or known end own → own.reason ≡ Resolved i j pivot → i < length known
 first_within known end i j pivot own ordered ends is reason =
     let within = slice_get_within known end ends.line ends.at in
     omega (arith, within, (before_by known end i j pivot own ordered within is reason).0)
@@ -20,7 +20,7 @@ bounds-known-end c = slice_get_within c.args.known.now c.args.end c.requires.end
 pub cites-i-requires : goal.cites-i-requires
 cites-i-requires c =
     let ends = c.requires.end in
-    subst (λ (line : Known). IsResolved line.reason) (sym (c.index-known-end.is ∙ get_or_from_slice_get c.args.known.now c.args.end ends.line c.index-known-end.result ends.at)) ends.resolved
+    subst (λ (line : CausedIncompatibility). IsResolved line.reason) (sym (c.index-known-end.is ∙ get_or_from_slice_get c.args.known.now c.args.end ends.line c.index-known-end.result ends.at)) ends.resolved
 
 pub bounds-known-i : goal.bounds-known-i
 bounds-known-i c =

@@ -1,8 +1,8 @@
 use Rattle.std.proofs.Common.{◌≡◌, ◌∙◌, ◌<◌, ℕ, List, arith, get_or, length, subst, sym, true, true≢false}
 use Rattle.std.proofs.lemmas.Option.{get_or_from_slice_get}
-use Rattle.derivations.specs.Known.{AreOrdered, IsResolved}
+use Rattle.derivations.specs.CausedIncompatibilities.{AreOrdered, IsResolved}
 use Rattle.extraction.specs.Cutting.{IsOpen, is_open}
-use Rattle.derivations.specs.declared.known.Known.{Known}
+use Rattle.derivations.specs.declared.known.CausedIncompatibility.{CausedIncompatibility}
 use Rattle.derivations.specs.declared.known.Reason.{Reason}
 use Rattle.derivations.specs.declared.known.Reason.TheVariants.{Fact, Resolved}
 use Rattle.extraction.proofs.Walking.{before_by, causes_by, open_by, open_within, ready_by}
@@ -13,12 +13,12 @@ resolved_where_open (Fact cause) number e = absurd (true≢false (sym e))
 resolved_where_open (Resolved i j pivot) number e = tt
 
 -- the line that is to be written is no fact
-own_resolved : (known : List Known) (numbers : List ℕ) (at : ℕ) (own : Known) → IsOpen known numbers at → own ≡ get_or known at own → IsResolved own.reason
+own_resolved : (known : List CausedIncompatibility) (numbers : List ℕ) (at : ℕ) (own : CausedIncompatibility) → IsOpen known numbers at → own ≡ get_or known at own → IsResolved own.reason
 own_resolved known numbers at own here is =
-    subst (λ (line : Known). IsResolved line.reason) (sym (is ∙ get_or_from_slice_get known at here.line own here.at)) (resolved_where_open here.line.reason (get_or numbers at 0) here.open_there)
+    subst (λ (line : CausedIncompatibility). IsResolved line.reason) (sym (is ∙ get_or_from_slice_get known at here.line own here.at)) (resolved_where_open here.line.reason (get_or numbers at 0) here.open_there)
 
 -- the two that it cites stand among the lines
-both_within : (known : List Known) (numbers : List ℕ) (at i j pivot : ℕ) (own : Known) → AreOrdered known → IsOpen known numbers at → own ≡ get_or known at own → own.reason ≡ Resolved i j pivot
+both_within : (known : List CausedIncompatibility) (numbers : List ℕ) (at i j pivot : ℕ) (own : CausedIncompatibility) → AreOrdered known → IsOpen known numbers at → own ≡ get_or known at own → own.reason ≡ Resolved i j pivot
     → (i < length known) × (j < length known)
 both_within known numbers at i j pivot own ordered here is reason =
     let within = open_within known numbers at here in

@@ -1,25 +1,25 @@
 use Rattle.std.proofs.Common.{◌≡◌, ◌∙◌, ◌<◌, ℕ, List, ap, arith, get_or, length, refl, subst, sym}
 use Rattle.std.proofs.lemmas.Option.{get_or_from_slice_get}
 use Rattle.extraction.specs.Cutting.{IsReady}
-use Rattle.derivations.specs.Known.{IsResolved}
-use Rattle.derivations.specs.declared.known.Known.{Known}
+use Rattle.derivations.specs.CausedIncompatibilities.{IsResolved}
+use Rattle.derivations.specs.declared.known.CausedIncompatibility.{CausedIncompatibility}
 use Rattle.derivations.specs.declared.known.Reason.TheVariants.{Resolved}
 use Rattle.extraction.proofs.Taken.{said_read}
 use Rattle.extraction.proofs.Walking.{line_by, ready_within}
 use Rattle.extraction.proofs.cutting.step_for.Goals as goal
 
 -- the line is no fact
-own_resolved : (known : List Known) (numbers : List ℕ) (at : ℕ) (own : Known) → IsReady known numbers at → own ≡ get_or known at own → IsResolved own.reason
+own_resolved : (known : List CausedIncompatibility) (numbers : List ℕ) (at : ℕ) (own : CausedIncompatibility) → IsReady known numbers at → own ≡ get_or known at own → IsResolved own.reason
 own_resolved known numbers at own ready is =
-    let reason : own.reason ≡ Resolved ready.i ready.j ready.pivot = ap (λ (line : Known). line.reason) (is ∙ get_or_from_slice_get known at ready.own own ready.own_at) ∙ ready.reason in
+    let reason : own.reason ≡ Resolved ready.i ready.j ready.pivot = ap (λ (line : CausedIncompatibility). line.reason) (is ∙ get_or_from_slice_get known at ready.own own ready.own_at) ∙ ready.reason in
     subst IsResolved (sym reason) tt
 
 -- the two that it cites stand among the lines
-both_within : (known : List Known) (numbers : List ℕ) (at i j pivot : ℕ) (own : Known) → IsReady known numbers at → own ≡ get_or known at own → own.reason ≡ Resolved i j pivot
+both_within : (known : List CausedIncompatibility) (numbers : List ℕ) (at i j pivot : ℕ) (own : CausedIncompatibility) → IsReady known numbers at → own ≡ get_or known at own → own.reason ≡ Resolved i j pivot
     → (i < length known) × (j < length known)
 both_within known numbers at i j pivot own ready is reason =
     let reasons : Resolved i j pivot ≡ Resolved ready.i ready.j ready.pivot =
-    sym reason ∙ ap (λ (line : Known). line.reason) (is ∙ get_or_from_slice_get known at ready.own own ready.own_at) ∙ ready.reason in
+    sym reason ∙ ap (λ (line : CausedIncompatibility). line.reason) (is ∙ get_or_from_slice_get known at ready.own own ready.own_at) ∙ ready.reason in
     let one : i ≡ ready.i = cc in
     let two : j ≡ ready.j = cc in
     let within = ready_within known numbers at ready in

@@ -4,7 +4,7 @@ use Rattle.std.specs.Prelude.{All, IfSome, sum_by}
 use Rattle.extraction.specs.Cutting.{ShowsLine}
 use Rattle.extraction.specs.Offering.{ShowsOne}
 use Rattle.derivations.specs.declared.line.Line.{Line}
-use Rattle.derivations.specs.declared.learnt.TheConstants.{LINE_LIMIT}
+use Rattle.derivations.specs.declared.learnt.TheConstants.{DERIVATION_LINE_LIMIT}
 use Rattle.extraction.specs.declared.offering.TheConstants.{OFFERED_LIMIT}
 use Rattle.extraction.proofs.Offered.{all_pushed, all_stand, counted_few, counted_none, counted_some}
 use Rattle.extraction.proofs.offering.offers.Goals.{Joined-found, in-Some+in_ok-push, in_default}
@@ -18,7 +18,7 @@ has_room : (c : Joined-found) → c.count_lines.result ≤ c.room_behind-room.re
 has_room c = counted_few c.in_ok-found.found _ _ c.count_lines.ensures.none c.count_lines.ensures.some c.in_ok-found.ensures.few
 
 -- before the last place there is room for the last offer
-before_last : (c : Joined-found) → c.loop-at.at + 1 < length c.args.places.now → c.saturating_add-taken.result ≤ OFFERED_LIMIT - LINE_LIMIT
+before_last : (c : Joined-found) → c.loop-at.at + 1 < length c.args.places.now → c.saturating_add-taken.result ≤ OFFERED_LIMIT - DERIVATION_LINE_LIMIT
 before_last c before =
     let other = ne_eqb (c.loop-at.at + 1) (length c.args.places.now) (λ same. omega (arith, before, same)) in
     omega (arith, has_room c, c.room_behind-room.ensures.kept other (c.loop-at.invariant.kept c.loop-at-test.true), c.saturating_add-taken.ensures)

@@ -2,7 +2,7 @@ use Rattle.std.proofs.Common.{◌≡◌, ◌<◌, ◌≤◌, ◌-◌, length}
 use Rattle.std.specs.Prelude.{All, sum_by}
 use Rattle.extraction.specs.Cutting.{AreClear}
 use Rattle.extraction.specs.Offering.{ShowsOne}
-use Rattle.derivations.specs.declared.learnt.TheConstants.{LINE_LIMIT}
+use Rattle.derivations.specs.declared.learnt.TheConstants.{DERIVATION_LINE_LIMIT}
 use Rattle.extraction.specs.declared.offering.TheConstants.{OFFERED_LIMIT}
 use Rattle.extraction.proofs.offering.offers.Given as goal
 
@@ -12,5 +12,5 @@ invariant-loop-at l = record {
   shown : All (ShowsOne l.known l.places) l.offered.items;
   counted : l.taken ≡ sum_by length l.offered.items;
   few : l.taken ≤ OFFERED_LIMIT;
-  kept : l.at < length l.places → l.taken ≤ OFFERED_LIMIT - LINE_LIMIT;
+  kept : l.at < length l.places → l.taken ≤ OFFERED_LIMIT - DERIVATION_LINE_LIMIT;
 }

@@ -1,6 +1,6 @@
 use Rattle.std.proofs.Common.{List, subst}
-use Rattle.derivations.specs.Known.{FollowsFrom}
-use Rattle.derivations.specs.declared.known.Known.{Known}
+use Rattle.derivations.specs.CausedIncompatibilities.{FollowsFrom}
+use Rattle.derivations.specs.declared.known.CausedIncompatibility.{CausedIncompatibility}
 use Rattle.extraction.proofs.Moving.{Grows-none, said_so}
 use Rattle.extraction.proofs.pairing.paired_ends.Goals as goal
 
@@ -9,5 +9,5 @@ returns-in_default-clause-grows c = Grows-none c.args.lines.now.items
 
 pub returns-clause-follows : goal.returns-clause-follows
 returns-clause-follows c =
-    subst (λ (all : List Known). FollowsFrom all c.args.conclusion.now c.in-Some-2.all c.in-Some.last c.args.pivot) c.deref.ensures.value
+    subst (λ (all : List CausedIncompatibility). FollowsFrom all c.args.conclusion.now c.in-Some-2.all c.in-Some.last c.args.pivot) c.deref.ensures.value
     (said_so c.deref.result.now c.in-Some-3.said c.args.conclusion.now c.in-Some-2.all c.in-Some.last c.args.pivot (rw c.in-Some-3.is at c.in_ok-said.ensures) (c.is_same.ensures.0 c.if-not-is_same.false))

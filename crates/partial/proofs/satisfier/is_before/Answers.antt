@@ -3,7 +3,7 @@ use Rattle.std.proofs.lemmas.Bool.{eqb-true, false≢true}
 use Rattle.std.proofs.lemmas.Option.{slice_get_read}
 use Rattle.std.specs.Prelude.{Some, slice_get}
 use Rattle.partial.specs.declared.assignment.Assignment.{Assignment}
-use Rattle.partial.specs.Ledger.{through, IsPlaceOn}
+use Rattle.partial.specs.Trail.{through, IsPlaceOn}
 use Rattle.partial.proofs.satisfier.is_before.Goals as goal
 use borrow.Author.Tests.{ltb-true}
 
@@ -22,7 +22,7 @@ pub returns-then-far-at : goal.returns-then-far-at
 returns-then-far-at c = λ same.
     let found = c.in-Some-get.ensures.lookup in
     let read = slice_get_read c.as_slice.result.now _ c.in-Some.far c.in-Some-get.a.now refl found.3.0 found.1 in
-    rw c.in-Some.is (place_on c.args.ledger.now.made.items c.in-Some.far c.args.at c.args.pkg c.in-Some-get.a.now (rw c.as_slice.ensures.value at read) c.if-far-at.true same)
+    rw c.in-Some.is (place_on c.args.trail.now.made.items c.in-Some.far c.args.at c.args.pkg c.in-Some-get.a.now (rw c.as_slice.ensures.value at read) c.if-far-at.true same)
 
 pub returns-else-far-at : goal.returns-else-far-at
 returns-else-far-at c = λ e. absurd (omega (arith, ltb-true c.in-Some.far c.args.at e, c.if-far-at.false))

@@ -5,13 +5,13 @@ use Rattle.partial.proofs.satisfier.jump.Goals as goal
 
 pub index-note-requires : goal.index-note-requires
 index-note-requires c =
-    let l = c.args.ledger.now in
+    let l = c.args.trail.now in
     let within = slice_get_within l.made.items c.args.at c.requires.on.0 c.requires.on.1 in
     omega (arith, within, c.requires.kept.0.lengths, l.notes.ok.0)
 
 pub said_at-requires-clause-within : goal.said_at-requires-clause-within
 said_at-requires-clause-within c =
-    through-within c.args.ledger.now.made.items c.args.entry.now.0 c.index-note.result.now.jump.far (c.is_before.ensures c.if-not-is_before.false).0
+    through-within c.args.trail.now.made.items c.args.entry.now.0 c.index-note.result.now.jump.far (c.is_before.ensures c.if-not-is_before.false).0
 
 pub returns-then-implies : goal.returns-then-implies
 returns-then-implies c =

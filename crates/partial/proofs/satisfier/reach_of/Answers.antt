@@ -1,5 +1,5 @@
 use Rattle.std.proofs.Common.{arith, sym, subst}
-use Rattle.partial.specs.Ledger.{IsPlaceOn}
+use Rattle.partial.specs.Trail.{IsPlaceOn}
 use Rattle.partial.proofs.Places.{last_on_package}
 use Rattle.partial.proofs.Reaching.{holds-last, reached-all, reached-further, reached-no_further}
 use Rattle.partial.proofs.satisfier.reach_of.Goals as goal
@@ -7,16 +7,16 @@ use Rattle.partial.proofs.satisfier.reach_of.Goals.{then-count-reach, else-count
 
 pub shortest_on-count-requires-clause-on : goal.shortest_on-count-requires-clause-on
 shortest_on-count-requires-clause-on c =
-    let made = c.args.ledger.now.made.items in
+    let made = c.args.trail.now.made.items in
     subst (IsPlaceOn made c.index-terms-i.result.0) (sym c.last_on.ensures) (last_on_package made c.index-terms-i.result.0)
 
 pub shortest_on-count-requires-clause-holds : goal.shortest_on-count-requires-clause-holds
 shortest_on-count-requires-clause-holds c =
-    holds-last c.args.ledger.now.made.items c.args.terms.now c.requires.lawful c.loop-i.i c.index-terms-i.result c.loop-i-test.true c.index-terms-i.is c.requires.satisfied c.last_on.result c.last_on.ensures
+    holds-last c.args.trail.now.made.items c.args.terms.now c.requires.lawful c.loop-i.i c.index-terms-i.result c.loop-i-test.true c.index-terms-i.is c.requires.satisfied c.last_on.result c.last_on.ensures
 
 pub loop-i-preserved : goal.loop-i-preserved
 loop-i-preserved c =
-    let made = c.args.ledger.now.made.items in
+    let made = c.args.trail.now.made.items in
     let terms = c.args.terms.now in
     let old = c.loop-i.reach in
     let ordered = c.loop-i.invariant.ordered in
@@ -31,4 +31,4 @@ loop-i-preserved c =
 
 pub returns : goal.returns
 returns c =
-    reached-all c.args.ledger.now.made.items c.args.terms.now c.requires.lawful c.loop-i.i c.loop-i.reach.count c.loop-i.reach.own c.loop-i.reach.others c.loop-i-test.false c.requires.some c.loop-i.invariant
+    reached-all c.args.trail.now.made.items c.args.terms.now c.requires.lawful c.loop-i.i c.loop-i.reach.count c.loop-i.reach.own c.loop-i.reach.others c.loop-i-test.false c.requires.some c.loop-i.invariant

@@ -7,21 +7,21 @@ use Rattle.partial.proofs.satisfier.satisfier_of.Goals as goal
 
 pub shortest_on-alone-requires-clause-on : goal.shortest_on-alone-requires-clause-on
 shortest_on-alone-requires-clause-on c =
-    let l = c.args.ledger.now in
+    let l = c.args.trail.now in
     let r = c.reach_of-reach.result in
     alone_on l.made.items l.notes.items (λ p. slice_get l.heads.items p) c.requires.kept.0 c.args.terms.now c.requires.lawful r.count r.own r.others (r.count - 1) c.reach_of-reach.ensures refl
     c.index.result.now c.index.ensures c.index-terms-reach.result c.index-terms-reach.is c.index-2.result.now c.index-2.ensures
 
 pub shortest_on-alone-requires-clause-holds : goal.shortest_on-alone-requires-clause-holds
 shortest_on-alone-requires-clause-holds c =
-    let l = c.args.ledger.now in
+    let l = c.args.trail.now in
     let r = c.reach_of-reach.result in
     alone_holds l.made.items l.notes.items (λ p. slice_get l.heads.items p) c.requires.kept.0 c.args.terms.now c.requires.lawful r.count r.own r.others (r.count - 1) c.reach_of-reach.ensures refl
     c.index.result.now c.index.ensures c.index-terms-reach.result c.index-terms-reach.is c.index-2.result.now c.index-2.ensures c.in_ok-rest_of.field-0 c.in_ok-rest_of.ensures
 
 pub slice_bounds-level_of-end : goal.slice_bounds-level_of-end
 slice_bounds-level_of-end c =
-    let l = c.args.ledger.now in
+    let l = c.args.trail.now in
     let r = c.reach_of-reach.result in
     let within = before_within l.made.items l.notes.items (λ p. slice_get l.heads.items p) c.requires.kept.0 c.args.terms.now c.requires.lawful r.count r.own r.others (r.count - 1) c.reach_of-reach.ensures refl
     c.index.result.now c.index.ensures c.index-terms-reach.result c.index-terms-reach.is c.index-2.result.now c.index-2.ensures
@@ -29,11 +29,11 @@ slice_bounds-level_of-end c =
     sym (length-take-le c.max-before.result c.deref.result.now (rw c.deref.ensures.value within))
 
 pub level_of-level-requires : goal.level_of-level-requires
-level_of-level-requires c = rw c.deref.ensures.value (LevelsFrom-take 0 c.max-before.result c.args.ledger.now.made.items c.requires.levels)
+level_of-level-requires c = rw c.deref.ensures.value (LevelsFrom-take 0 c.max-before.result c.args.trail.now.made.items c.requires.levels)
 
 pub returns : goal.returns
 returns c =
-    let l = c.args.ledger.now in
+    let l = c.args.trail.now in
     let r = c.reach_of-reach.result in
     found l.made.items l.notes.items (λ p. slice_get l.heads.items p) c.requires.kept.0 c.args.terms.now c.requires.lawful r.count r.own r.others (r.count - 1) c.reach_of-reach.ensures refl
     c.index.result.now c.index.ensures c.index-terms-reach.result c.index-terms-reach.is c.index-2.result.now c.index-2.ensures c.in_ok-rest_of.field-0 c.in_ok-rest_of.ensures

@@ -1,12 +1,12 @@
 use Rattle.std.proofs.Common.{◌≤◌, take}
-use Rattle.partial.specs.Ledger.{through, IsPlaceOn}
+use Rattle.partial.specs.Trail.{through, IsPlaceOn}
 use Rattle.partial.specs.Reach.{Holds}
 use Rattle.partial.proofs.satisfier.shortest_on.Given as goal
 
 abbrev pub invariant-walk : goal.invariant-walk
 invariant-walk l = record {
-  on : IsPlaceOn l.ledger.made.items l.entry.0 l.place;
-  holds : Holds (take (through l.place) l.ledger.made.items) l.entry.0 l.entry.1;
+  on : IsPlaceOn l.trail.made.items l.entry.0 l.place;
+  holds : Holds (take (through l.place) l.trail.made.items) l.entry.0 l.entry.1;
   within : through l.place ≤ through l.fn.last;
 }
 

@@ -4,11 +4,11 @@ use Rattle.partial.proofs.undecided.undecided_in.Goals as goal
 use Rattle.partial.proofs.undecided.undecided_in.Goals.{then-is_undecided+in_ok-push, else-is_undecided}
 
 pub heads-init : goal.heads-init
-heads-init c = rw c.new-found.ensures.items (found-nothing c.args.ledger.now.made.items)
+heads-init c = rw c.new-found.ensures.items (found-nothing c.args.trail.now.made.items)
 
 pub heads-preserved : goal.heads-preserved
 heads-preserved c =
-    let made = c.args.ledger.now.made.items in
+    let made = c.args.trail.now.made.items in
     elim c.if-is_undecided.branch [
       | then-is_undecided+in_ok-push w ↦
           rw (w.found-is, w.in_ok-push.ensures.items) (found-one made c.heads.found.items c.heads.index c.heads.invariant (sym w.if-is_undecided.true ∙ c.is_undecided.ensures))
@@ -17,5 +17,5 @@ heads-preserved c =
 
 pub returns-clause-exactly : goal.returns-clause-exactly
 returns-clause-exactly c =
-    let l = c.args.ledger.now in
+    let l = c.args.trail.now in
     found-all l.made.items l.notes.items l.heads.items c.heads.found.items c.heads.index c.requires.0 c.heads.invariant (omega (arith, c.heads-test.false, c.len-index-end.ensures))

@@ -2,4 +2,4 @@ use Rattle.partial.proofs.StillOpen.{AreFoundBelow}
 use Rattle.partial.proofs.undecided.undecided_in.Given as goal
 
 abbrev pub invariant-heads : goal.invariant-heads
-invariant-heads l = AreFoundBelow l.ledger.made.items l.found.items l.index
+invariant-heads l = AreFoundBelow l.trail.made.items l.found.items l.index

@@ -1,7 +1,7 @@
 use Rattle.std.proofs.Common.{◌++◌, ◌∷◌, [], List, ℕ, length, refl, sym, ap, ◌∙◌, arith}
 use Rattle.std.proofs.lemmas.List.{append_assoc}
 use Rattle.lines.specs.Lines.{lines_of}
-use Rattle.race.specs.Kept.{kept_text}
+use Rattle.race.specs.KeptReply.{kept_text}
 use Rattle.race.proofs.KeptLemmas.{kept_more}
 use Rattle.race.proofs.RacingLemmas.{row_kept}
 use Rattle.race.proofs.running.answer_lines.Goals as goal

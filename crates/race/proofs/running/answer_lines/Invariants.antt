@@ -1,7 +1,7 @@
 use Rattle.std.proofs.Common.{◌≡◌, ◌≤◌, ◌+◌, ◌++◌, List, ℕ, length, vec_len, vec_capacity}
 use Rattle.lines.specs.Lines.{lines_of}
 use Rattle.replies.specs.Replies.{Reply, replies_text}
-use Rattle.race.specs.Kept.{kept_text}
+use Rattle.race.specs.KeptReply.{kept_text}
 use Rattle.answers.specs.Lawful.{AreLawfulWithin}
 use Rattle.race.specs.Racing.{seat_ways}
 use Rattle.race.proofs.running.answer_lines.Given as goal

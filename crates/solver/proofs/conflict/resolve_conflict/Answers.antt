@@ -1,7 +1,7 @@
 use Rattle.std.proofs.Common.{◌≡◌, ◌∙◌, sym, ap, refl, subst, arith, length, get_or}
 use Rattle.std.proofs.lemmas.Bool.{eqb-true}
 use Rattle.std.proofs.lemmas.List.{nil_from_length}
-use Rattle.derivations.specs.Known.{FollowsFrom}
+use Rattle.derivations.specs.CausedIncompatibilities.{FollowsFrom}
 use Rattle.std.proofs.lemmas.Result.{IfOk-from_err}
 use Rattle.solver.proofs.Turn.{at_within, satisfied_early, satisfied, refused_empty, back, no_decision, cause_second, next_search, refused_root, turn}
 use Rattle.solver.proofs.conflict.resolve_conflict.Goals as goal

@@ -3,7 +3,7 @@ use Rattle.std.proofs.lemmas.Bool.{or_right}
 use Rattle.std.proofs.lemmas.Option.{get_or_from_slice_get, slice_get_read}
 use Rattle.std.specs.Prelude.{Some}
 use Rattle.terms.specs.Incompats.{has_term}
-use Rattle.derivations.specs.declared.known.Known.{Known}
+use Rattle.derivations.specs.declared.known.CausedIncompatibility.{CausedIncompatibility}
 use Rattle.std.proofs.lemmas.Result.{IfOk-from_err}
 use Rattle.solver.proofs.lines.line_from.Goals as goal
 
@@ -14,7 +14,7 @@ returns-clause-follows c =
     let two = c.index-known-j.result in
     let there = c.requires.second in
     let same : two ≡ there.0 = c.index-known-j.is ∙ get_or_from_slice_get known c.args.j there.0 two there.1 in
-    let has : has_term two.conclusion c.args.pivot ≡ true = subst (λ (line : Known). has_term line.conclusion c.args.pivot ≡ true) (sym same) there.2 in
+    let has : has_term two.conclusion c.args.pivot ≡ true = subst (λ (line : CausedIncompatibility). has_term line.conclusion c.args.pivot ≡ true) (sym same) there.2 in
     record {
       one = one;
       two = two;

@@ -27,8 +27,8 @@ push_dependency-requires-clause-dependents c =
     exactly_dependents c.args.task.now.registry.now.packages c.args.pkg c.args.ordinal _ c.in_ok-versions.versions c.in_ok-versions.ensures
     (entry_contained c.args.task.now.registry.now.packages c.args.search.now.partial c.args.pkg c.args.ordinal c.args.index _ c.index-facts-index.result c.facts-facts.ensures c.requires.unmet c.index-facts-index.is)
 
-pub act-requires-clause-within : goal.act-requires-clause-within
-act-requires-clause-within c = slice_get_within c.push_dependency.new.known.items c.in_ok-at.at c.in_ok-at.ensures.place.0 c.in_ok-at.ensures.place.1
+pub propagate_incompatibility-requires-clause-within : goal.propagate_incompatibility-requires-clause-within
+propagate_incompatibility-requires-clause-within c = slice_get_within c.push_dependency.new.known.items c.in_ok-at.at c.in_ok-at.ensures.place.0 c.in_ok-at.ensures.place.1
 
 pub decide_on-requires-clause-decide : goal.decide_on-requires-clause-decide
 decide_on-requires-clause-decide c =
@@ -39,7 +39,7 @@ decide_on-requires-clause-decide c =
     let unmet = entry_unmet packages made c.args.pkg c.args.ordinal c.args.index _ c.index-facts-index.result c.facts-facts.ensures c.requires.unmet c.index-facts-index.is in
     let numbered = sym c.number.ensures ∙ c.in-Some.is in
     let here = (c.in_ok-versions.ensures c.args.ordinal).1 used in
-    dependency_decides c.args.task.now made c.act.new.search.partial c.push_dependency.new.known.items c.in_ok-at.at c.args.pkg c.args.ordinal c.in-Some.target _ c.in_ok-versions.versions c.in_ok-within.within c.assignments-made.ensures.lawful
+    dependency_decides c.args.task.now made c.propagate_incompatibility.new.search.partial c.push_dependency.new.known.items c.in_ok-at.at c.args.pkg c.args.ordinal c.in-Some.target _ c.in_ok-versions.versions c.in_ok-within.within c.assignments-made.ensures.lawful
     (dependency_apart c.publications_are_lawful.ensures.lawful packages c.args.pkg c.args.ordinal c.in-Some.target _ c.packages-packages.ensures.reachable used numbered) c.requires.chosen here numbered unmet c.in_ok-within.ensures.members c.in_ok-at.ensures.place unused.0.0 unused.1
 
 pub decide_on-requires-clause-turn : goal.decide_on-requires-clause-turn
@@ -48,11 +48,11 @@ decide_on-requires-clause-turn c =
     let made = c.args.search.now.partial in
     let unused = rw c.in-Neither.is at c.in_ok-acted.ensures.acts in
     let at = entry_at packages made c.args.pkg c.args.ordinal c.args.index _ c.index-facts-index.result c.facts-facts.ensures c.requires.unmet c.index-facts-index.is in
-    turn_kept c.args.task.now made c.act.new.search.partial (needs_of packages c.args.pkg c.args.ordinal) c.args.index c.in-Some.target _ c.requires.turn at
+    turn_kept c.args.task.now made c.propagate_incompatibility.new.search.partial (needs_of packages c.args.pkg c.args.ordinal) c.args.index c.in-Some.target _ c.requires.turn at
     (sym c.number.ensures ∙ c.in-Some.is) unused.0.0 (decide_on-requires-clause-decide c).undecided
 
-pub act-requires-clause-search : goal.act-requires-clause-search
-act-requires-clause-search c = c.in_ok-at.ensures.extends c.args.search.now.partial c.requires.search
+pub propagate_incompatibility-requires-clause-search : goal.propagate_incompatibility-requires-clause-search
+propagate_incompatibility-requires-clause-search c = c.in_ok-at.ensures.extends c.args.search.now.partial c.requires.search
 
 pub decide_on-requires-clause-search : goal.decide_on-requires-clause-search
 decide_on-requires-clause-search c =
@@ -62,7 +62,7 @@ decide_on-requires-clause-search c =
 pub returns-in_ok-decide_on-in-Neither-clause-acts : goal.returns-in_ok-decide_on-in-Neither-clause-acts
 returns-in_ok-decide_on-in-Neither-clause-acts c =
     let unused = rw c.in-Neither.is at c.in_ok-acted.ensures.acts in
-    acts_as c.args.task.now c.args.search.now c.act.new.search c.decide_on.new.search ⊥ ⊥ c.in_ok-decide_on-in-Neither.field-0 unused.0.0 (λ none. none) c.in_ok-decide_on-in-Neither.ensures.acts
+    acts_as c.args.task.now c.args.search.now c.propagate_incompatibility.new.search c.decide_on.new.search ⊥ ⊥ c.in_ok-decide_on-in-Neither.field-0 unused.0.0 (λ none. none) c.in_ok-decide_on-in-Neither.ensures.acts
 
 -- where it is refused
 

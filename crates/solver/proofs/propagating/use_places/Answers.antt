@@ -6,41 +6,41 @@ use Rattle.solver.proofs.propagating.use_places.Goals as goal
 
 pub loop-i-preserved-in-Neither : goal.loop-i-preserved-in-Neither
 loop-i-preserved-in-Neither c =
-    let still = (rw c.in-Neither.is at c.in_ok-act.ensures.acts).0 in
+    let still = (rw c.in-Neither.is at c.in_ok-propagate_incompatibility.ensures.acts).0 in
     record {
       search = rw (still.0, still.1) c.loop-i.invariant.search;
-      same = same_still c.args.search.now c.loop-i.search c.act.new.search c.loop-i.last c.loop-i.invariant.same still;
+      same = same_still c.args.search.now c.loop-i.search c.propagate_incompatibility.new.search c.loop-i.last c.loop-i.invariant.same still;
       left = c.loop-i.invariant.left;
-      fell = fell_still c.args.search.now c.loop-i.search c.act.new.search c.loop-i.last c.loop-i.invariant.fell still;
+      fell = fell_still c.args.search.now c.loop-i.search c.propagate_incompatibility.new.search c.loop-i.last c.loop-i.invariant.fell still;
     }
 
 pub loop-i-preserved-in_ok-push-in-Derived-2 : goal.loop-i-preserved-in_ok-push-in-Derived-2
 loop-i-preserved-in_ok-push-in-Derived-2 c =
-    let on = rw c.in-Derived.is at c.in_ok-act.ensures.acts in
+    let on = rw c.in-Derived.is at c.in_ok-propagate_incompatibility.ensures.acts in
     record {
       search = on.0;
       same = tt;
       left = tt;
-      fell = fell_on c.args.task.now c.args.search.now c.loop-i.search c.act.new.search c.loop-i.last c.loop-i.invariant.same c.loop-i.invariant.fell on;
+      fell = fell_on c.args.task.now c.args.search.now c.loop-i.search c.propagate_incompatibility.new.search c.loop-i.last c.loop-i.invariant.same c.loop-i.invariant.fell on;
     }
 
 pub loop-i-preserved-in_default : goal.loop-i-preserved-in_default
 loop-i-preserved-in_default c =
-    let on = rw c.in-Derived.is at c.in_ok-act.ensures.acts in
+    let on = rw c.in-Derived.is at c.in_ok-propagate_incompatibility.ensures.acts in
     record {
       search = on.0;
       same = tt;
       left = tt;
-      fell = fell_on c.args.task.now c.args.search.now c.loop-i.search c.act.new.search c.loop-i.last c.loop-i.invariant.same c.loop-i.invariant.fell on;
+      fell = fell_on c.args.task.now c.args.search.now c.loop-i.search c.propagate_incompatibility.new.search c.loop-i.last c.loop-i.invariant.same c.loop-i.invariant.fell on;
     }
 
 pub returns-in-Backjumped-clause-acts : goal.returns-in-Backjumped-clause-acts
 returns-in-Backjumped-clause-acts c =
-    let on = rw c.in-Backjumped.is at c.in_ok-act.ensures.acts in
-    (on.0, fell_on c.args.task.now c.args.search.now c.loop-i.search c.act.new.search c.loop-i.last c.loop-i.invariant.same c.loop-i.invariant.fell on)
+    let on = rw c.in-Backjumped.is at c.in_ok-propagate_incompatibility.ensures.acts in
+    (on.0, fell_on c.args.task.now c.args.search.now c.loop-i.search c.propagate_incompatibility.new.search c.loop-i.last c.loop-i.invariant.same c.loop-i.invariant.fell on)
 
 pub returns-in-Refused-clause-acts : goal.returns-in-Refused-clause-acts
-returns-in-Refused-clause-acts c = rw c.in-Refused.is at c.in_ok-act.ensures.acts
+returns-in-Refused-clause-acts c = rw c.in-Refused.is at c.in_ok-propagate_incompatibility.ensures.acts
 
 pub returns-in-None-clause-acts : goal.returns-in-None-clause-acts
 returns-in-None-clause-acts c = rw c.in-None.is at c.loop-i.invariant.same
@@ -50,8 +50,8 @@ returns-in-Some-last-clause-acts c = (c.loop-i.invariant.search, rw c.in-Some-la
 
 -- where it is refused
 
-pub returns-in_err-act-clause-acts : goal.returns-in_err-act-clause-acts
-returns-in_err-act-clause-acts c = IfOk-from_err c.from_residual.result _ c.from_residual.ensures.0
+pub returns-in_err-propagate_incompatibility-clause-acts : goal.returns-in_err-propagate_incompatibility-clause-acts
+returns-in_err-propagate_incompatibility-clause-acts c = IfOk-from_err c.from_residual.result _ c.from_residual.ensures.0
 
 pub returns-in_err-push-in-Derived-2-clause-acts : goal.returns-in_err-push-in-Derived-2-clause-acts
 returns-in_err-push-in-Derived-2-clause-acts c = IfOk-from_err c.from_residual-in_err-push-in-Derived-2.result _ c.from_residual-in_err-push-in-Derived-2.ensures.0
@@ -59,16 +59,16 @@ returns-in_err-push-in-Derived-2-clause-acts c = IfOk-from_err c.from_residual-i
 pub returns-in_err-push-in-Derived-clause-acts : goal.returns-in_err-push-in-Derived-clause-acts
 returns-in_err-push-in-Derived-clause-acts c = IfOk-from_err c.from_residual-in_err-push-in-Derived.result _ c.from_residual-in_err-push-in-Derived.ensures.0
 
-pub returns-in_err-act-clause-left : goal.returns-in_err-act-clause-left
-returns-in_err-act-clause-left c = λ neither.
+pub returns-in_err-propagate_incompatibility-clause-left : goal.returns-in_err-propagate_incompatibility-clause-left
+returns-in_err-propagate_incompatibility-clause-left c = λ neither.
     let err = err_from_is_err_and c.from_residual.result c.from_residual.ensures.1 in
     let wrong = sym err.1 ∙ neither in
     cc
 
-pub returns-in_err-act-clause-only : goal.returns-in_err-act-clause-only
-returns-in_err-act-clause-only c =
+pub returns-in_err-propagate_incompatibility-clause-only : goal.returns-in_err-propagate_incompatibility-clause-only
+returns-in_err-propagate_incompatibility-clause-only c =
     let err = err_from_is_err_and c.from_residual.result c.from_residual.ensures.1 in
-    rw (err.1, err.2) c.in_err-act.ensures.only
+    rw (err.1, err.2) c.in_err-propagate_incompatibility.ensures.only
 
 pub returns-in_err-push-in-Derived-2-clause-left : goal.returns-in_err-push-in-Derived-2-clause-left
 returns-in_err-push-in-Derived-2-clause-left c = λ neither.

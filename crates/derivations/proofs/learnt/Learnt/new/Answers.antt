@@ -10,7 +10,7 @@ pub invariant_of-result : goal.invariant_of-result
 invariant_of-result c = (
   record {
     some = search rules;
-    few = omega (arith, c.if-len-gt-LINE_LIMIT.false, c.len.ensures, c.args.lines.ok.0);
+    few = omega (arith, c.if-len-gt-DERIVATION_LINE_LIMIT.false, c.len.ensures, c.args.lines.ok.0);
     derived = subst (λ (lines : List Line). AreDerivedBy Offers [] lines) c.deref.ensures.value (c.in_ok-are_offered.ensures.0 c.if-not-branch.false);
   },
   λ k. c.in_ok-targets.ensures k ∙ ap (λ (lines : List Line). has (targets_of lines) k) c.deref-2.ensures.value,

@@ -13,7 +13,7 @@ overflow_add-level c =
 
 pub add-requires-clause-said : goal.add-requires-clause-said
 add-requires-clause-said c =
-    said-decided c.self.inside.ledger.made.items _ c.args.ordinal c.in-Ok.said c.in-Ok.ensures c.in_ok-term.ensures
+    said-decided c.self.inside.trail.made.items _ c.args.ordinal c.in-Ok.said c.in-Ok.ensures c.in_ok-term.ensures
     (subst (λ xs. says xs c.args.pkg (Some c.args.ordinal) ≡ true) (sym c.self.view_is) c.requires.within)
 
 pub invariant_of-self-2 : goal.invariant_of-self-2

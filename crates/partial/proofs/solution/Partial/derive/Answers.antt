@@ -8,11 +8,11 @@ use Rattle.partial.proofs.solution.Partial.derive.Goals as goal
 
 pub add-requires-clause-said : goal.add-requires-clause-said
 add-requires-clause-said c =
-    said-derived c.self.inside.ledger.made.items _ c.said_at.result.now c.in-Ok.said
-    (said-up_to c.self.inside.ledger.made.items c.args.pkg c.last_on-last.result c.said_at.result.now c.last_on-last.ensures c.said_at.ensures) c.in-Ok.ensures.exact
+    said-derived c.self.inside.trail.made.items _ c.said_at.result.now c.in-Ok.said
+    (said-up_to c.self.inside.trail.made.items c.args.pkg c.last_on-last.result c.said_at.result.now c.last_on-last.ensures c.said_at.ensures) c.in-Ok.ensures.exact
 
 pub said_at-requires-clause-within : goal.said_at-requires-clause-within
-said_at-requires-clause-within c = rw c.last_on-last.ensures (last-within c.self.inside.ledger.made.items c.args.pkg)
+said_at-requires-clause-within c = rw c.last_on-last.ensures (last-within c.self.inside.trail.made.items c.args.pkg)
 
 pub invariant_of-self-2 : goal.invariant_of-self-2
 invariant_of-self-2 c =
