@@ -5,7 +5,7 @@ ghost use Rattle.std.specs.Bool.{OnTrue};
 ghost use Rattle.derivations.specs.CausedIncompatibilities.{AreOrdered, EndsAt, IsBefore, IsResolved};
 
 use derivations::{CausedIncompatibility, Derivation, Reason};
-use extraction::cut;
+use extraction::extract_derivation;
 use rows::{Answer, Unread, at, shown, size_at};
 use serde_json::Value;
 use std::alloc::Global;
@@ -13,7 +13,7 @@ use std::alloc::Global;
 pub fn search_call(alloc: Global, name: &str, row: &Value) -> Result<Answer, Unread> {
     let place = size_at(row, "place")?;
     match name {
-        "cut" => cut_at(alloc, row, place),
+        "extract_derivation" => cut_at(alloc, row, place),
         _ => Err(Unread::Row),
     }
 }
@@ -61,7 +61,7 @@ fn cut_at(alloc: Global, row: &Value, place: usize) -> Result<Answer, Unread> {
         drop(known);
         return Ok(Answer::Skipped);
     }
-    let derivation = cut(alloc, known, place)?;
+    let derivation = extract_derivation(alloc, known, place)?;
     let answer = cut_told(alloc, &derivation);
     drop(derivation);
     answer

@@ -119,7 +119,7 @@ fn step_for(
 
 /// For how many lines room is made before they are written, so that a short derivation is not moved
 /// again and again while it grows.
-const ROOM: usize = 128;
+const DERIVATION_ROOM: usize = 128;
 
 /// A list of so many zeros.
 pub fn zeros(alloc: Global, count: usize) -> Result<Vec<usize>, AllocError>
@@ -200,7 +200,7 @@ fn numbered_steps(
     ensures numbered { IfOk result (λ made. AreNumberedAt made.numbers.items (places_of made.steps.items)) }
 {
     let mut numbers = zeros;
-    let room = known.len().min(ROOM);
+    let room = known.len().min(DERIVATION_ROOM);
     let mut steps = Vec::with_capacity(alloc, room)?;
     let mut users: Vec<usize> = Vec::with_capacity(alloc, room)?;
     let mut at = place;
@@ -316,7 +316,7 @@ fn last_step(known: &[CausedIncompatibility], end: usize) -> usize
 /// end a derivation, the derivation ends with that line. Long runs of lines on one pivot are put
 /// together pairwise. What they say is moved and not copied. Linear in the lines of the search, but
 /// for the versions that the lines name which are put together anew.
-pub fn cut(
+pub fn extract_derivation(
     alloc: Global,
     known: Vec<CausedIncompatibility>,
     end: usize,

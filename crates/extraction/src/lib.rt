@@ -11,6 +11,6 @@ mod pairing;
 mod runs;
 mod taking;
 
-pub use cutting::cut;
+pub use cutting::extract_derivation;
 pub use limits::limits_in_numbers;
 pub use offering::offers;

@@ -11,7 +11,7 @@ ghost use Rattle.extraction.specs.Cutting.{IsResolvedAt};
 ghost use Rattle.extraction.specs.Pairing.{AreMoved, FollowsAs, Grows, IsReasonFor, IsSameSearch};
 ghost use Rattle.derivations.specs.declared.known.CausedIncompatibility.{CausedIncompatibility};
 
-use crate::runs::{Run, count_at, long_runs, parts_in, run_to};
+use crate::runs::{LongRun, count_at, long_runs, parts_in, run_to};
 use derivations::{CausedIncompatibility, Reason, has_pivot};
 use std::alloc::{AllocError, Global};
 use terms::{Incompat, Pkg, resolve};
@@ -160,7 +160,7 @@ fn ends_for(
     conclusion: &Incompat,
     ends: (usize, usize),
     pivot: Pkg,
-    run: Option<&Run>,
+    run: Option<&LongRun>,
 ) -> Result<(usize, usize), AllocError>
     ensures grows { OnOk result (Grows lines.old.items lines.new.items) }
     ensures follows { IfOk result (FollowsAs lines.old.items lines.new.items conclusion.now pivot ends) }
@@ -181,7 +181,7 @@ fn line_among(
     lines: &mut Vec<CausedIncompatibility>,
     places: &[usize],
     line: CausedIncompatibility,
-    run: Option<&Run>,
+    run: Option<&LongRun>,
 ) -> Result<CausedIncompatibility, AllocError>
     requires { IsBefore (length places.now) line.reason }
     ensures grows { OnOk result (Grows lines.old.items lines.new.items) }
@@ -213,7 +213,7 @@ fn move_line(
     lines: &mut Vec<CausedIncompatibility>,
     places: &mut Vec<usize>,
     line: CausedIncompatibility,
-    run: Option<&Run>,
+    run: Option<&LongRun>,
 ) -> Result<(), AllocError>
     requires { IsBefore (length places.old.items) line.reason }
     ensures counted { OnOk result (length places.new.items ≡ length places.old.items + 1) }

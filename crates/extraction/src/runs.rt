@@ -13,7 +13,7 @@ const LONG: usize = 16;
 
 /// A long run.
 #[derive(Drop)]
-pub struct Run {
+pub struct LongRun {
     /// The place of its last line.
     pub end: usize,
     /// The places of the lines that it is put together from, which are none of its own, in order.
@@ -174,17 +174,17 @@ pub fn long_runs(
     alloc: Global,
     known: &[CausedIncompatibility],
     place: usize,
-) -> Result<Vec<Run>, AllocError> {
+) -> Result<Vec<LongRun>, AllocError> {
     let uses = uses_of(alloc, known, place)?;
     let lengths = lengths_of(alloc, known, &uses)?;
-    let mut runs: Vec<Run> = Vec::new(alloc);
+    let mut runs: Vec<LongRun> = Vec::new(alloc);
     for end in 0..known.len() {
         let length = count_at(&lengths, end);
         if length >= LONG {
             let line = &known[end];
             if let Reason::Resolved(i, j, pivot) = line.reason {
                 let parts = parts_of(alloc, known, &uses, (i, j), pivot, length)?;
-                runs.push(Run { end, parts })?;
+                runs.push(LongRun { end, parts })?;
             }
         }
     }
@@ -192,7 +192,7 @@ pub fn long_runs(
 }
 
 /// How many lines the runs are put together from in all.
-pub fn parts_in(runs: &[Run]) -> usize {
+pub fn parts_in(runs: &[LongRun]) -> usize {
     let mut total: usize = 0;
     for run in runs {
         total = total.saturating_add(run.parts.len());
@@ -201,7 +201,7 @@ pub fn parts_in(runs: &[Run]) -> usize {
 }
 
 /// The first of these runs, where it ends at this place, and those that are left then.
-pub fn run_to(runs: &[Run], place: usize) -> (Option<&Run>, &[Run]) {
+pub fn run_to(runs: &[LongRun], place: usize) -> (Option<&LongRun>, &[LongRun]) {
     match runs {
         [run, rest @ ..] if run.end == place => (Some(run), rest),
         _ => (None, runs),

@@ -22,7 +22,7 @@ use crate::task::Task;
 use crate::turns::{Ended, run};
 use crate::worklist::Worklist;
 use derivations::{Derivation, Learnt, kept_lines_refute};
-use extraction::cut;
+use extraction::extract_derivation;
 use heuristics::Obstacle;
 use registry::{Registry, Request, ordinals_are_below_the_count};
 use std::alloc::{AllocError, Global};
@@ -279,7 +279,7 @@ fn outcome_of(task: &Task<'_>, found: Found, explain: bool) -> Result<Outcome, R
             if !explain {
                 return Ok(Outcome::NoSelection(offered));
             }
-            let derivation = cut(task.alloc, known, end)?;
+            let derivation = extract_derivation(task.alloc, known, end)?;
             Ok(Outcome::Refused(derivation, offered))
         }
     }

@@ -10,7 +10,7 @@ use Rattle.registry.specs.Registry.{Packages, Publication, meets_at, package_at,
 use Rattle.derivations.specs.Learning.{target_of, targets_of}
 use Rattle.store.specs.Slots.{is_met}
 use Rattle.store.specs.Stored.{cause_is_on, is_on, last_meets, published}
-use Rattle.store.specs.Wants.{CauseRests, Rests}
+use Rattle.store.specs.RequirementIndex.{CauseRests, Rests}
 use Rattle.derivations.specs.declared.facts.Cause.{Cause}
 use Rattle.derivations.specs.declared.facts.Cause.TheVariants as cause
 use Rattle.derivations.specs.declared.line.Line.{Line}

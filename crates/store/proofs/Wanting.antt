@@ -6,10 +6,10 @@ use Rattle.std.specs.Prelude.{None, Option, Some, is_some, slice_get}
 use Rattle.versions.specs.Words.{Text, meets}
 use Rattle.store.specs.Indexes.{Extends, HasNone, Indexed, IsUnder, chain_of}
 use Rattle.store.specs.Slots.{AreFewer, IsMemberAt, Slots, is_met, passes_at}
-use Rattle.store.specs.Wants.{AreDropped, AreHeld, AreHeldBelow, AreListed, CauseRests, IsHeld, IsWant, IsWhole, KeepsHeld, Rests, Wanted}
+use Rattle.store.specs.RequirementIndex.{AreDropped, AreHeld, AreHeldBelow, AreListed, CauseRests, IsHeld, IsWant, IsWhole, KeepsHeld, Rests, Wanted}
 use Rattle.store.specs.declared.index.Link.{Link}
 use Rattle.derivations.specs.declared.line.Line.{Line}
-use Rattle.store.specs.declared.wants.Want.{Want}
+use Rattle.store.specs.declared.requirement_index.IndexedRequirement.{IndexedRequirement}
 use Rattle.store.proofs.Chained.{Walked, Walked-end, read_more}
 use Rattle.store.proofs.Finding.{IsUnder-later}
 use Rattle.store.proofs.Resting.{met-rests}
@@ -26,31 +26,31 @@ read_last : {A : Type 0} (xs : List A) (y : A) → slice_get (xs ++ y ∷ []) (l
 read_last [] y = refl
 read_last (a ∷ xs) y = read_last xs y
 
-pub IsWant-more : (wants : List Want) (want : Want) (place target : ℕ) (need : Text) → IsWant wants place target need → IsWant (wants ++ want ∷ []) place target need
+pub IsWant-more : (wants : List IndexedRequirement) (want : IndexedRequirement) (place target : ℕ) (need : Text) → IsWant wants place target need → IsWant (wants ++ want ∷ []) place target need
 IsWant-more wants want place target need is = record { want = is.want; at = read_before wants want place is.want is.at; target_is = is.target_is; need_is = is.need_is }
 
-pub IsWant-last : (wants : List Want) (want : Want) → IsWant (wants ++ want ∷ []) (length wants) want.target want.need
+pub IsWant-last : (wants : List IndexedRequirement) (want : IndexedRequirement) → IsWant (wants ++ want ∷ []) (length wants) want.target want.need
 IsWant-last wants want = record { want = want; at = read_last wants want; target_is = refl; need_is = refl }
 
 -- with one more, which stands under its package
-pub AreListed-push : (wants : List Want) (want : Want) (old new : Indexed) → (new.whole ≡ true → old.whole ≡ true) → Extends old.links new.links → (new.whole ≡ true → IsUnder new.links want.target (length wants))
+pub AreListed-push : (wants : List IndexedRequirement) (want : IndexedRequirement) (old new : Indexed) → (new.whole ≡ true → old.whole ≡ true) → Extends old.links new.links → (new.whole ≡ true → IsUnder new.links want.target (length wants))
     → AreListed wants old → AreListed (wants ++ want ∷ []) new
 AreListed-push wants want old new wholes extends here listed whole place target need is = elim (read_more wants want place is.want is.at) [
   | inl before ↦ IsUnder-later old.links new.links target place extends (listed (wholes whole) place target need (record { want = is.want; at = before; target_is = is.target_is; need_is = is.need_is }))
   | inr last ↦
-      let target_is : want.target ≡ target = ap (λ (w : Want). w.target) last.1 ∙ is.target_is in
+      let target_is : want.target ≡ target = ap (λ (w : IndexedRequirement). w.target) last.1 ∙ is.target_is in
       subst (λ n. IsUnder new.links n place) target_is (subst (λ k. IsUnder new.links want.target k) (sym last.0) (here whole))
 ]
 
 -- a version that does not meet the requirement in a place
-pub unmet_want : (wants : List Want) (place p : ℕ) (want : Want) (need version : Text) → slice_get wants place ≡ Some want → meets want.need version ≡ false → IsWant wants place p need → meets need version ≡ true → ⊥
+pub unmet_want : (wants : List IndexedRequirement) (place p : ℕ) (want : IndexedRequirement) (need version : Text) → slice_get wants place ≡ Some want → meets want.need version ≡ false → IsWant wants place p need → meets need version ≡ true → ⊥
 unmet_want wants place p want need version at fails is met =
     let both : Some is.want ≡ Some want = sym is.at ∙ at in
     let same : is.want ≡ want = cc both in
-    true≢false (sym met ∙ ap (λ n. meets n version) (sym is.need_is) ∙ ap (λ (w : Want). meets w.need version) same ∙ fails)
+    true≢false (sym met ∙ ap (λ n. meets n version) (sym is.need_is) ∙ ap (λ (w : IndexedRequirement). meets w.need version) same ∙ fails)
 
 -- no place past the end has one
-pub no_want : {R : Type 0} (wants : List Want) (place p : ℕ) (need : Text) (found : Option R) → is_some found ≡ nat_lt place (length wants) → found ≡ None → IsWant wants place p need → ⊥
+pub no_want : {R : Type 0} (wants : List IndexedRequirement) (place p : ℕ) (need : Text) (found : Option R) → is_some found ≡ nat_lt place (length wants) → found ≡ None → IsWant wants place p need → ⊥
 no_want wants place p need found there none is =
     let lt : place < length wants = slice_get_within wants place is.want is.at in
     let within : nat_lt place (length wants) ≡ true = search rules in
@@ -77,7 +77,7 @@ pub KeepsHeld-same : (wanted : Wanted) → KeepsHeld wanted wanted
 KeepsHeld-same wanted = record { whole = λ w. w; held = λ member target need h. h }
 
 -- with one requirement more
-pub KeepsHeld-push : (wants : List Want) (want : Want) (old new members : Indexed) → (new.whole ≡ true → old.whole ≡ true) → Extends old.links new.links
+pub KeepsHeld-push : (wants : List IndexedRequirement) (want : IndexedRequirement) (old new members : Indexed) → (new.whole ≡ true → old.whole ≡ true) → Extends old.links new.links
     → KeepsHeld (record { wants = wants; targets = old; members = members }) (record { wants = wants ++ want ∷ []; targets = new; members = members })
 KeepsHeld-push wants want old new members wholes extends = record {
   whole = λ w. (wholes w.0, w.1);
@@ -86,7 +86,7 @@ KeepsHeld-push wants want old new members wholes extends = record {
 }
 
 -- with one member more
-pub KeepsHeld-members : (wants : List Want) (targets old new : Indexed) → (new.whole ≡ true → old.whole ≡ true) → Extends old.links new.links
+pub KeepsHeld-members : (wants : List IndexedRequirement) (targets old new : Indexed) → (new.whole ≡ true → old.whole ≡ true) → Extends old.links new.links
     → KeepsHeld (record { wants = wants; targets = targets; members = old }) (record { wants = wants; targets = targets; members = new })
 KeepsHeld-members wants targets old new wholes extends = record {
   whole = λ w. (w.0, wholes w.1);
@@ -146,10 +146,10 @@ AreHeld-fewer wanted old new fewer held whole place lines target need e rests = 
 -- ---- members that go
 
 -- the link leads to no requirement that holds a member which is met
-abbrev pub DropsAt : List Want → List Link → ℕ → Text → Slots → Link → Type 0
+abbrev pub DropsAt : List IndexedRequirement → List Link → ℕ → Text → Slots → Link → Type 0
 DropsAt wants members p version slots link = link.number ≡ p → AreDropped wants members link.place p version slots
 
-pub DropsAt-fewer : (wants : List Want) (members : List Link) (p : ℕ) (version : Text) (old new : Slots) → AreFewer old new → (link : Link) → DropsAt wants members p version old link
+pub DropsAt-fewer : (wants : List IndexedRequirement) (members : List Link) (p : ℕ) (version : Text) (old new : Slots) → AreFewer old new → (link : Link) → DropsAt wants members p version old link
     → DropsAt wants members p version new link
 DropsAt-fewer wants members p version old new fewer link drops own need is met place lines e under = drops own need is met place lines (fewer place lines e) under
 

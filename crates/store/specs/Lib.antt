@@ -4,4 +4,4 @@ pub mod Stored
 pub mod Keys
 pub mod Indexes
 pub mod Slots
-pub mod Wants
+pub mod RequirementIndex

@@ -10,9 +10,9 @@ mod laws;
 mod limits;
 mod member;
 mod members;
+mod requirement_index;
 mod slots;
 mod store;
-mod wants;
 
 pub use index::{Index, Link};
 pub use laws::{commands_keep, learning_keeps};

@@ -13,8 +13,8 @@ ghost use Rattle.store.specs.Stored.{has_conclusion, last_meets, learn_refusal, 
 use crate::index::Index;
 use crate::laws::{commands_keep, learning_keeps};
 use crate::members::{Members, members_in};
+use crate::requirement_index::{RequirementIndex, add_all_rests, add_rests};
 use crate::slots::{add_all_names, add_key, add_keys, add_names, has_concluded, member_at};
-use crate::wants::{Wants, add_all_rests, add_rests};
 use derivations::{DERIVATION_LINE_LIMIT, Learnt};
 use registry::{Command, Registry, matching_is_what_meets};
 use std::alloc::{AllocError, Global};
@@ -32,7 +32,7 @@ const MOST_EMPTY: usize = 256;
 const MOST_RESTS: usize = 2 * DERIVATION_LINE_LIMIT;
 
 /// The most packages that a conclusion names.
-const MOST_NAMES: usize = 4 * DERIVATION_LINE_LIMIT;
+const MOST_PACKAGES_NAMED: usize = 4 * DERIVATION_LINE_LIMIT;
 
 /// What was learnt, in order of learning.
 ///
@@ -45,7 +45,7 @@ pub struct Store {
     // how many of them are members
     count: usize,
     keys: Index,
-    wants: Wants,
+    wants: RequirementIndex,
     naming: Index,
 }
 
@@ -53,7 +53,7 @@ impl Model for Store {
     ghost use Rattle.std.specs.Prelude.{◌-◌, vec_capacity, vec_len};
     ghost use Rattle.store.specs.Slots.{kept};
     ghost use Rattle.store.specs.Stored.{Stored};
-    ghost use Rattle.store.specs.Wants.{IsStore};
+    ghost use Rattle.store.specs.RequirementIndex.{IsStore};
 
     ghost Value = { Stored };
 
@@ -71,7 +71,7 @@ impl Store {
             slots: Vec::new(alloc),
             count: 0,
             keys: Index::new(alloc),
-            wants: Wants::new(alloc),
+            wants: RequirementIndex::new(alloc),
             naming: Index::new(alloc),
         }
     }
@@ -139,7 +139,7 @@ impl Store {
         self.begin_indexes()?;
         self.keys.reserve(1)?;
         self.wants.reserve(MOST_RESTS)?;
-        self.naming.reserve(MOST_NAMES)?;
+        self.naming.reserve(MOST_PACKAGES_NAMED)?;
         Ok(())
     }
 

@@ -1,7 +1,7 @@
 use Rattle.std.proofs.Common.{◌≡◌, ◌∙◌, ℕ, refl, subst, sym, true≢false}
 use Rattle.store.specs.Indexes.{Indexed}
 use Rattle.store.specs.Slots.{AreFound, HasKey, Slots}
-use Rattle.store.specs.Wants.{AreHeld, IsStore, Wanted}
+use Rattle.store.specs.RequirementIndex.{AreHeld, IsStore, Wanted}
 use Rattle.store.proofs.store.Store.begin_indexes.Goals.{else-not-is_whole, else-not-is_whole-2, then-not-is_whole+in_ok-begin, then-not-is_whole-2+in_ok-begin-2}
 use Rattle.store.proofs.store.Store.begin_indexes.Goals as goal
 

@@ -2,7 +2,7 @@ use Rattle.std.proofs.Common.{◌≡◌, ◌∙◌, ◌++◌, ℕ, List, ap, ari
 use Rattle.std.proofs.lemmas.List.{append-nil, drop_all, take_all}
 use Rattle.store.specs.Slots.{AreFewer, Slots, kept, unmet}
 use Rattle.store.specs.Stored.{Stored}
-use Rattle.store.specs.Wants.{IsStore}
+use Rattle.store.specs.RequirementIndex.{IsStore}
 use Rattle.store.proofs.Wanting.{AreHeld-fewer}
 use Rattle.store.proofs.store.Store.drop_met.Goals as goal
 

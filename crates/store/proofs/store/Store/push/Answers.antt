@@ -4,7 +4,7 @@ use Rattle.store.specs.Indexes.{IsUnder}
 use Rattle.store.specs.Keys.{key_of}
 use Rattle.store.specs.Slots.{HasKey, Slots, kept}
 use Rattle.store.specs.Stored.{Stored, conclusion_of}
-use Rattle.store.specs.Wants.{IsHeld, IsStore}
+use Rattle.store.specs.RequirementIndex.{IsHeld, IsStore}
 use Rattle.store.proofs.Finding.{AreFound-later, AreFound-push, length_kept}
 use Rattle.store.proofs.Thinning.{kept_push}
 use Rattle.store.proofs.Wanting.{AreHeld-later, AreHeld-push}

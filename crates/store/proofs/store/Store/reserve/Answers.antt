@@ -2,7 +2,7 @@ use Rattle.std.proofs.Common.{◌∙◌, ap, rules, subst, sym}
 use Rattle.store.specs.Indexes.{Indexed}
 use Rattle.store.specs.Slots.{Slots, kept}
 use Rattle.store.specs.Stored.{Stored}
-use Rattle.store.specs.Wants.{IsStore, Wanted}
+use Rattle.store.specs.RequirementIndex.{IsStore, Wanted}
 use Rattle.store.proofs.store.Store.reserve.Goals as goal
 
 pub invariant_of-self : goal.invariant_of-self

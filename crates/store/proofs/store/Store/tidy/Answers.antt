@@ -3,7 +3,7 @@ use Rattle.std.proofs.lemmas.Fn.{filter_same}
 use Rattle.std.specs.Prelude.{filter, is_some}
 use Rattle.store.specs.Slots.{AreFound, HasKey, Slots, kept}
 use Rattle.store.specs.Stored.{Stored}
-use Rattle.store.specs.Wants.{AreHeld}
+use Rattle.store.specs.RequirementIndex.{AreHeld}
 use Rattle.store.proofs.Thinning.{kept_some}
 use Rattle.store.proofs.store.Store.tidy.Goals as goal
 

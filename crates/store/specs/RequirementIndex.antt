@@ -7,11 +7,11 @@ use Rattle.derivations.specs.declared.facts.Cause.{Cause}
 use Rattle.derivations.specs.declared.facts.Cause.TheVariants as cause
 use Rattle.store.specs.declared.index.Link.{Link}
 use Rattle.derivations.specs.declared.line.Line.{Line}
-use Rattle.store.specs.declared.wants.Want.{Want}
+use Rattle.store.specs.declared.requirement_index.IndexedRequirement.{IndexedRequirement}
 
 -- the requirements, their places under their packages, and under each place those of the members that rest on it
 pub record Wanted : Type 0 where
-  pub wants : List Want
+  pub wants : List IndexedRequirement
   pub targets : Indexed
   pub members : Indexed
 
@@ -19,14 +19,14 @@ abbrev pub IsWhole : Wanted → Type 0
 IsWhole wanted = (wanted.targets.whole ≡ true) × (wanted.members.whole ≡ true)
 
 -- this requirement on this package stands in this place
-pub record IsWant (wants : List Want) (place target : ℕ) (need : Text) : Type 0 where
-  pub want : Want
+pub record IsWant (wants : List IndexedRequirement) (place target : ℕ) (need : Text) : Type 0 where
+  pub want : IndexedRequirement
   pub at : slice_get wants place ≡ Some want
   pub target_is : want.target ≡ target
   pub need_is : want.need ≡ need
 
 -- each stands under its package
-abbrev pub AreListed : List Want → Indexed → Type 0
+abbrev pub AreListed : List IndexedRequirement → Indexed → Type 0
 AreListed wants targets = targets.whole ≡ true → (place target : ℕ) (need : Text) → IsWant wants place target need → IsUnder targets.links target place
 
 -- a requirement is listed, and a member's place stands under it
@@ -69,7 +69,7 @@ abbrev pub AreHeldBelow : ℕ → Wanted → Slots → Type 0
 AreHeldBelow first wanted slots = IsWhole wanted → (place : ℕ) (lines : List Line) (target : ℕ) (need : Text) → IsMemberAt slots place lines → place < first → Rests lines target need → IsHeld wanted place target need
 
 -- no member is met that stands under the requirement in this place, if that is one on the package which the version meets
-abbrev pub AreDropped : List Want → List Link → ℕ → ℕ → Text → Slots → Type 0
+abbrev pub AreDropped : List IndexedRequirement → List Link → ℕ → ℕ → Text → Slots → Type 0
 AreDropped wants members want p version slots = (need : Text) → IsWant wants want p need → meets need version ≡ true → NoneUnder (is_met p version) members want slots
 
 -- so many members stand in the places, and are found under their keys and under what they rest on

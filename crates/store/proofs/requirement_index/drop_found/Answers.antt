@@ -4,7 +4,7 @@ use Rattle.store.specs.Slots.{is_met}
 use Rattle.store.proofs.Chained.{Walked, Walked-next, Walked-start, Walked-weaker}
 use Rattle.store.proofs.Thinning.{AreFewer-thinned, AreThinned-join, AreThinned-same, kept_thinned}
 use Rattle.store.proofs.Wanting.{AreHeld-fewer, DropsAt, DropsAt-fewer, none-met}
-use Rattle.store.proofs.wants.drop_found.Goals as goal
+use Rattle.store.proofs.requirement_index.drop_found.Goals as goal
 
 pub walk-init : goal.walk-init
 walk-init c =

@@ -1,9 +1,9 @@
 use Rattle.std.proofs.Common.{◌-◌, List, ap, arith, drop, inl, inr, length, subst, sym, take}
-use Rattle.store.specs.Wants.{Rests}
+use Rattle.store.specs.RequirementIndex.{Rests}
 use Rattle.derivations.specs.declared.line.Line.{Line}
 use Rattle.store.proofs.Behind.{behind_first, none_behind}
 use Rattle.store.proofs.Wanting.{HoldsBut, HoldsBut-next, KeepsHeld-next, KeepsHeld-same}
-use Rattle.store.proofs.wants.add_rests.Goals as goal
+use Rattle.store.proofs.requirement_index.add_rests.Goals as goal
 
 pub add-init : goal.add-init
 add-init c = (KeepsHeld-same c.args.wants.now, λ whole target need rests. inl (subst (λ (lines : List Line). Rests lines target need) (sym c.lines-left.ensures.same) rests))

@@ -1,7 +1,7 @@
 use Rattle.std.proofs.Common.{◌∙◌, refl, rules, sym}
 use Rattle.std.proofs.lemmas.Option.{slice_get_read}
 use Rattle.std.proofs.lemmas.Slice.Eq.{bytes_eq-Decides}
-use Rattle.store.proofs.wants.is_want.Goals as goal
+use Rattle.store.proofs.requirement_index.is_want.Goals as goal
 
 pub returns-then-want-target : goal.returns-then-want-target
 returns-then-want-target c = λ t. record {

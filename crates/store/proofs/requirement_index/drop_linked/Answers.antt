@@ -2,7 +2,7 @@ use Rattle.std.proofs.Common.{◌∙◌, refl, sym}
 use Rattle.std.proofs.lemmas.Option.{slice_get_read}
 use Rattle.store.proofs.Thinning.{AreThinned-same}
 use Rattle.store.proofs.Wanting.{no_want, unmet_want}
-use Rattle.store.proofs.wants.drop_linked.Goals as goal
+use Rattle.store.proofs.requirement_index.drop_linked.Goals as goal
 
 pub returns-then-link-from-clause-thinned : goal.returns-then-link-from-clause-thinned
 returns-then-link-from-clause-thinned c = AreThinned-same _ c.args.slots.now

@@ -3,7 +3,7 @@
 ghost use Rattle.std.specs.Prelude.{◌≡◌, ◌∷◌, ◌++◌, ℕ, [], false, length, true, IfSome, OnErr};
 ghost use Rattle.versions.specs.Words.{Text};
 ghost use Rattle.store.specs.Slots.{is_met, kept, unmet, AreFewer, AreThinned};
-ghost use Rattle.store.specs.Wants.{AreDropped, AreHeld, AreListed, CauseRests, HoldsAt, IsHeld, IsWant, IsWhole, KeepsHeld, Rests};
+ghost use Rattle.store.specs.RequirementIndex.{AreDropped, AreHeld, AreListed, CauseRests, HoldsAt, IsHeld, IsWant, IsWhole, KeepsHeld, Rests};
 
 use crate::index::{Index, Link};
 use crate::keys::stirred;
@@ -20,7 +20,7 @@ const MOST_STEPS: usize = 256;
 
 /// A requirement on a package.
 #[derive(Drop)]
-pub struct Want {
+pub struct IndexedRequirement {
     pub target: Pkg,
     pub need: Need,
 }
@@ -29,8 +29,8 @@ pub struct Want {
 ///
 /// Where there is no memory for one, they are whole no more, until they are begun anew.
 #[derive(Drop)]
-pub struct Wants {
-    wants: Vec<Want>,
+pub struct RequirementIndex {
+    wants: Vec<IndexedRequirement>,
     // under the key of a requirement its place among these
     keys: Index,
     // under a package the places of the requirements on it
@@ -39,8 +39,8 @@ pub struct Wants {
     members: Index,
 }
 
-impl Model for Wants {
-    ghost use Rattle.store.specs.Wants.{AreListed, Wanted};
+impl Model for RequirementIndex {
+    ghost use Rattle.store.specs.RequirementIndex.{AreListed, Wanted};
 
     ghost Value = { Wanted };
 
@@ -49,12 +49,12 @@ impl Model for Wants {
     ghost invariant = { λ s. AreListed s.wants.items s.targets };
 }
 
-impl Wants {
+impl RequirementIndex {
     /// None, and not begun.
-    pub(crate) fn new(alloc: Global) -> Wants
+    pub(crate) fn new(alloc: Global) -> RequirementIndex
         ensures { IsWhole result → ⊥ }
     {
-        Wants {
+        RequirementIndex {
             wants: Vec::new(alloc),
             keys: Index::new(alloc),
             targets: Index::new(alloc),
@@ -176,7 +176,7 @@ fn want_key(target: Pkg, need: &Need) -> u64 {
 }
 
 /// Whether the requirement stands in this place.
-fn is_want(wants: &[Want], place: usize, target: Pkg, need: &Need) -> bool
+fn is_want(wants: &[IndexedRequirement], place: usize, target: Pkg, need: &Need) -> bool
     ensures { result ≡ true → IsWant wants.now place target need.now }
 {
     match wants.get(place) {
@@ -186,7 +186,13 @@ fn is_want(wants: &[Want], place: usize, target: Pkg, need: &Need) -> bool
 }
 
 /// A place in which the requirement stands, if it is found under its key.
-fn find(wants: &[Want], keys: &Index, key: u64, target: Pkg, need: &Need) -> Option<usize>
+fn find(
+    wants: &[IndexedRequirement],
+    keys: &Index,
+    key: u64,
+    target: Pkg,
+    need: &Need,
+) -> Option<usize>
     ensures { IfSome result (λ place. IsWant wants.now place target need.now) }
 {
     let mut at = keys.first(key);
@@ -202,14 +208,14 @@ fn find(wants: &[Want], keys: &Index, key: u64, target: Pkg, need: &Need) -> Opt
 }
 
 /// Puts a requirement at the end. Where it answers no, there was no memory for it.
-fn push_want(wants: &mut Vec<Want>, target: Pkg, need: &Need) -> bool
+fn push_want(wants: &mut Vec<IndexedRequirement>, target: Pkg, need: &Need) -> bool
     ensures pushed { result ≡ true → wants.new.items ≡ wants.old.items ++ (record { target = target; need = need.now }) ∷ [] }
     ensures unchanged { result ≡ false → wants.new.items ≡ wants.old.items }
 {
     let Ok(need) = need.clone() else {
         return false;
     };
-    wants.push(Want { target, need }).is_ok()
+    wants.push(IndexedRequirement { target, need }).is_ok()
 }
 
 // ---- who goes
@@ -219,7 +225,7 @@ fn push_want(wants: &mut Vec<Want>, target: Pkg, need: &Need) -> bool
 fn drop_linked(
     slots: &mut [Option<Learnt>],
     count: usize,
-    wants: &[Want],
+    wants: &[IndexedRequirement],
     members: &Index,
     link: Link,
     pkg: Pkg,
@@ -247,7 +253,7 @@ fn drop_linked(
 fn drop_found(
     slots: &mut [Option<Learnt>],
     count: usize,
-    wants: &[Want],
+    wants: &[IndexedRequirement],
     targets: &Index,
     members: &Index,
     pkg: Pkg,
@@ -272,7 +278,7 @@ fn drop_found(
 // ---- what members rest on
 
 /// Adds a member under the requirement of a premise, where the cause is one.
-fn add_cause(wants: &mut Wants, member: usize, cause: &Cause)
+fn add_cause(wants: &mut RequirementIndex, member: usize, cause: &Cause)
     ensures keeps { KeepsHeld wants.old wants.new }
     ensures there { IsWhole wants.new → (target : ℕ) (need : Text) → CauseRests cause.now target need → IsHeld wants.new member target need }
 {
@@ -283,7 +289,7 @@ fn add_cause(wants: &mut Wants, member: usize, cause: &Cause)
 }
 
 /// Adds a member under each requirement that it rests on.
-pub fn add_rests(wants: &mut Wants, member: usize, learnt: &Learnt)
+pub fn add_rests(wants: &mut RequirementIndex, member: usize, learnt: &Learnt)
     ensures keeps { KeepsHeld wants.old wants.new }
     ensures there { IsWhole wants.new → (target : ℕ) (need : Text) → Rests learnt.now target need → IsHeld wants.new member target need }
 {
@@ -296,7 +302,7 @@ pub fn add_rests(wants: &mut Wants, member: usize, learnt: &Learnt)
 }
 
 /// Adds the place of a slot under what its member rests on.
-fn add_slot_rests(wants: &mut Wants, place: usize, slot: &Option<Learnt>)
+fn add_slot_rests(wants: &mut RequirementIndex, place: usize, slot: &Option<Learnt>)
     ensures keeps { KeepsHeld wants.old wants.new }
     ensures there { IsWhole wants.new → IfSome slot.now (HoldsAt wants.new place) }
 {
@@ -306,7 +312,7 @@ fn add_slot_rests(wants: &mut Wants, place: usize, slot: &Option<Learnt>)
 }
 
 /// Adds the places of all members under what they rest on.
-pub fn add_all_rests(wants: &mut Wants, slots: &[Option<Learnt>])
+pub fn add_all_rests(wants: &mut RequirementIndex, slots: &[Option<Learnt>])
     ensures { AreHeld wants.new slots.now }
 {
     for place in 0..slots.len() {

@@ -1,7 +1,7 @@
 use Rattle.std.proofs.Common.{◌≡◌, subst, sym, true}
-use Rattle.store.specs.Wants.{IsWant, KeepsHeld, Wanted}
+use Rattle.store.specs.RequirementIndex.{IsWant, KeepsHeld, Wanted}
 use Rattle.store.proofs.Wanting.{KeepsHeld-members, KeepsHeld-next}
-use Rattle.store.proofs.wants.Wants.add.Goals as goal
+use Rattle.store.proofs.requirement_index.RequirementIndex.add.Goals as goal
 
 pub returns-clause-keeps : goal.returns-clause-keeps
 returns-clause-keeps c =

@@ -9,7 +9,7 @@ use Rattle.derivations.specs.declared.known.CausedIncompatibility.{CausedIncompa
 use Rattle.derivations.specs.declared.line.Line.{Line}
 use Rattle.extraction.proofs.Moving.{end_moved, resolved_moved, resolved_there, said_moved}
 use Rattle.extraction.proofs.Walking.{derivation_by}
-use Rattle.extraction.proofs.cutting.cut.Goals as goal
+use Rattle.extraction.proofs.cutting.extract_derivation.Goals as goal
 
 pub paired-requires-clause-resolved : goal.paired-requires-clause-resolved
 paired-requires-clause-resolved c =

@@ -3,7 +3,7 @@ use Rattle.store.specs.Indexes.{chain_of}
 use Rattle.store.specs.Slots.{AreThinned, is_met, kept}
 use Rattle.store.proofs.Chained.{Walked}
 use Rattle.store.proofs.Wanting.{DropsAt}
-use Rattle.store.proofs.wants.drop_found.Given as goal
+use Rattle.store.proofs.requirement_index.drop_found.Given as goal
 
 abbrev pub invariant-walk : goal.invariant-walk
 invariant-walk l =

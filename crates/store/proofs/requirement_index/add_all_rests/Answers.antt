@@ -2,11 +2,11 @@ use Rattle.std.proofs.Common.{◌∙◌, ℕ, List, rules}
 use Rattle.std.proofs.lemmas.Option.{get_or_from_slice_get}
 use Rattle.std.specs.Prelude.{Some}
 use Rattle.versions.specs.Words.{Text}
-use Rattle.store.specs.Wants.{IsHeld, Rests}
+use Rattle.store.specs.RequirementIndex.{IsHeld, Rests}
 use Rattle.derivations.specs.declared.line.Line.{Line}
 use Rattle.store.proofs.Finding.{if_some}
 use Rattle.store.proofs.Wanting.{AreHeldBelow-all, AreHeldBelow-next}
-use Rattle.store.proofs.wants.add_all_rests.Goals as goal
+use Rattle.store.proofs.requirement_index.add_all_rests.Goals as goal
 
 pub loop-place-preserved : goal.loop-place-preserved
 loop-place-preserved c =
