@@ -12,7 +12,7 @@ from doc_comments import CRATES, Fault, faults, faults_of  # noqa: E402
 # What only the tests are made of, and the example.
 OF_TESTS = {"rows", "calls_low", "calls_texts", "calls_high", "probe", "team"}
 # Crates that don't keep to it yet. One is taken out once it does.
-TO_COME = {"answers", "chronicle", "derivations", "embedded", "heuristics", "pool", "race", "session", "solver", "walk"}
+TO_COME = set()
 SOURCE = """\
 //! Names.
 

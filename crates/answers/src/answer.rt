@@ -46,7 +46,8 @@ pub fn answer_line<L: Backend>(
     answer_read(alloc, backend, read, settings)
 }
 
-/// What was read of a line, with the budget of the settings where it asks to resolve and names none.
+/// What was read of a line, with the budget of the settings where it asks to resolve and names none. An error stays
+/// as it is.
 pub fn within(read: Result<Asked, Refusal>, settings: Settings) -> Result<Asked, Refusal>
     ensures { (line : List ℕ) → IsRead read line → IsReadWithin settings result line }
 {

@@ -27,7 +27,8 @@ pub trait Backend {
     fn store(&self) -> &Store
         ensures { All (AllStand (ways.packages self.now)) result.now.members };
 
-    /// Looks for what others entered, as far as it can.
+    /// Looks for what others entered, as far as it can. `Err` tells what stopped it: no memory, or an entry that
+    /// nobody made.
     fn look(&mut self) -> Result<(), Refusal>
         ensures looks { ways.looks self.old self.new }
         ensures stopped { IfErr result (IsStopped ways self.new) };

@@ -15,7 +15,7 @@ use versions::Refusal;
 
 impl<'a> Seat<'a> {
     /// Resolves a request at the place where the seat then stands, which the stamp names: by the newest
-    /// selection, or by why there is none.
+    /// selection, or by why there is none. Errors are [`Refusal::NoMemory`] and [`Refusal::Stray`].
     pub fn resolve(&mut self, request: &Request) -> Result<(Stamp, Outcome), Refusal>
         ensures seen { MayHaveSeen self.old self.new }
         ensures again { IfSome self.old.stray (λ e. result ≡ Err Refusal.Stray) }
@@ -29,9 +29,9 @@ impl<'a> Seat<'a> {
         self.resolve_with(request, newest_within(None))
     }
 
-    /// As [`Seat::resolve`], with at most so many conflicts: at the next one the answer is 22. Under
-    /// every budget, 0 included, the preferred selection is the answer where it exists and meets the
-    /// request.
+    /// As [`Seat::resolve`], with at most so many conflicts: at the next one the answer is
+    /// [`Refusal::BudgetSpent`]. Under every budget, 0 included, the preferred selection is the answer where
+    /// it exists and meets the request.
     pub fn resolve_within(
         &mut self,
         request: &Request,

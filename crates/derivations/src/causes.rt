@@ -1,4 +1,4 @@
-// What the causes of a line give.
+//! What the causes of a line give.
 
 ghost use Rattle.std.specs.Prelude.{◌≡◌, ◌↔◌, ◌∷◌, [], Some, IfOk, IsSome, IsTrue};
 ghost use Rattle.std.specs.Option.{option_map};

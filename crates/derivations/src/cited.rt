@@ -1,4 +1,4 @@
-// What the needs say that lines cite: found once, however many lines cite them.
+//! What the needs say that lines cite: found once, however many lines cite them.
 
 ghost use Rattle.std.specs.Prelude.{◌≡◌, ◌≢◌, ◌<◌, ℕ, Some, IfOk, length, slice_get};
 ghost use Rattle.derivations.specs.Causes.{AreNeedFacts, HasNoFacts};

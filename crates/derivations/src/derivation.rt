@@ -1,4 +1,4 @@
-// Derivations, and their checker.
+//! Derivations, and their checker.
 
 ghost use Rattle.std.specs.Prelude.{◌≡◌, ◌↔◌, IfOk, IsTrue};
 ghost use Rattle.std.specs.Bool.{OnTrue};

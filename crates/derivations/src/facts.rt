@@ -1,4 +1,4 @@
-// What lines follow from.
+//! What lines follow from.
 
 ghost use Rattle.std.specs.Prelude.{◌≡◌, ◌↔◌, IfErr, IfOk, IsTrue};
 ghost use Rattle.std.specs.Bool.{OnTrue};
@@ -61,8 +61,8 @@ impl Premise {
         Ok(Some(said))
     }
 
-    /// An equal premise, which shares the requirement with this one. Want of memory is refused by its
-    /// number.
+    /// An equal premise, which shares the requirement with this one. The only error is
+    /// [`Refusal::NoMemory`].
     pub fn copy(&self, alloc: Global) -> Result<Premise, Refusal>
         ensures same { IfOk result (λ premise. premise ≡ self.now) }
         ensures only { IfErr result (λ e. e ≡ Refusal.NoMemory) }

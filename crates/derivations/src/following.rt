@@ -1,4 +1,4 @@
-// Whether lines follow from what their causes give.
+//! Whether lines follow from what their causes give.
 
 ghost use Rattle.std.specs.Prelude.{◌≡◌, ◌↔◌, ◌||◌, [], IfOk, IsTrue};
 ghost use Rattle.terms.specs.Incompats.{has_term};

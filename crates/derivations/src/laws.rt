@@ -1,4 +1,4 @@
-// Laws: why derivations and what is learnt can be trusted.
+//! Laws: why derivations and what is learnt can be trusted.
 
 ghost use Rattle.derivations.specs.Laws.{DerivationsRefute, DerivedLinesStand, EmptyIsNoFact, KeptLinesHold, KeptLinesRefute, LearntHolds, PremisesHold, ResolventsHold};
 

@@ -1,4 +1,4 @@
-// What is learnt of a search.
+//! What is learnt of a search.
 
 ghost use Rattle.std.specs.Prelude.{◌≡◌, ◌<◌, ◌⊎◌, ◌↔◌, ◌++◌, Some, Err, length, IfErr, IfOk, IfSome, IsTrue, OnOk};
 ghost use Rattle.std.specs.Bool.{OnTrue};
@@ -43,6 +43,9 @@ impl Model for Learnt {
 impl Learnt {
     /// What these lines show, where they follow from premises and earlier lines. The request's needs
     /// and what is allowed to it may not be learnt. Linear in the lines.
+    ///
+    /// More lines than [`DERIVATION_LINE_LIMIT`] are [`Refusal::TooLong`]. Lines that may not be learnt are
+    /// [`Refusal::NotADerivation`]. The third error is [`Refusal::NoMemory`].
     pub fn new(alloc: Global, lines: Vec<Line>) -> Result<Learnt, Refusal>
         ensures made { IfOk result (λ learnt. (learnt ≡ lines.items) × IsLearnt lines.items) }
         ensures too_long { (result ≡ Err Refusal.TooLong) ↔ (DERIVATION_LINE_LIMIT < length lines.items) }
@@ -73,7 +76,7 @@ impl Learnt {
         Ok(Learnt { lines, targets })
     }
 
-    /// The lines.
+    /// The derivation whose last conclusion was learnt.
     pub fn lines(&self) -> &[Line]
         ensures same { result.now ≡ self.now }
         ensures lawful { IsLearnt self.now }
@@ -105,7 +108,7 @@ impl Learnt {
         all_stand(registry, &self.lines)
     }
 
-    /// An equal value. Want of memory is refused by its number.
+    /// An equal value. Linear in the lines. The only error is [`Refusal::NoMemory`].
     pub fn copy(&self, alloc: Global) -> Result<Learnt, Refusal>
         ensures same { IfOk result (λ learnt. learnt ≡ self.now) }
         ensures only { IfErr result (λ e. e ≡ Refusal.NoMemory) }

@@ -1,4 +1,4 @@
-// Lines of a derivation.
+//! Lines of a derivation.
 
 ghost use Rattle.std.specs.Prelude.{◌≡◌, ◌↔◌, ◌∷◌, [], IfErr, IfOk, IsTrue};
 ghost use Rattle.std.specs.Option.{option_copied};
@@ -20,7 +20,7 @@ pub struct Line {
 }
 
 impl Line {
-    /// An equal line. Want of memory is refused by its number.
+    /// An equal line. The only error is [`Refusal::NoMemory`].
     pub fn copy(&self, alloc: Global) -> Result<Line, Refusal>
         ensures same { IfOk result (λ line. line ≡ self.now) }
         ensures only { IfErr result (λ e. e ≡ Refusal.NoMemory) }

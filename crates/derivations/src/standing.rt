@@ -1,4 +1,4 @@
-// Whether premises stand: loops over what packages publish.
+//! Whether premises stand: loops over what packages publish.
 
 ghost use Rattle.std.specs.Prelude.{◌≡◌, ◌↔◌, IfOk, IsTrue, Some};
 ghost use Rattle.registry.specs.Registry.{number_of};

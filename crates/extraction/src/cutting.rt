@@ -1,4 +1,4 @@
-// The lines of a search, cut down to a derivation.
+//! The lines of a search, cut down to a derivation.
 
 ghost use Rattle.std.specs.Prelude.{◌≡◌, ◌≢◌, ◌<◌, ◌↔◌, ◌∷◌, [], ℕ, None, Some, false, true, length, slice_index, IfOk, IfSome, IfNone, IsTrue};
 ghost use Rattle.registry.specs.Registry.{Packages};

@@ -1,4 +1,4 @@
-// What a search offers to be learnt.
+//! What a search offers to be learnt.
 
 ghost use Rattle.std.specs.Prelude.{◌≡◌, ◌≤◌, ◌+◌, ◌-◌, ◌↔◌, false, length, sum_by, All, IfNone, IfOk, IfSome, IsTrue};
 ghost use Rattle.std.specs.Bool.{OnTrue};

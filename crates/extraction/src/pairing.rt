@@ -1,4 +1,4 @@
-// Long runs put together pairwise.
+//! Long runs put together pairwise.
 //
 // Each line of a run names one version more, or one less, than the line before it: for V versions all
 // lines together V * V / 2. Put together pairwise, as many lines name V times the logarithm of V. What

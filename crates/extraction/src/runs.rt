@@ -1,4 +1,4 @@
-// Runs: lines of a search on one pivot, each of which only another one of the run cites.
+//! Runs: lines of a search on one pivot, each of which only another one of the run cites.
 //
 // Where a package is ruled out version by version, its lines are a run. Which runs are found decides
 // how a derivation is put together, and nothing else: no proof rests on them.
@@ -11,7 +11,7 @@ use terms::Pkg;
 /// From how many lines on a run is long: a shorter one names few versions, and reads well as it is.
 const LONG: usize = 16;
 
-/// A long run.
+/// A chain of many resolution steps, each of which takes the conclusion of the one before it.
 #[derive(Drop)]
 pub struct LongRun {
     /// The place of its last line.

@@ -1,4 +1,4 @@
-// What the lines of a derivation say, copied or taken from the lines of a search.
+//! What the lines of a derivation say, copied or taken from the lines of a search.
 
 ghost use Rattle.std.specs.Prelude.{◌≡◌, ◌≢◌, ◌<◌, ◌++◌, ◌∷◌, [], ℕ, length, slice_get, IfOk, OnOk};
 ghost use Rattle.extraction.specs.Taking.{line_at, lines_at, said_at, ArePlaced};

@@ -1,4 +1,4 @@
-// How much packages had to do with the last conflicts.
+//! How much packages had to do with the last conflicts.
 //
 // Each conflict moves the activity of the packages on which its lines were resolved, and of those that the line
 // names to which it leads, by an eighth towards the number of the conflict. So what was in many of the last
@@ -32,6 +32,7 @@ pub(crate) struct Activity {
 }
 
 impl Activity {
+    /// No conflict was met. Nothing is allocated before the first one.
     pub fn new(alloc: Global) -> Activity {
         Activity {
             conflicts: 0,

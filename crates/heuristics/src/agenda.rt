@@ -1,4 +1,4 @@
-// Which lines are looked at, and which package is decided.
+//! Which lines are looked at, and which package is decided.
 
 use crate::inactive::Inactive;
 use crate::late::Late;

@@ -1,4 +1,4 @@
-// Packages whose versions all depend on the same.
+//! Packages whose versions all depend on the same.
 
 use crate::question::{Question, needs};
 use registry::Registry;

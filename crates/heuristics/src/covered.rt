@@ -1,4 +1,4 @@
-// Which dependencies of the versions of packages stand among the lines.
+//! Which dependencies of the versions of packages stand among the lines.
 
 use indexmap::IndexMap;
 use std::alloc::{AllocError, Global};
@@ -53,6 +53,7 @@ impl Targets {
 }
 
 impl Covered {
+    /// No dependency was entered. Nothing is allocated before the first one.
     pub fn new(alloc: Global) -> Covered {
         Covered {
             listed: Vec::new(alloc),

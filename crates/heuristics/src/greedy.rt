@@ -1,4 +1,4 @@
-// A greedy search, tried before the one that jumps back.
+//! A greedy search, tried before the one that jumps back.
 //
 // It decides in the same order, and keeps of each package the versions that its dependents leave, but
 // no lines. Where all versions of a package depend on the same, that is met as soon as the package is

@@ -1,4 +1,4 @@
-// Lines that nothing follows from until the search jumps back.
+//! Lines that nothing follows from until the search jumps back.
 
 ghost use Rattle.std.specs.Prelude.{◌≤◌, length};
 

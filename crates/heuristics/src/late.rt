@@ -1,4 +1,4 @@
-// Lines that derived something later than they could have.
+//! Lines that derived something later than they could have.
 //
 // Where a search jumps back to a level between, the line of the conflict derives there, though it could
 // have at a lower one. Once a later jump takes that back, the line derives again at once.
@@ -58,6 +58,7 @@ fn is_late(partial: &Partial, conclusion: &Incompat, level: usize) -> bool {
 }
 
 impl Late {
+    /// Nothing was put off. Nothing is allocated before something is.
     pub fn new(alloc: Global) -> Late {
         Late {
             order: Vec::new(alloc),

@@ -1,4 +1,4 @@
-// What is left of packages, a word each.
+//! What is left of packages, a word each.
 //
 // A word has a bit for each of the first versions of a package, two for all versions beyond, and one for
 // that none is chosen. So how what is said of a package stands to a term is told by two words, mostly, and
@@ -100,6 +100,7 @@ pub(crate) fn contradicts(left: u64, against: u64) -> Option<bool> {
 }
 
 impl Left {
+    /// No package was looked at. Nothing is allocated before the first one.
     pub fn new(alloc: Global) -> Left {
         Left {
             words: Vec::new(alloc),

@@ -1,4 +1,4 @@
-// The lines of a search, of which nothing is asked but what they conclude.
+//! The lines of a search, of which nothing is asked but what they conclude.
 
 use terms::Incompat;
 

@@ -1,4 +1,4 @@
-// Packages, numbered in the order in which something is first known of them.
+//! Packages, numbered in the order in which something is first known of them.
 //
 // By number of the package, up to the highest of which something is known, a list has one more than the index
 // of what is known of it, or 0.

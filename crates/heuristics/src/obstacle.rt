@@ -1,4 +1,4 @@
-// What stands in the way of the preferred selection.
+//! What stands in the way of the preferred selection.
 
 use crate::alike::are_alike;
 use crate::question::{Question, needs};

@@ -1,4 +1,4 @@
-// Occurrence lists: for each package the lines that name it, and what is kept of it beside.
+//! Occurrence lists: for each package the lines that name it, and what is kept of it beside.
 
 use crate::alike::several_depend_alike;
 use crate::covered::Covered;

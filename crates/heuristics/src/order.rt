@@ -1,4 +1,4 @@
-// The order of decisions (doc/solver.md, "Decision Making").
+//! The order of decisions (doc/solver.md, "Decision Making").
 
 use std::alloc::{AllocError, Global};
 use std::cmp::Reverse;

@@ -1,4 +1,4 @@
-// What is kept of a package that lines name.
+//! What is kept of a package that lines name.
 
 use crate::covered::Targets;
 use crate::question::Question;

@@ -1,4 +1,4 @@
-// What is asked of which registry.
+//! What is asked of which registry.
 
 ghost use Rattle.std.specs.Prelude.{◌≡◌};
 ghost use Rattle.registry.specs.Registry.{needs_of};

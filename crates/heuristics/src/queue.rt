@@ -1,4 +1,4 @@
-// The packages that are to be decided.
+//! The packages that are to be decided.
 
 ghost use Rattle.std.specs.Prelude.{◌≡◌};
 

@@ -1,4 +1,4 @@
-// Where versions of a package may have the same dependency.
+//! Where versions of a package may have the same dependency.
 
 use crate::question::{Question, needs};
 use indexmap::IndexMap;
@@ -77,6 +77,7 @@ fn has_many(question: &Question<'_>, pkg: Pkg) -> bool {
 }
 
 impl Sharing {
+    /// No version was looked at. Nothing is allocated before the first one.
     pub fn new(alloc: Global) -> Sharing {
         Sharing {
             has_many: IndexMap::new(alloc),

@@ -1,4 +1,4 @@
-// Learnt lines of three terms or more, each looked at from two packages alone.
+//! Learnt lines of three terms or more, each looked at from two packages alone.
 //
 // Of each line two terms are watched that are not satisfied, where there are two. Only once a watched
 // term is satisfied may something follow from the line; then another term that is not satisfied takes
@@ -178,6 +178,7 @@ impl<'a, L: SearchLines> Situation<'a, L> {
 }
 
 impl Watches {
+    /// No line is watched. Nothing is allocated before the first one.
     pub fn new(alloc: Global) -> Watches {
         Watches {
             lists: Vec::new(alloc),

@@ -81,7 +81,8 @@ fn answer_first<G, Q: Query>(
     effort
 }
 
-/// The answer to a request, unless more than a few conflicts stand in its way. It is 18 where no memory was left for it.
+/// The answer to a request, unless more than [`CONFLICTS_WITHOUT_THREADS`] conflicts stand in its way. Where no
+/// memory was left for it, it is [`Refusal::NoMemory`].
 pub fn answer_soon(
     alloc: Global,
     registry: &Registry,

@@ -40,8 +40,8 @@ impl Consumer for Keeping {
 
 /// Answers each request at its place, as [`answer_in_order`] does.
 ///
-/// An answer is 18 where no memory was left for it, and may be 22 under a budget. All of them are refused
-/// only where there is no room to keep them, and then none was begun.
+/// An answer is [`Refusal::NoMemory`] where no memory was left for it, and may be [`Refusal::BudgetSpent`] under
+/// a budget. All of them are refused only where there is no room to keep them, and then none was begun.
 pub fn answer_all<R: Threads + Wait + Sync>(
     rt: &R,
     alloc: Global,

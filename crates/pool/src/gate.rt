@@ -2,8 +2,10 @@
 
 /// Called by the thread that answers the request at index `i`, before that and after it.
 pub trait Gate {
+    /// Returns once the search for that answer may begin.
     fn before(&self, i: usize);
 
+    /// Returns once that thread may take another request.
     fn after(&self, i: usize);
 }
 

@@ -33,7 +33,7 @@ impl<'a> Racer<'a> {
         Racer { seat }
     }
 
-    /// A mark of all that the seat has seen.
+    /// A mark of all that the seat has seen. The only error is [`Refusal::NoMemory`].
     pub fn mark(&mut self) -> Result<Mark<'a>, Refusal>
         ensures row { IfOk result (λ m. m.row ≡ self.old.row) }
         ensures whole { IfOk result (λ m. m.entries ≡ self.old.journal) }

@@ -25,7 +25,8 @@ use std::thread::Threads;
 use versions::Refusal;
 use wire::Asked;
 
-/// Reads what the line asks that was found, within these settings.
+/// Reads what the line asks that was found, within these settings. An error is the lowest that the line alone
+/// shows, or [`Refusal::NoMemory`].
 pub fn read_found(
     alloc: Global,
     intake: &mut RequestReader,

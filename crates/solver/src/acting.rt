@@ -1,4 +1,4 @@
-// The one function in which a search derives and jumps back.
+//! The one function in which a search derives and jumps back.
 //
 // Whatever hands lines to it, in whatever order: each use of a line lowers the rank of the partial
 // solution, or ends in a refusal, or changes nothing. So a search ends.

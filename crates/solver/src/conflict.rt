@@ -1,4 +1,4 @@
-// Conflict resolution (doc/solver.md, "Conflict Resolution").
+//! Conflict resolution (doc/solver.md, "Conflict Resolution").
 
 ghost use Rattle.std.specs.Prelude.{◌≡◌, ◌<◌, ◌≤◌, IfOk, OnOk};
 ghost use Rattle.partial.specs.Assignments.{IsPartial};

@@ -1,4 +1,4 @@
-// Decision making (doc/solver.md, "Decision Making").
+//! Decision making (doc/solver.md, "Decision Making").
 
 ghost use Rattle.std.specs.Prelude.{◌≡◌, ℕ, true, false, Option, Some, IfErr, IfOk, IsSome};
 ghost use Rattle.registry.specs.Registry.{is_published, package_at};

@@ -1,4 +1,4 @@
-// Which versions of a package have a dependency: they share one line.
+//! Which versions of a package have a dependency: they share one line.
 
 ghost use Rattle.std.specs.Prelude.{◌≡◌, ◌↔◌, ◌+◌, ℕ, true, Contains, IfOk, IsTrue};
 ghost use Rattle.terms.specs.Sets.{has};

@@ -1,4 +1,4 @@
-// The dependencies of versions, put among the lines (doc/solver.md, "Decision Making").
+//! The dependencies of versions, put among the lines (doc/solver.md, "Decision Making").
 
 ghost use Rattle.std.specs.Prelude.{◌≡◌, ◌<◌, true, length, OnOk};
 ghost use Rattle.registry.specs.Registry.{is_published, needs_of};

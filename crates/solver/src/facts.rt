@@ -1,4 +1,4 @@
-// What the registry and the request say, as lines.
+//! What the registry and the request say, as lines.
 
 ghost use Rattle.std.specs.Prelude.{◌≡◌, ◌≢◌, ◌<◌, ◌∷◌, [], ℕ, Some, length, IfOk, IsSome, OnOk};
 ghost use Rattle.terms.specs.Sets.{has};

@@ -1,4 +1,4 @@
-// What a search found, before it is told.
+//! What a search found, before it is told.
 
 ghost use Rattle.solver.specs.Answering.{EndsBy};
 ghost use Rattle.solver.specs.Finding.{IsFound};

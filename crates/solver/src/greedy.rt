@@ -1,4 +1,4 @@
-// What a greedy search finds, validated by the walk.
+//! What a greedy search finds, validated by the walk.
 
 ghost use Rattle.std.specs.Prelude.{◌≡◌, false, IfOk, IfSome};
 ghost use Rattle.walk.specs.Choosing.{choice_of};

@@ -1,4 +1,4 @@
-// Laws: what holds of every outcome.
+//! Laws: what holds of every outcome.
 
 ghost use Rattle.solver.specs.Laws.{OneNewestList};
 

@@ -1,4 +1,4 @@
-// Lines that follow from others, and what a line derives.
+//! Lines that follow from others, and what a line derives.
 
 ghost use Rattle.std.specs.Prelude.{◌≡◌, ◌<◌, ℕ, Option, length, not, true, IfOk};
 ghost use Rattle.terms.specs.Terms.{true_of};

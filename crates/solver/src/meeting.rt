@@ -1,4 +1,4 @@
-// What stands in the way of a selection, put back into the search.
+//! What stands in the way of a selection, put back into the search.
 //
 // Each obstacle is a line that is satisfied, or almost satisfied, or whose target is to be decided; so
 // whatever propagation left out, the search goes on.

@@ -1,4 +1,4 @@
-// What a search offers to be learnt.
+//! What a search offers to be learnt.
 
 ghost use Rattle.std.specs.Prelude.{All, IfOk};
 ghost use Rattle.derivations.specs.CausedIncompatibilities.{AreLawful, AreOrdered};

@@ -1,4 +1,4 @@
-// What is decided: a package, and a version of it (doc/solver.md, "Decision Making").
+//! What is decided: a package, and a version of it (doc/solver.md, "Decision Making").
 
 ghost use Rattle.std.specs.Prelude.{◌≡◌, ◌<◌, true, false, not, None, IfNone, IfOk, IfSome, IsSome};
 ghost use Rattle.registry.specs.Registry.{package_at};

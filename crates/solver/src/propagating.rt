@@ -1,4 +1,4 @@
-// Unit propagation (doc/solver.md, "Unit Propagation").
+//! Unit propagation (doc/solver.md, "Unit Propagation").
 
 ghost use Rattle.std.specs.Prelude.{◌≡◌, ◌<◌, Ok, length, IfErr, IfOk};
 ghost use Rattle.solver.specs.Searching.{ActsBy, IsIdle, IsUnchanged, MayRefuse, Searches};

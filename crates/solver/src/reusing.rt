@@ -1,4 +1,4 @@
-// What is used of the store.
+//! What is used of the store.
 //
 // A member of the store stands, so that its lines are lawful lines of the search: its premises are
 // facts, and each of its lines follows from two.

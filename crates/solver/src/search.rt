@@ -1,4 +1,4 @@
-// The state of a search.
+//! The state of a search.
 
 use derivations::CausedIncompatibility;
 use heuristics::SearchLines;

@@ -1,4 +1,4 @@
-// What a request is answered.
+//! What a request is answered.
 
 ghost use Rattle.std.specs.Prelude.{◌≡◌, map, nat_eq, true, All, IfErr, IfOk, Some};
 ghost use Rattle.std.specs.List.{IsDistinct};
@@ -289,8 +289,9 @@ fn outcome_of(task: &Task<'_>, found: Found, explain: bool) -> Result<Outcome, R
 /// ask for it. What is selected, refused and offered doesn't depend on whether they do. Where the preferred
 /// selection exists and meets the request, it is the answer, and nothing is searched.
 ///
-/// Under a budget at most so many conflicts are met: at the next one the answer is 22, and nothing is offered. Under
-/// every budget, 0 included, the preferred selection is the answer where it exists and meets the request.
+/// Under a budget at most so many conflicts are met: at the next one the answer is [`Refusal::BudgetSpent`], and
+/// nothing is offered. Under every budget, 0 included, the preferred selection is the answer where it exists and
+/// meets the request. The only other error is [`Refusal::NoMemory`].
 ///
 /// Where the newest selection is asked for, a selection that is answered is that one, whatever was learnt before.
 /// Two searches may be made then, and a budget counts the conflicts of both together.

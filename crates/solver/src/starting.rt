@@ -1,4 +1,4 @@
-// The start of a search: the root, and the needs of the request; and its start again.
+//! The start of a search: the root, and the needs of the request; and its start again.
 
 ghost use Rattle.std.specs.Prelude.{◌≡◌, [], false, IfOk, OnOk};
 ghost use Rattle.solver.specs.Lines.{root_terms};

@@ -1,4 +1,4 @@
-// What a search asks of the store.
+//! What a search asks of the store.
 //
 // No proof rests on it: it chooses which members are used, and a search that uses fewer is as right.
 
@@ -58,6 +58,7 @@ fn note_unnamed(unnamed: &mut Vec<bool>, pkg: Pkg) -> Result<(), AllocError> {
 }
 
 impl StoreLookups {
+    /// No member was asked. Nothing is allocated before the first one.
     pub fn new(alloc: Global) -> StoreLookups {
         StoreLookups {
             unnamed: Vec::new(alloc),

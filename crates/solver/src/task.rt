@@ -1,4 +1,4 @@
-// What is to be solved.
+//! What is to be solved.
 
 use heuristics::Question;
 use registry::{Registry, Request};

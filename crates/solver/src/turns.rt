@@ -1,4 +1,4 @@
-// The turns of a search (doc/solver.md, "The Algorithm").
+//! The turns of a search (doc/solver.md, "The Algorithm").
 
 ghost use Rattle.std.specs.Prelude.{◌≡◌, false, true, None, IfErr, IfOk, OnOk};
 ghost use Rattle.partial.specs.Assignments.{decided};

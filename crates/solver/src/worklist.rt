@@ -1,4 +1,4 @@
-// What a search is to look at.
+//! What a search is to look at.
 //
 // No proof rests on it but for one thing: what only looks leaves the list of changed packages as it is,
 // so that propagation ends.

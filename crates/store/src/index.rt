@@ -1,4 +1,4 @@
-// Lists of places by number.
+//! Lists of places by number.
 
 ghost use Rattle.std.specs.Prelude.{◌≡◌, ◌<◌, ◌-◌, ◌∷◌, ◌++◌, [], true, false, All, Some, length, IfOk, IfNone, IfSome, OnErr, OnOk, slice_get};
 ghost use Rattle.store.specs.Indexes.{chain_of, AreChained, AreZero, Extends, HasNone, IsNewest, IsUnder};

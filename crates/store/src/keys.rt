@@ -1,4 +1,4 @@
-// Keys of conclusions.
+//! Keys of conclusions.
 
 ghost use Rattle.std.specs.Prelude.{◌≡◌};
 ghost use Rattle.store.specs.Keys.{key_of, stirred, stirred_all, stirred_term};

@@ -1,4 +1,4 @@
-// The members of a store, one after another.
+//! The members of a store, one after another.
 
 ghost use Rattle.std.specs.Prelude.{◌≡◌, ◌∷◌, [], IfNone, IfSome};
 ghost use Rattle.std.specs.Iterator.{YieldsFirstRef, item_count};

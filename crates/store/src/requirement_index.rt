@@ -1,4 +1,4 @@
-// The requirements on packages that the members of a store rest on, each once.
+//! The requirements on packages that the members of a store rest on, each once.
 
 ghost use Rattle.std.specs.Prelude.{◌≡◌, ◌∷◌, ◌++◌, ℕ, [], false, length, true, IfSome, OnErr};
 ghost use Rattle.versions.specs.Words.{Text};

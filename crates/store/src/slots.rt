@@ -1,4 +1,4 @@
-// The places of a store: who is found there, and who goes.
+//! The places of a store: who is found there, and who goes.
 
 ghost use Rattle.std.specs.Prelude.{◌≡◌, true, false, length, slice_get, IfSome};
 ghost use Rattle.std.specs.List.{list_any};

@@ -1,4 +1,4 @@
-// The store of what was learnt.
+//! The store of what was learnt.
 
 ghost use Rattle.std.specs.Prelude.{◌≡◌, ◌<◌, ◌⊎◌, ◌++◌, ◌∷◌, [], None, Some, All, Contains, length, IfErr, IfOk, IfSome, IsOk, OnErr, OnOk};
 ghost use Rattle.std.specs.Option.{option_copied};
@@ -129,7 +129,8 @@ impl Store {
         Ok(())
     }
 
-    /// Makes room for one more member. To every other call the store is as it was.
+    /// Makes room for one more member. To every other call the store is as it was. The only error is
+    /// [`Refusal::NoMemory`].
     pub fn reserve(&mut self) -> Result<(), Refusal>
         ensures members { self.new.members ≡ self.old.members }
         ensures room { OnOk result (0 < self.new.room) }

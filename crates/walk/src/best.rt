@@ -1,4 +1,4 @@
-// The best versions in the order of the walk, as far as no search is needed.
+//! The best versions in the order of the walk, as far as no search is needed.
 //
 // Of each package that is needed it is kept which of its versions are left: each selection that meets the
 // request and has the versions that are chosen has one of these. What is asked by the request and by chosen

@@ -1,4 +1,4 @@
-// What a walk asks for versions.
+//! What a walk asks for versions.
 
 ghost use Rattle.std.specs.Prelude.{◌≡◌, ℕ, Option};
 

@@ -1,4 +1,4 @@
-// Laws: the newest selection, and lists in the order of the walk.
+//! Laws: the newest selection, and lists in the order of the walk.
 
 ghost use Rattle.walk.specs.Listing.{ListIsSelection, NothingComesNext, OneListInOrder};
 ghost use Rattle.walk.specs.Newest.{NewestIsPreferred, OneNewestSelection, PlainlyNewestIsNewest, PreferredIsNewest};

@@ -1,4 +1,4 @@
-// Packages in the order of the walk: the needs by name, then what each version that is found depends on.
+//! Packages in the order of the walk: the needs by name, then what each version that is found depends on.
 
 ghost use Rattle.std.specs.Prelude.{◌≡◌, ◌<◌, ◌≤◌, ◌+◌, [], length, map, slice_get, Some, IfNone, IfOk, IfSome, OnOk};
 ghost use Rattle.std.specs.List.{AllByRecursion};

@@ -1,4 +1,4 @@
-// Selections in the order of names.
+//! Selections in the order of names.
 
 ghost use Rattle.std.specs.Prelude.{◌≡◌, nat_eq, IsSorted};
 ghost use Rattle.std.specs.List.{IsDistinct};

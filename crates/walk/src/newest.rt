@@ -1,4 +1,4 @@
-// Whether a selection is the newest, as can be seen without a search.
+//! Whether a selection is the newest, as can be seen without a search.
 
 ghost use Rattle.std.specs.Prelude.{◌≡◌, ◌<◌, true, length, IfOk};
 ghost use Rattle.std.specs.Bool.{OnFalse};

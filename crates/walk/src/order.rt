@@ -1,4 +1,4 @@
-// The order of the walk, kept from one look at it to the next.
+//! The order of the walk, kept from one look at it to the next.
 
 ghost use Rattle.std.specs.Prelude.{◌≡◌, ◌≤◌, ◌+◌, length, take, IfNone, IfOk, IfSome, List, OnOk};
 ghost use Rattle.versions.specs.Words.{Text};

@@ -1,4 +1,4 @@
-// The preferred version of each package, and the walk by the preferred versions.
+//! The preferred version of each package, and the walk by the preferred versions.
 
 ghost use Rattle.std.specs.Prelude.{◌≡◌, true, IfNone, IfOk, IfSome};
 ghost use Rattle.std.specs.Option.{option_copied};

@@ -1,4 +1,4 @@
-// What a walk answers.
+//! What a walk answers.
 
 ghost use Rattle.std.specs.Prelude.{◌≡◌};
 ghost use Rattle.walk.specs.Walks.{asked_by};

@@ -1,4 +1,4 @@
-// The walk.
+//! The walk.
 
 ghost use Rattle.std.specs.Prelude.{◌≡◌, ◌<◌, ℕ, [], true, false, length, nat_eq, slice_get, Some, IfNone, IfOk, IfSome, OnOk};
 ghost use Rattle.std.specs.Bool.{OnFalse, OnTrue};
