@@ -10,14 +10,14 @@ use Rattle.registry.specs.Requests.{Wanted}
 use Rattle.registry.specs.declared.commands.Command.{Command}
 use Rattle.registry.specs.declared.commands.Command.TheVariants as commands
 use Rattle.derivations.specs.Learning.{IsLearnt}
-use Rattle.derivations.specs.declared.line.Line.{Line}
+use Rattle.derivations.specs.Lines.{Line}
 use Rattle.book.specs.declared.item.Item.{Item}
 use Rattle.book.specs.declared.item.Item.TheVariants as item
 use Rattle.solver.specs.Outcomes.{MayStop}
 use Rattle.replies.specs.Replies.{Body, Reply, accepted, refused}
 use Rattle.wire.specs.Requests.{request_of}
 use Rattle.wire.specs.Shapes.{Request, check, command, listing, resolve}
-use Rattle.by_name.specs.declared.derivation.NamedLine.{NamedLine}
+use Rattle.by_name.specs.NamedLines.{NamedLine}
 use Rattle.answers.specs.Answering.{LeadsTo}
 use Rattle.answers.specs.Lawful.{AreLawfulWithin, IsLawfulWithin, IsRefused, IsStopped, Learns, LearnsSome, LooksAndTells, MayAnswer, Ways, asked_within, bounded, bounded_if, item_of, reply_at}
 use Rattle.answers.specs.Outcomes.{MayTell, TellsFound, TellsListing, TellsVerdict}

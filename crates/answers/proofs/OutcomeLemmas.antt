@@ -9,13 +9,13 @@ use Rattle.registry.specs.Requests.{Wanted}
 use Rattle.registry.specs.Selections.{Choices, Meets}
 use Rattle.derivations.specs.Laws.{DerivationsRefute}
 use Rattle.derivations.specs.Derivations.{IsDerivation}
-use Rattle.derivations.specs.declared.line.Line.{Line}
+use Rattle.derivations.specs.Lines.{Line}
 use Rattle.solver.specs.Outcomes.{Tells, TellsNewest, TellsOne}
 use Rattle.explain.specs.Explanations.{explanation}
 use Rattle.solver.specs.Outcomes.{MayStop}
 use Rattle.by_name.specs.Named.{IsNumbered}
 use Rattle.replies.specs.Replies.{explained, refused, selected}
-use Rattle.by_name.specs.declared.derivation.NamedLine.{NamedLine}
+use Rattle.by_name.specs.NamedLines.{NamedLine}
 use Rattle.answers.specs.Outcomes.{IsAnswer, IsRefuted, TellsFound, TellsNone, TellsSpent}
 
 -- ---- what is found

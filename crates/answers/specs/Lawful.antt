@@ -7,7 +7,7 @@ use Rattle.registry.specs.Requests.{Wanted}
 use Rattle.registry.specs.Step.{Change, Publish, Unyank, Yank}
 use Rattle.registry.specs.declared.commands.Command.TheVariants as commands
 use Rattle.derivations.specs.Learning.{IsLearnt}
-use Rattle.derivations.specs.declared.line.Line.{Line}
+use Rattle.derivations.specs.Lines.{Line}
 use Rattle.book.specs.declared.item.Item.{Item}
 use Rattle.book.specs.declared.item.Item.TheVariants as item
 use Rattle.wire.specs.Shapes.{Request, check, command, listing, resolve}

@@ -7,7 +7,7 @@ use Rattle.registry.specs.Requests.{Wanted}
 use Rattle.registry.specs.Selections.{Choices}
 use Rattle.derivations.specs.Derivations.{IsDerivation}
 pub use Rattle.derivations.specs.Derivations.{IsRefuted}
-use Rattle.derivations.specs.declared.line.Line.{Line}
+use Rattle.derivations.specs.Lines.{Line}
 use Rattle.walk.specs.Preferring.{IfPreferredServes}
 use Rattle.solver.specs.Outcomes.{Tells, TellsNewest, TellsOne}
 use Rattle.explain.specs.Explanations.{explanation}
@@ -15,7 +15,7 @@ use Rattle.solver.specs.Outcomes.{NonePreferred}
 use Rattle.replies.specs.Listings.{IsListing, Row}
 use Rattle.by_name.specs.Named.{IsNumbered}
 use Rattle.replies.specs.Replies.{Body, explained, follows, listed, no_selection, refused, selected}
-use Rattle.by_name.specs.declared.derivation.NamedLine.{NamedLine}
+use Rattle.by_name.specs.NamedLines.{NamedLine}
 
 -- ---- requests
 

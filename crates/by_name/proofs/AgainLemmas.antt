@@ -9,16 +9,11 @@ use Rattle.versions.specs.Words.{Text}
 use Rattle.terms.specs.declared.term.Term.{Term}
 use Rattle.registry.specs.Registry.{Package, Packages, is_named, number_from, number_of, package_at}
 use Rattle.derivations.specs.Facts.{Terms}
-use Rattle.derivations.specs.declared.facts.Premise.{Premise}
-use Rattle.derivations.specs.declared.facts.Cause.{Cause}
+use Rattle.derivations.specs.Lines.{Cause, Line, Premise}
 use Rattle.derivations.specs.declared.facts.Cause.TheVariants as cause
-use Rattle.derivations.specs.declared.line.Line.{Line}
 use Rattle.by_name.specs.Named.{IsNumbered, number_in, numbered_cause, numbered_line, numbered_lines, numbered_premise, numbered_terms}
 use Rattle.by_name.specs.Naming.{name_at, name_or_none, named_cause, named_line, named_lines, named_premise, named_terms}
-use Rattle.by_name.specs.declared.derivation.NamedPremise.{NamedPremise}
-use Rattle.by_name.specs.declared.derivation.NamedCause.{NamedCause}
-use Rattle.by_name.specs.declared.derivation.NamedCause.TheVariants as named
-use Rattle.by_name.specs.declared.derivation.NamedLine.{NamedLine}
+use Rattle.by_name.specs.NamedLines.{NamedCause, NamedLine, NamedPremise}
 
 -- ---- names
 
@@ -75,20 +70,20 @@ terms_back packages (t ∷ rest) numbered is =
     (ap (λ (name : Option Text). (name, t.1) ∷ named_terms packages more.0) (whose_back packages t.0 one.0 one.1) ∙ ap (λ (ts : List (Option Text × Term)). t ∷ ts) (terms_back packages rest more.0 more.1))
 
 cause_back : (packages : Packages) (c : NamedCause) (numbered : Cause) → numbered_cause packages c ≡ Some numbered → named_cause packages numbered ≡ c
-cause_back packages (named.Line n) numbered is = subst (λ (k : Cause). named_cause packages k ≡ named.Line n) (some_same _ _ is) refl
-cause_back packages (named.Premise premise) numbered is =
+cause_back packages (cause.Line n) numbered is = subst (λ (k : Cause). named_cause packages k ≡ cause.Line n) (some_same _ _ is) refl
+cause_back packages (cause.Premise premise) numbered is =
     let found = mapped_of _ (numbered_premise packages premise) numbered is in
     let one = first_of _ (number_of packages premise.package) found.0 found.1 in
     let two = mapped_of _ (number_in packages premise.target) found.0 one.2 in
-    subst (λ (k : Cause). named_cause packages k ≡ named.Premise premise) found.2
-    (subst (λ (q : Premise). named_cause packages (cause.Premise q) ≡ named.Premise premise) two.2
+    subst (λ (k : Cause). named_cause packages k ≡ cause.Premise premise) found.2
+    (subst (λ (q : Premise). named_cause packages (cause.Premise q) ≡ cause.Premise premise) two.2
     (rw (package_back packages premise.package one.0 one.1, whose_back packages premise.target two.0 two.1) refl))
-cause_back packages (named.Need i) numbered is = subst (λ (k : Cause). named_cause packages k ≡ named.Need i) (some_same _ _ is) refl
-cause_back packages (named.NotAllowed name versions) numbered is =
+cause_back packages (cause.Need i) numbered is = subst (λ (k : Cause). named_cause packages k ≡ cause.Need i) (some_same _ _ is) refl
+cause_back packages (cause.NotAllowed name versions) numbered is =
     let found = mapped_of _ (number_of packages name) numbered is in
-    subst (λ (k : Cause). named_cause packages k ≡ named.NotAllowed name versions) found.2
-    (ap (λ (n : Text). named.NotAllowed n versions) (package_back packages name found.0 found.1))
-cause_back packages named.Root numbered is = subst (λ (k : Cause). named_cause packages k ≡ named.Root) (some_same _ _ is) refl
+    subst (λ (k : Cause). named_cause packages k ≡ cause.NotAllowed name versions) found.2
+    (ap (λ (n : Text). cause.NotAllowed n versions) (package_back packages name found.0 found.1))
+cause_back packages cause.Root numbered is = subst (λ (k : Cause). named_cause packages k ≡ cause.Root) (some_same _ _ is) refl
 
 line_back : (packages : Packages) (line : NamedLine) (numbered : Line) → numbered_line packages line ≡ Some numbered → named_line packages numbered ≡ line
 line_back packages line numbered is =

@@ -13,10 +13,8 @@ use Rattle.registry.specs.Requests.{Wanted}
 use Rattle.derivations.specs.Facts.{DependsOn, Stands, Terms, need_terms_at}
 use Rattle.derivations.specs.Derivations.{AreDerivedBy, AreIncompats, IsDerivation, IsFact, Yields}
 use Rattle.derivations.specs.Learning.{AllStand, CauseStands, IsLearnt, Offers}
-use Rattle.derivations.specs.declared.facts.Cause.{Cause}
+use Rattle.derivations.specs.Lines.{Cause, Line, Premise}
 use Rattle.derivations.specs.declared.facts.Cause.TheVariants as cause
-use Rattle.derivations.specs.declared.facts.Premise.{Premise}
-use Rattle.derivations.specs.declared.line.Line.{Line}
 use Rattle.by_name.specs.Named.{AllHaveNames, CauseHasNames, HasName, HaveNames}
 
 -- each package on which there is a term has a name

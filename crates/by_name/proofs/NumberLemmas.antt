@@ -8,10 +8,10 @@ use Rattle.terms.specs.Incompats.{IsIncompat}
 use Rattle.terms.specs.declared.term.Term.{Term}
 use Rattle.registry.specs.Registry.{Packages}
 use Rattle.derivations.specs.Facts.{Terms}
-use Rattle.derivations.specs.declared.line.Line.{Line}
+use Rattle.derivations.specs.Lines.{Line}
 use Rattle.derivations.specs.Derivations.{AreIncompats}
 use Rattle.by_name.specs.Named.{AllHaveNames, HasName, HaveNames, IsNumbered, LineHasNames, number_in, numbered_line, numbered_lines, numbered_terms}
-use Rattle.by_name.specs.declared.derivation.NamedLine.{NamedLine}
+use Rattle.by_name.specs.NamedLines.{NamedLine}
 
 same_lines : (one two : List Line) → Some one ≡ Some two → one ≡ two
 same_lines one two e = cc

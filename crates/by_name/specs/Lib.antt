@@ -1,4 +1,5 @@
 -- The definitions that contracts cite.
+pub mod NamedLines
 pub mod Named
 pub mod Naming
 pub mod NameLaws

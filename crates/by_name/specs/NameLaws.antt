@@ -4,9 +4,9 @@ use Rattle.registry.specs.Registry.{Packages}
 use Rattle.registry.specs.Requests.{Wanted}
 use Rattle.derivations.specs.Derivations.{AreIncompats, IsDerivation}
 use Rattle.derivations.specs.Learning.{AllStand, IsLearnt}
-use Rattle.derivations.specs.declared.line.Line.{Line}
+use Rattle.derivations.specs.Lines.{Line}
 use Rattle.by_name.specs.Named.{AllHaveNames, IsNumbered}
-use Rattle.by_name.specs.declared.derivation.NamedLine.{NamedLine}
+use Rattle.by_name.specs.NamedLines.{NamedLine}
 
 -- every package of a derivation whose conclusions are incompatibilities has a name
 abbrev pub DerivedPackagesHaveNames : Type 0

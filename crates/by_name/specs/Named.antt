@@ -5,14 +5,9 @@ use Rattle.terms.specs.declared.term.Term.{Term}
 use Rattle.registry.specs.Registry.{Packages, number_of, package_at}
 use Rattle.derivations.specs.Derivations.{AreIncompats}
 use Rattle.derivations.specs.Facts.{Terms}
-use Rattle.derivations.specs.declared.facts.Premise.{Premise}
-use Rattle.derivations.specs.declared.facts.Cause.{Cause}
+use Rattle.derivations.specs.Lines.{Cause, Line, Premise}
 use Rattle.derivations.specs.declared.facts.Cause.TheVariants as cause
-use Rattle.derivations.specs.declared.line.Line.{Line}
-use Rattle.by_name.specs.declared.derivation.NamedPremise.{NamedPremise}
-use Rattle.by_name.specs.declared.derivation.NamedCause.{NamedCause}
-use Rattle.by_name.specs.declared.derivation.NamedCause.TheVariants as named
-use Rattle.by_name.specs.declared.derivation.NamedLine.{NamedLine}
+use Rattle.by_name.specs.NamedLines.{NamedCause, NamedLine, NamedPremise}
 
 -- ---- by number
 
@@ -37,11 +32,11 @@ numbered_premise packages premise =
     }) (number_in packages premise.target)) (number_of packages premise.package)
 
 abbrev pub numbered_cause : Packages → NamedCause → Option Cause
-numbered_cause packages (named.Line n) = Some (cause.Line n)
-numbered_cause packages (named.Premise premise) = option_map (λ p. cause.Premise p) (numbered_premise packages premise)
-numbered_cause packages (named.Need i) = Some (cause.Need i)
-numbered_cause packages (named.NotAllowed name versions) = option_map (λ p. cause.NotAllowed p versions) (number_of packages name)
-numbered_cause packages named.Root = Some cause.Root
+numbered_cause packages (cause.Line n) = Some (cause.Line n)
+numbered_cause packages (cause.Premise premise) = option_map (λ p. cause.Premise p) (numbered_premise packages premise)
+numbered_cause packages (cause.Need i) = Some (cause.Need i)
+numbered_cause packages (cause.NotAllowed name versions) = option_map (λ p. cause.NotAllowed p versions) (number_of packages name)
+numbered_cause packages cause.Root = Some cause.Root
 
 -- both causes by number, if each name of them has one
 abbrev pub numbered_causes : Packages → NamedCause × NamedCause → Option (Cause × Cause)

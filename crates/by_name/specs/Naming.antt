@@ -4,14 +4,9 @@ use Rattle.versions.specs.Words.{Text}
 use Rattle.terms.specs.declared.term.Term.{Term}
 use Rattle.registry.specs.Registry.{Package, Packages, package_at}
 use Rattle.derivations.specs.Facts.{Terms}
-use Rattle.derivations.specs.declared.facts.Premise.{Premise}
-use Rattle.derivations.specs.declared.facts.Cause.{Cause}
+use Rattle.derivations.specs.Lines.{Cause, Line, Premise}
 use Rattle.derivations.specs.declared.facts.Cause.TheVariants as cause
-use Rattle.derivations.specs.declared.line.Line.{Line}
-use Rattle.by_name.specs.declared.derivation.NamedPremise.{NamedPremise}
-use Rattle.by_name.specs.declared.derivation.NamedCause.{NamedCause}
-use Rattle.by_name.specs.declared.derivation.NamedCause.TheVariants as named
-use Rattle.by_name.specs.declared.derivation.NamedLine.{NamedLine}
+use Rattle.by_name.specs.NamedLines.{NamedCause, NamedLine, NamedPremise}
 use Rattle.by_name.specs.Named.{IsNumbered}
 
 -- the name of the package with this number; the request has none
@@ -35,11 +30,11 @@ named_premise packages premise = record {
 }
 
 abbrev pub named_cause : Packages → Cause → NamedCause
-named_cause packages (cause.Line n) = named.Line n
-named_cause packages (cause.Premise premise) = named.Premise (named_premise packages premise)
-named_cause packages (cause.Need i) = named.Need i
-named_cause packages (cause.NotAllowed p versions) = named.NotAllowed (name_or_none packages p) versions
-named_cause packages cause.Root = named.Root
+named_cause packages (cause.Line n) = cause.Line n
+named_cause packages (cause.Premise premise) = cause.Premise (named_premise packages premise)
+named_cause packages (cause.Need i) = cause.Need i
+named_cause packages (cause.NotAllowed p versions) = cause.NotAllowed (name_or_none packages p) versions
+named_cause packages cause.Root = cause.Root
 
 abbrev pub named_line : Packages → Line → NamedLine
 named_line packages line = record {

@@ -11,7 +11,7 @@ use Rattle.derivations.specs.Facts.{Terms, dependency, need_terms_at}
 use Rattle.derivations.proofs.Soundness.{dependency-nil}
 use Rattle.derivations.specs.Derivations.{IsFact}
 use Rattle.derivations.specs.CausedIncompatibilities.{AreLawful, EndsAt, IsResolved, StandsBy}
-use Rattle.derivations.specs.declared.facts.Cause.{Cause}
+use Rattle.derivations.specs.Lines.{Cause}
 use Rattle.derivations.specs.declared.facts.Cause.TheVariants as cause
 use Rattle.derivations.specs.declared.known.CausedIncompatibility.{CausedIncompatibility}
 use Rattle.derivations.specs.declared.known.Reason.{Reason}

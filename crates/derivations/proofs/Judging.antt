@@ -6,8 +6,7 @@ use Rattle.std.specs.Prelude.{Some, slice_get, IsTrue}
 use Rattle.derivations.specs.Facts.{Terms}
 use Rattle.derivations.specs.Derivations.{AreDerivedBy, IsConclusion, IsDerivedBy, conclusions}
 use Rattle.derivations.proofs.Pushed.{AreDerivedBy-push, length-conclusions}
-use Rattle.derivations.specs.declared.facts.Cause.{Cause}
-use Rattle.derivations.specs.declared.line.Line.{Line}
+use Rattle.derivations.specs.Lines.{Cause, Line}
 
 slice_get-conclusions : (lines : List Line) (i : ℕ) (line : Line) → slice_get lines i ≡ Some line → slice_get (conclusions lines) i ≡ Some line.conclusion
 slice_get-conclusions [] i line h = absurd (none-some line h)

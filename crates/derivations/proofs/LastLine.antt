@@ -4,7 +4,7 @@ use Rattle.std.specs.Prelude.{Option, None, Some, IsSome, is_some}
 use Rattle.std.specs.Borrow.{Bor}
 use Rattle.std.specs.Option.{option_copied}
 use Rattle.derivations.specs.Derivations.{last_conclusion}
-use Rattle.derivations.specs.declared.line.Line.{Line}
+use Rattle.derivations.specs.Lines.{Line}
 
 pub last_conclusion-at : (lines : List Line) (k : ℕ) (d : Line) → k + 1 ≡ length lines → last_conclusion lines ≡ Some (get_or lines k d).conclusion
 last_conclusion-at [] k d e = absurd (omega (arith, e))

@@ -8,9 +8,8 @@ use Rattle.registry.specs.Requests.{Wanted}
 use Rattle.derivations.specs.Derivations.{AreDerived, AreDerivedBy, IsDerivedBy, Yields, last_conclusion}
 use Rattle.derivations.specs.Learning.{AllStand, CauseStands, IsLearnt, Offers}
 use Rattle.derivations.proofs.Soundness.{Holds-Follows, Holds-Stands}
-use Rattle.derivations.specs.declared.facts.Cause.{Cause}
+use Rattle.derivations.specs.Lines.{Cause, Line}
 use Rattle.derivations.specs.declared.facts.Cause.TheVariants as cause
-use Rattle.derivations.specs.declared.line.Line.{Line}
 
 abbrev pub AllHold : Packages → List Terms → Type 0
 AllHold packages earlier = (i : ℕ) (terms : Terms) → slice_get earlier i ≡ Some terms → Holds packages terms

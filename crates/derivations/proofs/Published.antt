@@ -9,7 +9,7 @@ use Rattle.terms.specs.declared.term.Term.TheVariants.{In}
 use Rattle.registry.specs.Laws.{UnpublishedFrom}
 use Rattle.registry.specs.Registry.{Packages, Publication, meets_at, needs_or_none, package_at, publication_at, publication_meets, versions_or_none}
 use Rattle.derivations.specs.Facts.{Covers, DependsOn, HasNeed}
-use Rattle.derivations.specs.declared.facts.Premise.{Premise}
+use Rattle.derivations.specs.Lines.{Premise}
 
 -- how many versions of a package are published
 abbrev pub count : Packages → ℕ → ℕ

@@ -6,7 +6,7 @@ use Rattle.registry.specs.Registry.{Packages}
 use Rattle.derivations.specs.Facts.{Holds, Terms}
 use Rattle.derivations.specs.Derivations.{last_conclusion}
 use Rattle.derivations.specs.Learning.{AllStand, IsLearnt}
-use Rattle.derivations.specs.declared.line.Line.{Line}
+use Rattle.derivations.specs.Lines.{Line}
 use Rattle.derivations.proofs.Lasting.{Holds-IsLearnt}
 
 pub on_true : {P : Type 0} (b : Bool) → (b ≡ true → P) → OnTrue b P

@@ -15,10 +15,8 @@ use Rattle.registry.specs.Selections.{Choices, Meets, with_root}
 use Rattle.derivations.specs.Facts.{AllTrue, DependsOn, Holds, Stands, Terms, dependency, need_terms, need_terms_at, premise_terms}
 use Rattle.derivations.specs.Derivations.{AreDerived, IsDerivation, IsDerivedBy, IsEnd, IsFact, NoSelection, Yields, last_conclusion}
 use Rattle.registry.specs.Laws.{MatchingIsWhatMeets}
-use Rattle.derivations.specs.declared.facts.Cause.{Cause}
+use Rattle.derivations.specs.Lines.{Cause, Line, Premise}
 use Rattle.derivations.specs.declared.facts.Cause.TheVariants as cause
-use Rattle.derivations.specs.declared.facts.Premise.{Premise}
-use Rattle.derivations.specs.declared.line.Line.{Line}
 
 -- the choices do not make all terms true
 abbrev pub Refutes : Choices → Terms → Type 0

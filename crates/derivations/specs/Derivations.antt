@@ -8,10 +8,8 @@ use Rattle.registry.specs.Registry.{Packages, package_at}
 use Rattle.registry.specs.Requests.{Wanted, is_allowed}
 use Rattle.registry.specs.Selections.{Choices, Meets}
 use Rattle.derivations.specs.Facts.{Terms, Stands, need_terms, premise_terms}
-use Rattle.derivations.specs.declared.facts.Premise.{Premise}
-use Rattle.derivations.specs.declared.facts.Cause.{Cause}
+use Rattle.derivations.specs.Lines.{Cause, Line, Premise}
 use Rattle.derivations.specs.declared.facts.Cause.TheVariants as cause
-use Rattle.derivations.specs.declared.line.Line.{Line}
 
 -- ---- what a cause gives
 

@@ -7,7 +7,7 @@ use Rattle.terms.specs.declared.term.Term.{Term}
 use Rattle.terms.specs.declared.term.Term.TheVariants.{In, NotIn}
 use Rattle.registry.specs.Registry.{Packages, matching, meets_at, needs_of, number_of}
 use Rattle.registry.specs.Selections.{Choices, IsClosed, IsSelection, with_root}
-use Rattle.derivations.specs.declared.facts.Premise.{Premise}
+use Rattle.derivations.specs.Lines.{Premise}
 
 -- the terms of an incompatibility, by package
 abbrev pub Terms : Type 0

@@ -9,8 +9,7 @@ use Rattle.derivations.specs.Derivations.{AreDerived, IsDerivation, IsRefuted, N
 use Rattle.derivations.specs.CausedIncompatibilities.{AreLawful, AreOrdered, EndsAt}
 use Rattle.derivations.specs.Learning.{AllStand, IsLearnt}
 use Rattle.derivations.specs.declared.known.CausedIncompatibility.{CausedIncompatibility}
-use Rattle.derivations.specs.declared.facts.Premise.{Premise}
-use Rattle.derivations.specs.declared.line.Line.{Line}
+use Rattle.derivations.specs.Lines.{Line, Premise}
 
 -- what a premise that stands says holds
 abbrev pub PremisesHold : Type 0

@@ -3,10 +3,9 @@ use Rattle.std.specs.Prelude.{◌≡◌, ◌≢◌, ◌<◌, ◌≤◌, ℕ, Lis
 use Rattle.registry.specs.Registry.{Packages}
 use Rattle.derivations.specs.Facts.{Terms, Stands, premise_terms}
 use Rattle.derivations.specs.Derivations.{AreDerivedBy, IsConclusion}
-use Rattle.derivations.specs.declared.facts.Cause.{Cause}
+use Rattle.derivations.specs.Lines.{Cause, Line}
 use Rattle.derivations.specs.declared.facts.Cause.TheVariants as cause
 use Rattle.derivations.specs.declared.learnt.TheConstants.{DERIVATION_LINE_LIMIT}
-use Rattle.derivations.specs.declared.line.Line.{Line}
 
 -- the cause gives this incompatibility whatever the registry holds: an earlier line, or a premise with versions whose package is not its target
 abbrev pub Offers : List Terms → Cause → Terms → Type 0

@@ -1,4 +1,5 @@
 -- The definitions that contracts cite.
+pub mod Lines
 pub mod Facts
 pub mod Derivations
 pub mod Causes

@@ -10,37 +10,41 @@ use crate::line::{Line, conclusions_are_lawful, copied, is_end, last_conclusion}
 use registry::{Registry, Request};
 use std::alloc::{AllocError, Global};
 use std::marker::Model;
+use terms::{Incompat, Pkg};
 
 /// Lines that may show that no selection meets a request. Any lines make one; [`check`] judges it.
+/// The types are those of [`Line`].
 #[derive(Drop)]
-pub struct Derivation {
-    lines: Vec<Line>,
+pub struct Derivation<Package = Pkg, PackageOrRoot = Pkg, Conclusion = Incompat> {
+    lines: Vec<Line<Package, PackageOrRoot, Conclusion>>,
 }
 
-impl Model for Derivation {
+impl<Package, PackageOrRoot, Conclusion> Model for Derivation<Package, PackageOrRoot, Conclusion> {
     ghost use Rattle.std.specs.Prelude.{List};
     ghost use Rattle.derivations.specs.declared.line.Line.{Line};
 
-    ghost Value = { List Line };
+    ghost Value = { List (Line Package PackageOrRoot Conclusion) };
 
     ghost view = { λ d. d.lines.items };
 }
 
-impl Derivation {
+impl<Package, PackageOrRoot, Conclusion> Derivation<Package, PackageOrRoot, Conclusion> {
     /// A derivation of these lines.
-    pub fn new(lines: Vec<Line>) -> Derivation
+    pub fn new(lines: Vec<Line<Package, PackageOrRoot, Conclusion>>) -> Self
         ensures { result ≡ lines.items }
     {
         Derivation { lines }
     }
 
     /// The lines, in order.
-    pub fn lines(&self) -> &[Line]
+    pub fn lines(&self) -> &[Line<Package, PackageOrRoot, Conclusion>]
         ensures { result.now ≡ self.now }
     {
         self.lines.as_slice()
     }
+}
 
+impl Derivation {
     /// Tells a caller that each conclusion is an incompatibility, as its type has it. What it reads
     /// decides nothing.
     pub fn conclusions_are_lawful(&self)

@@ -13,26 +13,29 @@ use versions::{Need, Refusal};
 
 /// That each of these versions of a package depends on a target with this requirement, and that the
 /// versions of the target that meet it are within a set.
+///
+/// `Package` tells a package, and `PackageOrRoot` a package or the root: both by number, where no
+/// other type is given.
 #[derive(Drop)]
-pub struct Premise {
-    pub package: Pkg,
+pub struct Premise<Package = Pkg, PackageOrRoot = Pkg> {
+    pub package: Package,
     pub versions: VSet,
-    pub target: Pkg,
+    pub target: PackageOrRoot,
     pub need: Need,
     pub within: VSet,
 }
 
-/// What a line follows from.
+/// What a line follows from. The types are those of [`Premise`].
 #[derive(Drop)]
-pub enum Cause {
+pub enum Cause<Package = Pkg, PackageOrRoot = Pkg> {
     /// The conclusion of the line with this number, counted from 1.
     Line(usize),
     /// That versions of a package depend on a target.
-    Premise(Premise),
+    Premise(Premise<Package, PackageOrRoot>),
     /// The request's need at this place, counted from 0.
     Need(usize),
     /// That none of these versions of a package is allowed to the request.
-    NotAllowed(Pkg, VSet),
+    NotAllowed(Package, VSet),
     /// That the request must be met.
     Root,
 }

@@ -30,7 +30,7 @@ pub struct Learnt {
 impl Model for Learnt {
     ghost use Rattle.std.specs.Prelude.{List};
     ghost use Rattle.terms.specs.Sets.{HasExactly};
-    ghost use Rattle.derivations.specs.declared.line.Line.{Line};
+    ghost use Rattle.derivations.specs.Lines.{Line};
     ghost use Rattle.derivations.specs.Learning.{targets_of, IsLearnt};
 
     ghost Value = { List Line };

@@ -12,11 +12,14 @@ use versions::Refusal;
 
 /// An incompatibility that follows from two causes on a pivot: there one of the two must hold, on
 /// every other package both (doc/solver.md, "Conflict Resolution").
+///
+/// `Package` and `PackageOrRoot` are those of [`Premise`](crate::Premise), and `Conclusion` holds the
+/// terms: an incompatibility, where no other type is given.
 #[derive(Drop)]
-pub struct Line {
-    pub conclusion: Incompat,
-    pub causes: (Cause, Cause),
-    pub pivot: Pkg,
+pub struct Line<Package = Pkg, PackageOrRoot = Pkg, Conclusion = Incompat> {
+    pub conclusion: Conclusion,
+    pub causes: (Cause<Package, PackageOrRoot>, Cause<Package, PackageOrRoot>),
+    pub pivot: PackageOrRoot,
 }
 
 impl Line {

@@ -6,7 +6,7 @@ use Rattle.std.proofs.lemmas.List.{append-nil, append_assoc, map-append}
 use Rattle.versions.specs.Words.{Text}
 use Rattle.registry.specs.Registry.{Package, Packages, package_at, publication_at}
 use Rattle.registry.specs.Requests.{Wanted}
-use Rattle.derivations.specs.declared.line.Line.{Line}
+use Rattle.derivations.specs.Lines.{Line}
 use Rattle.explain.specs.Choices.{listed, listed_after, name_or_none, package_text, separator, version_or_number, version_text}
 use Rattle.explain.specs.Explanations.{line_text, numbered_from}
 

@@ -6,9 +6,8 @@ use Rattle.versions.specs.Words.{Text, meets}
 use Rattle.terms.specs.declared.term.Term.TheVariants.{In, NotIn}
 use Rattle.registry.specs.Registry.{Packages, matching, number_of, package_at, publication_at}
 use Rattle.registry.specs.Requests.{Wanted}
-use Rattle.derivations.specs.declared.facts.Cause.{Cause}
+use Rattle.derivations.specs.Lines.{Cause, Line}
 use Rattle.derivations.specs.declared.facts.Cause.TheVariants as cause
-use Rattle.derivations.specs.declared.line.Line.{Line}
 use Rattle.explain.specs.Choices.{choice_text, set_text}
 use Rattle.explain.specs.Explanations.{explanation, line_text, need_text, premise_text}
 

@@ -6,10 +6,8 @@ use Rattle.terms.specs.declared.term.Term.TheVariants.{In, NotIn}
 use Rattle.registry.specs.Registry.{Packages, matching, number_of}
 use Rattle.registry.specs.Requests.{Wanted}
 use Rattle.derivations.specs.Facts.{Terms}
-use Rattle.derivations.specs.declared.facts.Premise.{Premise}
-use Rattle.derivations.specs.declared.facts.Cause.{Cause}
+use Rattle.derivations.specs.Lines.{Cause, Line, Premise}
 use Rattle.derivations.specs.declared.facts.Cause.TheVariants as cause
-use Rattle.derivations.specs.declared.line.Line.{Line}
 use Rattle.explain.specs.Choices.{choice_text, listed, package_text, set_text}
 
 -- ---- what a line says

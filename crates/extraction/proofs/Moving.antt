@@ -13,7 +13,7 @@ use Rattle.derivations.specs.CausedIncompatibilities.{AreLawful, AreOrdered, Fol
 use Rattle.extraction.specs.Cutting.{IsEndLine, IsResolvedAt}
 use Rattle.extraction.specs.Pairing.{AreMoved, FollowsAs, Grows, IsMovedTo, IsReasonFor, IsSameSearch, Keeps}
 use Rattle.extraction.specs.Taking.{said_at, said_by}
-use Rattle.derivations.specs.declared.facts.Cause.{Cause}
+use Rattle.derivations.specs.Lines.{Cause}
 use Rattle.derivations.specs.declared.known.CausedIncompatibility.{CausedIncompatibility}
 use Rattle.derivations.specs.declared.known.Reason.{Reason}
 use Rattle.derivations.specs.declared.known.Reason.TheVariants.{Fact, Resolved}

@@ -13,10 +13,9 @@ use Rattle.derivations.specs.Learning.{IsLearnt, Offers}
 use Rattle.extraction.specs.Offering.{AreLawfulSomewhere, MayRestOn, RestOnPremises, ShowsOne, StandWhereLawful}
 use Rattle.derivations.specs.Laws.{DerivedLinesStand}
 use Rattle.derivations.specs.declared.known.CausedIncompatibility.{CausedIncompatibility}
-use Rattle.derivations.specs.declared.facts.Cause.{Cause}
+use Rattle.derivations.specs.Lines.{Cause, Line}
 use Rattle.derivations.specs.declared.facts.Cause.TheVariants as cause
 use Rattle.derivations.specs.declared.learnt.TheConstants.{DERIVATION_LINE_LIMIT}
-use Rattle.derivations.specs.declared.line.Line.{Line}
 
 pub if_weaker : {A : Type 0} (P Q : A → Type 0) → ((x : A) → P x → Q x) → (o : Option A) → IfSome o P → IfSome o Q
 if_weaker P Q weaker None some = tt

@@ -7,7 +7,7 @@ use Rattle.std.specs.Prelude.{slice_get}
 use Rattle.derivations.specs.Facts.{Terms}
 use Rattle.extraction.specs.Cutting.{AreNumberedAt, IsOpen}
 use Rattle.extraction.specs.Taking.{AreElsewhere, ArePlaced, line_at, lines_at, places_of, said_at, said_by}
-use Rattle.derivations.specs.declared.line.Line.{Line}
+use Rattle.derivations.specs.Lines.{Line}
 use Rattle.extraction.specs.declared.taking.Step.{Step}
 use Rattle.derivations.specs.declared.known.CausedIncompatibility.{CausedIncompatibility}
 use Rattle.extraction.proofs.Clearing.{numbered_one}

@@ -12,9 +12,8 @@ use Rattle.derivations.specs.Facts.{Terms}
 use Rattle.derivations.specs.Derivations.{conclusions, AreDerivedBy, IsDerivedBy, AreDerived, IsDerivation, IsFact, Yields, last_conclusion}
 use Rattle.derivations.specs.CausedIncompatibilities.{AreLawful, AreOrdered, IsBefore, FollowsFrom, IsResolved, StandsBy}
 use Rattle.extraction.specs.Cutting.{Cites, IsCitedLater, IsCauseOf, IsEndLine, IsLineFor, IsOpen, IsReady, IsResolvedAt, Reads, ShowsLine, cited, is_open}
-use Rattle.derivations.specs.declared.facts.Cause.{Cause}
+use Rattle.derivations.specs.Lines.{Cause, Line}
 use Rattle.derivations.specs.declared.facts.Cause.TheVariants as cause
-use Rattle.derivations.specs.declared.line.Line.{Line}
 use Rattle.derivations.specs.declared.known.CausedIncompatibility.{CausedIncompatibility}
 use Rattle.derivations.specs.declared.known.Reason.{Reason}
 use Rattle.derivations.specs.declared.known.Reason.TheVariants.{Fact, Resolved}

@@ -5,9 +5,8 @@ use Rattle.terms.specs.declared.term.Term.TheVariants.{In}
 use Rattle.registry.specs.Registry.{Packages}
 use Rattle.registry.specs.Requests.{Wanted}
 use Rattle.derivations.specs.Derivations.{AreDerived, IsEnd, last_conclusion}
-use Rattle.derivations.specs.declared.facts.Cause.{Cause}
+use Rattle.derivations.specs.Lines.{Cause, Line}
 use Rattle.derivations.specs.declared.facts.Cause.TheVariants as cause
-use Rattle.derivations.specs.declared.line.Line.{Line}
 use Rattle.derivations.specs.declared.known.CausedIncompatibility.{CausedIncompatibility}
 use Rattle.derivations.specs.declared.known.Reason.{Reason}
 use Rattle.derivations.specs.declared.known.Reason.TheVariants.{Fact, Resolved}

@@ -5,10 +5,9 @@ use Rattle.registry.specs.Requests.{Wanted}
 use Rattle.derivations.specs.CausedIncompatibilities.{AreLawful}
 use Rattle.extraction.specs.Cutting.{ShowsLine}
 use Rattle.derivations.specs.Learning.{AllStand}
-use Rattle.derivations.specs.declared.facts.Cause.{Cause}
+use Rattle.derivations.specs.Lines.{Cause, Line}
 use Rattle.derivations.specs.declared.facts.Cause.TheVariants as cause
 use Rattle.derivations.specs.declared.known.CausedIncompatibility.{CausedIncompatibility}
-use Rattle.derivations.specs.declared.line.Line.{Line}
 
 -- the lines are lawful for some registry and request
 pub record AreLawfulSomewhere (known : List CausedIncompatibility) : Type 0 where

@@ -2,7 +2,7 @@
 use Rattle.std.specs.Prelude.{◌≢◌, ◌<◌, ℕ, List, [], ◌∷◌, Option, None, Some, map, slice_get}
 use Rattle.derivations.specs.Facts.{Terms}
 use Rattle.derivations.specs.declared.known.CausedIncompatibility.{CausedIncompatibility}
-use Rattle.derivations.specs.declared.line.Line.{Line}
+use Rattle.derivations.specs.Lines.{Line}
 use Rattle.extraction.specs.declared.taking.Step.{Step}
 
 -- what a line says, nothing where there is none

@@ -1,7 +1,7 @@
 -- A seat of a race keeps its row.
 use Rattle.std.proofs.Common.{◌≡◌, ℕ, Bool, List, [], ◌∷◌, ◌∙◌, ap, inl, inr, Result, Ok, Err, MatchResult}
 use Rattle.versions.specs.declared.refusal.Refusal.{Refusal}
-use Rattle.derivations.specs.declared.line.Line.{Line}
+use Rattle.derivations.specs.Lines.{Line}
 use Rattle.chronicle.specs.Seats.{SeatState}
 use Rattle.replies.specs.Replies.{Reply}
 use Rattle.wire.specs.Shapes.{Request, check, command, listing, resolve}

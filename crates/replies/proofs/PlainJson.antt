@@ -10,10 +10,8 @@ use Rattle.terms.specs.declared.term.Term.{Term}
 use Rattle.terms.specs.declared.term.Term.TheVariants.{In, NotIn}
 use Rattle.replies.specs.NamedJson.{cause_json, derivation_json, line_json, name_json, number_json, ordinals_json, premise_json, term_json, terms_json}
 use Rattle.replies.specs.Replies.{texts_json}
-use Rattle.by_name.specs.declared.derivation.NamedPremise.{NamedPremise}
-use Rattle.by_name.specs.declared.derivation.NamedCause.{NamedCause}
-use Rattle.by_name.specs.declared.derivation.NamedCause.TheVariants as named
-use Rattle.by_name.specs.declared.derivation.NamedLine.{NamedLine}
+use Rattle.by_name.specs.NamedLines.{NamedCause, NamedLine, NamedPremise}
+use Rattle.derivations.specs.declared.facts.Cause.TheVariants as cause
 
 -- values none of which has one
 items_plain : {A : Type 0} (json : A → Data) → ((x : A) → has_float (json x) ≡ false) → (xs : List A) → items_have_float (items_of (map json xs)) ≡ false
@@ -40,11 +38,11 @@ premise_plain premise = rw (name_plain premise.target, ordinals_plain premise.ve
 
 cause_plain : (c : NamedCause) → has_float (cause_json c) ≡ false
 unfolding serde_json_on_literals
-cause_plain (named.Line n) = refl
-cause_plain (named.Premise premise) = premise_plain premise
-cause_plain (named.Need i) = refl
-cause_plain (named.NotAllowed name versions) = rw (ordinals_plain versions) refl
-cause_plain named.Root = refl
+cause_plain (cause.Line n) = refl
+cause_plain (cause.Premise premise) = premise_plain premise
+cause_plain (cause.Need i) = refl
+cause_plain (cause.NotAllowed name versions) = rw (ordinals_plain versions) refl
+cause_plain cause.Root = refl
 
 line_plain : (line : NamedLine) → has_float (line_json line) ≡ false
 unfolding serde_json_on_literals

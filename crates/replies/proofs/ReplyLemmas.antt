@@ -20,7 +20,7 @@ use Rattle.replies.specs.declared.listing.ListingEntry.{ListingEntry}
 use Rattle.replies.specs.Listings.{Row, versions_in}
 use Rattle.replies.specs.declared.reply.SeatStamp.{SeatStamp}
 use Rattle.replies.specs.NamedJson.{derivation_json}
-use Rattle.by_name.specs.declared.derivation.NamedLine.{NamedLine}
+use Rattle.by_name.specs.NamedLines.{NamedLine}
 use Rattle.replies.specs.Replies.{accepted, explained, follows, listed, no_selection, pair_json, refused, reply_text, row_json, selected, texts_json, version_json}
 
 pub accepted_text : (stamp : Option SeatStamp) (revision : ℕ) → (codes "{\"ok\":true," ++ []) ++ (found_text stamp revision [] ++ codes "}\n")

@@ -6,10 +6,8 @@ use Rattle.versions.specs.Words.{Text}
 use Rattle.terms.specs.declared.term.Term.{Term}
 use Rattle.terms.specs.declared.term.Term.TheVariants.{In, NotIn}
 use Rattle.replies.specs.Objects.{members}
-use Rattle.by_name.specs.declared.derivation.NamedPremise.{NamedPremise}
-use Rattle.by_name.specs.declared.derivation.NamedCause.{NamedCause}
-use Rattle.by_name.specs.declared.derivation.NamedCause.TheVariants as named
-use Rattle.by_name.specs.declared.derivation.NamedLine.{NamedLine}
+use Rattle.by_name.specs.NamedLines.{NamedCause, NamedLine, NamedPremise}
+use Rattle.derivations.specs.declared.facts.Cause.TheVariants as cause
 
 -- a name; the request has the empty one
 abbrev pub name_json : Option Text → Data
@@ -42,12 +40,12 @@ premise_json premise = object (members (
     ∷ []))
 
 abbrev pub cause_json : NamedCause → Data
-cause_json (named.Line n) = object (members ((codes "line", number_json n) ∷ []))
-cause_json (named.Premise premise) = premise_json premise
-cause_json (named.Need i) = object (members ((codes "fact", string (codes "need")) ∷ (codes "index", number_json i) ∷ []))
-cause_json (named.NotAllowed name versions) = object (members (
+cause_json (cause.Line n) = object (members ((codes "line", number_json n) ∷ []))
+cause_json (cause.Premise premise) = premise_json premise
+cause_json (cause.Need i) = object (members ((codes "fact", string (codes "need")) ∷ (codes "index", number_json i) ∷ []))
+cause_json (cause.NotAllowed name versions) = object (members (
     (codes "fact", string (codes "disallowed")) ∷ (codes "name", string name) ∷ (codes "versions", ordinals_json versions) ∷ []))
-cause_json named.Root = object (members ((codes "fact", string (codes "root")) ∷ []))
+cause_json cause.Root = object (members ((codes "fact", string (codes "root")) ∷ []))
 
 abbrev pub line_json : NamedLine → Data
 line_json line = object (members (

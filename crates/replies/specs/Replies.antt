@@ -8,7 +8,7 @@ use Rattle.versions.specs.Refusals.{name_of, number_of}
 use Rattle.replies.specs.Listings.{Row}
 use Rattle.replies.specs.NamedJson.{derivation_json}
 use Rattle.replies.specs.Objects.{members}
-use Rattle.by_name.specs.declared.derivation.NamedLine.{NamedLine}
+use Rattle.by_name.specs.NamedLines.{NamedLine}
 use Rattle.versions.specs.declared.refusal.Refusal.{Refusal}
 use Rattle.replies.specs.declared.reply.SeatStamp.{SeatStamp}
 

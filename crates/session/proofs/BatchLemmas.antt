@@ -7,7 +7,7 @@ use Rattle.std.specs.Prelude.{if◌then◌else◌, is_none, MatchResult, OnOk}
 use Rattle.versions.specs.declared.refusal.Refusal.{Refusal}
 use Rattle.versions.specs.declared.refusal.Refusal.TheVariants.{NoMemory}
 use Rattle.registry.specs.Registry.{Packages}
-use Rattle.derivations.specs.declared.line.Line.{Line}
+use Rattle.derivations.specs.Lines.{Line}
 use Rattle.book.specs.Items.{Book, after, book_of, packages_of, refusal, revision_of, stepped}
 use Rattle.book.specs.Laws.{ReplayGrows}
 use Rattle.book.specs.declared.item.Item.{Item}

@@ -24,14 +24,14 @@ use Rattle.derivations.specs.Laws.{DerivationsRefute}
 use Rattle.derivations.specs.Derivations.{FollowsOn, IsDerivation, IsDerivedBy, NoSelection, Yields}
 use Rattle.derivations.specs.Facts.{need_terms}
 use Rattle.derivations.specs.declared.facts.Cause.TheVariants.{Need, Root}
-use Rattle.derivations.specs.declared.line.Line.{Line}
+use Rattle.derivations.specs.Lines.{Line}
 use Rattle.walk.specs.Choosing.{choice_of}
 use Rattle.walk.specs.Newest.{Has, IsAhead, IsNewest, is_preferred_to, next_package}
 use Rattle.solver.specs.Outcomes.{Tells}
 use Rattle.replies.specs.Replies.{Body, follows, no_selection, refused, selected}
 use Rattle.wire.specs.Shapes.{check, resolve}
-use Rattle.by_name.specs.declared.derivation.NamedCause.TheVariants as named
-use Rattle.by_name.specs.declared.derivation.NamedLine.{NamedLine}
+use Rattle.derivations.specs.declared.facts.Cause.TheVariants as cause
+use Rattle.by_name.specs.NamedLines.{NamedLine}
 use Rattle.solver.specs.Outcomes.{NonePreferred}
 use Rattle.answers.specs.Outcomes.{IsAnswer, IsRefuted, Proves, TellsNone, TellsSpent, TellsVerdict}
 use Rattle.answers.specs.Lawful.{Answers, reply_at}
@@ -291,7 +291,7 @@ unspent-zed body told = told
 -- ---- the same derivation by names
 
 zed_named : List NamedLine
-zed_named = record { conclusion = []; causes = (named.Need 0, named.Root); pivot = None } ∷ []
+zed_named = record { conclusion = []; causes = (cause.Need 0, cause.Root); pivot = None } ∷ []
 
 zed-proves : Proves (packages_of []) needs_zed zed_named
 unfolding zed_named end

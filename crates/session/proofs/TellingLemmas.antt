@@ -3,7 +3,7 @@ use Rattle.std.proofs.Common.{◌≡◌, ◌∙◌, ℕ, List, [], ◌++◌, Opt
 use Rattle.std.proofs.lemmas.List.{take-append-drop}
 use Rattle.std.specs.Prelude.{MatchResult}
 use Rattle.registry.specs.Requests.{Wanted}
-use Rattle.derivations.specs.declared.line.Line.{Line}
+use Rattle.derivations.specs.Lines.{Line}
 use Rattle.book.specs.Laws.{ReplayGrows}
 use Rattle.book.specs.declared.item.Item.{Item}
 use Rattle.commits.specs.Events.{Seen}

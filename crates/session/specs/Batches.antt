@@ -2,7 +2,7 @@
 use Rattle.std.specs.Prelude.{◌≡◌, ℕ, List, [], ◌∷◌, ◌++◌, OnOk, Option, Result, MatchResult, Ok}
 use Rattle.std.specs.List.{AllZip}
 use Rattle.registry.specs.Requests.{Wanted}
-use Rattle.derivations.specs.declared.line.Line.{Line}
+use Rattle.derivations.specs.Lines.{Line}
 use Rattle.lines.specs.Texts.{Puts}
 use Rattle.wire.specs.Shapes.{Request, resolve}
 use Rattle.replies.specs.Putting.{IsCut, IsPut}

@@ -6,7 +6,7 @@ ghost use Rattle.pool.specs.Answering.{IsAnswerTo};
 ghost use Rattle.solver.specs.Outcomes.{MayStop};
 ghost use Rattle.replies.specs.Replied.{body_of};
 ghost use Rattle.session.specs.Batches.{AreReplied, Leaves, LearnsOf, Tells};
-ghost use Rattle.derivations.specs.declared.line.Line.{Line};
+ghost use Rattle.derivations.specs.Lines.{Line};
 ghost use Rattle.answers.specs.Outcomes.{TellsFound};
 ghost use Rattle.session.specs.Committing.{TellsOn};
 ghost use Rattle.session.specs.Putting.{PutsReplies};

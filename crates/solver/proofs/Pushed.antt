@@ -8,8 +8,7 @@ use Rattle.registry.specs.Registry.{Packages, meets_at, needs_of, number_of}
 use Rattle.registry.specs.Requests.{Wanted}
 use Rattle.derivations.specs.Derivations.{IsFact}
 use Rattle.derivations.specs.Facts.{Stands, Terms}
-use Rattle.derivations.specs.declared.facts.Cause.{Cause}
-use Rattle.derivations.specs.declared.facts.Premise.{Premise}
+use Rattle.derivations.specs.Lines.{Cause, Premise}
 use Rattle.derivations.specs.declared.known.CausedIncompatibility.{CausedIncompatibility}
 use Rattle.derivations.specs.declared.known.Reason.TheVariants.{Fact}
 use Rattle.solver.specs.Pushing.{AreDependents, SaysAt}

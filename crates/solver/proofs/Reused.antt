@@ -13,7 +13,7 @@ use Rattle.derivations.specs.CausedIncompatibilities.{FollowsFrom}
 use Rattle.derivations.specs.Learning.{AllStand, Offers}
 use Rattle.derivations.specs.declared.known.CausedIncompatibility.{CausedIncompatibility}
 use Rattle.derivations.specs.declared.known.Reason.TheVariants.{Resolved}
-use Rattle.derivations.specs.declared.line.Line.{Line}
+use Rattle.derivations.specs.Lines.{Line}
 use Rattle.solver.specs.Pushing.{SaysAt}
 use Rattle.solver.specs.Searching.{IsSearch}
 use Rattle.solver.specs.Reusing.{AreAt, EndsSo, IsDerivedAt, IsForMember, IsGivenAt, Keeps}

@@ -5,9 +5,8 @@ use Rattle.registry.specs.Registry.{Packages}
 use Rattle.derivations.specs.Facts.{Terms}
 use Rattle.derivations.specs.Derivations.{IsDerivedBy, last_conclusion}
 use Rattle.derivations.specs.Learning.{AllStand, CauseStands, Offers}
-use Rattle.derivations.specs.declared.facts.Cause.{Cause}
+use Rattle.derivations.specs.Lines.{Cause, Line}
 use Rattle.derivations.specs.declared.known.CausedIncompatibility.{CausedIncompatibility}
-use Rattle.derivations.specs.declared.line.Line.{Line}
 use Rattle.solver.specs.declared.task.Task.{Task}
 use Rattle.solver.specs.Pushing.{SaysAt}
 

@@ -16,7 +16,7 @@ use Rattle.derivations.specs.Derivations.{last_conclusion}
 use Rattle.store.specs.Slots.{concludes}
 use Rattle.derivations.specs.Learning.{AllStand}
 use Rattle.store.specs.Stored.{all_stand, conclusion_of, is_stored, learn_refusal, same_on, same_term, same_terms, terms_or_none}
-use Rattle.derivations.specs.declared.line.Line.{Line}
+use Rattle.derivations.specs.Lines.{Line}
 use Rattle.store.specs.declared.store.TheConstants.{STORE_LIMIT}
 use Rattle.store.proofs.Tested.{all_from, all_to}
 

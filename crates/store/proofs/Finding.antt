@@ -10,7 +10,7 @@ use Rattle.store.specs.Keys.{key_of}
 use Rattle.store.specs.Slots.{AreFound, AreFoundBelow, HasKey, IsDroppedAt, IsMemberAt, Slots, concludes, kept, passes_at}
 use Rattle.store.specs.Stored.{conclusion_of}
 use Rattle.store.specs.declared.index.Link.{Link}
-use Rattle.derivations.specs.declared.line.Line.{Line}
+use Rattle.derivations.specs.Lines.{Line}
 use Rattle.store.proofs.Chained.{Walked, Walked-end, Walked-next, Walked-weaker, read_more}
 use Rattle.store.proofs.Concluding.{same_terms-Decides}
 use Rattle.store.proofs.Thinning.{fails_next, none_kept, passes_none}

@@ -11,9 +11,8 @@ use Rattle.derivations.specs.Learning.{target_of, targets_of}
 use Rattle.store.specs.Slots.{is_met}
 use Rattle.store.specs.Stored.{cause_is_on, is_on, last_meets, published}
 use Rattle.store.specs.RequirementIndex.{CauseRests, Rests}
-use Rattle.derivations.specs.declared.facts.Cause.{Cause}
+use Rattle.derivations.specs.Lines.{Cause, Line}
 use Rattle.derivations.specs.declared.facts.Cause.TheVariants as cause
-use Rattle.derivations.specs.declared.line.Line.{Line}
 
 -- whether a version meets the requirement is read from its text
 meets_read : (packages : Packages) (q k : ℕ) (need : Text) (publication : Publication) → publication_at packages q k ≡ Some publication → meets_at packages q k need ≡ meets need publication.version

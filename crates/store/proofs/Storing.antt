@@ -13,10 +13,8 @@ use Rattle.derivations.specs.Facts.{Stands}
 use Rattle.derivations.specs.Learning.{AllStand, CauseStands, IsLearnt}
 use Rattle.store.specs.Laws.{CommandsKeep, LearningKeeps}
 use Rattle.store.specs.Stored.{all_stand, cause_is_on, is_on, last_meets, learn_refusal, published, published_if, stored_after}
-use Rattle.derivations.specs.declared.facts.Cause.{Cause}
+use Rattle.derivations.specs.Lines.{Cause, Line, Premise}
 use Rattle.derivations.specs.declared.facts.Cause.TheVariants as cause
-use Rattle.derivations.specs.declared.facts.Premise.{Premise}
-use Rattle.derivations.specs.declared.line.Line.{Line}
 use Rattle.store.proofs.Grown.{Grows, IsLast, Nothing, grows_published, grows_yanked}
 use Rattle.store.proofs.Tested.{all_from}
 

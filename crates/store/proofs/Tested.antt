@@ -11,10 +11,8 @@ use Rattle.registry.specs.Registry.{Packages, matching, needs_of, number_of}
 use Rattle.derivations.specs.Facts.{HasNeed, Stands}
 use Rattle.derivations.specs.Learning.{AllStand, CauseStands}
 use Rattle.store.specs.Stored.{all_stand, cause_stands, has_need, is_number, stands}
-use Rattle.derivations.specs.declared.facts.Cause.{Cause}
+use Rattle.derivations.specs.Lines.{Cause, Line, Premise}
 use Rattle.derivations.specs.declared.facts.Cause.TheVariants as cause
-use Rattle.derivations.specs.declared.facts.Premise.{Premise}
-use Rattle.derivations.specs.declared.line.Line.{Line}
 use Rattle.registry.specs.Laws.{MatchingIsWhatMeets}
 
 number_is : (o : Option ℕ) (n : ℕ) → is_number o n ≡ true → o ≡ Some n

@@ -5,7 +5,7 @@ use Rattle.std.proofs.lemmas.Option.{slice_get_past}
 use Rattle.std.specs.Prelude.{Contains, None, Option, Some, filter, is_some, slice_get}
 use Rattle.std.specs.List.{list_any}
 use Rattle.store.specs.Slots.{AreFewer, AreThinned, IsDroppedAt, IsMemberAt, IsThinnedAt, Slots, kept, passes_at, passes_in}
-use Rattle.derivations.specs.declared.line.Line.{Line}
+use Rattle.derivations.specs.Lines.{Line}
 
 -- ---- a test of the members
 

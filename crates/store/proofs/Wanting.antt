@@ -8,7 +8,7 @@ use Rattle.store.specs.Indexes.{Extends, HasNone, Indexed, IsUnder, chain_of}
 use Rattle.store.specs.Slots.{AreFewer, IsMemberAt, Slots, is_met, passes_at}
 use Rattle.store.specs.RequirementIndex.{AreDropped, AreHeld, AreHeldBelow, AreListed, CauseRests, IsHeld, IsWant, IsWhole, KeepsHeld, Rests, Wanted}
 use Rattle.store.specs.declared.index.Link.{Link}
-use Rattle.derivations.specs.declared.line.Line.{Line}
+use Rattle.derivations.specs.Lines.{Line}
 use Rattle.store.specs.declared.requirement_index.IndexedRequirement.{IndexedRequirement}
 use Rattle.store.proofs.Chained.{Walked, Walked-end, read_more}
 use Rattle.store.proofs.Finding.{IsUnder-later}

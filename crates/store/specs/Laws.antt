@@ -5,7 +5,7 @@ use Rattle.registry.specs.Step as registry
 use Rattle.registry.specs.Step.{Change}
 use Rattle.derivations.specs.Learning.{AllStand, IsLearnt}
 use Rattle.store.specs.Stored.{learn_refusal, stored_after}
-use Rattle.derivations.specs.declared.line.Line.{Line}
+use Rattle.derivations.specs.Lines.{Line}
 
 -- what stands before an accepted command, and is stored after it, stands after it
 abbrev pub CommandsKeep : Type 0

@@ -3,10 +3,9 @@ use Rattle.std.specs.Prelude.{◌≡◌, ◌<◌, ◌⊎◌, ℕ, true, List, []
 use Rattle.versions.specs.Words.{Text, meets}
 use Rattle.store.specs.Indexes.{Indexed, IsUnder}
 use Rattle.store.specs.Slots.{AreFound, HasKey, IsMemberAt, NoneUnder, Slots, is_met, kept}
-use Rattle.derivations.specs.declared.facts.Cause.{Cause}
+use Rattle.derivations.specs.Lines.{Cause, Line}
 use Rattle.derivations.specs.declared.facts.Cause.TheVariants as cause
 use Rattle.store.specs.declared.index.Link.{Link}
-use Rattle.derivations.specs.declared.line.Line.{Line}
 use Rattle.store.specs.declared.requirement_index.IndexedRequirement.{IndexedRequirement}
 
 -- the requirements, their places under their packages, and under each place those of the members that rest on it

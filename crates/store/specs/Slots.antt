@@ -6,7 +6,7 @@ use Rattle.store.specs.Indexes.{Indexed, IsUnder}
 use Rattle.store.specs.Keys.{key_of}
 use Rattle.store.specs.Stored.{conclusion_of, is_on, same_terms}
 use Rattle.store.specs.declared.index.Link.{Link}
-use Rattle.derivations.specs.declared.line.Line.{Line}
+use Rattle.derivations.specs.Lines.{Line}
 
 abbrev pub Slots : Type 0
 Slots = List (Option (List Line))

@@ -13,10 +13,8 @@ use Rattle.registry.specs.Registry.{Packages, matching, meets_at, needs_of, numb
 use Rattle.registry.specs.Step.{Change, Publish, Unyank, Yank, first_that_holds}
 use Rattle.derivations.specs.Facts.{Terms}
 use Rattle.derivations.specs.Derivations.{last_conclusion}
-use Rattle.derivations.specs.declared.facts.Cause.{Cause}
+use Rattle.derivations.specs.Lines.{Cause, Line, Premise}
 use Rattle.derivations.specs.declared.facts.Cause.TheVariants as cause
-use Rattle.derivations.specs.declared.facts.Premise.{Premise}
-use Rattle.derivations.specs.declared.line.Line.{Line}
 use Rattle.store.specs.declared.store.TheConstants.{STORE_LIMIT}
 
 -- what is stored, each with its lines, in order of learning, and how many more take no memory

@@ -17,7 +17,7 @@ pub struct Members<'a> {
 impl<'a> Model for Members<'a> {
     ghost use Rattle.std.specs.Prelude.{List};
     ghost use Rattle.store.specs.Slots.{kept};
-    ghost use Rattle.derivations.specs.declared.line.Line.{Line};
+    ghost use Rattle.derivations.specs.Lines.{Line};
 
     ghost Value = { List (List Line) };
 

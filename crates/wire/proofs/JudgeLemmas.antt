@@ -15,8 +15,7 @@ use Rattle.wire.specs.Requests.{checked, judged, locked_versions, requirements_o
 use Rattle.wire.specs.Locks.{judged_lock, lines_unless}
 use Rattle.wire.specs.NamedShapes.{premise_requirements, requirement_of}
 use Rattle.wire.specs.Shapes.{Request, check, resolve}
-use Rattle.by_name.specs.declared.derivation.NamedCause.{NamedCause}
-use Rattle.by_name.specs.declared.derivation.NamedLine.{NamedLine}
+use Rattle.by_name.specs.NamedLines.{NamedCause, NamedLine}
 
 -- want of memory is no answer
 pub refuses_memory : {Y : Type 0} (e : Refusal) (said : Result Y Refusal) → e ≡ NoMemory → Refuses e said

@@ -15,9 +15,7 @@ use Rattle.versions.specs.declared.refusal.Refusal.TheVariants.{BadLine}
 use Rattle.versions.specs.Words.{Text}
 use Rattle.wire.specs.Members.{has_member, member_count, text_at}
 use Rattle.wire.specs.NamedShapes.{cause_in, causes_at, causes_of, derivation_at, line_in, name_at, ordinals_at, ordinals_in, premise_in, term_of, term_of_items, terms_at, whose_at, whose_in}
-use Rattle.by_name.specs.declared.derivation.NamedCause.{NamedCause}
-use Rattle.by_name.specs.declared.derivation.NamedPremise.{NamedPremise}
-use Rattle.by_name.specs.declared.derivation.NamedLine.{NamedLine}
+use Rattle.by_name.specs.NamedLines.{NamedCause, NamedLine, NamedPremise}
 use Rattle.registry.specs.Requests.{Wanted}
 use Rattle.registry.specs.Step.{Publish}
 use Rattle.terms.specs.declared.term.Term.{Term}

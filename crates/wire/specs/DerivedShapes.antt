@@ -3,10 +3,8 @@ use Rattle.std.specs.Prelude.{Option}
 use Rattle.versions.specs.Words.{Text}
 use Rattle.terms.specs.declared.term.Term.{Term}
 use Rattle.wire.specs.NamedShapes.{term_of}
-use Rattle.by_name.specs.declared.derivation.NamedPremise.{NamedPremise}
-use Rattle.by_name.specs.declared.derivation.NamedCause.{NamedCause}
-use Rattle.by_name.specs.declared.derivation.NamedCause.TheVariants as named
-use Rattle.by_name.specs.declared.derivation.NamedLine.{NamedLine}
+use Rattle.by_name.specs.NamedLines.{NamedCause, NamedLine, NamedPremise}
+use Rattle.derivations.specs.declared.facts.Cause.TheVariants as cause
 use Rattle.wire.specs.declared.request.term_shapes.TermShape.{TermShape}
 use Rattle.wire.specs.declared.request.cause_shapes.PremiseShape.{PremiseShape}
 use Rattle.wire.specs.declared.request.cause_shapes.CauseShape.{CauseShape}
@@ -26,11 +24,11 @@ premise_said premise = record {
 }
 
 abbrev pub cause_said : CauseShape → NamedCause
-cause_said (shape.Line n) = named.Line n
-cause_said (shape.Premise premise) = named.Premise (premise_said premise)
-cause_said (shape.Need i) = named.Need i
-cause_said (shape.NotAllowed name versions) = named.NotAllowed name versions
-cause_said shape.Root = named.Root
+cause_said (shape.Line n) = cause.Line n
+cause_said (shape.Premise premise) = cause.Premise (premise_said premise)
+cause_said (shape.Need i) = cause.Need i
+cause_said (shape.NotAllowed name versions) = cause.NotAllowed name versions
+cause_said shape.Root = cause.Root
 
 abbrev pub causes_said : CauseShape × CauseShape → NamedCause × NamedCause
 causes_said causes = (cause_said causes.0, cause_said causes.1)

@@ -8,10 +8,8 @@ use Rattle.versions.specs.Words.{Text, is_name}
 use Rattle.terms.specs.declared.term.Term.{Term}
 use Rattle.terms.specs.declared.term.Term.TheVariants.{In, NotIn}
 use Rattle.wire.specs.Members.{each_of, member_count, text_at, whole_at, whole_of}
-use Rattle.by_name.specs.declared.derivation.NamedPremise.{NamedPremise}
-use Rattle.by_name.specs.declared.derivation.NamedCause.{NamedCause}
-use Rattle.by_name.specs.declared.derivation.NamedCause.TheVariants as named
-use Rattle.by_name.specs.declared.derivation.NamedLine.{NamedLine}
+use Rattle.by_name.specs.NamedLines.{NamedCause, NamedLine, NamedPremise}
+use Rattle.derivations.specs.declared.facts.Cause.TheVariants as cause
 
 -- ---- names and ordinals
 
@@ -84,18 +82,18 @@ premise_in d = if member_count d == 6
 
 abbrev pub barred_in : Data → Option NamedCause
 barred_in d = if member_count d == 3
-    then option_and_then (λ name. option_map (λ versions. named.NotAllowed name versions) (ordinals_at (codes "versions") d)) (name_at (codes "name") d)
+    then option_and_then (λ name. option_map (λ versions. cause.NotAllowed name versions) (ordinals_at (codes "versions") d)) (name_at (codes "name") d)
     else None
 
 abbrev pub need_in : Data → Option NamedCause
-need_in d = if member_count d == 2 then option_map (λ i. named.Need i) (whole_at (codes "index") d) else None
+need_in d = if member_count d == 2 then option_map (λ i. cause.Need i) (whole_at (codes "index") d) else None
 
 abbrev pub root_in : Data → Option NamedCause
-root_in d = if member_count d == 1 then Some named.Root else None
+root_in d = if member_count d == 1 then Some cause.Root else None
 
 abbrev pub fact_by : Text → Data → Option NamedCause
 fact_by fact d =
-    if bytes_eq fact (codes "premise") then option_map (λ premise. named.Premise premise) (premise_in d)
+    if bytes_eq fact (codes "premise") then option_map (λ premise. cause.Premise premise) (premise_in d)
     else (if bytes_eq fact (codes "disallowed") then barred_in d
     else (if bytes_eq fact (codes "need") then need_in d
     else (if bytes_eq fact (codes "root") then root_in d
@@ -104,7 +102,7 @@ fact_by fact d =
 -- An object without a `line` tells a fact.
 abbrev pub cause_from : Option Data → Data → Option NamedCause
 cause_from None d = option_and_then (λ fact. fact_by fact d) (text_at (codes "fact") d)
-cause_from (Some line) d = if member_count d == 1 then option_map (λ n. named.Line n) (whole_of line) else None
+cause_from (Some line) d = if member_count d == 1 then option_map (λ n. cause.Line n) (whole_of line) else None
 
 abbrev pub cause_in : Data → Option NamedCause
 cause_in d = cause_from (get (codes "line") d) d
@@ -144,11 +142,11 @@ derivation_at member d = option_and_then derivation_in (get member d)
 
 -- the requirement of a premise
 abbrev pub requirement_of : NamedCause → List Text
-requirement_of (named.Line n) = []
-requirement_of (named.Premise premise) = premise.need ∷ []
-requirement_of (named.Need i) = []
-requirement_of (named.NotAllowed name versions) = []
-requirement_of named.Root = []
+requirement_of (cause.Line n) = []
+requirement_of (cause.Premise premise) = premise.need ∷ []
+requirement_of (cause.Need i) = []
+requirement_of (cause.NotAllowed name versions) = []
+requirement_of cause.Root = []
 
 abbrev pub requirements_of : NamedCause × NamedCause → List Text
 requirements_of causes = requirement_of causes.0 ++ requirement_of causes.1

@@ -9,7 +9,7 @@ use Rattle.registry.specs.Requests.{Wanted}
 use Rattle.registry.specs.Step.{Change, Publish, Yank, Unyank}
 use Rattle.wire.specs.Members.{each_of, has_member, member_count, text_at, whole_of}
 use Rattle.wire.specs.NamedShapes.{derivation_at}
-use Rattle.by_name.specs.declared.derivation.NamedLine.{NamedLine}
+use Rattle.by_name.specs.NamedLines.{NamedLine}
 
 -- a request, by its texts
 pub data Request : Type 0 where

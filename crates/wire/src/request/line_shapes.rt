@@ -28,7 +28,7 @@ impl<'v> Model for Lines<'v> {
     ghost use Rattle.std.specs.Prelude.{◌≡◌, List, [], is_some, true, unwrap_or};
     ghost use Rattle.serde_json.specs.View.{items_view};
     ghost use Rattle.wire.specs.NamedShapes.{lines_of};
-    ghost use Rattle.by_name.specs.declared.derivation.NamedLine.{NamedLine};
+    ghost use Rattle.by_name.specs.NamedLines.{NamedLine};
 
     ghost Value = { List NamedLine };
 

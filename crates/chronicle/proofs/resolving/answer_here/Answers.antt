@@ -2,7 +2,7 @@ use Rattle.std.proofs.Common.{List, sym, subst}
 use Rattle.std.specs.Prelude.{All}
 use Rattle.registry.specs.Registry.{Packages}
 use Rattle.derivations.specs.Learning.{AllStand}
-use Rattle.derivations.specs.declared.line.Line.{Line}
+use Rattle.derivations.specs.Lines.{Line}
 use Rattle.chronicle.specs.Journals.{packages_of}
 use Rattle.chronicle.proofs.AnswerLemmas.{none_here}
 use Rattle.chronicle.proofs.resolving.answer_here.Goals as goal

@@ -1,6 +1,6 @@
 use Rattle.std.proofs.Common.{arith, subst}
 use Rattle.derivations.specs.Derivations.{IsConclusion, conclusions}
-use Rattle.derivations.specs.declared.line.Line.{Line}
+use Rattle.derivations.specs.Lines.{Line}
 use Rattle.derivations.proofs.Judging.{line_gives, no_line}
 use Rattle.derivations.proofs.causes.concluded.Goals as goal
 

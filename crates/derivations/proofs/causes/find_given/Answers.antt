@@ -2,7 +2,7 @@ use Rattle.std.proofs.Common.{IfOk, subst, sym}
 use Rattle.std.specs.Option.{option_map}
 use Rattle.derivations.specs.Causes.{given_terms}
 use Rattle.derivations.specs.Derivations.{Finds, Yields, conclusions}
-use Rattle.derivations.specs.declared.facts.Cause.{Cause}
+use Rattle.derivations.specs.Lines.{Cause}
 use Rattle.derivations.proofs.causes.find_given.Goals as goal
 
 pub returns-in-Line : goal.returns-in-Line

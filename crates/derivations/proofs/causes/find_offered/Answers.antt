@@ -3,7 +3,7 @@ use Rattle.std.specs.Option.{option_map}
 use Rattle.derivations.specs.Causes.{given_terms}
 use Rattle.derivations.specs.Derivations.{Finds, conclusions}
 use Rattle.derivations.specs.Learning.{Offers}
-use Rattle.derivations.specs.declared.facts.Cause.{Cause}
+use Rattle.derivations.specs.Lines.{Cause}
 use Rattle.derivations.proofs.causes.find_offered.Goals as goal
 
 pub returns-in-Line : goal.returns-in-Line

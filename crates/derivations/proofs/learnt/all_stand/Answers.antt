@@ -3,7 +3,7 @@ use Rattle.std.proofs.lemmas.Bool.{iff_false}
 use Rattle.std.specs.Prelude.{◌↔◌}
 use Rattle.registry.specs.Registry.{Packages}
 use Rattle.derivations.specs.Learning.{AllStand, CauseStands}
-use Rattle.derivations.specs.declared.line.Line.{Line}
+use Rattle.derivations.specs.Lines.{Line}
 use Rattle.derivations.proofs.Behind.{behind_first, none_behind}
 use Rattle.derivations.proofs.learnt.all_stand.Goals.{then-not-cause_stands-via-then-not-cause_stands, then-not-cause_stands-via-else-not-cause_stands+then-not-cause_stands-2}
 use Rattle.derivations.proofs.learnt.all_stand.Goals as goal

@@ -2,7 +2,7 @@ use Rattle.std.proofs.Common.{◌≡◌, ◌∙◌, ◌-◌, ◌++◌, ℕ, List
 use Rattle.std.proofs.lemmas.List.{append-nil}
 use Rattle.terms.specs.Sets.{has}
 use Rattle.derivations.specs.Learning.{target_of, targets_of}
-use Rattle.derivations.specs.declared.line.Line.{Line}
+use Rattle.derivations.specs.Lines.{Line}
 use Rattle.derivations.proofs.Behind.{behind_first, none_behind}
 use Rattle.derivations.proofs.learnt.targets_in.Goals as goal
 

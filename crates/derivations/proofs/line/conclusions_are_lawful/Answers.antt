@@ -4,7 +4,7 @@ use Rattle.std.specs.List.{slice_get}
 use Rattle.std.proofs.lemmas.Option.{slice_get_read}
 use Rattle.terms.specs.Incompats.{IsIncompat}
 use Rattle.derivations.specs.Derivations.{AreIncompats}
-use Rattle.derivations.specs.declared.line.Line.{Line}
+use Rattle.derivations.specs.Lines.{Line}
 use Rattle.derivations.proofs.line.conclusions_are_lawful.Goals as goal
 
 are_more : (lines : List Line) (i : ℕ) (line : Line) → slice_get lines i ≡ Some line → AreIncompats (take i lines) → IsIncompat line.conclusion → AreIncompats (take (i + 1) lines)

@@ -1,6 +1,6 @@
 use Rattle.std.proofs.Common.{◌∙◌, ◌++◌, List, [], ◌∷◌, ap, arith, sym, take}
 use Rattle.std.proofs.lemmas.List.{take_all, take_more}
-use Rattle.derivations.specs.declared.line.Line.{Line}
+use Rattle.derivations.specs.Lines.{Line}
 use Rattle.derivations.proofs.line.copied.Goals as goal
 
 pub loop-line-preserved : goal.loop-line-preserved

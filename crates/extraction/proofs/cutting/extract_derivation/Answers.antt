@@ -6,7 +6,7 @@ use Rattle.derivations.specs.Derivations.{IsDerivation, last_conclusion}
 use Rattle.extraction.specs.Cutting.{EndsBefore, IsEndLine, ShowsLine}
 use Rattle.extraction.specs.Taking.{lines_at, said_at, said_by}
 use Rattle.derivations.specs.declared.known.CausedIncompatibility.{CausedIncompatibility}
-use Rattle.derivations.specs.declared.line.Line.{Line}
+use Rattle.derivations.specs.Lines.{Line}
 use Rattle.extraction.proofs.Moving.{end_moved, resolved_moved, resolved_there, said_moved}
 use Rattle.extraction.proofs.Walking.{derivation_by}
 use Rattle.extraction.proofs.cutting.extract_derivation.Goals as goal

@@ -1,6 +1,6 @@
 use Rattle.std.proofs.Common.{◌∙◌, List, subst, sym}
 use Rattle.extraction.specs.Cutting.{ShowsLine}
-use Rattle.derivations.specs.declared.line.Line.{Line}
+use Rattle.derivations.specs.Lines.{Line}
 use Rattle.extraction.proofs.cutting.few_lines_of.Goals as goal
 
 pub returns-then-not-walked-clause-clear : goal.returns-then-not-walked-clause-clear

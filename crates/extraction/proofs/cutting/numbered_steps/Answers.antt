@@ -2,7 +2,7 @@ use Rattle.std.proofs.Common.{◌≡◌, ◌∙◌, ℕ, List, [], ap, arith, in
 use Rattle.std.proofs.Math.ListN.{length-set}
 use Rattle.extraction.specs.Cutting.{IsOpen, IsReady}
 use Rattle.extraction.specs.Taking.{line_at, lines_at}
-use Rattle.derivations.specs.declared.line.Line.{Line}
+use Rattle.derivations.specs.Lines.{Line}
 use Rattle.extraction.specs.declared.taking.Step.{Step}
 use Rattle.extraction.proofs.Taken.{AreStepsTo, lines_counted, lines_pushed, one_more}
 use Rattle.extraction.proofs.Walking.{IsWalk, ends, falls_down, falls_up, goes_down, goes_up, open_within, some_pushed, start}

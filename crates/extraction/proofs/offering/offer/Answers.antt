@@ -1,7 +1,7 @@
 use Rattle.std.proofs.Common.{◌≡◌, List, subst, sym}
 use Rattle.std.specs.Prelude.{IfSome}
 use Rattle.extraction.specs.Cutting.{ShowsLine}
-use Rattle.derivations.specs.declared.line.Line.{Line}
+use Rattle.derivations.specs.Lines.{Line}
 use Rattle.extraction.proofs.Offered.{if_weaker, learnt_by}
 use Rattle.extraction.proofs.offering.offer.Goals as goal
 

@@ -3,7 +3,7 @@ use Rattle.std.proofs.lemmas.Bool.{cases_lt, ne_eqb}
 use Rattle.std.specs.Prelude.{All, IfSome, sum_by}
 use Rattle.extraction.specs.Cutting.{ShowsLine}
 use Rattle.extraction.specs.Offering.{ShowsOne}
-use Rattle.derivations.specs.declared.line.Line.{Line}
+use Rattle.derivations.specs.Lines.{Line}
 use Rattle.derivations.specs.declared.learnt.TheConstants.{DERIVATION_LINE_LIMIT}
 use Rattle.extraction.specs.declared.offering.TheConstants.{OFFERED_LIMIT}
 use Rattle.extraction.proofs.Offered.{all_pushed, all_stand, counted_few, counted_none, counted_some}

@@ -2,7 +2,7 @@ use Rattle.std.proofs.Common.{◌≡◌, ◌-◌, List, ◌∷◌, ap, arith, dr
 use Rattle.std.proofs.lemmas.Bool.{iff_false}
 use Rattle.std.specs.Prelude.{◌↔◌}
 use Rattle.extraction.specs.Offering.{MayRestOn, RestOnPremises}
-use Rattle.derivations.specs.declared.line.Line.{Line}
+use Rattle.derivations.specs.Lines.{Line}
 use Rattle.extraction.proofs.Behind.{behind_first, none_behind}
 use Rattle.extraction.proofs.offering.rest_on_premises.Goals.{then-not-may_rest_on-via-then-not-may_rest_on, then-not-may_rest_on-via-else-not-may_rest_on+then-not-may_rest_on-2}
 use Rattle.extraction.proofs.offering.rest_on_premises.Goals as goal

@@ -2,7 +2,7 @@ use Rattle.std.proofs.Common.{◌≡◌, ◌∙◌, ◌++◌, List, [], ap, leng
 use Rattle.std.proofs.lemmas.List.{append-nil, nil_from_length}
 use Rattle.std.specs.Vec.Iter.{into_iter_items}
 use Rattle.extraction.specs.Taking.{ArePlaced, lines_at}
-use Rattle.derivations.specs.declared.line.Line.{Line}
+use Rattle.derivations.specs.Lines.{Line}
 use Rattle.extraction.specs.declared.taking.Step.{Step}
 use Rattle.extraction.proofs.Taken.{one_written, same_elsewhere}
 use Rattle.extraction.proofs.taking.lines_taken.Goals as goal

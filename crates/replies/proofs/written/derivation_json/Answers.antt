@@ -3,7 +3,7 @@ use Rattle.std.proofs.lemmas.Option.{slice_get_read}
 use Rattle.serde_json.specs.Data.{array}
 use Rattle.serde_json.specs.View.{items_of, view}
 use Rattle.replies.specs.NamedJson.{derivation_json, line_json}
-use Rattle.by_name.specs.declared.derivation.NamedLine.{NamedLine}
+use Rattle.by_name.specs.NamedLines.{NamedLine}
 use Rattle.replies.proofs.WrittenLemmas.{array_of, values_more}
 use Rattle.replies.proofs.written.derivation_json.Goals as goal
 

@@ -3,7 +3,7 @@ use Rattle.std.proofs.lemmas.Option.{get_or_from_slice_get}
 use Rattle.std.specs.Prelude.{Some}
 use Rattle.versions.specs.Words.{Text}
 use Rattle.store.specs.RequirementIndex.{IsHeld, Rests}
-use Rattle.derivations.specs.declared.line.Line.{Line}
+use Rattle.derivations.specs.Lines.{Line}
 use Rattle.store.proofs.Finding.{if_some}
 use Rattle.store.proofs.Wanting.{AreHeldBelow-all, AreHeldBelow-next}
 use Rattle.store.proofs.requirement_index.add_all_rests.Goals as goal

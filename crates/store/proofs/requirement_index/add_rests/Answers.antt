@@ -1,6 +1,6 @@
 use Rattle.std.proofs.Common.{◌-◌, List, ap, arith, drop, inl, inr, length, subst, sym, take}
 use Rattle.store.specs.RequirementIndex.{Rests}
-use Rattle.derivations.specs.declared.line.Line.{Line}
+use Rattle.derivations.specs.Lines.{Line}
 use Rattle.store.proofs.Behind.{behind_first, none_behind}
 use Rattle.store.proofs.Wanting.{HoldsBut, HoldsBut-next, KeepsHeld-next, KeepsHeld-same}
 use Rattle.store.proofs.requirement_index.add_rests.Goals as goal

@@ -5,7 +5,7 @@ use Rattle.store.specs.Indexes.{IsUnder}
 use Rattle.store.specs.Keys.{key_of}
 use Rattle.store.specs.Slots.{HasKey}
 use Rattle.store.specs.Stored.{conclusion_of}
-use Rattle.derivations.specs.declared.line.Line.{Line}
+use Rattle.derivations.specs.Lines.{Line}
 use Rattle.store.proofs.Finding.{AreFoundBelow-all, AreFoundBelow-next, if_some}
 use Rattle.store.proofs.slots.add_keys.Goals as goal
 

@@ -3,7 +3,7 @@ use Rattle.std.proofs.lemmas.Bool.{iff_false}
 use Rattle.terms.specs.Sets.{has}
 use Rattle.derivations.specs.Derivations.{AreDerivedBy}
 use Rattle.derivations.specs.Learning.{Offers, targets_of}
-use Rattle.derivations.specs.declared.line.Line.{Line}
+use Rattle.derivations.specs.Lines.{Line}
 use Rattle.derivations.proofs.learnt.Learnt.new.Goals as goal
 
 pub invariant_of-result : goal.invariant_of-result

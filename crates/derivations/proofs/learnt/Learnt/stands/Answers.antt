@@ -3,7 +3,7 @@ use Rattle.std.specs.Prelude.{IfSome}
 use Rattle.derivations.specs.Derivations.{last_conclusion}
 use Rattle.derivations.specs.Facts.{Holds}
 use Rattle.derivations.specs.Learning.{AllStand}
-use Rattle.derivations.specs.declared.line.Line.{Line}
+use Rattle.derivations.specs.Lines.{Line}
 use Rattle.derivations.proofs.Sound.{learnt_conclusion, on_true}
 use Rattle.derivations.proofs.learnt.Learnt.stands.Goals as goal
 

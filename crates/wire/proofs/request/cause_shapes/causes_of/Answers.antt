@@ -1,7 +1,7 @@
 use Rattle.std.proofs.Common.{◌∙◌, Option, ap, option_map}
 use Rattle.wire.specs.DerivedShapes.{cause_said}
 use Rattle.wire.specs.declared.request.cause_shapes.CauseShape.{CauseShape}
-use Rattle.by_name.specs.declared.derivation.NamedCause.{NamedCause}
+use Rattle.by_name.specs.NamedLines.{NamedCause}
 use Rattle.wire.proofs.RequestLemmas.{causes_read, other_length}
 use Rattle.wire.proofs.request.cause_shapes.causes_of.Goals as goal
 

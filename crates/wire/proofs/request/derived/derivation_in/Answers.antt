@@ -6,7 +6,7 @@ use Rattle.versions.specs.Words.{is_requirement}
 use Rattle.versions.specs.declared.refusal.Refusal.TheVariants.{BadRequirement}
 use Rattle.wire.specs.DerivedShapes.{line_said}
 use Rattle.wire.specs.NamedShapes.{line_requirements, premise_requirements}
-use Rattle.by_name.specs.declared.derivation.NamedLine.{NamedLine}
+use Rattle.by_name.specs.NamedLines.{NamedLine}
 use Rattle.wire.proofs.ItemLemmas.{take_one_more}
 use Rattle.wire.proofs.JudgeLemmas.{fails_within, given_by, holds_within, refuses_by}
 use Rattle.wire.proofs.request.derived.derivation_in.Goals as goal

@@ -1,6 +1,6 @@
 use Rattle.std.proofs.Common.{◌∙◌, ap, sym, arith, List}
 use Rattle.std.specs.List.{slice_get}
-use Rattle.by_name.specs.declared.derivation.NamedLine.{NamedLine}
+use Rattle.by_name.specs.NamedLines.{NamedLine}
 use Rattle.wire.specs.NamedShapes.{line_in}
 use Rattle.wire.proofs.ItemLemmas.{length-each, list_of_view}
 use Rattle.wire.proofs.request.line_shapes.Lines.at.Goals as goal
