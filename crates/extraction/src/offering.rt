@@ -171,7 +171,7 @@ fn count_lines(found: &Option<Learnt>) -> usize
 }
 
 /// What may be learnt of the lines at these places, each with its whole derivation: of those that
-/// rest on premises alone, by no more than [`DERIVATION_LINE_LIMIT`](derivations::LINE_LIMIT) lines, and by no more than
+/// rest on premises alone, by no more than [`DERIVATION_LINE_LIMIT`](derivations::DERIVATION_LINE_LIMIT) lines, and by no more than
 /// 1,024 lines all together. Those that come first are offered first; for the last one there is always
 /// room. Places that hold a fact, or nothing, are passed over.
 ///

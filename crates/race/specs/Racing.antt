@@ -1,4 +1,4 @@
--- The seats of a race: their ledgers, what they answer, and what a race prints.
+-- The seats of a race: their ways as backends, what they answer, and what a race prints.
 use Rattle.std.specs.Prelude.{◌≡◌, ◌⊎◌, ℕ, ◌+◌, List, [], ◌∷◌, ◌++◌, All, Contains, flat_map, length, Option, Some, None}
 use Rattle.std.specs.Io.KnownBytes.{Appends}
 use Rattle.versions.specs.Words.{Text}

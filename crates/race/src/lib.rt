@@ -4,7 +4,7 @@
 //! |---|---|
 //! | `seat` | a seat as a backend |
 //! | `running` | one seat, which answers the lines of a file |
-//! | `kept` | replies, which are kept until all seats are done |
+//! | `kept_reply` | replies, which are kept until all seats are done |
 //! | `racing` | all seats, and what is written of them |
 #![tactic(auto)]
 

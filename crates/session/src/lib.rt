@@ -3,7 +3,7 @@
 //!
 //! | File | What it does |
 //! |---|---|
-//! | `served` | the registry that is served, with the items that it accepted |
+//! | `session_state` | the registry of the session, with the items that it accepted |
 //! | `batch` | requests of neighbouring lines, which are answered together by several threads |
 //! | `telling` | the replies to such requests, while threads search for those behind the next |
 //! | `telling_kept` | the same, in a session whose journal is kept in a file |
