@@ -5,7 +5,7 @@ ghost use Rattle.book.specs.Items.{refusal};
 
 use crate::item_texts::{item_at, put_item};
 use book::{Item, Replica};
-use rows::{Answer, AnswerText, Unread, all_stand, count, member, shown};
+use rows::{AnswerText, CallResult, Unread, all_stand, count, member, shown};
 use serde_json::Value;
 use std::alloc::Global;
 
@@ -14,7 +14,7 @@ pub fn book_call(
     replica: &mut Replica,
     name: &str,
     row: &Value,
-) -> Result<Answer, Unread> {
+) -> Result<CallResult, Unread> {
     match name {
         "stored" => shown(alloc, replica.store()),
         "standing" => Ok(standing(replica)),
@@ -33,7 +33,7 @@ fn about_item(
     name: &str,
     row: &Value,
     item: &Item,
-) -> Result<Answer, Unread> {
+) -> Result<CallResult, Unread> {
     match name {
         "judge" => judge(replica, row, item),
         "shared" => shared(alloc, replica, item),
@@ -46,7 +46,7 @@ fn about_item(
 }
 
 /// The item as it is carried out.
-fn shared(alloc: Global, replica: &Replica, item: &Item) -> Result<Answer, Unread> {
+fn shared(alloc: Global, replica: &Replica, item: &Item) -> Result<CallResult, Unread> {
     let mine = replica.shared(item)?;
     let mut text = AnswerText::new(alloc);
     put_item(&mut text, &mine);
@@ -56,44 +56,44 @@ fn shared(alloc: Global, replica: &Replica, item: &Item) -> Result<Answer, Unrea
 
 /// The revision, and how many are stored. After every call that may change them each has to stand; where
 /// one doesn't, that is the answer.
-fn standing(replica: &Replica) -> Answer {
+fn standing(replica: &Replica) -> CallResult {
     if !all_stand(replica.registry(), replica.store()) {
-        return Answer::Word("a member does not stand");
+        return CallResult::Word("a member does not stand");
     }
     let revision = replica.registry().revision();
-    Answer::Places(revision as usize, count(replica.store()))
+    CallResult::Places(revision as usize, count(replica.store()))
 }
 
-fn judge(replica: &Replica, row: &Value, item: &Item) -> Result<Answer, Unread> {
+fn judge(replica: &Replica, row: &Value, item: &Item) -> Result<CallResult, Unread> {
     let full = member(row, "full")?.as_bool().ok_or(Unread::Row)?;
     replica.judge(full, item)?;
-    Ok(Answer::None)
+    Ok(CallResult::None)
 }
 
-fn reserve(replica: &mut Replica, item: &Item) -> Result<Answer, Unread> {
+fn reserve(replica: &mut Replica, item: &Item) -> Result<CallResult, Unread> {
     replica.check(item)?;
     replica.reserve(item)?;
     Ok(standing(replica))
 }
 
 /// Carries out an item for which no room was made.
-fn apply(replica: &mut Replica, item: &Item) -> Result<Answer, Unread> {
+fn apply(replica: &mut Replica, item: &Item) -> Result<CallResult, Unread> {
     replica.check(item)?;
     carried_out(replica, item)
 }
 
 /// Carries out an item by all steps.
-fn enter(replica: &mut Replica, item: &Item) -> Result<Answer, Unread> {
+fn enter(replica: &mut Replica, item: &Item) -> Result<CallResult, Unread> {
     replica.check(item)?;
     replica.reserve(item)?;
     carried_out(replica, item)
 }
 
-fn carried_out(replica: &mut Replica, item: &Item) -> Result<Answer, Unread>
+fn carried_out(replica: &mut Replica, item: &Item) -> Result<CallResult, Unread>
     requires { refusal replica.old.book item.now ≡ None }
 {
     if replica.registry().revision() == u64::MAX {
-        return Ok(Answer::Skipped);
+        return Ok(CallResult::Skipped);
     }
     let mine = replica.shared(item)?;
     replica.apply(item, mine)?;
@@ -101,9 +101,9 @@ fn carried_out(replica: &mut Replica, item: &Item) -> Result<Answer, Unread>
 }
 
 /// Carries out an item if it is accepted; a refused one changes nothing.
-fn replay(replica: &mut Replica, item: &Item) -> Result<Answer, Unread> {
+fn replay(replica: &mut Replica, item: &Item) -> Result<CallResult, Unread> {
     if replica.registry().revision() == u64::MAX {
-        return Ok(Answer::Skipped);
+        return Ok(CallResult::Skipped);
     }
     replica.replay(item)?;
     Ok(standing(replica))

@@ -3,18 +3,18 @@ ghost use Rattle.std.specs.Prelude.{◌≡◌, ◌<◌, OnOk, length, vec_len};
 ghost use Rattle.pool.specs.Taking.{AreTheTakersOf, IsTakerOf};
 
 use pool::{Jobs, Taker};
-use rows::{Answer, Unread, given, items, member, size_at, whole};
+use rows::{CallResult, Unread, given, items, member, size_at, whole};
 use serde_json::Value;
 use std::alloc::Global;
 use std::sync::Wait;
 
 /// `"count":3,"turns":[2,5]`: of two takers the first asks twice and then the other asks five times; which indexes they
 /// got, in this order. Who is told that none is left gets none.
-pub fn jobs_call<R: Wait>(rt: &R, alloc: Global, row: &Value) -> Result<Answer, Unread> {
+pub fn jobs_call<R: Wait>(rt: &R, alloc: Global, row: &Value) -> Result<CallResult, Unread> {
     let count = size_at(row, "count")?;
     let turns = items(member(row, "turns")?)?;
     if count == 0 || turns.is_empty() {
-        return Ok(Answer::Skipped);
+        return Ok(CallResult::Skipped);
     }
     let mut taken = Vec::new(alloc);
     share(rt, alloc, count, turns, &mut taken)?;

@@ -7,7 +7,7 @@ use pool::{
     answer_in_order,
 };
 use registry::Registry;
-use rows::{Answer, AnswerText, Shows, Unread, items, member, request_at, size_at, whole_at};
+use rows::{AnswerText, CallResult, Shows, Unread, items, member, request_at, size_at, whole_at};
 use serde_json::Value;
 use solver::Outcome;
 use std::alloc::{AllocError, Global};
@@ -22,7 +22,7 @@ pub fn pool_call<R: Threads + Wait + Sync>(
     registry: &Registry,
     name: &str,
     row: &Value,
-) -> Result<Answer, Unread> {
+) -> Result<CallResult, Unread> {
     match name {
         "answer_all" => all_answered(rt, alloc, registry, row),
         "answer_all_with" => in_order(rt, alloc, registry, row),
@@ -36,7 +36,7 @@ fn all_answered<R: Threads + Wait + Sync>(
     alloc: Global,
     registry: &Registry,
     row: &Value,
-) -> Result<Answer, Unread> {
+) -> Result<CallResult, Unread> {
     let workers = size_at(row, "workers")?;
     let requests = requests_at(alloc, row)?;
     let store = Store::new(alloc);
@@ -52,7 +52,7 @@ fn in_order<R: Threads + Wait + Sync>(
     alloc: Global,
     registry: &Registry,
     row: &Value,
-) -> Result<Answer, Unread> {
+) -> Result<CallResult, Unread> {
     let workers = size_at(row, "workers")?;
     let order = order_at(row)?;
     let requests = requests_at(alloc, row)?;
@@ -98,7 +98,7 @@ fn handed_over<R: Threads + Wait + Sync>(
     alloc: Global,
     registry: &Registry,
     row: &Value,
-) -> Result<Answer, Unread> {
+) -> Result<CallResult, Unread> {
     let workers = size_at(row, "workers")?;
     let count = size_at(row, "count")?;
     let requests = requests_at(alloc, row)?;
@@ -122,12 +122,12 @@ fn if_answered(
     alloc: Global,
     is_kept: bool,
     answers: Result<Vec<pool::SolveResult>, AllocError>,
-) -> Result<Answer, Unread> {
+) -> Result<CallResult, Unread> {
     let answers = answers?;
     let answer = if is_kept {
         answers_told(alloc, &answers)
     } else {
-        Ok(Answer::Word("waited in vain"))
+        Ok(CallResult::Word("waited in vain"))
     };
     drop(answers);
     answer
@@ -135,7 +135,7 @@ fn if_answered(
 
 /// The answers in order, each `{"selected":[["a","1.0.0"]]}`, `{"selected":null}`, `{"derivation":[..]}` or
 /// `{"refused":22}`.
-fn answers_told(alloc: Global, answers: &[pool::SolveResult]) -> Result<Answer, Unread> {
+fn answers_told(alloc: Global, answers: &[pool::SolveResult]) -> Result<CallResult, Unread> {
     let mut is_first = true;
     let mut text = AnswerText::new(alloc);
     text.put("[");
@@ -151,7 +151,7 @@ fn answers_told(alloc: Global, answers: &[pool::SolveResult]) -> Result<Answer, 
 fn put_answer(text: &mut AnswerText, answer: &pool::SolveResult) {
     match answer {
         Ok(outcome) => put_lawful(text, outcome),
-        Err(refusal) => Answer::Refused(*refusal).show(text),
+        Err(refusal) => CallResult::Refused(*refusal).show(text),
     }
 }
 

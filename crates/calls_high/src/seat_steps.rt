@@ -9,7 +9,7 @@ use chronicle::{Entry, Mark, Seat, Stamp};
 use derivations::Learnt;
 use registry::Request;
 use rows::{
-    Answer, AnswerText, Shows, Unread, both, command_of, count, learnt_at, request_at, shown,
+    AnswerText, CallResult, Shows, Unread, both, command_of, count, learnt_at, request_at, shown,
     text_at, three,
 };
 use serde_json::Value;
@@ -23,7 +23,7 @@ pub fn seat_step<'a>(
     given: &Value,
     seat: &mut Seat<'a>,
     mark: &mut Mark<'a>,
-) -> Result<Answer, Unread>
+) -> Result<CallResult, Unread>
     requires { mark.old.row ≡ seat.old.row }
     ensures seat { seat.new.row ≡ seat.old.row }
     ensures mark { mark.new.row ≡ seat.old.row }
@@ -40,12 +40,12 @@ pub fn seat_step<'a>(
 
 // ---- what a seat stands for
 
-fn about(alloc: Global, name: &str, seat: &Seat<'_>) -> Result<Answer, Unread> {
+fn about(alloc: Global, name: &str, seat: &Seat<'_>) -> Result<CallResult, Unread> {
     match name {
-        "place" => Ok(Answer::Number(seat.place())),
-        "revision" => Ok(Answer::Number(seat.revision() as usize)),
-        "number" => Ok(Answer::Number(seat.number() as usize)),
-        "registry" => Ok(Answer::Number(seat.registry().revision() as usize)),
+        "place" => Ok(CallResult::Number(seat.place())),
+        "revision" => Ok(CallResult::Number(seat.revision() as usize)),
+        "number" => Ok(CallResult::Number(seat.number() as usize)),
+        "registry" => Ok(CallResult::Number(seat.registry().revision() as usize)),
         "journal" => journal_told(alloc, seat.journal()),
         "stored" => shown(alloc, seat.store()),
         _ => Err(Unread::Row),
@@ -53,7 +53,7 @@ fn about(alloc: Global, name: &str, seat: &Seat<'_>) -> Result<Answer, Unread> {
 }
 
 /// Of each entry the number of the seat that made it, its serial, and its item.
-fn journal_told(alloc: Global, journal: &[&Entry]) -> Result<Answer, Unread> {
+fn journal_told(alloc: Global, journal: &[&Entry]) -> Result<CallResult, Unread> {
     let mut is_first = true;
     let mut text = AnswerText::new(alloc);
     text.put("[");
@@ -84,7 +84,7 @@ fn changed_told<'a>(
     given: &Value,
     seat: &mut Seat<'a>,
     mark: &mut Mark<'a>,
-) -> Result<Answer, Unread>
+) -> Result<CallResult, Unread>
     requires { mark.old.row ≡ seat.old.row }
     ensures seat { seat.new.row ≡ seat.old.row }
     ensures mark { mark.new.row ≡ seat.old.row }
@@ -96,10 +96,10 @@ fn changed_told<'a>(
 }
 
 /// A refusal of a step; want of memory, and a row that can't be read, are the whole row's answer.
-fn refusal_told(why: Unread) -> Result<Answer, Unread> {
+fn refusal_told(why: Unread) -> Result<CallResult, Unread> {
     match why {
         Unread::Refused(Refusal::NoMemory) => Err(why),
-        Unread::Refused(refusal) => Ok(Answer::Refused(refusal)),
+        Unread::Refused(refusal) => Ok(CallResult::Refused(refusal)),
         Unread::Row => Err(why),
     }
 }
@@ -111,7 +111,7 @@ fn changed_again<'a>(
     given: &Value,
     seat: &mut Seat<'a>,
     mark: &mut Mark<'a>,
-) -> Result<Answer, Unread>
+) -> Result<CallResult, Unread>
     requires { mark.old.row ≡ seat.old.row }
     ensures seat { seat.new.row ≡ seat.old.row }
     ensures mark { mark.new.row ≡ seat.old.row }
@@ -130,7 +130,7 @@ fn changed<'a>(
     given: &Value,
     seat: &mut Seat<'a>,
     mark: &mut Mark<'a>,
-) -> Result<Answer, Unread>
+) -> Result<CallResult, Unread>
     requires { mark.old.row ≡ seat.old.row }
     ensures seat { seat.new.row ≡ seat.old.row }
     ensures mark { mark.new.row ≡ seat.old.row }
@@ -138,15 +138,15 @@ fn changed<'a>(
     match name {
         "mark" => {
             *mark = seat.mark()?;
-            Ok(Answer::Number(mark.place()))
+            Ok(CallResult::Number(mark.place()))
         }
         "meet" => {
             seat.meet(mark)?;
-            Ok(Answer::None)
+            Ok(CallResult::None)
         }
         "catch_up" => {
             seat.catch_up()?;
-            Ok(Answer::None)
+            Ok(CallResult::None)
         }
         _ => entered_told(alloc, name, given, seat),
     }
@@ -157,11 +157,11 @@ fn entered_told(
     name: &str,
     given: &Value,
     seat: &mut Seat<'_>,
-) -> Result<Answer, Unread>
+) -> Result<CallResult, Unread>
     ensures { seat.new.row ≡ seat.old.row }
 {
     let stamp = entered(alloc, name, given, seat)?;
-    Ok(Answer::Places(stamp.place, stamp.revision as usize))
+    Ok(CallResult::Places(stamp.place, stamp.revision as usize))
 }
 
 fn entered(alloc: Global, name: &str, given: &Value, seat: &mut Seat<'_>) -> Result<Stamp, Unread>
@@ -217,7 +217,7 @@ fn resolve(
     learns: bool,
     given: &Value,
     seat: &mut Seat<'_>,
-) -> Result<Answer, Unread>
+) -> Result<CallResult, Unread>
     ensures { seat.new.row ≡ seat.old.row }
 {
     let options = seat_options_at(given)?;
@@ -233,7 +233,7 @@ fn resolve_told(
     seat: &mut Seat<'_>,
     request: &Request,
     options: Options,
-) -> Result<Answer, Unread>
+) -> Result<CallResult, Unread>
     ensures { seat.new.row ≡ seat.old.row }
 {
     match resolved_again(seat, request, options) {
@@ -252,7 +252,7 @@ fn outcome_told(
     stamp: Stamp,
     outcome: &Outcome,
     seat: &mut Seat<'_>,
-) -> Result<Answer, Unread>
+) -> Result<CallResult, Unread>
     ensures { seat.new.row ≡ seat.old.row }
 {
     if learns {
@@ -267,7 +267,7 @@ fn learnt_told(
     stamp: Stamp,
     outcome: &Outcome,
     seat: &mut Seat<'_>,
-) -> Result<Answer, Unread>
+) -> Result<CallResult, Unread>
     ensures { seat.new.row ≡ seat.old.row }
 {
     learn_all(alloc, offered(outcome), seat)?;
@@ -322,7 +322,7 @@ fn resolved(
     }
 }
 
-fn resolved_told(alloc: Global, stamp: Stamp, outcome: &Outcome) -> Result<Answer, Unread> {
+fn resolved_told(alloc: Global, stamp: Stamp, outcome: &Outcome) -> Result<CallResult, Unread> {
     let mut text = AnswerText::new(alloc);
     put_resolved(&mut text, stamp, outcome);
     text.answer()
@@ -333,7 +333,7 @@ fn stored_told(
     stamp: Stamp,
     outcome: &Outcome,
     stored: usize,
-) -> Result<Answer, Unread> {
+) -> Result<CallResult, Unread> {
     let mut text = AnswerText::new(alloc);
     text.put("[");
     put_resolved(&mut text, stamp, outcome);

@@ -7,7 +7,7 @@ use crate::pool_calls::pool_call;
 use crate::solver_calls::solver_call;
 use book::Replica;
 use registry::Registry;
-use rows::{Answer, Unread, command_call, row_of, tell, text_at};
+use rows::{CallResult, Unread, command_call, row_of, tell, text_at};
 use serde_json::Value;
 use std::alloc::Global;
 use std::io::{self, Input, Print};
@@ -43,7 +43,7 @@ fn answer_to<R: AllocGlobal + Threads + Wait + Sync>(
     rt: &R,
     session: &mut Session,
     line: &str,
-) -> Result<Answer, Unread> {
+) -> Result<CallResult, Unread> {
     let row = row_of(rt.alloc(), line)?;
     let answer = session.call(rt, &row);
     drop(row);
@@ -70,14 +70,14 @@ impl Session {
         &mut self,
         rt: &R,
         row: &Value,
-    ) -> Result<Answer, Unread> {
+    ) -> Result<CallResult, Unread> {
         let name = text_at(row, "call")?;
         let alloc = rt.alloc();
         match text_at(row, "of")? {
             "session" => anew(alloc, self),
             "registry" => command_call(alloc, &mut self.registry, name, row),
             "book" => book_call(alloc, &mut self.replica, name, row),
-            "chronicle" => chronicle_call(alloc, name, row),
+            "chronicle" => chronicle_call(rt, alloc, name, row),
             "jobs" => jobs_call(rt, alloc, row),
             "pool" => pool_call(rt, alloc, &self.registry, name, row),
             "solver" => solver_call(alloc, &self.registry, name, row),
@@ -86,9 +86,9 @@ impl Session {
     }
 }
 
-fn anew(alloc: Global, session: &mut Session) -> Result<Answer, Unread> {
+fn anew(alloc: Global, session: &mut Session) -> Result<CallResult, Unread> {
     put(session, Session::new(alloc));
-    Ok(Answer::None)
+    Ok(CallResult::None)
 }
 
 /// Drops the value that stands at a place, for another one.

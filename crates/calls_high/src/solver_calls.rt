@@ -3,7 +3,7 @@
 use crate::outcomes::{budget_at, offered, options_at, put_outcome};
 use derivations::{Learnt, check};
 use registry::{Registry, Request};
-use rows::{Answer, AnswerText, Shows, Unread, request_at, shown};
+use rows::{AnswerText, CallResult, Shows, Unread, request_at, shown};
 use serde_json::Value;
 use solver::{Options, Outcome, solve, solve_with, solve_within};
 use std::alloc::Global;
@@ -16,7 +16,7 @@ pub fn solver_call(
     registry: &Registry,
     name: &str,
     row: &Value,
-) -> Result<Answer, Unread> {
+) -> Result<CallResult, Unread> {
     let request = request_at(alloc, row)?;
     let answer = answered(alloc, registry, &request, name, row);
     drop(request);
@@ -29,7 +29,7 @@ fn answered(
     request: &Request,
     name: &str,
     row: &Value,
-) -> Result<Answer, Unread> {
+) -> Result<CallResult, Unread> {
     if name == "solve_with" {
         return solved_with(alloc, registry, request, options_at(row)?);
     }
@@ -62,14 +62,14 @@ fn solved_with(
     registry: &Registry,
     request: &Request,
     options: Options,
-) -> Result<Answer, Unread> {
+) -> Result<CallResult, Unread> {
     let store = Store::new(alloc);
     let outcome = solve_with(alloc, registry, request, &store, options);
     drop(store);
     conclusions_told(alloc, outcome?)
 }
 
-fn conclusions_told(alloc: Global, outcome: Outcome) -> Result<Answer, Unread> {
+fn conclusions_told(alloc: Global, outcome: Outcome) -> Result<CallResult, Unread> {
     let mut text = AnswerText::new(alloc);
     put_outcome(&mut text, &outcome);
     text.put(",\"offered\":");
@@ -85,7 +85,7 @@ fn told(
     request: &Request,
     outcome: &Outcome,
     name: &str,
-) -> Result<Answer, Unread> {
+) -> Result<CallResult, Unread> {
     match name {
         "solve" => outcome_told(alloc, outcome),
         "judge" => judged(alloc, registry, request, outcome),
@@ -100,7 +100,7 @@ fn judged(
     registry: &Registry,
     request: &Request,
     outcome: &Outcome,
-) -> Result<Answer, Unread> {
+) -> Result<CallResult, Unread> {
     let stand = all_stand(registry, offered(outcome));
     match outcome {
         Outcome::Selection(list, _) => judged_told(alloc, "{\"selected\":", list, stand),
@@ -117,7 +117,7 @@ fn judged_told<T: Shows>(
     kind: &str,
     told: &T,
     stand: bool,
-) -> Result<Answer, Unread> {
+) -> Result<CallResult, Unread> {
     let mut text = AnswerText::new(alloc);
     text.put(kind);
     told.show(&mut text);
@@ -139,7 +139,7 @@ fn all_stand(registry: &Registry, offered: &[Learnt]) -> bool {
 // ---- texts
 
 /// `{"selected":[["a","1.0.0"]],"offered":[..]}` or `{"derivation":[..],"offered":[..]}`.
-fn outcome_told(alloc: Global, outcome: &Outcome) -> Result<Answer, Unread> {
+fn outcome_told(alloc: Global, outcome: &Outcome) -> Result<CallResult, Unread> {
     let mut text = AnswerText::new(alloc);
     put_outcome(&mut text, outcome);
     text.put(",\"offered\":[");

@@ -1,7 +1,7 @@
 //! Calls of commands, by themselves and of the registry of a session, and of lists of dependencies.
 
 use registry::{Command, Dependencies, Registry};
-use rows::{Answer, AnswerText, Shows, Unread, apply, at, command_at, done, given_if};
+use rows::{AnswerText, CallResult, Shows, Unread, apply, at, command_at, done, given_if};
 use serde_json::Value;
 use std::alloc::Global;
 
@@ -11,7 +11,7 @@ pub fn command_call(
     registry: &mut Registry,
     name: &str,
     row: &Value,
-) -> Result<Answer, Unread> {
+) -> Result<CallResult, Unread> {
     let command = command_at(alloc, row)?;
     let answer = about(alloc, registry, name, &command);
     drop(command);
@@ -23,7 +23,7 @@ fn about(
     registry: &mut Registry,
     name: &str,
     command: &Command,
-) -> Result<Answer, Unread> {
+) -> Result<CallResult, Unread> {
     match name {
         "check" => done(registry.check(command)),
         "reserve" => reserve(registry, command),
@@ -34,12 +34,12 @@ fn about(
     }
 }
 
-fn reserve(registry: &mut Registry, command: &Command) -> Result<Answer, Unread> {
+fn reserve(registry: &mut Registry, command: &Command) -> Result<CallResult, Unread> {
     registry.check(command)?;
     done(registry.reserve(command))
 }
 
-pub fn dependencies_call(alloc: Global, name: &str, row: &Value) -> Result<Answer, Unread> {
+pub fn dependencies_call(alloc: Global, name: &str, row: &Value) -> Result<CallResult, Unread> {
     let dependencies = at(alloc, row, "needs")?;
     let answer = of_dependencies(alloc, name, &dependencies);
     drop(dependencies);
@@ -50,7 +50,7 @@ fn of_dependencies(
     alloc: Global,
     name: &str,
     dependencies: &Dependencies,
-) -> Result<Answer, Unread> {
+) -> Result<CallResult, Unread> {
     match name {
         "new" => listed(alloc, dependencies),
         "copy" => listed(alloc, &dependencies.clone()?),
@@ -59,7 +59,7 @@ fn of_dependencies(
 }
 
 /// Whether a list repeats a name, and its needs.
-fn listed(alloc: Global, dependencies: &Dependencies) -> Result<Answer, Unread> {
+fn listed(alloc: Global, dependencies: &Dependencies) -> Result<CallResult, Unread> {
     let mut text = AnswerText::new(alloc);
     text.put("{\"repeats\":");
     text.put_plain(dependencies.repeats_name());

@@ -2,7 +2,7 @@
 
 use derivations::{Cause, Derivation, Line, Premise, need_incompat};
 use registry::Registry;
-use rows::{Answer, Unread, at, both, derivation_check, given_if, shown};
+use rows::{CallResult, Unread, at, both, derivation_check, given_if, shown};
 use serde_json::Value;
 use std::alloc::Global;
 use versions::{Name, Need};
@@ -12,7 +12,7 @@ pub fn derivation_call(
     registry: &Registry,
     name: &str,
     row: &Value,
-) -> Result<Answer, Unread> {
+) -> Result<CallResult, Unread> {
     match name {
         "check" => derivation_check(alloc, registry, row),
         "copy" => copied(alloc, row),
@@ -28,34 +28,34 @@ fn premise_call(
     registry: &Registry,
     name: &str,
     row: &Value,
-) -> Result<Answer, Unread> {
+) -> Result<CallResult, Unread> {
     let premise = at(alloc, row, "premise")?;
     let answer = about_premise(alloc, registry, name, &premise);
     drop(premise);
     answer
 }
 
-fn copied(alloc: Global, row: &Value) -> Result<Answer, Unread> {
+fn copied(alloc: Global, row: &Value) -> Result<CallResult, Unread> {
     let derivation = Derivation::new(at(alloc, row, "lines")?);
     let copy = derivation.copy(alloc);
     drop(derivation);
     copy_told(alloc, copy?)
 }
 
-fn copy_told(alloc: Global, copy: Derivation) -> Result<Answer, Unread> {
+fn copy_told(alloc: Global, copy: Derivation) -> Result<CallResult, Unread> {
     let answer = shown(alloc, &copy.lines());
     drop(copy);
     answer
 }
 
-fn line_copied(alloc: Global, row: &Value) -> Result<Answer, Unread> {
+fn line_copied(alloc: Global, row: &Value) -> Result<CallResult, Unread> {
     let line = at::<Line>(alloc, row, "line")?;
     let answer = given_if(alloc, line.copy(alloc));
     drop(line);
     answer
 }
 
-fn cause_copied(alloc: Global, row: &Value) -> Result<Answer, Unread> {
+fn cause_copied(alloc: Global, row: &Value) -> Result<CallResult, Unread> {
     let cause = at::<Cause>(alloc, row, "cause")?;
     let answer = given_if(alloc, cause.copy(alloc));
     drop(cause);
@@ -67,16 +67,16 @@ fn about_premise(
     registry: &Registry,
     name: &str,
     premise: &Premise,
-) -> Result<Answer, Unread> {
+) -> Result<CallResult, Unread> {
     match name {
         "copy_premise" => given_if(alloc, premise.copy(alloc)),
-        "premise_stands" => Ok(Answer::Bool(premise.stands(registry))),
+        "premise_stands" => Ok(CallResult::Bool(premise.stands(registry))),
         "premise_says" => given_if(alloc, premise.incompat(alloc)),
         _ => Err(Unread::Row),
     }
 }
 
-fn need_says(alloc: Global, registry: &Registry, row: &Value) -> Result<Answer, Unread> {
+fn need_says(alloc: Global, registry: &Registry, row: &Value) -> Result<CallResult, Unread> {
     let names = both::<Name, Need>(alloc, row, "name", "need")?;
     let says = need_incompat(alloc, registry, &names.0, &names.1);
     drop(names);

@@ -1,6 +1,6 @@
 //! Calls of two sets that a session holds, which take ordinals one by one.
 
-use rows::{Answer, Unread, done, given_if, whole_at};
+use rows::{CallResult, Unread, done, given_if, whole_at};
 use serde_json::Value;
 use std::alloc::Global;
 use terms::{GrowingSet, VSet};
@@ -10,11 +10,11 @@ pub fn held_set_call(
     set: &mut VSet,
     name: &str,
     row: &Value,
-) -> Result<Answer, Unread> {
+) -> Result<CallResult, Unread> {
     match (name, whole_at(row, "k")) {
         ("insert", Ok(k)) => done(set.insert(k)),
-        ("has", Ok(k)) => Ok(Answer::Bool(set.has(k))),
-        ("is_empty", _) => Ok(Answer::Bool(set.is_empty())),
+        ("has", Ok(k)) => Ok(CallResult::Bool(set.has(k))),
+        ("is_empty", _) => Ok(CallResult::Bool(set.is_empty())),
         ("ordinals", _) => given_if(alloc, set.ordinals(alloc)),
         _ => Err(Unread::Row),
     }
@@ -25,11 +25,11 @@ pub fn growing_set_call(
     growing: &mut GrowingSet,
     name: &str,
     row: &Value,
-) -> Result<Answer, Unread> {
+) -> Result<CallResult, Unread> {
     match (name, whole_at(row, "k")) {
         ("reserve", _) => done(growing.reserve()),
         ("insert", Ok(k)) => done(growing.insert(k)),
-        ("has", Ok(k)) => Ok(Answer::Bool(growing.has(k))),
+        ("has", Ok(k)) => Ok(CallResult::Bool(growing.has(k))),
         ("set", _) => given_if(alloc, growing.set(alloc)),
         _ => Err(Unread::Row),
     }

@@ -2,7 +2,7 @@
 
 use derivations::Learnt;
 use registry::Registry;
-use rows::{Answer, Unread, learnt_at, shown};
+use rows::{CallResult, Unread, learnt_at, shown};
 use serde_json::Value;
 use std::alloc::Global;
 
@@ -11,7 +11,7 @@ pub fn learnt_call(
     registry: &Registry,
     name: &str,
     row: &Value,
-) -> Result<Answer, Unread> {
+) -> Result<CallResult, Unread> {
     let learnt = learnt_at(alloc, row)?;
     let answer = about(alloc, registry, name, &learnt);
     drop(learnt);
@@ -23,10 +23,10 @@ fn about(
     registry: &Registry,
     name: &str,
     learnt: &Learnt,
-) -> Result<Answer, Unread> {
+) -> Result<CallResult, Unread> {
     match name {
         "new" => shown(alloc, learnt.conclusion()),
-        "count" => Ok(Answer::Number(learnt.lines().len())),
+        "count" => Ok(CallResult::Number(learnt.lines().len())),
         "rests_on" => shown(alloc, learnt.rests_on()),
         "copy" | "stands" => about_copied(alloc, registry, name, learnt),
         _ => Err(Unread::Row),
@@ -38,7 +38,7 @@ fn about_copied(
     registry: &Registry,
     name: &str,
     learnt: &Learnt,
-) -> Result<Answer, Unread> {
+) -> Result<CallResult, Unread> {
     let copy = learnt.copy(alloc)?;
     let answer = about_copy(alloc, registry, name, &copy);
     drop(copy);
@@ -51,9 +51,9 @@ fn about_copy(
     registry: &Registry,
     name: &str,
     learnt: &Learnt,
-) -> Result<Answer, Unread> {
+) -> Result<CallResult, Unread> {
     match name {
         "copy" => shown(alloc, &learnt.lines()),
-        _ => Ok(Answer::Bool(learnt.stands(registry))),
+        _ => Ok(CallResult::Bool(learnt.stands(registry))),
     }
 }

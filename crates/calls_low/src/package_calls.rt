@@ -2,7 +2,7 @@
 
 use crate::releases_calls::is_kept;
 use registry::{Facts, Matching, Registry, ordinals_are_below_the_count};
-use rows::{Answer, AnswerText, Shows, Unread, at, given_if, shown, size_at, whole_at};
+use rows::{AnswerText, CallResult, Shows, Unread, at, given_if, shown, size_at, whole_at};
 use serde_json::Value;
 use std::alloc::Global;
 use terms::VSet;
@@ -13,7 +13,7 @@ pub fn package_call(
     registry: &Registry,
     name: &str,
     row: &Value,
-) -> Result<Answer, Unread> {
+) -> Result<CallResult, Unread> {
     let pkg = whole_at(row, "pkg")?;
     match name {
         "find" => find(alloc, registry, pkg, row),
@@ -32,66 +32,76 @@ fn about(
     name: &str,
     pkg: u32,
     ordinal: Result<u32, Unread>,
-) -> Result<Answer, Unread> {
+) -> Result<CallResult, Unread> {
     match (name, ordinal) {
         ("name" | "name_at", _) => name_of(alloc, registry, name, pkg),
-        ("versions", _) => Ok(Answer::Number(registry.versions(pkg))),
-        ("version_count", _) => Ok(Answer::Number(registry.version_count(pkg) as usize)),
+        ("versions", _) => Ok(CallResult::Number(registry.versions(pkg))),
+        ("version_count", _) => Ok(CallResult::Number(registry.version_count(pkg) as usize)),
         ("repeats", _) => repeats(alloc, registry, pkg),
-        ("has_yanks", _) => Ok(Answer::Bool(registry.has_yanks(pkg))),
+        ("has_yanks", _) => Ok(CallResult::Bool(registry.has_yanks(pkg))),
         ("facts", Ok(k)) => facts(alloc, registry, pkg, k),
         ("facts_at", Ok(k)) => facts_at(alloc, registry, pkg, k),
         _ => Err(Unread::Row),
     }
 }
 
-fn find(alloc: Global, registry: &Registry, pkg: u32, row: &Value) -> Result<Answer, Unread> {
+fn find(alloc: Global, registry: &Registry, pkg: u32, row: &Value) -> Result<CallResult, Unread> {
     let version = at::<Published>(alloc, row, "version")?;
     let found = registry.find(pkg, &version);
     drop(version);
-    Ok(Answer::choice(found))
+    Ok(CallResult::choice(found))
 }
 
-fn highest(alloc: Global, registry: &Registry, pkg: u32, row: &Value) -> Result<Answer, Unread> {
+fn highest(
+    alloc: Global,
+    registry: &Registry,
+    pkg: u32,
+    row: &Value,
+) -> Result<CallResult, Unread> {
     let set = at::<VSet>(alloc, row, "set")?;
     let highest = registry.highest(pkg, &set);
     drop(set);
-    Ok(Answer::choice(highest))
+    Ok(CallResult::choice(highest))
 }
 
-fn repeats(alloc: Global, registry: &Registry, pkg: u32) -> Result<Answer, Unread> {
+fn repeats(alloc: Global, registry: &Registry, pkg: u32) -> Result<CallResult, Unread> {
     shown(alloc, &registry.repeats(pkg))
 }
 
 /// The name of a package, by the call that requires one or the call that answers none.
-fn name_of(alloc: Global, registry: &Registry, call: &str, pkg: u32) -> Result<Answer, Unread> {
+fn name_of(alloc: Global, registry: &Registry, call: &str, pkg: u32) -> Result<CallResult, Unread> {
     if call == "name_at" {
         return shown(alloc, &registry.name_at(pkg));
     }
     if pkg < 1 || pkg as usize > registry.packages() {
-        return Ok(Answer::Skipped);
+        return Ok(CallResult::Skipped);
     }
     shown(alloc, registry.name(pkg))
 }
 
-fn facts(alloc: Global, registry: &Registry, pkg: u32, ordinal: u32) -> Result<Answer, Unread> {
+fn facts(alloc: Global, registry: &Registry, pkg: u32, ordinal: u32) -> Result<CallResult, Unread> {
     ordinals_are_below_the_count();
     if ordinal as usize >= registry.versions(pkg) {
-        return Ok(Answer::Skipped);
+        return Ok(CallResult::Skipped);
     }
     let facts = registry.facts(pkg, ordinal);
     facts_told(alloc, facts)
 }
 
-fn facts_at(alloc: Global, registry: &Registry, pkg: u32, ordinal: u32) -> Result<Answer, Unread> {
+fn facts_at(
+    alloc: Global,
+    registry: &Registry,
+    pkg: u32,
+    ordinal: u32,
+) -> Result<CallResult, Unread> {
     match registry.facts_at(pkg, ordinal) {
         Some(facts) => facts_told(alloc, facts),
-        None => Ok(Answer::None),
+        None => Ok(CallResult::None),
     }
 }
 
 /// The text of a version, whether it is yanked, and what it depends on.
-fn facts_told(alloc: Global, facts: Facts<'_>) -> Result<Answer, Unread> {
+fn facts_told(alloc: Global, facts: Facts<'_>) -> Result<CallResult, Unread> {
     let mut text = AnswerText::new(alloc);
     text.put("[");
     facts.version.show(&mut text);
@@ -104,12 +114,17 @@ fn facts_told(alloc: Global, facts: Facts<'_>) -> Result<Answer, Unread> {
 }
 
 /// The highest of the versions whose ordinals are below a number.
-fn highest_where(registry: &Registry, pkg: u32, row: &Value) -> Result<Answer, Unread> {
+fn highest_where(registry: &Registry, pkg: u32, row: &Value) -> Result<CallResult, Unread> {
     let below = whole_at(row, "below")?;
-    Ok(Answer::choice(registry.highest_where(pkg, |ordinal| ordinal < below)))
+    Ok(CallResult::choice(registry.highest_where(pkg, |ordinal| ordinal < below)))
 }
 
-fn matching(alloc: Global, registry: &Registry, pkg: u32, row: &Value) -> Result<Answer, Unread> {
+fn matching(
+    alloc: Global,
+    registry: &Registry,
+    pkg: u32,
+    row: &Value,
+) -> Result<CallResult, Unread> {
     let need = at::<Need>(alloc, row, "need")?;
     let answer = given_if(alloc, registry.matching(pkg, &need));
     drop(need);
@@ -122,13 +137,18 @@ fn matching_set(
     registry: &Registry,
     pkg: u32,
     row: &Value,
-) -> Result<Answer, Unread> {
+) -> Result<CallResult, Unread> {
     let need = at::<Need>(alloc, row, "need")?;
     kept_told(alloc, &registry.matching_set(pkg, &need)?, row)
 }
 
 /// The package that a dependency names, and the matching set as a call by its requirement tells it.
-fn dependency(alloc: Global, registry: &Registry, pkg: u32, row: &Value) -> Result<Answer, Unread> {
+fn dependency(
+    alloc: Global,
+    registry: &Registry,
+    pkg: u32,
+    row: &Value,
+) -> Result<CallResult, Unread> {
     let ordinal = whole_at(row, "k")?;
     let index = size_at(row, "index")?;
     depends(
@@ -148,14 +168,14 @@ fn depends(
     ordinal: u32,
     index: usize,
     below: u32,
-) -> Result<Answer, Unread> {
+) -> Result<CallResult, Unread> {
     ordinals_are_below_the_count();
     if ordinal as usize >= registry.versions(pkg) {
-        return Ok(Answer::Skipped);
+        return Ok(CallResult::Skipped);
     }
     let facts = registry.facts(pkg, ordinal);
     if index >= facts.needs.len() {
-        return Ok(Answer::Skipped);
+        return Ok(CallResult::Skipped);
     }
     let (target, set) = registry.dependency(pkg, ordinal, index)?;
     target_told(alloc, target, &set, below)
@@ -166,7 +186,7 @@ fn target_told(
     target: u32,
     set: &Matching<'_>,
     below: u32,
-) -> Result<Answer, Unread> {
+) -> Result<CallResult, Unread> {
     let mut text = AnswerText::new(alloc);
     text.put("[");
     text.put_plain(target);
@@ -176,7 +196,7 @@ fn target_told(
     text.answer()
 }
 
-fn kept_told(alloc: Global, set: &Matching<'_>, row: &Value) -> Result<Answer, Unread> {
+fn kept_told(alloc: Global, set: &Matching<'_>, row: &Value) -> Result<CallResult, Unread> {
     let below = whole_at(row, "below")?;
     let mut text = AnswerText::new(alloc);
     put_matching(&mut text, set, below);

@@ -6,7 +6,7 @@ ghost use Rattle.partial.specs.Assignments.{is_decided, says, IsOpenTo};
 
 use crate::session::put;
 use partial::{Assignment, Partial, Satisfaction, Settled, Why};
-use rows::{Answer, AnswerText, Shows, Unread, at, done, given_if, shown, size_at, whole_at};
+use rows::{AnswerText, CallResult, Shows, Unread, at, done, given_if, shown, size_at, whole_at};
 use serde_json::Value;
 use std::alloc::Global;
 use terms::{Incompat, Pkg, Relation, Term, VSet, relation};
@@ -16,7 +16,7 @@ pub fn partial_call(
     partial: &mut Partial,
     name: &str,
     row: &Value,
-) -> Result<Answer, Unread> {
+) -> Result<CallResult, Unread> {
     match name {
         "new" => anew(partial, Partial::new(alloc)),
         "with_room" => with_room(alloc, partial, row),
@@ -27,27 +27,27 @@ pub fn partial_call(
     }
 }
 
-fn anew(partial: &mut Partial, other: Partial) -> Result<Answer, Unread> {
+fn anew(partial: &mut Partial, other: Partial) -> Result<CallResult, Unread> {
     put(partial, other);
-    Ok(Answer::None)
+    Ok(CallResult::None)
 }
 
-fn with_room(alloc: Global, partial: &mut Partial, row: &Value) -> Result<Answer, Unread> {
+fn with_room(alloc: Global, partial: &mut Partial, row: &Value) -> Result<CallResult, Unread> {
     let room = size_at(row, "room")?;
     anew(partial, Partial::with_room(alloc, room)?)
 }
 
-fn back_to(partial: &mut Partial, row: &Value) -> Result<Answer, Unread> {
+fn back_to(partial: &mut Partial, row: &Value) -> Result<CallResult, Unread> {
     partial.back_to(size_at(row, "level")?);
-    Ok(Answer::None)
+    Ok(CallResult::None)
 }
 
-fn about(alloc: Global, partial: &Partial, name: &str, row: &Value) -> Result<Answer, Unread> {
+fn about(alloc: Global, partial: &Partial, name: &str, row: &Value) -> Result<CallResult, Unread> {
     match (name, whole_at(row, "pkg")) {
-        ("level", _) => Ok(Answer::Number(partial.level())),
+        ("level", _) => Ok(CallResult::Number(partial.level())),
         ("undecided", _) => given_if(alloc, partial.undecided()),
         ("assignments", _) => assignments_told(alloc, partial.assignments()),
-        ("decision", Ok(pkg)) => Ok(Answer::choice(partial.decision(pkg))),
+        ("decision", Ok(pkg)) => Ok(CallResult::choice(partial.decision(pkg))),
         ("said", Ok(pkg)) => shown(alloc, &partial.said(pkg)),
         ("settled", Ok(pkg)) => settled(alloc, partial, pkg),
         _ => about_terms(alloc, partial, name, row),
@@ -59,7 +59,7 @@ fn about_terms(
     partial: &Partial,
     name: &str,
     row: &Value,
-) -> Result<Answer, Unread> {
+) -> Result<CallResult, Unread> {
     let incompat = at::<Incompat>(alloc, row, "terms")?;
     let answer = on_terms(alloc, partial, name, &incompat);
     drop(incompat);
@@ -98,22 +98,22 @@ fn is_left(partial: &Partial, pkg: Pkg, ordinal: u32) -> bool
     }
 }
 
-fn derive(alloc: Global, partial: &mut Partial, row: &Value) -> Result<Answer, Unread> {
+fn derive(alloc: Global, partial: &mut Partial, row: &Value) -> Result<CallResult, Unread> {
     let pkg = whole_at(row, "pkg")?;
     let cause = size_at(row, "cause")?;
     let term = at::<Term>(alloc, row, "term")?;
     if !is_open_to(alloc, partial, pkg, &term) {
         drop(term);
-        return Ok(Answer::Skipped);
+        return Ok(CallResult::Skipped);
     }
     done(partial.derive(pkg, term, cause))
 }
 
-fn decide(partial: &mut Partial, row: &Value) -> Result<Answer, Unread> {
+fn decide(partial: &mut Partial, row: &Value) -> Result<CallResult, Unread> {
     let pkg = whole_at(row, "pkg")?;
     let ordinal = whole_at(row, "k")?;
     if !is_left(partial, pkg, ordinal) || partial.decision(pkg).is_some() {
-        return Ok(Answer::Skipped);
+        return Ok(CallResult::Skipped);
     }
     done(partial.decide(pkg, ordinal))
 }
@@ -123,7 +123,7 @@ fn on_terms(
     partial: &Partial,
     name: &str,
     incompat: &Incompat,
-) -> Result<Answer, Unread> {
+) -> Result<CallResult, Unread> {
     match name {
         "relation" => relation_to(alloc, partial, incompat),
         "satisfier" => satisfier(partial, incompat),
@@ -131,15 +131,19 @@ fn on_terms(
     }
 }
 
-fn relation_to(alloc: Global, partial: &Partial, incompat: &Incompat) -> Result<Answer, Unread> {
+fn relation_to(
+    alloc: Global,
+    partial: &Partial,
+    incompat: &Incompat,
+) -> Result<CallResult, Unread> {
     match partial.relation(incompat) {
-        Satisfaction::Satisfied => Ok(Answer::Word("satisfied")),
+        Satisfaction::Satisfied => Ok(CallResult::Word("satisfied")),
         Satisfaction::Almost(pkg) => almost(alloc, pkg),
-        Satisfaction::Other => Ok(Answer::Word("other")),
+        Satisfaction::Other => Ok(CallResult::Word("other")),
     }
 }
 
-fn almost(alloc: Global, pkg: Pkg) -> Result<Answer, Unread> {
+fn almost(alloc: Global, pkg: Pkg) -> Result<CallResult, Unread> {
     let mut text = AnswerText::new(alloc);
     text.put("{\"almost\":");
     text.put_plain(pkg);
@@ -147,29 +151,29 @@ fn almost(alloc: Global, pkg: Pkg) -> Result<Answer, Unread> {
     text.answer()
 }
 
-fn satisfier(partial: &Partial, incompat: &Incompat) -> Result<Answer, Unread> {
+fn satisfier(partial: &Partial, incompat: &Incompat) -> Result<CallResult, Unread> {
     if incompat.terms().is_empty() {
-        return Ok(Answer::Skipped);
+        return Ok(CallResult::Skipped);
     }
     match partial.relation(incompat) {
         Satisfaction::Satisfied => {
             let (first, second) = partial.satisfier(incompat)?;
-            Ok(Answer::Places(first, second))
+            Ok(CallResult::Places(first, second))
         }
-        _ => Ok(Answer::Skipped),
+        _ => Ok(CallResult::Skipped),
     }
 }
 
 /// What is said together with the decision.
-fn settled(alloc: Global, partial: &Partial, pkg: Pkg) -> Result<Answer, Unread> {
+fn settled(alloc: Global, partial: &Partial, pkg: Pkg) -> Result<CallResult, Unread> {
     match partial.settled(pkg) {
         Some(settled) => settled_told(alloc, settled),
-        None => Ok(Answer::None),
+        None => Ok(CallResult::None),
     }
 }
 
 /// Each as `[pkg,term,level,cause]`, where a decision has no cause.
-fn assignments_told(alloc: Global, assignments: &[Assignment]) -> Result<Answer, Unread> {
+fn assignments_told(alloc: Global, assignments: &[Assignment]) -> Result<CallResult, Unread> {
     let mut is_first = true;
     let mut text = AnswerText::new(alloc);
     text.put("[");
@@ -201,7 +205,7 @@ fn cause_of(why: Why) -> Option<usize> {
     }
 }
 
-fn settled_told(alloc: Global, settled: Settled<'_>) -> Result<Answer, Unread> {
+fn settled_told(alloc: Global, settled: Settled<'_>) -> Result<CallResult, Unread> {
     let mut text = AnswerText::new(alloc);
     text.put("{\"said\":");
     settled.said.show(&mut text);

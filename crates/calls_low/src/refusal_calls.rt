@@ -1,11 +1,11 @@
 //! Calls of refusals.
 
-use rows::{Answer, Unread, refusal, shown, size_at};
+use rows::{CallResult, Unread, refusal, shown, size_at};
 use serde_json::Value;
 use std::alloc::Global;
 
 /// The number and the name of the refusal at the place that a row gives.
-pub fn refusal_call(alloc: Global, name: &str, row: &Value) -> Result<Answer, Unread> {
+pub fn refusal_call(alloc: Global, name: &str, row: &Value) -> Result<CallResult, Unread> {
     if name != "at" {
         return Err(Unread::Row);
     }

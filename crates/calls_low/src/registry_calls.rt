@@ -3,7 +3,7 @@
 use crate::command_calls;
 use crate::package_calls::package_call;
 use registry::Registry;
-use rows::{Answer, Unread, at, command_call};
+use rows::{CallResult, Unread, at, command_call};
 use serde_json::Value;
 use std::alloc::Global;
 use versions::Name;
@@ -13,22 +13,22 @@ pub fn registry_call(
     registry: &mut Registry,
     name: &str,
     row: &Value,
-) -> Result<Answer, Unread> {
+) -> Result<CallResult, Unread> {
     match name {
         "publish" | "yank" | "unyank" => command_call(alloc, registry, name, row),
         "check" | "reserve" | "apply" | "shared" => {
             command_calls::command_call(alloc, registry, name, row)
         }
-        "revision" => Ok(Answer::Number(registry.revision() as usize)),
-        "packages" => Ok(Answer::Number(registry.packages())),
+        "revision" => Ok(CallResult::Number(registry.revision() as usize)),
+        "packages" => Ok(CallResult::Number(registry.packages())),
         "number" => number(alloc, registry, row),
         _ => package_call(alloc, registry, name, row),
     }
 }
 
-fn number(alloc: Global, registry: &Registry, row: &Value) -> Result<Answer, Unread> {
+fn number(alloc: Global, registry: &Registry, row: &Value) -> Result<CallResult, Unread> {
     let name = at::<Name>(alloc, row, "name")?;
     let number = registry.number(&name);
     drop(name);
-    Ok(Answer::choice(number))
+    Ok(CallResult::choice(number))
 }

@@ -1,7 +1,7 @@
 //! Calls of the releases of one package, which a session's rows change.
 
 use releases::{Matching, Release, Releases};
-use rows::{Answer, AnswerText, Shows, Unread, at, done, given_if, shown, whole, whole_at};
+use rows::{AnswerText, CallResult, Shows, Unread, at, done, given_if, shown, whole, whole_at};
 use serde_json::Value;
 use std::alloc::{AllocError, Global};
 use terms::VSet;
@@ -12,7 +12,7 @@ pub fn releases_call(
     releases: &mut Releases,
     name: &str,
     row: &Value,
-) -> Result<Answer, Unread> {
+) -> Result<CallResult, Unread> {
     match name {
         "publish" => publish(alloc, releases, row),
         "reserve" => done(releases.reserve()),
@@ -23,45 +23,50 @@ pub fn releases_call(
     }
 }
 
-fn name_need(alloc: Global, releases: &mut Releases, row: &Value) -> Result<Answer, Unread> {
+fn name_need(alloc: Global, releases: &mut Releases, row: &Value) -> Result<CallResult, Unread> {
     let need = at::<Need>(alloc, row, "need")?;
     let place = releases.name_need(&need);
     drop(need);
-    Ok(Answer::Number(place?))
+    Ok(CallResult::Number(place?))
 }
 
 /// Publishes a version, once room was made for it.
-fn publish(alloc: Global, releases: &mut Releases, row: &Value) -> Result<Answer, Unread> {
+fn publish(alloc: Global, releases: &mut Releases, row: &Value) -> Result<CallResult, Unread> {
     let version = at::<Published>(alloc, row, "version")?;
     if releases.find(&version).is_some() || releases.len() > u32::MAX as usize {
         drop(version);
-        return Ok(Answer::Skipped);
+        return Ok(CallResult::Skipped);
     }
     if let Err(why) = releases.reserve() {
         drop(version);
         return Err(Unread::from(why));
     }
     releases.push(version);
-    Ok(Answer::None)
+    Ok(CallResult::None)
 }
 
 /// Yanks a version, or takes its yank back.
-fn yank(releases: &mut Releases, row: &Value, is_yank: bool) -> Result<Answer, Unread> {
+fn yank(releases: &mut Releases, row: &Value, is_yank: bool) -> Result<CallResult, Unread> {
     let ordinal = whole_at(row, "k")?;
     if ordinal as usize >= releases.len() {
-        return Ok(Answer::Skipped);
+        return Ok(CallResult::Skipped);
     }
     if is_yank {
         releases.yank(ordinal);
     } else {
         releases.unyank(ordinal);
     }
-    Ok(Answer::None)
+    Ok(CallResult::None)
 }
 
-fn about(alloc: Global, releases: &Releases, name: &str, row: &Value) -> Result<Answer, Unread> {
+fn about(
+    alloc: Global,
+    releases: &Releases,
+    name: &str,
+    row: &Value,
+) -> Result<CallResult, Unread> {
     match name {
-        "len" => Ok(Answer::Number(releases.len())),
+        "len" => Ok(CallResult::Number(releases.len())),
         "list" => listed(alloc, releases.as_slice()),
         "find" => find(alloc, releases, row),
         "highest" | "highest_where" => highest(alloc, releases, name, row),
@@ -69,25 +74,35 @@ fn about(alloc: Global, releases: &Releases, name: &str, row: &Value) -> Result<
     }
 }
 
-fn find(alloc: Global, releases: &Releases, row: &Value) -> Result<Answer, Unread> {
+fn find(alloc: Global, releases: &Releases, row: &Value) -> Result<CallResult, Unread> {
     let version = at::<Published>(alloc, row, "version")?;
     let found = releases.find(&version);
     drop(version);
-    Ok(Answer::choice(found))
+    Ok(CallResult::choice(found))
 }
 
 /// The highest of a set, by the set itself or by a test of each ordinal.
-fn highest(alloc: Global, releases: &Releases, name: &str, row: &Value) -> Result<Answer, Unread> {
+fn highest(
+    alloc: Global,
+    releases: &Releases,
+    name: &str,
+    row: &Value,
+) -> Result<CallResult, Unread> {
     let set = at::<VSet>(alloc, row, "set")?;
     let highest = match name {
         "highest" => releases.highest(&set),
         _ => releases.highest_where(|ordinal| set.has(ordinal)),
     };
     drop(set);
-    Ok(Answer::choice(highest))
+    Ok(CallResult::choice(highest))
 }
 
-fn by_need(alloc: Global, releases: &Releases, name: &str, row: &Value) -> Result<Answer, Unread> {
+fn by_need(
+    alloc: Global,
+    releases: &Releases,
+    name: &str,
+    row: &Value,
+) -> Result<CallResult, Unread> {
     let need = at::<Need>(alloc, row, "need")?;
     let answer = match name {
         "named" => shown(alloc, &releases.named(&need)),
@@ -102,7 +117,7 @@ fn told_of(
     name: &str,
     row: &Value,
     found: Result<Matching<'_>, Unread>,
-) -> Result<Answer, Unread> {
+) -> Result<CallResult, Unread> {
     let found = found?;
     let answer = matching(alloc, name, row, &found);
     drop(found);
@@ -124,11 +139,11 @@ fn matching(
     name: &str,
     row: &Value,
     matching: &Matching<'_>,
-) -> Result<Answer, Unread> {
+) -> Result<CallResult, Unread> {
     match (name, whole_at(row, "below")) {
         ("matching" | "matching_at", _) => given_if(alloc, matching.set(alloc)),
         ("matching_has", Ok(below)) => given_if(alloc, those_below(alloc, matching, below)),
-        ("is_kept", _) => Ok(Answer::Bool(is_kept(matching))),
+        ("is_kept", _) => Ok(CallResult::Bool(is_kept(matching))),
         _ => Err(Unread::Row),
     }
 }
@@ -150,7 +165,7 @@ fn those_below(alloc: Global, matching: &Matching<'_>, below: u32) -> Result<Vec
 }
 
 /// The texts of the versions, each with whether it is yanked.
-fn listed(alloc: Global, releases: &[Release]) -> Result<Answer, Unread> {
+fn listed(alloc: Global, releases: &[Release]) -> Result<CallResult, Unread> {
     let mut is_first = true;
     let mut text = AnswerText::new(alloc);
     text.put("[");

@@ -1,7 +1,7 @@
 //! Calls of requests.
 
 use registry::{Registry, Request};
-use rows::{Answer, Unread, at, both, given_if, request_at, shown, whole_at};
+use rows::{CallResult, Unread, at, both, given_if, request_at, shown, whole_at};
 use serde_json::Value;
 use std::alloc::Global;
 use versions::{Name, Published};
@@ -11,7 +11,7 @@ pub fn request_call(
     registry: &Registry,
     name: &str,
     row: &Value,
-) -> Result<Answer, Unread> {
+) -> Result<CallResult, Unread> {
     let request = request_at(alloc, row)?;
     let answer = about(alloc, registry, name, row, &request);
     drop(request);
@@ -24,9 +24,9 @@ fn about(
     name: &str,
     row: &Value,
     request: &Request,
-) -> Result<Answer, Unread> {
+) -> Result<CallResult, Unread> {
     match name {
-        "new" => Ok(Answer::Word("made")),
+        "new" => Ok(CallResult::Word("made")),
         "needs" => shown(alloc, &request.needs()),
         "lock" => shown(alloc, &request.lock()),
         "need_on" => each_of(alloc, row, request, false),
@@ -39,7 +39,12 @@ fn about(
 }
 
 /// The requirement on each of the names, or the version that the lock names of it, or null.
-fn each_of(alloc: Global, row: &Value, request: &Request, locked: bool) -> Result<Answer, Unread> {
+fn each_of(
+    alloc: Global,
+    row: &Value,
+    request: &Request,
+    locked: bool,
+) -> Result<CallResult, Unread> {
     let names = at::<Vec<Name>>(alloc, row, "names")?;
     let texts = texts_of(alloc, request, &names, locked);
     drop(names);
@@ -65,7 +70,7 @@ fn of_version(
     row: &Value,
     request: &Request,
     locked: bool,
-) -> Result<Answer, Unread> {
+) -> Result<CallResult, Unread> {
     let named = both::<Name, Published>(alloc, row, "name", "version")?;
     let is_so = if locked {
         request.is_locked(&named.0, &named.1)
@@ -73,12 +78,12 @@ fn of_version(
         request.admits(&named.0, &named.1)
     };
     drop(named);
-    Ok(Answer::Bool(is_so))
+    Ok(CallResult::Bool(is_so))
 }
 
-fn allowed(registry: &Registry, row: &Value, request: &Request) -> Result<Answer, Unread> {
+fn allowed(registry: &Registry, row: &Value, request: &Request) -> Result<CallResult, Unread> {
     let pkg = whole_at(row, "pkg")?;
-    Ok(Answer::Bool(registry.allowed(request, pkg, whole_at(row, "k")?)))
+    Ok(CallResult::Bool(registry.allowed(request, pkg, whole_at(row, "k")?)))
 }
 
 fn text_of<'r>(request: &'r Request, name: &Name, locked: bool) -> Option<&'r str> {

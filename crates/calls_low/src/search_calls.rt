@@ -6,11 +6,11 @@ ghost use Rattle.derivations.specs.CausedIncompatibilities.{AreOrdered, EndsAt, 
 
 use derivations::{CausedIncompatibility, Derivation, Reason};
 use extraction::extract_derivation;
-use rows::{Answer, Unread, at, shown, size_at};
+use rows::{CallResult, Unread, at, shown, size_at};
 use serde_json::Value;
 use std::alloc::Global;
 
-pub fn search_call(alloc: Global, name: &str, row: &Value) -> Result<Answer, Unread> {
+pub fn search_call(alloc: Global, name: &str, row: &Value) -> Result<CallResult, Unread> {
     let place = size_at(row, "place")?;
     match name {
         "extract_derivation" => cut_at(alloc, row, place),
@@ -55,11 +55,11 @@ fn ends_at(known: &[CausedIncompatibility], place: usize) -> bool
     place < known.len() && is_empty_end(&known[place])
 }
 
-fn cut_at(alloc: Global, row: &Value, place: usize) -> Result<Answer, Unread> {
+fn cut_at(alloc: Global, row: &Value, place: usize) -> Result<CallResult, Unread> {
     let known = at::<Vec<CausedIncompatibility>>(alloc, row, "known")?;
     if !are_ordered(&known) || !ends_at(&known, place) {
         drop(known);
-        return Ok(Answer::Skipped);
+        return Ok(CallResult::Skipped);
     }
     let derivation = extract_derivation(alloc, known, place)?;
     let answer = cut_told(alloc, &derivation);
@@ -67,6 +67,6 @@ fn cut_at(alloc: Global, row: &Value, place: usize) -> Result<Answer, Unread> {
     answer
 }
 
-fn cut_told(alloc: Global, derivation: &Derivation) -> Result<Answer, Unread> {
+fn cut_told(alloc: Global, derivation: &Derivation) -> Result<CallResult, Unread> {
     shown(alloc, &derivation.lines())
 }

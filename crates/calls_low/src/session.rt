@@ -19,7 +19,7 @@ use crate::walk_calls::walk_call;
 use partial::Partial;
 use registry::Registry;
 use releases::Releases;
-use rows::{Answer, Unread, row_of, tell, text_at};
+use rows::{CallResult, Unread, row_of, tell, text_at};
 use serde_json::Value;
 use std::alloc::Global;
 use std::io::{self, Input, Print};
@@ -48,7 +48,7 @@ fn serve_session<R: Input + Print + AllocGlobal>(rt: &R, session: &mut Session) 
     Ok(())
 }
 
-fn answer_to(alloc: Global, session: &mut Session, line: &str) -> Result<Answer, Unread> {
+fn answer_to(alloc: Global, session: &mut Session, line: &str) -> Result<CallResult, Unread> {
     let row = row_of(alloc, line)?;
     let answer = session.call(alloc, &row);
     drop(row);
@@ -79,7 +79,7 @@ impl Session {
     }
 
     /// Makes the call that a row names.
-    fn call(&mut self, alloc: Global, row: &Value) -> Result<Answer, Unread> {
+    fn call(&mut self, alloc: Global, row: &Value) -> Result<CallResult, Unread> {
         let name = text_at(row, "call")?;
         match text_at(row, "of")? {
             "session" => anew(alloc, self),
@@ -95,9 +95,9 @@ impl Session {
     }
 }
 
-fn anew(alloc: Global, session: &mut Session) -> Result<Answer, Unread> {
+fn anew(alloc: Global, session: &mut Session) -> Result<CallResult, Unread> {
     put(session, Session::new(alloc));
-    Ok(Answer::None)
+    Ok(CallResult::None)
 }
 
 /// Drops the value that stands at a place, for another one.
@@ -111,7 +111,7 @@ fn call_for(
     of: &str,
     name: &str,
     row: &Value,
-) -> Result<Answer, Unread> {
+) -> Result<CallResult, Unread> {
     match of {
         "name" => name_call(alloc, name, row),
         "version" => version_call(alloc, name, row),
@@ -132,7 +132,7 @@ fn search_for(
     of: &str,
     name: &str,
     row: &Value,
-) -> Result<Answer, Unread> {
+) -> Result<CallResult, Unread> {
     match of {
         "derivation" => derivation_call(alloc, registry, name, row),
         "learnt" => learnt_call(alloc, registry, name, row),

@@ -5,12 +5,12 @@
 //! dropped by a call, since else its drop is written out at each way out, and where many calls are chosen from, what
 //! may be refused is handed on (`given_if`, `done`).
 
-use rows::{Answer, Given, Unread, at, given_if, shown, whole_at};
+use rows::{CallResult, Given, Unread, at, given_if, shown, whole_at};
 use serde_json::Value;
 use std::alloc::Global;
 use terms::VSet;
 
-pub fn set_call(alloc: Global, name: &str, row: &Value) -> Result<Answer, Unread> {
+pub fn set_call(alloc: Global, name: &str, row: &Value) -> Result<CallResult, Unread> {
     about(alloc, name, row, &set_of(alloc, row)?)
 }
 
@@ -22,11 +22,11 @@ fn set_of(alloc: Global, row: &Value) -> Result<VSet, Unread> {
     }
 }
 
-fn about(alloc: Global, name: &str, row: &Value, set: &VSet) -> Result<Answer, Unread> {
+fn about(alloc: Global, name: &str, row: &Value, set: &VSet) -> Result<CallResult, Unread> {
     match name {
         "of" | "single" => shown(alloc, set),
         "single_has" => has(set, row, "other"),
-        "len" => Ok(Answer::Number(set.len())),
+        "len" => Ok(CallResult::Number(set.len())),
         "ordinals" => given_if(alloc, set.ordinals(alloc)),
         "has" => has(set, row, "k"),
         "copy" => given_if(alloc, set.copy(alloc)),
@@ -36,36 +36,36 @@ fn about(alloc: Global, name: &str, row: &Value, set: &VSet) -> Result<Answer, U
     }
 }
 
-fn has(set: &VSet, row: &Value, member: &str) -> Result<Answer, Unread> {
-    Ok(Answer::Bool(set.has(whole_at(row, member)?)))
+fn has(set: &VSet, row: &Value, member: &str) -> Result<CallResult, Unread> {
+    Ok(CallResult::Bool(set.has(whole_at(row, member)?)))
 }
 
-fn highest(alloc: Global, set: &VSet, row: &Value) -> Result<Answer, Unread> {
+fn highest(alloc: Global, set: &VSet, row: &Value) -> Result<CallResult, Unread> {
     let ranked = at::<Vec<u32>>(alloc, row, "ranked")?;
     let highest = set.highest(&ranked);
     drop(ranked);
-    Ok(Answer::choice(highest))
+    Ok(CallResult::choice(highest))
 }
 
-fn about_both(alloc: Global, name: &str, row: &Value, first: &VSet) -> Result<Answer, Unread> {
+fn about_both(alloc: Global, name: &str, row: &Value, first: &VSet) -> Result<CallResult, Unread> {
     let second = at::<VSet>(alloc, row, "b")?;
     let answer = beside(name, first, &second);
     drop(second);
     Ok(answer)
 }
 
-fn beside(name: &str, first: &VSet, second: &VSet) -> Answer {
+fn beside(name: &str, first: &VSet, second: &VSet) -> CallResult {
     match name {
-        "is_subset" => Answer::Bool(first.is_subset(second)),
-        "is_same" => Answer::Bool(first.is_same(second)),
-        _ => Answer::BadRow,
+        "is_subset" => CallResult::Bool(first.is_subset(second)),
+        "is_same" => CallResult::Bool(first.is_same(second)),
+        _ => CallResult::BadRow,
     }
 }
 
 /// How many are in a set once `k` was put into a copy of it, and how many in the copy.
-fn copy_with(alloc: Global, set: &VSet, row: &Value) -> Result<Answer, Unread> {
+fn copy_with(alloc: Global, set: &VSet, row: &Value) -> Result<CallResult, Unread> {
     let ordinal = whole_at(row, "k")?;
     let mut copied = set.copy(alloc)?;
     copied.insert(ordinal)?;
-    Ok(Answer::Places(set.len(), copied.len()))
+    Ok(CallResult::Places(set.len(), copied.len()))
 }

@@ -3,7 +3,8 @@
 use derivations::Learnt;
 use registry::{Command, Registry};
 use rows::{
-    Answer, Unread, all_stand, command_of, count, done, enter, given_if, learnt_at, shown, whole_at,
+    CallResult, Unread, all_stand, command_of, count, done, enter, given_if, learnt_at, shown,
+    whole_at,
 };
 use serde_json::Value;
 use std::alloc::Global;
@@ -16,7 +17,7 @@ pub fn follow_call(
     store: &mut Store,
     name: &str,
     row: &Value,
-) -> Result<Answer, Unread> {
+) -> Result<CallResult, Unread> {
     match name {
         "publish" | "yank" | "unyank" => changed(alloc, registry, store, name, row),
         _ => store_call(alloc, registry, store, name, row),
@@ -29,7 +30,7 @@ fn changed(
     store: &mut Store,
     name: &str,
     row: &Value,
-) -> Result<Answer, Unread> {
+) -> Result<CallResult, Unread> {
     let command = command_of(alloc, name, row)?;
     let answer = followed(registry, store, &command);
     drop(command);
@@ -41,7 +42,7 @@ fn followed(
     registry: &mut Registry,
     store: &mut Store,
     command: &Command,
-) -> Result<Answer, Unread> {
+) -> Result<CallResult, Unread> {
     enter(registry, command)?;
     store.follow(registry, command);
     Ok(counted(registry, store))
@@ -53,7 +54,7 @@ fn store_call(
     store: &mut Store,
     name: &str,
     row: &Value,
-) -> Result<Answer, Unread> {
+) -> Result<CallResult, Unread> {
     match name {
         "reserve" => reserve(registry, store),
         "learn" => learn(alloc, registry, store, row),
@@ -62,7 +63,7 @@ fn store_call(
     }
 }
 
-fn reserve(registry: &Registry, store: &mut Store) -> Result<Answer, Unread> {
+fn reserve(registry: &Registry, store: &mut Store) -> Result<CallResult, Unread> {
     store.reserve()?;
     Ok(counted(registry, store))
 }
@@ -72,23 +73,23 @@ fn learn(
     registry: &Registry,
     store: &mut Store,
     row: &Value,
-) -> Result<Answer, Unread> {
+) -> Result<CallResult, Unread> {
     store.learn(registry, learnt_at(alloc, row)?)?;
     Ok(counted(registry, store))
 }
 
-fn published(registry: &Registry, store: &mut Store, row: &Value) -> Result<Answer, Unread> {
+fn published(registry: &Registry, store: &mut Store, row: &Value) -> Result<CallResult, Unread> {
     store.published(registry, whole_at(row, "package")?);
     Ok(counted(registry, store))
 }
 
 /// How many members there are. After every call that may change them each has to stand; where one
 /// doesn't, that is the answer.
-fn counted(registry: &Registry, store: &Store) -> Answer {
+fn counted(registry: &Registry, store: &Store) -> CallResult {
     if !all_stand(registry, store) {
-        return Answer::Word("a member does not stand");
+        return CallResult::Word("a member does not stand");
     }
-    Answer::Number(count(store))
+    CallResult::Number(count(store))
 }
 
 // ---- what is stored
@@ -99,16 +100,16 @@ fn about(
     store: &Store,
     name: &str,
     row: &Value,
-) -> Result<Answer, Unread> {
+) -> Result<CallResult, Unread> {
     match name {
         "members" => shown(alloc, store),
         "named" => found(alloc, store, row),
-        "stand" => Ok(Answer::Bool(all_stand(registry, store))),
+        "stand" => Ok(CallResult::Bool(all_stand(registry, store))),
         _ => of_row(alloc, registry, store, name, row),
     }
 }
 
-fn found(alloc: Global, store: &Store, row: &Value) -> Result<Answer, Unread> {
+fn found(alloc: Global, store: &Store, row: &Value) -> Result<CallResult, Unread> {
     let pkg = whole_at(row, "package")?;
     given_if(alloc, named(alloc, store, pkg))
 }
@@ -119,7 +120,7 @@ fn of_row(
     store: &Store,
     name: &str,
     row: &Value,
-) -> Result<Answer, Unread> {
+) -> Result<CallResult, Unread> {
     let learnt = learnt_at(alloc, row)?;
     let answer = of_learnt(registry, store, name, &learnt);
     drop(learnt);
@@ -132,10 +133,10 @@ fn of_learnt(
     store: &Store,
     name: &str,
     learnt: &Learnt,
-) -> Result<Answer, Unread> {
+) -> Result<CallResult, Unread> {
     match name {
         "check" => done(store.check(registry, learnt)),
-        "has" => Ok(Answer::Bool(store.has(learnt.conclusion()))),
+        "has" => Ok(CallResult::Bool(store.has(learnt.conclusion()))),
         _ => Err(Unread::Row),
     }
 }

@@ -1,18 +1,18 @@
 //! Calls of terms.
 
-use rows::{Answer, Unread, at, given, given_if, whole_at};
+use rows::{CallResult, Unread, at, given, given_if, whole_at};
 use serde_json::Value;
 use std::alloc::Global;
 use terms::{Relation, Term, VSet, relation};
 
-pub fn term_call(alloc: Global, name: &str, row: &Value) -> Result<Answer, Unread> {
+pub fn term_call(alloc: Global, name: &str, row: &Value) -> Result<CallResult, Unread> {
     let term = at::<Term>(alloc, row, "a")?;
     let answer = about(alloc, name, row, &term);
     drop(term);
     answer
 }
 
-fn about(alloc: Global, name: &str, row: &Value, term: &Term) -> Result<Answer, Unread> {
+fn about(alloc: Global, name: &str, row: &Value, term: &Term) -> Result<CallResult, Unread> {
     match name {
         "negate" => negate(alloc, term),
         "copy" => given_if(alloc, term.copy(alloc)),
@@ -22,34 +22,34 @@ fn about(alloc: Global, name: &str, row: &Value, term: &Term) -> Result<Answer, 
     }
 }
 
-fn negate(alloc: Global, term: &Term) -> Result<Answer, Unread> {
+fn negate(alloc: Global, term: &Term) -> Result<CallResult, Unread> {
     given(alloc, term.copy(alloc)?.negate())
 }
 
-fn allows(row: &Value, term: &Term) -> Result<Answer, Unread> {
-    Ok(Answer::Bool(term.allows(whole_at(row, "k")?)))
+fn allows(row: &Value, term: &Term) -> Result<CallResult, Unread> {
+    Ok(CallResult::Bool(term.allows(whole_at(row, "k")?)))
 }
 
-fn about_both(alloc: Global, name: &str, row: &Value, first: &Term) -> Result<Answer, Unread> {
+fn about_both(alloc: Global, name: &str, row: &Value, first: &Term) -> Result<CallResult, Unread> {
     let second = at::<Term>(alloc, row, "b")?;
     let answer = beside(alloc, name, first, &second);
     drop(second);
     answer
 }
 
-fn count_in(alloc: Global, row: &Value, term: &Term) -> Result<Answer, Unread> {
+fn count_in(alloc: Global, row: &Value, term: &Term) -> Result<CallResult, Unread> {
     let set = at::<VSet>(alloc, row, "set")?;
     let count = term.count_in(&set);
     drop(set);
-    Ok(Answer::Number(count))
+    Ok(CallResult::Number(count))
 }
 
-fn beside(alloc: Global, name: &str, first: &Term, second: &Term) -> Result<Answer, Unread> {
+fn beside(alloc: Global, name: &str, first: &Term, second: &Term) -> Result<CallResult, Unread> {
     match name {
         "and" => given_if(alloc, first.and(alloc, second)),
         "or" => given_if(alloc, first.or(alloc, second)),
-        "is_same" => Ok(Answer::Bool(first.is_same(second))),
-        "relation" => Ok(Answer::Word(word_of(relation(first, second)))),
+        "is_same" => Ok(CallResult::Bool(first.is_same(second))),
+        "relation" => Ok(CallResult::Word(word_of(relation(first, second)))),
         _ => Err(Unread::Row),
     }
 }

@@ -1,7 +1,7 @@
 //! Calls of names, versions and requirements, which are read from texts.
 
 use rows::{
-    Answer, AnswerText, Given, Shows, Unread, at, both, given, given_if, items, member, shown,
+    AnswerText, CallResult, Given, Shows, Unread, at, both, given, given_if, items, member, shown,
 };
 use serde_json::Value;
 use std::alloc::Global;
@@ -14,7 +14,7 @@ use versions::{Name, Need, Published, Refusal, order};
 fn copy_told<T: Shows + Drop + Send + Sync, E>(
     alloc: Global,
     copied: Result<T, E>,
-) -> Result<Answer, Unread>
+) -> Result<CallResult, Unread>
 where
     Unread: From<E>,
 {
@@ -45,11 +45,11 @@ fn put_all<T: Given + Eq + Hash + Drop>(
 }
 
 /// Whether such a set has a value that equals the one of the member `text`.
-fn is_in<T: Given + Eq + Hash + Drop>(alloc: Global, row: &Value) -> Result<Answer, Unread> {
+fn is_in<T: Given + Eq + Hash + Drop>(alloc: Global, row: &Value) -> Result<CallResult, Unread> {
     let set = set_of::<T>(alloc, row)?;
     let text = at::<T>(alloc, row, "text");
     let is_in = match &text {
-        Ok(text) => Ok(Answer::Bool(set.contains(text))),
+        Ok(text) => Ok(CallResult::Bool(set.contains(text))),
         Err(why) => Err(*why),
     };
     drop(set);
@@ -59,7 +59,7 @@ fn is_in<T: Given + Eq + Hash + Drop>(alloc: Global, row: &Value) -> Result<Answ
 
 // ---- names
 
-pub fn name_call(alloc: Global, name: &str, row: &Value) -> Result<Answer, Unread> {
+pub fn name_call(alloc: Global, name: &str, row: &Value) -> Result<CallResult, Unread> {
     match name {
         "read" => given_if(alloc, at::<Name>(alloc, row, "text")),
         "copy" => copy_name(alloc, row),
@@ -69,14 +69,14 @@ pub fn name_call(alloc: Global, name: &str, row: &Value) -> Result<Answer, Unrea
     }
 }
 
-fn copy_name(alloc: Global, row: &Value) -> Result<Answer, Unread> {
+fn copy_name(alloc: Global, row: &Value) -> Result<CallResult, Unread> {
     let name = at::<Name>(alloc, row, "text")?;
     let copied = name.copy();
     drop(name);
     copy_told(alloc, copied)
 }
 
-fn sort_names(alloc: Global, row: &Value) -> Result<Answer, Unread> {
+fn sort_names(alloc: Global, row: &Value) -> Result<CallResult, Unread> {
     let mut names = at::<Vec<Name>>(alloc, row, "texts")?;
     match names.sort() {
         Ok(()) => given(alloc, names),
@@ -89,7 +89,7 @@ fn sort_names(alloc: Global, row: &Value) -> Result<Answer, Unread> {
 
 // ---- versions
 
-pub fn version_call(alloc: Global, name: &str, row: &Value) -> Result<Answer, Unread> {
+pub fn version_call(alloc: Global, name: &str, row: &Value) -> Result<CallResult, Unread> {
     match name {
         "read" => given_if(alloc, at::<Published>(alloc, row, "text")),
         "copy" => copy_version(alloc, row),
@@ -98,7 +98,7 @@ pub fn version_call(alloc: Global, name: &str, row: &Value) -> Result<Answer, Un
     }
 }
 
-fn copy_version(alloc: Global, row: &Value) -> Result<Answer, Unread> {
+fn copy_version(alloc: Global, row: &Value) -> Result<CallResult, Unread> {
     let version = at::<Published>(alloc, row, "text")?;
     let copied = version.copy();
     drop(version);
@@ -106,14 +106,18 @@ fn copy_version(alloc: Global, row: &Value) -> Result<Answer, Unread> {
 }
 
 /// A sign for each of the others: how the version stands to it in precedence.
-fn orders(alloc: Global, row: &Value) -> Result<Answer, Unread> {
+fn orders(alloc: Global, row: &Value) -> Result<CallResult, Unread> {
     let versions = both::<Published, Vec<Published>>(alloc, row, "text", "others")?;
     let answer = signs_told(alloc, &versions.0, &versions.1);
     drop(versions);
     answer
 }
 
-fn signs_told(alloc: Global, version: &Published, others: &[Published]) -> Result<Answer, Unread> {
+fn signs_told(
+    alloc: Global,
+    version: &Published,
+    others: &[Published],
+) -> Result<CallResult, Unread> {
     let mut text = AnswerText::new(alloc);
     text.put("\"");
     for other in others {
@@ -133,7 +137,7 @@ fn sign_of(ordering: Ordering) -> &'static str {
 
 // ---- requirements
 
-pub fn need_call(alloc: Global, name: &str, row: &Value) -> Result<Answer, Unread> {
+pub fn need_call(alloc: Global, name: &str, row: &Value) -> Result<CallResult, Unread> {
     match name {
         "read" => given_if(alloc, at::<Need>(alloc, row, "text")),
         "copy" => copy_need(alloc, row),
@@ -146,34 +150,34 @@ pub fn need_call(alloc: Global, name: &str, row: &Value) -> Result<Answer, Unrea
     }
 }
 
-fn copy_need(alloc: Global, row: &Value) -> Result<Answer, Unread> {
+fn copy_need(alloc: Global, row: &Value) -> Result<CallResult, Unread> {
     let need = at::<Need>(alloc, row, "text")?;
     let copied = need.copy();
     drop(need);
     copy_told(alloc, copied)
 }
 
-fn distinct(alloc: Global, row: &Value) -> Result<Answer, Unread> {
+fn distinct(alloc: Global, row: &Value) -> Result<CallResult, Unread> {
     let set = set_of::<Need>(alloc, row)?;
     let count = set.len();
     drop(set);
-    Ok(Answer::Number(count))
+    Ok(CallResult::Number(count))
 }
 
-fn admits(alloc: Global, row: &Value) -> Result<Answer, Unread> {
+fn admits(alloc: Global, row: &Value) -> Result<CallResult, Unread> {
     let asked = both::<Need, Published>(alloc, row, "need", "version")?;
     let admits = asked.0.admits(&asked.1);
     drop(asked);
-    Ok(Answer::Bool(admits))
+    Ok(CallResult::Bool(admits))
 }
 
 /// As `admits`, of copies of both, once what they were made of is gone.
-fn copies_admit(alloc: Global, row: &Value) -> Result<Answer, Unread> {
+fn copies_admit(alloc: Global, row: &Value) -> Result<CallResult, Unread> {
     let asked = both::<Need, Published>(alloc, row, "need", "version")?;
     let copies = (asked.0.copy(), asked.1.copy());
     drop(asked);
     let admits = match &copies {
-        (Ok(need), Ok(version)) => Ok(Answer::Bool(need.admits(version))),
+        (Ok(need), Ok(version)) => Ok(CallResult::Bool(need.admits(version))),
         _ => Err(Unread::Refused(Refusal::NoMemory)),
     };
     drop(copies);
@@ -181,7 +185,7 @@ fn copies_admit(alloc: Global, row: &Value) -> Result<Answer, Unread> {
 }
 
 /// Whether two requirements are equal, and whether they are unequal.
-fn is_same(alloc: Global, row: &Value) -> Result<Answer, Unread> {
+fn is_same(alloc: Global, row: &Value) -> Result<CallResult, Unread> {
     let needs = both::<Need, Need>(alloc, row, "a", "b")?;
     let is_same = (needs.0 == needs.1, needs.0 != needs.1);
     drop(needs);

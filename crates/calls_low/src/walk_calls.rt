@@ -6,7 +6,7 @@ ghost use Rattle.std.specs.Prelude.{OnOk};
 ghost use Rattle.walk.specs.Listing.{IsOrder};
 
 use registry::{Pkg, Registry, Request};
-use rows::{Answer, AnswerText, Given, Shows, Unread, items, member, request_at, whole_at};
+use rows::{AnswerText, CallResult, Given, Shows, Unread, items, member, request_at, whole_at};
 use serde_json::Value;
 use std::alloc::Global;
 use std::collections::BTreeMap;
@@ -22,7 +22,7 @@ pub fn walk_call(
     registry: &Registry,
     name: &str,
     row: &Value,
-) -> Result<Answer, Unread> {
+) -> Result<CallResult, Unread> {
     let request = request_at(alloc, row)?;
     let answer = about(alloc, registry, name, row, &request);
     drop(request);
@@ -35,7 +35,7 @@ fn about(
     name: &str,
     row: &Value,
     request: &Request,
-) -> Result<Answer, Unread> {
+) -> Result<CallResult, Unread> {
     match name {
         "reach" => reach_chosen(alloc, registry, row, request),
         "reach_by_preferred" => walked(alloc, registry, request, &Preferred { registry, request }),
@@ -46,11 +46,11 @@ fn about(
         "is_plainly_newest" => plainly_newest(alloc, registry, row, request),
         "locked_ordinal" => {
             let pkg = whole_at(row, "pkg")?;
-            Ok(Answer::choice(locked_ordinal(registry, request, pkg)))
+            Ok(CallResult::choice(locked_ordinal(registry, request, pkg)))
         }
         "preferred_version" => {
             let pkg = whole_at(row, "pkg")?;
-            Ok(Answer::choice(preferred_version(registry, request, pkg)))
+            Ok(CallResult::choice(preferred_version(registry, request, pkg)))
         }
         _ => Err(Unread::Row),
     }
@@ -105,7 +105,7 @@ fn reach_chosen(
     registry: &Registry,
     row: &Value,
     request: &Request,
-) -> Result<Answer, Unread> {
+) -> Result<CallResult, Unread> {
     let choices = choices_at(alloc, row)?;
     let answer = walked(alloc, registry, request, &Chosen { choices: &choices });
     drop(choices);
@@ -120,7 +120,7 @@ fn walked<C: Chooser>(
     registry: &Registry,
     request: &Request,
     chooser: &C,
-) -> Result<Answer, Unread> {
+) -> Result<CallResult, Unread> {
     match reach(alloc, registry, request, chooser)? {
         Reached::Selection(mut list) => {
             sort_by_name(registry, &mut list);
@@ -135,7 +135,7 @@ fn reach_by_itself(
     alloc: Global,
     registry: &Registry,
     request: &Request,
-) -> Result<Answer, Unread> {
+) -> Result<CallResult, Unread> {
     match reach_preferred(alloc, registry, request)? {
         Reached::Selection(mut list) => {
             sort_by_name(registry, &mut list);
@@ -153,7 +153,7 @@ fn list_chosen(
     registry: &Registry,
     row: &Value,
     request: &Request,
-) -> Result<Answer, Unread> {
+) -> Result<CallResult, Unread> {
     let choices = choices_at(alloc, row)?;
     let listed = list_in_order(alloc, registry, request, &Chosen { choices: &choices });
     drop(choices);
@@ -168,7 +168,7 @@ fn go_on_chosen(
     registry: &Registry,
     row: &Value,
     request: &Request,
-) -> Result<Answer, Unread> {
+) -> Result<CallResult, Unread> {
     let mut order = Order::new(alloc);
     let next = gone_on_twice(alloc, registry, row, request, &mut order);
     drop(order);
@@ -218,7 +218,7 @@ fn listed_in_order(
     alloc: Global,
     registry: &Registry,
     listed: &WalkListing,
-) -> Result<Answer, Unread> {
+) -> Result<CallResult, Unread> {
     let mut is_first = true;
     let mut text = AnswerText::new(alloc);
     text.put("{\"found\":[");
@@ -237,7 +237,11 @@ fn listed_in_order(
 }
 
 /// The selection, or `{"selected":null}` where a search is needed.
-fn chosen_newest(alloc: Global, registry: &Registry, request: &Request) -> Result<Answer, Unread> {
+fn chosen_newest(
+    alloc: Global,
+    registry: &Registry,
+    request: &Request,
+) -> Result<CallResult, Unread> {
     match choose_newest(alloc, registry, request)? {
         Some(mut list) => {
             sort_by_name(registry, &mut list);
@@ -257,16 +261,16 @@ fn plainly_newest(
     registry: &Registry,
     row: &Value,
     request: &Request,
-) -> Result<Answer, Unread> {
+) -> Result<CallResult, Unread> {
     let mut selection = Vec::new(alloc);
     for item in items(member(row, "selection")?)? {
         selection.push(<(Pkg, u32)>::of(alloc, item)?)?;
     }
     let plain = is_plainly_newest(alloc, registry, request, &selection)?;
-    Ok(Answer::Bool(plain))
+    Ok(CallResult::Bool(plain))
 }
 
-fn selected(alloc: Global, registry: &Registry, list: &[(Pkg, u32)]) -> Result<Answer, Unread> {
+fn selected(alloc: Global, registry: &Registry, list: &[(Pkg, u32)]) -> Result<CallResult, Unread> {
     let mut is_first = true;
     let mut text = AnswerText::new(alloc);
     text.put("{\"selected\":[");
@@ -284,7 +288,7 @@ fn not_allowed(
     registry: &Registry,
     pkg: Pkg,
     ordinal: u32,
-) -> Result<Answer, Unread> {
+) -> Result<CallResult, Unread> {
     let mut text = AnswerText::new(alloc);
     text.put("{\"not_allowed\":");
     version_of(registry, pkg, ordinal).show(&mut text);
@@ -298,10 +302,10 @@ fn unmet(
     request: &Request,
     asker: Asker,
     index: usize,
-) -> Result<Answer, Unread> {
+) -> Result<CallResult, Unread> {
     match asker.needs(registry, request).get(index) {
         Some(need) => asked(alloc, registry, asker, need),
-        None => Ok(Answer::Word("nothing")),
+        None => Ok(CallResult::Word("nothing")),
     }
 }
 
@@ -310,7 +314,7 @@ fn asked(
     registry: &Registry,
     asker: Asker,
     need: &(Name, Need),
-) -> Result<Answer, Unread> {
+) -> Result<CallResult, Unread> {
     let mut text = AnswerText::new(alloc);
     text.put("{\"asks\":");
     put_asker(&mut text, registry, asker);

@@ -5,7 +5,7 @@ use by_name::{NamedDerivation, derived_packages_have_names, named, numbered};
 use derivations::{Derivation, check};
 use registry::{Registry, Request};
 use replies::Explained;
-use rows::{Answer, Unread, shown};
+use rows::{CallResult, Unread, shown};
 use serde_json::Value;
 use std::alloc::Global;
 
@@ -14,7 +14,7 @@ pub fn by_name_call(
     registry: &Registry,
     name: &str,
     row: &Value,
-) -> Result<Answer, Unread> {
+) -> Result<CallResult, Unread> {
     match name {
         "numbered" => stands(alloc, registry, row),
         "named" => named_again(alloc, registry, row),
@@ -23,11 +23,11 @@ pub fn by_name_call(
 }
 
 /// Whether the names stand for a derivation.
-fn stands(alloc: Global, registry: &Registry, row: &Value) -> Result<Answer, Unread> {
+fn stands(alloc: Global, registry: &Registry, row: &Value) -> Result<CallResult, Unread> {
     let derivation = derivation_at(alloc, row)?;
     let stands = is_numbered(alloc, registry, &derivation);
     drop(derivation);
-    Ok(Answer::Bool(stands?))
+    Ok(CallResult::Bool(stands?))
 }
 
 fn is_numbered(
@@ -42,7 +42,7 @@ fn is_numbered(
 }
 
 /// A derivation that follows, numbered and named again: whether it then stands for one, and its JSON.
-fn named_again(alloc: Global, registry: &Registry, row: &Value) -> Result<Answer, Unread> {
+fn named_again(alloc: Global, registry: &Registry, row: &Value) -> Result<CallResult, Unread> {
     let asked = check_at(alloc, row)?;
     let answer = match numbered(alloc, registry, &asked.1) {
         Ok(Some(derivation)) => {
@@ -50,7 +50,7 @@ fn named_again(alloc: Global, registry: &Registry, row: &Value) -> Result<Answer
             drop(derivation);
             answer
         }
-        Ok(None) => Ok(Answer::None),
+        Ok(None) => Ok(CallResult::None),
         Err(why) => Err(Unread::from(why)),
     };
     drop(asked);
@@ -62,9 +62,9 @@ fn named_if_follows(
     registry: &Registry,
     request: &Request,
     derivation: &Derivation,
-) -> Result<Answer, Unread> {
+) -> Result<CallResult, Unread> {
     if !check(alloc, registry, request, derivation)? {
-        return Ok(Answer::Skipped);
+        return Ok(CallResult::Skipped);
     }
     derivation.conclusions_are_lawful();
     derived_packages_have_names();
@@ -76,7 +76,7 @@ fn again_told(
     alloc: Global,
     registry: &Registry,
     named: NamedDerivation,
-) -> Result<Answer, Unread> {
+) -> Result<CallResult, Unread> {
     let stands = is_numbered(alloc, registry, &named);
     let explained = Explained::new(alloc, named, Vec::new(alloc))?;
     let answer = match stands {

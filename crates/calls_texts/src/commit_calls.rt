@@ -2,13 +2,13 @@
 
 use crate::texts::{end_of, text_of};
 use commits::{Devices, append_synced, commit};
-use rows::{Answer, AnswerText, Unread, text_at, whole};
+use rows::{AnswerText, CallResult, Unread, text_at, whole};
 use serde_json::Value;
 use std::alloc::Global;
 use std::io;
 use std::io::ErrorKind;
 
-pub fn commit_call(alloc: Global, name: &str, row: &Value) -> Result<Answer, Unread> {
+pub fn commit_call(alloc: Global, name: &str, row: &Value) -> Result<CallResult, Unread> {
     let lines = text_at(row, "lines")?.as_bytes();
     let mut devices = Recording::new(alloc, row)?;
     let outcome = match name {
@@ -82,7 +82,7 @@ impl Recording {
         Ok(Vec::from_slice(self.alloc, &bytes[..size])?)
     }
 
-    fn told(&self, alloc: Global, outcome: &io::Result<()>) -> Result<Answer, Unread> {
+    fn told(&self, alloc: Global, outcome: &io::Result<()>) -> Result<CallResult, Unread> {
         let end = end_of(outcome)?;
         let mut text = AnswerText::new(alloc);
         text.put("{\"end\":");

@@ -3,11 +3,11 @@
 use crate::fakes::Narrow;
 use crate::texts::{text_of, told, written};
 use endings::{End, Failure, What, ending, shown, write_ending};
-use rows::{Answer, AnswerText, Unread, size_at, text_at};
+use rows::{AnswerText, CallResult, Unread, size_at, text_at};
 use serde_json::Value;
 use std::alloc::Global;
 
-pub fn endings_call(alloc: Global, name: &str, row: &Value) -> Result<Answer, Unread> {
+pub fn endings_call(alloc: Global, name: &str, row: &Value) -> Result<CallResult, Unread> {
     match name {
         "ending" | "write_ending" => ended(alloc, name, row),
         "shown" => shown_told(alloc, row),
@@ -16,7 +16,7 @@ pub fn endings_call(alloc: Global, name: &str, row: &Value) -> Result<Answer, Un
 }
 
 /// The program ends as the row says.
-fn ended(alloc: Global, name: &str, row: &Value) -> Result<Answer, Unread> {
+fn ended(alloc: Global, name: &str, row: &Value) -> Result<CallResult, Unread> {
     let end = end_at(alloc, row)?;
     let answer = match Narrow::new(alloc, row) {
         Ok(mut writer) => {
@@ -61,7 +61,12 @@ fn what_at(row: &Value) -> Result<What, Unread> {
     }
 }
 
-fn end_told(alloc: Global, name: &str, end: &End, writer: &mut Narrow) -> Result<Answer, Unread> {
+fn end_told(
+    alloc: Global,
+    name: &str,
+    end: &End,
+    writer: &mut Narrow,
+) -> Result<CallResult, Unread> {
     match name {
         "ending" => {
             let status = ending(end, writer);
@@ -75,7 +80,7 @@ fn end_told(alloc: Global, name: &str, end: &End, writer: &mut Narrow) -> Result
 }
 
 /// The exit status, and what a writer took.
-fn status_told(alloc: Global, status: u8, writer: &Narrow) -> Result<Answer, Unread> {
+fn status_told(alloc: Global, status: u8, writer: &Narrow) -> Result<CallResult, Unread> {
     let taken = text_of(writer.text())?;
     let mut text = AnswerText::new(alloc);
     text.put("{\"status\":");
@@ -86,7 +91,7 @@ fn status_told(alloc: Global, status: u8, writer: &Narrow) -> Result<Answer, Unr
     text.answer()
 }
 
-fn shown_told(alloc: Global, row: &Value) -> Result<Answer, Unread> {
+fn shown_told(alloc: Global, row: &Value) -> Result<CallResult, Unread> {
     let text = shown(alloc, text_at(row, "text")?)?;
     let answer = told(alloc, text.as_slice());
     drop(text);

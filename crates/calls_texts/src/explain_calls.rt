@@ -5,7 +5,7 @@ use crate::texts::written;
 use derivations::Derivation;
 use explain::{explanation, write_lines};
 use registry::{Registry, Request};
-use rows::{Answer, Unread, at, given_if, request_at};
+use rows::{CallResult, Unread, at, given_if, request_at};
 use serde_json::Value;
 use std::alloc::Global;
 
@@ -14,7 +14,7 @@ pub fn explain_call(
     registry: &Registry,
     name: &str,
     row: &Value,
-) -> Result<Answer, Unread> {
+) -> Result<CallResult, Unread> {
     let request = request_at(alloc, row)?;
     let answer = with_request(alloc, registry, name, row, &request);
     drop(request);
@@ -27,7 +27,7 @@ fn with_request(
     name: &str,
     row: &Value,
     request: &Request,
-) -> Result<Answer, Unread> {
+) -> Result<CallResult, Unread> {
     let derivation = Derivation::new(at(alloc, row, "lines")?);
     let answer = match name {
         "explanation" => given_if(alloc, explanation(alloc, registry, request, &derivation)),
@@ -44,7 +44,7 @@ fn lines_written(
     row: &Value,
     request: &Request,
     derivation: &Derivation,
-) -> Result<Answer, Unread> {
+) -> Result<CallResult, Unread> {
     let mut writer = Narrow::new(alloc, row)?;
     let outcome = write_lines(alloc, registry, request, derivation, &mut writer);
     let answer = written(alloc, &writer, &outcome);

@@ -9,13 +9,13 @@ use journals::{
 };
 use lines::Outbox;
 use registry::Registry;
-use rows::{Answer, AnswerText, Unread, at, member, shown, whole};
+use rows::{AnswerText, CallResult, Unread, at, member, shown, whole};
 use serde_json::Value;
 use std::alloc::Global;
 use std::io;
 use versions::Refusal;
 
-pub fn journal_call(alloc: Global, name: &str, row: &Value) -> Result<Answer, Unread> {
+pub fn journal_call(alloc: Global, name: &str, row: &Value) -> Result<CallResult, Unread> {
     match name {
         "load_journal" | "save_journal" | "item_lines" => loaded(alloc, name, row),
         "load_book" => booked(alloc, row),
@@ -35,7 +35,7 @@ fn lent<'i>(alloc: Global, items: &'i [Item]) -> Result<Vec<&'i Item>, Unread> {
 
 /// A reader gives the text of a row. Of items that are loaded it is told how many were learnt, and the file of the
 /// commands alone; or they are saved again, once they were replayed.
-fn loaded(alloc: Global, name: &str, row: &Value) -> Result<Answer, Unread> {
+fn loaded(alloc: Global, name: &str, row: &Value) -> Result<CallResult, Unread> {
     let text = at::<Bytes>(alloc, row, "text")?;
     let answer = match Pieces::new(row, text.as_slice(), &[]) {
         Ok(mut reader) => loaded_of(alloc, name, row, &mut reader),
@@ -50,7 +50,7 @@ fn loaded_of(
     name: &str,
     row: &Value,
     reader: &mut Pieces<'_>,
-) -> Result<Answer, Unread> {
+) -> Result<CallResult, Unread> {
     match load_journal(alloc, reader) {
         Ok(items) => {
             let answer = items_told(alloc, name, row, &items);
@@ -62,7 +62,7 @@ fn loaded_of(
 }
 
 /// What is stored once the text of a row was loaded.
-fn booked(alloc: Global, row: &Value) -> Result<Answer, Unread> {
+fn booked(alloc: Global, row: &Value) -> Result<CallResult, Unread> {
     let text = at::<Bytes>(alloc, row, "text")?;
     let answer = match Pieces::new(row, text.as_slice(), &[]) {
         Ok(mut reader) => booked_of(alloc, &mut reader),
@@ -72,7 +72,7 @@ fn booked(alloc: Global, row: &Value) -> Result<Answer, Unread> {
     answer
 }
 
-fn booked_of(alloc: Global, reader: &mut Pieces<'_>) -> Result<Answer, Unread> {
+fn booked_of(alloc: Global, reader: &mut Pieces<'_>) -> Result<CallResult, Unread> {
     match load_book(alloc, reader) {
         Ok((replica, items)) => {
             drop(items);
@@ -84,15 +84,15 @@ fn booked_of(alloc: Global, reader: &mut Pieces<'_>) -> Result<Answer, Unread> {
     }
 }
 
-fn fault_told(alloc: Global, fault: LoadFault) -> Result<Answer, Unread> {
+fn fault_told(alloc: Global, fault: LoadFault) -> Result<CallResult, Unread> {
     match fault {
         LoadFault::Line(line) => line_told(alloc, line),
         LoadFault::Memory => Err(Unread::Refused(Refusal::NoMemory)),
-        LoadFault::Input => Ok(Answer::Word("input")),
+        LoadFault::Input => Ok(CallResult::Word("input")),
     }
 }
 
-fn line_told(alloc: Global, line: usize) -> Result<Answer, Unread> {
+fn line_told(alloc: Global, line: usize) -> Result<CallResult, Unread> {
     let mut text = AnswerText::new(alloc);
     text.put("{\"line\":");
     text.put_plain(line);
@@ -100,7 +100,12 @@ fn line_told(alloc: Global, line: usize) -> Result<Answer, Unread> {
     text.answer()
 }
 
-fn items_told(alloc: Global, name: &str, row: &Value, items: &[Item]) -> Result<Answer, Unread> {
+fn items_told(
+    alloc: Global,
+    name: &str,
+    row: &Value,
+    items: &[Item],
+) -> Result<CallResult, Unread> {
     let mut replica = Replica::new(alloc);
     let answer = replayed_told(alloc, name, row, items, &mut replica);
     drop(replica);
@@ -113,7 +118,7 @@ fn replayed_told(
     row: &Value,
     items: &[Item],
     replica: &mut Replica,
-) -> Result<Answer, Unread> {
+) -> Result<CallResult, Unread> {
     replay_all(replica, items)?;
     match name {
         "save_journal" => items_saved(alloc, row, replica.registry(), items),
@@ -137,11 +142,11 @@ fn items_saved(
     row: &Value,
     registry: &Registry,
     items: &[Item],
-) -> Result<Answer, Unread> {
+) -> Result<CallResult, Unread> {
     let lent = lent(alloc, items)?;
     if !all_have_names(registry, &lent) {
         drop(lent);
-        return Ok(Answer::Skipped);
+        return Ok(CallResult::Skipped);
     }
     let mut writer = match Narrow::new(alloc, row) {
         Ok(writer) => writer,
@@ -157,11 +162,11 @@ fn items_saved(
     answer
 }
 
-fn saved_again(alloc: Global, registry: &Registry, items: &[Item]) -> Result<Answer, Unread> {
+fn saved_again(alloc: Global, registry: &Registry, items: &[Item]) -> Result<CallResult, Unread> {
     let commands = commands_of(alloc, items)?;
     if !all_have_names(registry, &commands) {
         drop(commands);
-        return Ok(Answer::Skipped);
+        return Ok(CallResult::Skipped);
     }
     let learnt = items.len().saturating_sub(commands.len());
     let mut text = Vec::new(alloc);
@@ -175,7 +180,7 @@ fn saved_again(alloc: Global, registry: &Registry, items: &[Item]) -> Result<Ans
     answer
 }
 
-fn saved_told(alloc: Global, learnt: usize, saved: &[u8]) -> Result<Answer, Unread> {
+fn saved_told(alloc: Global, learnt: usize, saved: &[u8]) -> Result<CallResult, Unread> {
     let saved = text_of(saved)?;
     let mut text = AnswerText::new(alloc);
     text.put("{\"learnt\":");
@@ -200,7 +205,7 @@ fn commands_of<'i>(alloc: Global, items: &'i [Item]) -> Result<Vec<&'i Item>, Un
 
 /// A reader gives the text of a row. Of what stands in it the format is told, how many items it has, and how many bytes behind
 /// them.
-fn recovered(alloc: Global, row: &Value) -> Result<Answer, Unread> {
+fn recovered(alloc: Global, row: &Value) -> Result<CallResult, Unread> {
     let text = at::<Bytes>(alloc, row, "text")?;
     let answer = match Pieces::new(row, text.as_slice(), &[]) {
         Ok(mut reader) => match recover(alloc, &mut reader) {
@@ -213,7 +218,7 @@ fn recovered(alloc: Global, row: &Value) -> Result<Answer, Unread> {
     answer
 }
 
-fn found_told(alloc: Global, found: Recovered) -> Result<Answer, Unread> {
+fn found_told(alloc: Global, found: Recovered) -> Result<CallResult, Unread> {
     let Recovered {
         format,
         replica,
@@ -244,7 +249,7 @@ fn whole_at(row: &Value, name: &str) -> Result<usize, Unread> {
     Ok(whole(member(row, name)?)? as usize)
 }
 
-fn ended(alloc: Global, count: usize) -> Result<Answer, Unread> {
+fn ended(alloc: Global, count: usize) -> Result<CallResult, Unread> {
     let mut outbox = Outbox::new(alloc)?;
     let answer = match end_text(alloc, &mut outbox, count) {
         Ok(text) => {
@@ -258,15 +263,15 @@ fn ended(alloc: Global, count: usize) -> Result<Answer, Unread> {
     answer
 }
 
-fn failed(error: &io::Error) -> Result<Answer, Unread> {
-    Ok(Answer::Word(failure(error.kind())?))
+fn failed(error: &io::Error) -> Result<CallResult, Unread> {
+    Ok(CallResult::Word(failure(error.kind())?))
 }
 
-fn lines_told(alloc: Global, registry: &Registry, items: &[Item]) -> Result<Answer, Unread> {
+fn lines_told(alloc: Global, registry: &Registry, items: &[Item]) -> Result<CallResult, Unread> {
     let lent = lent(alloc, items)?;
     if !all_have_names(registry, &lent) {
         drop(lent);
-        return Ok(Answer::Skipped);
+        return Ok(CallResult::Skipped);
     }
     let mut outbox = match Outbox::new(alloc) {
         Ok(outbox) => outbox,
@@ -288,7 +293,7 @@ fn lines_told(alloc: Global, registry: &Registry, items: &[Item]) -> Result<Answ
     answer
 }
 
-fn counted_told(alloc: Global, lines: &[u8], count: usize) -> Result<Answer, Unread> {
+fn counted_told(alloc: Global, lines: &[u8], count: usize) -> Result<CallResult, Unread> {
     let lines = text_of(lines)?;
     let mut text = AnswerText::new(alloc);
     text.put("{\"count\":");

@@ -3,14 +3,14 @@
 use crate::fakes::{Narrow, Pieces};
 use crate::texts::{Bytes, both_told, end_of, failure, told};
 use lines::{LineBuffer, Next, Outbox, count_lines, first_line, write_text, write_texts};
-use rows::{Answer, AnswerText, Given, Unread, at, both, given, items, member, text, text_at};
+use rows::{AnswerText, CallResult, Given, Unread, at, both, given, items, member, text, text_at};
 use serde_json::Value;
 use std::alloc::Global;
 use std::io;
 use std::io::ErrorKind;
 use versions::Refusal;
 
-pub fn lines_call(alloc: Global, name: &str, row: &Value) -> Result<Answer, Unread> {
+pub fn lines_call(alloc: Global, name: &str, row: &Value) -> Result<CallResult, Unread> {
     match name {
         "first_line" => first(alloc, row),
         "count_lines" => counted(row),
@@ -22,14 +22,14 @@ pub fn lines_call(alloc: Global, name: &str, row: &Value) -> Result<Answer, Unre
 
 // ---- bytes that are all there
 
-fn counted(row: &Value) -> Result<Answer, Unread> {
-    Ok(Answer::Number(count_lines(text_at(row, "text")?.as_bytes())))
+fn counted(row: &Value) -> Result<CallResult, Unread> {
+    Ok(CallResult::Number(count_lines(text_at(row, "text")?.as_bytes())))
 }
 
-fn first(alloc: Global, row: &Value) -> Result<Answer, Unread> {
+fn first(alloc: Global, row: &Value) -> Result<CallResult, Unread> {
     match first_line(text_at(row, "text")?.as_bytes()) {
         Some((line, behind)) => both_told(alloc, line, behind),
-        None => Ok(Answer::None),
+        None => Ok(CallResult::None),
     }
 }
 
@@ -37,7 +37,7 @@ fn first(alloc: Global, row: &Value) -> Result<Answer, Unread> {
 
 /// A reader gives the text of a row, and `then` once it is renewed. The steps are taken in turn; each one's answer is
 /// told: a line as its text, `null` where none has ended, and of a read whether anything came.
-fn read(alloc: Global, row: &Value) -> Result<Answer, Unread> {
+fn read(alloc: Global, row: &Value) -> Result<CallResult, Unread> {
     let texts = both::<Bytes, Bytes>(alloc, row, "text", "then")?;
     let answer = match Pieces::new(row, texts.0.as_slice(), texts.1.as_slice()) {
         Ok(mut reader) => taken(alloc, row, &mut reader),
@@ -47,7 +47,7 @@ fn read(alloc: Global, row: &Value) -> Result<Answer, Unread> {
     answer
 }
 
-fn taken(alloc: Global, row: &Value, reader: &mut Pieces<'_>) -> Result<Answer, Unread> {
+fn taken(alloc: Global, row: &Value, reader: &mut Pieces<'_>) -> Result<CallResult, Unread> {
     let steps = items(member(row, "steps")?)?;
     let mut lines = LineBuffer::new(alloc)?;
     let mut answers = Vec::new(alloc);
@@ -59,8 +59,8 @@ fn taken(alloc: Global, row: &Value, reader: &mut Pieces<'_>) -> Result<Answer, 
 fn all_told(
     alloc: Global,
     outcome: Result<(), Unread>,
-    answers: Vec<Answer>,
-) -> Result<Answer, Unread> {
+    answers: Vec<CallResult>,
+) -> Result<CallResult, Unread> {
     match outcome {
         Ok(()) => given(alloc, answers),
         Err(why) => {
@@ -75,7 +75,7 @@ fn take_all(
     steps: &[Value],
     reader: &mut Pieces<'_>,
     lines: &mut LineBuffer,
-    answers: &mut Vec<Answer>,
+    answers: &mut Vec<CallResult>,
 ) -> Result<(), Unread> {
     for step in steps {
         answers.push(take(alloc, text(step)?, reader, lines)?)?;
@@ -88,7 +88,7 @@ fn take(
     step: &str,
     reader: &mut Pieces<'_>,
     lines: &mut LineBuffer,
-) -> Result<Answer, Unread> {
+) -> Result<CallResult, Unread> {
     match step {
         "next" => {
             let found = lines.next();
@@ -100,20 +100,20 @@ fn take(
         }
         "read" => read_on(alloc, reader, lines),
         "rest" => rest(alloc, reader, lines),
-        "left" => Ok(Answer::Number(reader.left())),
+        "left" => Ok(CallResult::Number(reader.left())),
         "renew" => {
             reader.renew();
-            Ok(Answer::None)
+            Ok(CallResult::None)
         }
         _ => Err(Unread::Row),
     }
 }
 
-fn found_told(alloc: Global, lines: &LineBuffer, found: Next) -> Result<Answer, Unread> {
+fn found_told(alloc: Global, lines: &LineBuffer, found: Next) -> Result<CallResult, Unread> {
     match found {
         Next::Line => told(alloc, lines.line()),
-        Next::TooLong => Ok(Answer::Refused(Refusal::TooLong)),
-        Next::More => Ok(Answer::None),
+        Next::TooLong => Ok(CallResult::Refused(Refusal::TooLong)),
+        Next::More => Ok(CallResult::None),
     }
 }
 
@@ -122,13 +122,13 @@ fn read_on(
     alloc: Global,
     reader: &mut Pieces<'_>,
     lines: &mut LineBuffer,
-) -> Result<Answer, Unread> {
+) -> Result<CallResult, Unread> {
     let found = lines.next();
     if found != Next::More {
         return found_told(alloc, lines, found);
     }
     match lines.read_more(reader) {
-        Ok(came) => Ok(Answer::Bool(came)),
+        Ok(came) => Ok(CallResult::Bool(came)),
         Err(error) => {
             let kind = error.kind();
             drop(error);
@@ -137,7 +137,7 @@ fn read_on(
     }
 }
 
-fn failed(alloc: Global, kind: ErrorKind) -> Result<Answer, Unread> {
+fn failed(alloc: Global, kind: ErrorKind) -> Result<CallResult, Unread> {
     let word = failure(kind)?;
     let mut text = AnswerText::new(alloc);
     text.put("{\"failed\":");
@@ -147,7 +147,11 @@ fn failed(alloc: Global, kind: ErrorKind) -> Result<Answer, Unread> {
 }
 
 /// All lines up to the reader's end.
-fn rest(alloc: Global, reader: &mut Pieces<'_>, lines: &mut LineBuffer) -> Result<Answer, Unread> {
+fn rest(
+    alloc: Global,
+    reader: &mut Pieces<'_>,
+    lines: &mut LineBuffer,
+) -> Result<CallResult, Unread> {
     let mut found = Vec::new(alloc);
     let outcome = put_rest(alloc, reader, lines, &mut found);
     all_told(alloc, outcome, found)
@@ -157,7 +161,7 @@ fn put_rest(
     alloc: Global,
     reader: &mut Pieces<'_>,
     lines: &mut LineBuffer,
-    all: &mut Vec<Answer>,
+    all: &mut Vec<CallResult>,
 ) -> Result<(), Unread> {
     for _ in 0..u64::MAX {
         let found = lines.next();
@@ -174,7 +178,7 @@ fn put_found(
     alloc: Global,
     lines: &LineBuffer,
     found: Next,
-    all: &mut Vec<Answer>,
+    all: &mut Vec<CallResult>,
 ) -> Result<(), Unread> {
     Ok(all.push(found_told(alloc, lines, found)?)?)
 }
@@ -191,7 +195,11 @@ fn came(lines: &mut LineBuffer, reader: &mut Pieces<'_>) -> Result<bool, Unread>
     }
 }
 
-fn put_last(alloc: Global, lines: &mut LineBuffer, all: &mut Vec<Answer>) -> Result<(), Unread> {
+fn put_last(
+    alloc: Global,
+    lines: &mut LineBuffer,
+    all: &mut Vec<CallResult>,
+) -> Result<(), Unread> {
     let found = lines.last();
     if found == Next::More {
         return Ok(());
@@ -202,7 +210,7 @@ fn put_last(alloc: Global, lines: &mut LineBuffer, all: &mut Vec<Answer>) -> Res
 // ---- texts that are written
 
 /// The steps are taken in turn over one writer and one outbox; each one's answer is told.
-fn write(alloc: Global, row: &Value) -> Result<Answer, Unread> {
+fn write(alloc: Global, row: &Value) -> Result<CallResult, Unread> {
     let steps = items(member(row, "steps")?)?;
     let mut writer = Narrow::new(alloc, row)?;
     let answer = put_steps(alloc, steps, &mut writer);
@@ -210,7 +218,7 @@ fn write(alloc: Global, row: &Value) -> Result<Answer, Unread> {
     answer
 }
 
-fn put_steps(alloc: Global, steps: &[Value], writer: &mut Narrow) -> Result<Answer, Unread> {
+fn put_steps(alloc: Global, steps: &[Value], writer: &mut Narrow) -> Result<CallResult, Unread> {
     let mut outbox = Outbox::new(alloc)?;
     let mut answers = Vec::new(alloc);
     let outcome = put_all_steps(alloc, steps, writer, &mut outbox, &mut answers);
@@ -223,7 +231,7 @@ fn put_all_steps(
     steps: &[Value],
     writer: &mut Narrow,
     outbox: &mut Outbox,
-    answers: &mut Vec<Answer>,
+    answers: &mut Vec<CallResult>,
 ) -> Result<(), Unread> {
     for step in steps {
         answers.push(put_step(alloc, items(step)?, writer, outbox)?)?;
@@ -236,7 +244,7 @@ fn put_step(
     step: &[Value],
     writer: &mut Narrow,
     outbox: &mut Outbox,
-) -> Result<Answer, Unread> {
+) -> Result<CallResult, Unread> {
     match step {
         [name] => plain_step(alloc, text(name)?, writer, outbox),
         [name, given] => text_step(alloc, text(name)?, given, writer, outbox),
@@ -249,21 +257,21 @@ fn plain_step(
     name: &str,
     writer: &mut Narrow,
     outbox: &mut Outbox,
-) -> Result<Answer, Unread> {
+) -> Result<CallResult, Unread> {
     match name {
         "send" => ended(&outbox.send(writer)),
         "written" => told(alloc, writer.text()),
-        "flushed" => Ok(Answer::Number(writer.flushed())),
+        "flushed" => Ok(CallResult::Number(writer.flushed())),
         "mend" => {
             writer.mend();
-            Ok(Answer::None)
+            Ok(CallResult::None)
         }
         _ => Err(Unread::Row),
     }
 }
 
-fn ended(outcome: &io::Result<()>) -> Result<Answer, Unread> {
-    Ok(Answer::Word(end_of(outcome)?))
+fn ended(outcome: &io::Result<()>) -> Result<CallResult, Unread> {
+    Ok(CallResult::Word(end_of(outcome)?))
 }
 
 fn text_step(
@@ -272,7 +280,7 @@ fn text_step(
     given: &Value,
     writer: &mut Narrow,
     outbox: &mut Outbox,
-) -> Result<Answer, Unread> {
+) -> Result<CallResult, Unread> {
     match name {
         "put" | "write_text" => {
             let text = Bytes::of(alloc, given)?;
@@ -295,7 +303,7 @@ fn put_text(
     text: &[u8],
     writer: &mut Narrow,
     outbox: &mut Outbox,
-) -> Result<Answer, Unread> {
+) -> Result<CallResult, Unread> {
     match name {
         "put" => ended(&outbox.put(writer, text)),
         _ => ended(&write_text(writer, text)),
@@ -309,7 +317,7 @@ fn put_texts(
     texts: &[Bytes],
     writer: &mut Narrow,
     outbox: &mut Outbox,
-) -> Result<Answer, Unread> {
+) -> Result<CallResult, Unread> {
     let lent = lent(alloc, texts)?;
     let answer = put_lent(name, &lent, writer, outbox);
     drop(lent);
@@ -321,7 +329,7 @@ fn put_lent(
     texts: &[&[u8]],
     writer: &mut Narrow,
     outbox: &mut Outbox,
-) -> Result<Answer, Unread> {
+) -> Result<CallResult, Unread> {
     match name {
         "put_all" => ended(&outbox.put_all(writer, texts)),
         "write_texts" => ended(&write_texts(writer, texts)),

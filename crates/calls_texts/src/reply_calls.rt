@@ -6,7 +6,7 @@ use crate::wire_calls::derivation_at;
 use lines::Outbox;
 use registry::Registry;
 use replies::{Body, Explained, Listing, Reply, SeatStamp, reply_line, write_lock};
-use rows::{Answer, Unread, at, member, refusal, size_at, text_at, whole, whole_at};
+use rows::{CallResult, Unread, at, member, refusal, size_at, text_at, whole, whole_at};
 use serde_json::Value;
 use std::alloc::Global;
 use std::io;
@@ -17,7 +17,7 @@ pub fn replies_call(
     registry: &Registry,
     name: &str,
     row: &Value,
-) -> Result<Answer, Unread> {
+) -> Result<CallResult, Unread> {
     match name {
         "explained" => rewritten(alloc, row),
         "reply_line" => reply_call(alloc, registry, row),
@@ -27,7 +27,7 @@ pub fn replies_call(
 }
 
 /// The lock lines of the row are written.
-fn lock_list(alloc: Global, row: &Value) -> Result<Answer, Unread> {
+fn lock_list(alloc: Global, row: &Value) -> Result<CallResult, Unread> {
     let mut lines = at::<Vec<(Name, Published)>>(alloc, row, "lock")?;
     let mut writer = match Narrow::new(alloc, row) {
         Ok(writer) => writer,
@@ -50,7 +50,7 @@ fn explained_at(alloc: Global, row: &Value) -> Result<Explained, Unread> {
 }
 
 /// The JSON of a derivation and of its explanation, each as a text, so that every byte counts.
-fn rewritten(alloc: Global, row: &Value) -> Result<Answer, Unread> {
+fn rewritten(alloc: Global, row: &Value) -> Result<CallResult, Unread> {
     let explained = explained_at(alloc, row)?;
     let answer = both_told(
         alloc,
@@ -62,7 +62,7 @@ fn rewritten(alloc: Global, row: &Value) -> Result<Answer, Unread> {
 }
 
 /// The line of a reply: `revision`, `place` and `seat` where it has them, and what it tells by the word `tells`.
-fn reply_call(alloc: Global, registry: &Registry, row: &Value) -> Result<Answer, Unread> {
+fn reply_call(alloc: Global, registry: &Registry, row: &Value) -> Result<CallResult, Unread> {
     match text_at(row, "tells")? {
         "accepted" => put(alloc, row, Body::Accepted),
         "refusal" => refused(alloc, row),
@@ -75,7 +75,7 @@ fn reply_call(alloc: Global, registry: &Registry, row: &Value) -> Result<Answer,
     }
 }
 
-fn refused(alloc: Global, row: &Value) -> Result<Answer, Unread> {
+fn refused(alloc: Global, row: &Value) -> Result<CallResult, Unread> {
     let refusal = refusal_at(row)?;
     put(alloc, row, Body::Refusal(refusal))
 }
@@ -93,22 +93,22 @@ fn is_yes(row: &Value) -> bool {
 }
 
 /// The lock lines of the row are the selection.
-fn selection(alloc: Global, row: &Value) -> Result<Answer, Unread> {
+fn selection(alloc: Global, row: &Value) -> Result<CallResult, Unread> {
     let lock = at::<Vec<(Name, Published)>>(alloc, row, "lock")?;
     put(alloc, row, Body::Selection(lock))
 }
 
-fn explained(alloc: Global, row: &Value) -> Result<Answer, Unread> {
+fn explained(alloc: Global, row: &Value) -> Result<CallResult, Unread> {
     let explained = explained_at(alloc, row)?;
     put(alloc, row, Body::Explained(explained))
 }
 
-fn listing(alloc: Global, registry: &Registry, row: &Value) -> Result<Answer, Unread> {
+fn listing(alloc: Global, registry: &Registry, row: &Value) -> Result<CallResult, Unread> {
     let listing = Listing::new(alloc, registry)?;
     put(alloc, row, Body::Listing(listing))
 }
 
-fn put(alloc: Global, row: &Value, body: Body<'_>) -> Result<Answer, Unread> {
+fn put(alloc: Global, row: &Value, body: Body<'_>) -> Result<CallResult, Unread> {
     let (revision, stamp) = match head_at(row) {
         Ok(head) => head,
         Err(why) => {
@@ -141,7 +141,7 @@ fn spot_at(row: &Value) -> Result<Option<SeatStamp>, Unread> {
     }
 }
 
-fn put_reply(alloc: Global, row: &Value, reply: &Reply<'_>) -> Result<Answer, Unread> {
+fn put_reply(alloc: Global, row: &Value, reply: &Reply<'_>) -> Result<CallResult, Unread> {
     let mut writer = Narrow::new(alloc, row)?;
     let answer = match Outbox::new(alloc) {
         Ok(mut outbox) => {

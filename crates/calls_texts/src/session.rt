@@ -9,7 +9,7 @@ use crate::lines_calls::lines_call;
 use crate::reply_calls::replies_call;
 use crate::wire_calls::wire_call;
 use registry::Registry;
-use rows::{Answer, Unread, command_call, derivation_check, row_of, tell, text_at};
+use rows::{CallResult, Unread, command_call, derivation_check, row_of, tell, text_at};
 use serde_json::Value;
 use std::alloc::Global;
 use std::io::{self, Input, Print};
@@ -36,7 +36,7 @@ fn serve_session<R: Input + Print + AllocGlobal>(rt: &R, session: &mut Session) 
     Ok(())
 }
 
-fn answer_to(alloc: Global, session: &mut Session, line: &str) -> Result<Answer, Unread> {
+fn answer_to(alloc: Global, session: &mut Session, line: &str) -> Result<CallResult, Unread> {
     let row = row_of(alloc, line)?;
     let answer = session.call(alloc, &row);
     drop(row);
@@ -57,7 +57,7 @@ impl Session {
     }
 
     /// Makes the call that a row names.
-    fn call(&mut self, alloc: Global, row: &Value) -> Result<Answer, Unread> {
+    fn call(&mut self, alloc: Global, row: &Value) -> Result<CallResult, Unread> {
         let name = text_at(row, "call")?;
         match text_at(row, "of")? {
             "session" => anew(alloc, self),
@@ -67,9 +67,9 @@ impl Session {
     }
 }
 
-fn anew(alloc: Global, session: &mut Session) -> Result<Answer, Unread> {
+fn anew(alloc: Global, session: &mut Session) -> Result<CallResult, Unread> {
     put(session, Session::new(alloc));
-    Ok(Answer::None)
+    Ok(CallResult::None)
 }
 
 /// Drops the value that stands at a place, for another one.
@@ -83,7 +83,7 @@ fn call_for(
     of: &str,
     name: &str,
     row: &Value,
-) -> Result<Answer, Unread> {
+) -> Result<CallResult, Unread> {
     match (of, name) {
         ("derivation", "check") => derivation_check(alloc, registry, row),
         ("explain", _) => explain_call(alloc, registry, name, row),

@@ -1,7 +1,7 @@
 //! Texts of rows and of answers.
 
 use crate::fakes::Narrow;
-use rows::{Answer, AnswerText, Given, Unread, items, shown, text, whole};
+use rows::{AnswerText, CallResult, Given, Unread, items, shown, text, whole};
 use serde_json::Value;
 use std::alloc::Global;
 use std::io;
@@ -65,12 +65,12 @@ pub fn text_of(bytes: &[u8]) -> Result<&str, Unread> {
 }
 
 /// The answer that bytes are.
-pub fn told(alloc: Global, bytes: &[u8]) -> Result<Answer, Unread> {
+pub fn told(alloc: Global, bytes: &[u8]) -> Result<CallResult, Unread> {
     shown(alloc, &text_of(bytes)?)
 }
 
 /// Two texts as an answer.
-pub fn both_told(alloc: Global, first: &[u8], second: &[u8]) -> Result<Answer, Unread> {
+pub fn both_told(alloc: Global, first: &[u8], second: &[u8]) -> Result<CallResult, Unread> {
     let (first, second) = (text_of(first)?, text_of(second)?);
     let mut text = AnswerText::new(alloc);
     text.put("[");
@@ -100,7 +100,11 @@ pub fn failure(kind: ErrorKind) -> Result<&'static str, Unread> {
 }
 
 /// What a writer took, and how the call ended.
-pub fn written(alloc: Global, writer: &Narrow, outcome: &io::Result<()>) -> Result<Answer, Unread> {
+pub fn written(
+    alloc: Global,
+    writer: &Narrow,
+    outcome: &io::Result<()>,
+) -> Result<CallResult, Unread> {
     let end = end_of(outcome)?;
     let taken = text_of(writer.text())?;
     let mut text = AnswerText::new(alloc);

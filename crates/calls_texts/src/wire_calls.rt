@@ -4,12 +4,12 @@ use crate::texts::Bytes;
 use by_name::NamedDerivation;
 use registry::Request;
 use replies::derivation_text;
-use rows::{Answer, AnswerText, Shows, Unread, at, given_if, shown, text_at};
+use rows::{AnswerText, CallResult, Shows, Unread, at, given_if, shown, text_at};
 use serde_json::Value;
 use std::alloc::Global;
 use wire::{Asked, read_learn, read_lock, read_request};
 
-pub fn wire_call(alloc: Global, name: &str, row: &Value) -> Result<Answer, Unread> {
+pub fn wire_call(alloc: Global, name: &str, row: &Value) -> Result<CallResult, Unread> {
     match name {
         "read_lock" => lock_list(alloc, row),
         "read_request" => read(alloc, row),
@@ -19,7 +19,7 @@ pub fn wire_call(alloc: Global, name: &str, row: &Value) -> Result<Answer, Unrea
 }
 
 /// The lines of a lock list.
-fn lock_list(alloc: Global, row: &Value) -> Result<Answer, Unread> {
+fn lock_list(alloc: Global, row: &Value) -> Result<CallResult, Unread> {
     let text = at::<Bytes>(alloc, row, "text")?;
     let answer = given_if(alloc, read_lock(alloc, text.as_slice()));
     drop(text);
@@ -28,14 +28,14 @@ fn lock_list(alloc: Global, row: &Value) -> Result<Answer, Unread> {
 
 // ---- what a line asks, in short
 
-fn read(alloc: Global, row: &Value) -> Result<Answer, Unread> {
+fn read(alloc: Global, row: &Value) -> Result<CallResult, Unread> {
     let asked = read_request(alloc, text_at(row, "line")?.as_bytes())?;
     let answer = asked_told(alloc, &asked);
     drop(asked);
     answer
 }
 
-fn asked_told(alloc: Global, asked: &Asked) -> Result<Answer, Unread> {
+fn asked_told(alloc: Global, asked: &Asked) -> Result<CallResult, Unread> {
     match asked {
         Asked::Command(command) => shown(alloc, command),
         Asked::Resolve {
@@ -47,7 +47,7 @@ fn asked_told(alloc: Global, asked: &Asked) -> Result<Answer, Unread> {
             request,
             derivation,
         } => check_told(alloc, request, derivation),
-        Asked::Listing => Ok(Answer::Word("list")),
+        Asked::Listing => Ok(CallResult::Word("list")),
     }
 }
 
@@ -56,7 +56,7 @@ fn resolve_told(
     request: &Request,
     explain: bool,
     budget: Option<u32>,
-) -> Result<Answer, Unread> {
+) -> Result<CallResult, Unread> {
     let mut text = AnswerText::new(alloc);
     text.put("{\"resolve\":");
     sizes_of(request).show(&mut text);
@@ -77,7 +77,7 @@ fn check_told(
     alloc: Global,
     request: &Request,
     derivation: &NamedDerivation,
-) -> Result<Answer, Unread> {
+) -> Result<CallResult, Unread> {
     let mut text = AnswerText::new(alloc);
     text.put("{\"check\":");
     sizes_of(request).show(&mut text);
@@ -88,11 +88,11 @@ fn check_told(
 }
 
 /// The derivation of a learn line, by names.
-fn read_learnt(alloc: Global, row: &Value) -> Result<Answer, Unread> {
+fn read_learnt(alloc: Global, row: &Value) -> Result<CallResult, Unread> {
     let named = read_learn(alloc, text_at(row, "line")?.as_bytes())?;
     let text = derivation_text(alloc, &named);
     drop(named);
-    Ok(Answer::Text(text?))
+    Ok(CallResult::Text(text?))
 }
 
 // ---- derivations by name, which a check line gives

@@ -1,6 +1,6 @@
 //! Texts of answers, which are put together piece by piece.
 
-use crate::answer::Answer;
+use crate::call_result::CallResult;
 use crate::reading::Unread;
 use std::alloc::Global;
 use std::fmt;
@@ -62,10 +62,10 @@ impl AnswerText {
     }
 
     /// The answer that the text is.
-    pub fn answer(self) -> Result<Answer, Unread> {
+    pub fn answer(self) -> Result<CallResult, Unread> {
         if self.is_refused {
             return Err(Unread::Refused(Refusal::NoMemory));
         }
-        Ok(Answer::Text(self.text))
+        Ok(CallResult::Text(self.text))
     }
 }

@@ -1,6 +1,6 @@
 //! Commands of one registry, which a session's rows change.
 
-use crate::answer::Answer;
+use crate::call_result::CallResult;
 use crate::reading::{Given, Unread, both, text_at, three};
 use registry::{Command, Dependencies, Registry};
 use serde_json::Value;
@@ -12,7 +12,7 @@ pub fn command_call(
     registry: &mut Registry,
     name: &str,
     row: &Value,
-) -> Result<Answer, Unread> {
+) -> Result<CallResult, Unread> {
     let command = command_of(alloc, name, row)?;
     let answer = enter(registry, &command);
     drop(command);
@@ -55,18 +55,18 @@ impl Given for Dependencies {
 }
 
 /// Makes room for a command, enters a copy of it, and answers the revision after it.
-pub fn enter(registry: &mut Registry, command: &Command) -> Result<Answer, Unread> {
+pub fn enter(registry: &mut Registry, command: &Command) -> Result<CallResult, Unread> {
     registry.check(command)?;
     registry.reserve(command)?;
     apply(registry, command)
 }
 
 /// As `enter`, for a command for which no room is made.
-pub fn apply(registry: &mut Registry, command: &Command) -> Result<Answer, Unread> {
+pub fn apply(registry: &mut Registry, command: &Command) -> Result<CallResult, Unread> {
     registry.check(command)?;
     if registry.revision() == u64::MAX {
-        return Ok(Answer::Skipped);
+        return Ok(CallResult::Skipped);
     }
     registry.apply(command.copy()?)?;
-    Ok(Answer::Number(registry.revision() as usize))
+    Ok(CallResult::Number(registry.revision() as usize))
 }

@@ -4,8 +4,8 @@
 //! has a clause: the probes are proved to be safe, and what they write is compared with what the tables want.
 #![tactic(auto)]
 
-mod answer;
 mod answer_text;
+mod call_result;
 mod command_texts;
 mod commands;
 mod line_rows;
@@ -17,8 +17,8 @@ mod serving;
 mod showing;
 mod stored;
 
-pub use answer::Answer;
 pub use answer_text::AnswerText;
+pub use call_result::CallResult;
 pub use commands::{apply, command_at, command_call, command_of, enter};
 pub use line_rows::{derivation_check, learnt_at};
 pub use published::request_at;

@@ -1,6 +1,6 @@
 //! Lines of derivations and of searches that rows give.
 
-use crate::answer::Answer;
+use crate::call_result::CallResult;
 use crate::published::request_at;
 use crate::reading::{Given, Unread, at, both, size_at, three, whole_at};
 use derivations::{Cause, CausedIncompatibility, Derivation, Learnt, Line, Premise, Reason, check};
@@ -15,7 +15,11 @@ pub fn learnt_at(alloc: Global, row: &Value) -> Result<Learnt, Unread> {
 }
 
 /// Whether the lines of a row are a derivation for its request.
-pub fn derivation_check(alloc: Global, registry: &Registry, row: &Value) -> Result<Answer, Unread> {
+pub fn derivation_check(
+    alloc: Global,
+    registry: &Registry,
+    row: &Value,
+) -> Result<CallResult, Unread> {
     let request = request_at(alloc, row)?;
     let answer = lines_check(alloc, registry, &request, row);
     drop(request);
@@ -27,11 +31,11 @@ fn lines_check(
     registry: &Registry,
     request: &Request,
     row: &Value,
-) -> Result<Answer, Unread> {
+) -> Result<CallResult, Unread> {
     let derivation = Derivation::new(at(alloc, row, "lines")?);
     let is_derived = check(alloc, registry, request, &derivation);
     drop(derivation);
-    Ok(Answer::Bool(is_derived?))
+    Ok(CallResult::Bool(is_derived?))
 }
 
 /// A line of a derivation, as `{"conclusion":[..],"causes":[..,..],"pivot":1}`.

@@ -1,6 +1,6 @@
 //! From lines to rows, and from calls to answers.
 
-use crate::answer::Answer;
+use crate::call_result::CallResult;
 use crate::reading::Unread;
 use serde_json::Value;
 use std::alloc::Global;
@@ -17,15 +17,15 @@ pub fn row_of(alloc: Global, line: &str) -> Result<Value, Unread> {
 }
 
 /// Writes what a call answered.
-pub fn tell<R: Print>(rt: &R, outcome: Result<Answer, Unread>) -> io::Result<()> {
+pub fn tell<R: Print>(rt: &R, outcome: Result<CallResult, Unread>) -> io::Result<()> {
     let answer = answer_of(outcome);
     println!(rt; "{answer}")
 }
 
-fn answer_of(outcome: Result<Answer, Unread>) -> Answer {
+fn answer_of(outcome: Result<CallResult, Unread>) -> CallResult {
     match outcome {
         Ok(answer) => answer,
-        Err(Unread::Refused(refusal)) => Answer::Refused(refusal),
-        Err(Unread::Row) => Answer::BadRow,
+        Err(Unread::Refused(refusal)) => CallResult::Refused(refusal),
+        Err(Unread::Row) => CallResult::BadRow,
     }
 }

@@ -1,7 +1,7 @@
 //! Values as answers tell them, in JSON.
 
-use crate::answer::Answer;
 use crate::answer_text::AnswerText;
+use crate::call_result::CallResult;
 use crate::reading::Unread;
 use std::alloc::Global;
 use terms::{Incompat, Term, VSet};
@@ -13,19 +13,22 @@ pub trait Shows {
 }
 
 /// The answer that tells a value.
-pub fn shown<T: Shows>(alloc: Global, value: &T) -> Result<Answer, Unread> {
+pub fn shown<T: Shows>(alloc: Global, value: &T) -> Result<CallResult, Unread> {
     let mut text = AnswerText::new(alloc);
     value.show(&mut text);
     text.answer()
 }
 
 /// As `shown`, of a value that only the answer needs.
-pub fn given<T: Shows + Drop>(alloc: Global, value: T) -> Result<Answer, Unread> {
+pub fn given<T: Shows + Drop>(alloc: Global, value: T) -> Result<CallResult, Unread> {
     shown(alloc, &value)
 }
 
 /// As `given`, of a value that may be refused. A call with a way out costs a proof more than a call.
-pub fn given_if<T: Shows + Drop, E>(alloc: Global, outcome: Result<T, E>) -> Result<Answer, Unread>
+pub fn given_if<T: Shows + Drop, E>(
+    alloc: Global,
+    outcome: Result<T, E>,
+) -> Result<CallResult, Unread>
 where
     Unread: From<E>,
 {
@@ -33,12 +36,12 @@ where
 }
 
 /// The answer of what gives nothing, and may be refused.
-pub fn done<E>(outcome: Result<(), E>) -> Result<Answer, Unread>
+pub fn done<E>(outcome: Result<(), E>) -> Result<CallResult, Unread>
 where
     Unread: From<E>,
 {
     outcome?;
-    Ok(Answer::None)
+    Ok(CallResult::None)
 }
 
 // ---- many and few
@@ -138,7 +141,7 @@ impl Shows for Need {
     }
 }
 
-impl Shows for Answer {
+impl Shows for CallResult {
     fn show(&self, text: &mut AnswerText) {
         text.put_plain(self);
     }
