@@ -65,8 +65,11 @@ def note(notes, path):
     return 0
 
 
-def fails(names):
-    """Whether one of these tests fails."""
+def fails(seconds, *names):
+    """Whether one of these tests fails. The system ends a process that has taken so many seconds of a processor: a busy machine
+    gives these later, and so no test fails that is only slow."""
+    resource.setrlimit(resource.RLIMIT_CORE, (0, 0))
+    resource.setrlimit(resource.RLIMIT_CPU, (int(seconds), int(seconds) + 1))
     result = unittest.TestResult()
     result.failfast = True
     with contextlib.redirect_stdout(io.StringIO()), contextlib.redirect_stderr(io.StringIO()):
@@ -79,7 +82,7 @@ def main(words):
     top = os.path.dirname(os.path.dirname(os.path.abspath(__file__)))
     sys.path[:0] = [os.path.join(top, folder) for folder in ("tools/tests", "bench/tests")]
     what, *given = words
-    return note(*given) if what == "note" else fails(given)
+    return note(*given) if what == "note" else fails(*given)
 
 
 if __name__ == "__main__":

@@ -133,7 +133,11 @@ class Concerned(unittest.TestCase):
         self.assertLessEqual({"test_schedules.py", "test_memory.py"}, files)
         self.assertNotIn("test_crates_picture.py", files)
         # those that name it come first
-        self.assertIn("test_schedules.py", [path.name for path in concerned.tests_of(top, top / "tools" / "race_many.py")[:3]])
+        found = concerned.tests_of(top, top / "tools" / "race_many.py")
+        name_it = ["race_many" in concerned.named_in(path) for path in found]
+        self.assertIn("test_schedules.py", [path.name for path, is_first in zip(found, name_it) if is_first])
+        self.assertEqual(name_it, sorted(name_it, reverse=True))
+        self.assertFalse(name_it[-1])
         self.assertTrue(concerned.is_source(top / "tools" / "mutate"))
         self.assertFalse(concerned.is_source(top / "registryd"))
 
@@ -151,11 +155,11 @@ class Command(unittest.TestCase):
             (self.top / "tools" / name).write_text(begin + text, encoding="utf-8")
         (self.top / "registry").write_text("#!/usr/bin/env python3\n", encoding="utf-8")
 
-    def mutate(self, *words):
-        given = {**os.environ, "REGISTRYD": "none", "PROBE": "none", "EMBEDDED": "none"}
-        # in so many seconds each of these tests has ended on a busy machine, unless a mutant goes on for ever
-        done = subprocess.run([self.top / "tools" / "mutate", "--patience", "10", *words], cwd=self.top, env=given, stdout=subprocess.PIPE, stderr=subprocess.PIPE,
-                              text=True, timeout=300)
+    def mutate(self, *words, **more):
+        given = {**os.environ, "REGISTRYD": "none", "PROBE": "none", "EMBEDDED": "none", **more}
+        # no mutant waits; one that goes on for ever has taken its time of a processor long before
+        done = subprocess.run([self.top / "tools" / "mutate", "--patience", "600", *words], cwd=self.top, env=given, stdout=subprocess.PIPE, stderr=subprocess.PIPE,
+                              text=True, timeout=1_200)
         return done.returncode, done.stdout.splitlines(), done.stderr
 
     def test_what_both_tests_leave(self):
@@ -190,6 +194,7 @@ class Command(unittest.TestCase):
             "import unittest\nimport os, sys, time\nsys.path.insert(0, os.path.dirname(os.path.dirname(os.path.abspath(__file__))))\nimport small\n\n\n"
             "class Slow(unittest.TestCase):\n    def test_room(self):\n        if small.LIMIT != 7 or not small.fits(0):\n            time.sleep(1_000)\n", encoding="utf-8")
         copies = self.enterContext(tempfile.TemporaryDirectory())
+        os.chmod(copies, 0o755)
         given = {**os.environ, "REGISTRYD": "none", "PROBE": "none", "EMBEDDED": "none", "TMPDIR": copies}
         with subprocess.Popen([self.top / "tools" / "mutate", "--patience", "500", "--jobs", "2", "tools/small.py", "--tests", "tools/tests/test_good.py"], cwd=self.top,
                               env=given, stdout=subprocess.PIPE, text=True) as running:
@@ -197,6 +202,33 @@ class Command(unittest.TestCase):
             self.assertEqual(len(os.listdir(copies)), 2)
             running.terminate()
             self.assertEqual((running.wait(100), os.listdir(copies)), (143, []))
+
+    @unittest.skipUnless(os.geteuid() == 0, "only root may run tests as someone else")
+    def test_root_runs_tests_as_nobody(self):
+        copies, kept = (Path(self.enterContext(tempfile.TemporaryDirectory())) for _ in range(2))
+        copies.chmod(0o755)
+        outside, program = kept / "outside", kept / "program"
+        program.write_text("run me\n", encoding="utf-8")
+        text = "import unittest\nimport contextlib, os, sys, tempfile\nsys.path.insert(0, os.path.dirname(os.path.dirname(os.path.abspath(__file__))))\nimport small\n\n\n" \
+               "class Who(unittest.TestCase):\n    def test_what_it_may(self):\n        self.assertEqual(small.fits(1), True)\n" \
+               f"        with contextlib.suppress(OSError):\n            os.unlink({str(outside)!r})\n" \
+               "        if os.geteuid() != 0:\n            self.assertEqual((os.geteuid(), os.getegid(), os.getgroups()), (65_534, 65_534, []))\n" \
+               f"            self.assertEqual({{os.stat(it).st_uid for it in (__file__, small.__file__, os.environ['HOME'])}}, {{65_534}})\n" \
+               f"        for folder in (os.environ['HOME'], tempfile.gettempdir()):\n            self.assertTrue(folder.startswith({str(copies)!r}))\n" \
+               "            open(os.path.join(folder, 'it'), 'w').close()\n" \
+               "        with open(os.environ['PROBE'], encoding='utf-8') as file:\n            self.assertEqual(file.read(), 'run me\\n')\n"
+        (self.top / "tools" / "tests" / "test_good.py").write_text(text, encoding="utf-8")
+        for word, is_left in ((), True), (("--as-root",), False):
+            outside.write_text("", encoding="utf-8")
+            _, told, said = self.mutate("tools/small.py", "--tests", "tools/tests/test_good.py", "--most", "6", *word, TMPDIR=str(copies), PROBE=str(program))
+            self.assertEqual((told[0], said, outside.exists(), os.listdir(copies)), ("tests that come to these files: 1", "", is_left, []))
+
+    @unittest.skipUnless(os.geteuid() == 0, "only root may run tests as someone else")
+    def test_a_folder_that_nobody_may_enter(self):
+        copies = self.enterContext(tempfile.TemporaryDirectory())
+        status, told, said = self.mutate("tools/small.py", TMPDIR=copies)
+        self.assertEqual((status, told, os.listdir(copies)), (2, [], []))
+        self.assertRegex(said, r"\Amutate: no Python 3\.11 can be run in \S+ by the account of the tests: .* a folder TMPDIR that it may enter\n\Z")
 
     def test_what_is_no_source(self):
         for word in ("tools/none.py", "/etc/passwd", "tools"):
