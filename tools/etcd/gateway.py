@@ -29,7 +29,7 @@ class Endpoint(NamedTuple):
 
 
 PORT = 2379
-ADDRESS = re.compile(r"(?:(https?)://)?(?:\[([0-9A-Fa-f:.%]+)\]|([\w.-]+))(?::([0-9]{1,5}))?/?")
+ADDRESS = re.compile(r"(?:(https?)://)?(?:\[([0-9A-Fa-f:.]+(?:%[\w.-]+)?)\]|([\w.-]+))(?::([0-9]{1,5}))?/?")
 LEAST_WAIT = 0.001  # since 0 would mean not to wait at all
 
 

@@ -62,7 +62,7 @@ def candidates(before, current):
     try:
         of, rest = split(before)
     except Failure:
-        first = " ".join(it for it in before if not it.startswith("-"))
+        first = " ".join(it for place, it in enumerate(before) if not it.startswith("-") and before[place - 1] not in valued)
         return "words", [it.name.split(" ")[1] for it in SUBCOMMANDS if it.name.startswith(first + " ")]
     if of is None:
         return "words", [*(it.name.split(" ")[0] for it in SUBCOMMANDS), *flags(COMMON), *GENERAL]

@@ -17,6 +17,7 @@ PATIENCE, PAUSE = 10, 0.2  # seconds in which a service that is begun again is w
 SMALL = 32_768  # bytes that a socket takes at once
 EMPTY = {"op": "resolve", "needs": []}
 UNAVAILABLE = 503
+MOST_PORT = 65_535
 
 
 class Lost(Exception):
@@ -28,7 +29,9 @@ def connect(address):
     host, colon, port = address.rpartition(":")
     connection = None
     try:
-        if colon and "/" not in address and port.isdigit():
+        if colon and "/" not in address and port.isascii() and port.isdigit():
+            if len(port) > len(str(MOST_PORT)) or int(port) > MOST_PORT:
+                raise OverflowError(f"{MOST_PORT} is the highest port")
             return socket.create_connection((host.strip("[]"), int(port)))
         connection = socket.socket(socket.AF_UNIX)
         connection.connect(address)

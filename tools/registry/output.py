@@ -2,7 +2,7 @@
 import os
 import sys
 
-STYLES = {"bold": "1", "faint": "2", "red": "31", "green": "32", "yellow": "33", "cyan": "36"}
+STYLES = {"bold": "1", "faint": "2", "red": "31", "green": "32", "yellow": "33"}
 
 
 def is_coloured(stream):
