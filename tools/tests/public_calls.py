@@ -50,7 +50,7 @@ def declared(text):
 
 
 def that_take_memory():
-    """The full names of the public functions whose result tells of want of memory."""
+    """The full names of the public functions whose result tells of lack of memory."""
     found = set()
     for crate in libraries():
         names = exported(crate)

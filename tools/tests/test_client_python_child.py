@@ -77,6 +77,11 @@ class Child(Case):
                 told = registry.list().revision
         self.assertGreaterEqual(told, 20)
 
+    def test_what_a_program_says_that_is_no_text(self):
+        registry = other("os.write(2, b'\\xffno\\n'); sys.exit(3)")
+        self.assertEqual(self.ends("\\Athe program ended with status 3: \ufffdno\\Z", registry.list), 3)
+        registry.kill()
+
     def test_what_cannot_be_begun(self):
         with self.assertRaises(OSError):
             Registry(self.path("none"))

@@ -13,7 +13,8 @@ from program import TOP, run, skip_without
 
 sys.path.insert(0, os.path.join(TOP, "tools"))
 import completions
-from completions import COMMANDS, HELP, SHELLS, Option
+from called import called
+from completions import COMMANDS, HELP, SHELLS, Command, Option
 
 # calls the completion of a command line that ends with the word to complete, and prints what is offered, or that files are
 CALL = """
@@ -24,6 +25,42 @@ _registryd
 printf '%s\\n' "${COMPREPLY[@]}"
 """
 FILES = ["files: -o default"]
+# a small table, and what zsh and fish read for it, written by hand after their own pages: _arguments of zshcompsys(1), complete(1) of fish
+SMALL = (Command("go", "Goes", (Option("n", "N", "How many", "1 2"), Option("from", "FILE", "Whence"), Option("deep", "D", "How deep"), Option("fast", "", "At once"))),
+         Command("join", "Joins", takes_files=True))
+ZSH = """#compdef registryd
+# Completes the words of registryd in zsh.
+_registryd()
+{
+    local curcontext=$curcontext state line
+    local -a commands=('go:Goes' 'join:Joins')
+    _arguments -C '(- *)--help[Print help]' '(- *)--version[Print the version, and whether the program is proved]' '1: :->command' '*:: :->words'
+    case $state in
+        command) _describe command commands ;;
+        words)
+            case $words[1] in
+                go) _arguments '--n[How many]:N:(1 2)' '--from[Whence]:FILE:_files' '--deep[How deep]:D: ' '--fast[At once]' '(- *)--help[Print help]' ;;
+                join) _arguments '*:file:_files' '(- *)--help[Print help]' ;;
+            esac
+            ;;
+    esac
+}
+_registryd "$@"
+"""
+FISH = """# Completes the words of registryd in fish.
+complete -c registryd -f
+complete -c registryd -n __fish_use_subcommand -l help -d 'Print help'
+complete -c registryd -n __fish_use_subcommand -l version -d 'Print the version, and whether the program is proved'
+complete -c registryd -n __fish_use_subcommand -a go -d 'Goes'
+complete -c registryd -n '__fish_seen_subcommand_from go' -l n -x -a '1 2' -d 'How many'
+complete -c registryd -n '__fish_seen_subcommand_from go' -l from -r -F -d 'Whence'
+complete -c registryd -n '__fish_seen_subcommand_from go' -l deep -x -a '' -d 'How deep'
+complete -c registryd -n '__fish_seen_subcommand_from go' -l fast -d 'At once'
+complete -c registryd -n '__fish_seen_subcommand_from go' -l help -d 'Print help'
+complete -c registryd -n __fish_use_subcommand -a join -d 'Joins'
+complete -c registryd -n '__fish_seen_subcommand_from join' -l help -d 'Print help'
+complete -c registryd -n '__fish_seen_subcommand_from join' -F
+"""
 
 
 def helped(*words):
@@ -55,6 +92,20 @@ class Table(unittest.TestCase):
                     needed = [] if option.name == "workers" else ["--workers", "1"]
                     done = run([command.name, *needed, f"--{option.name}", value])
                     self.assertEqual((done.returncode, done.stderr), (0, b""), f"{option.name} {value}")
+
+
+class Written(unittest.TestCase):
+    def test_the_text_for_each_shell(self):
+        with mock.patch.object(completions, "COMMANDS", SMALL):
+            self.assertEqual((SHELLS["zsh"](), SHELLS["fish"]()), (ZSH, FISH))
+
+    def test_words(self):
+        for shell, text in SHELLS.items():
+            self.assertEqual(called("completions.py", shell), (0, text(), ""))
+        for words in ([], ["tcsh"], ["zsh", "fish"]):
+            status, printed, fault = called("completions.py", *words)
+            self.assertEqual((status, printed), (2, ""))
+            self.assertIn("tools/completions.py bash|zsh|fish", fault)
 
 
 class Shells(unittest.TestCase):

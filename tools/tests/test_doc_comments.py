@@ -1,10 +1,15 @@
-"""Each public item of the crates has a comment that says more than its signature, with its errors by name; each file says what it has."""
+"""Each public item of the crates has a comment that says more than its signature, with its errors by name; each file says what it has, and
+what comments name is there."""
 import os
+import re
 import subprocess
 import sys
 import unittest
+from pathlib import Path
 
+import prose
 from program import TOP
+from test_pages import Known, renamed, said_by_code, sources
 
 sys.path.insert(0, os.path.join(TOP, "tools"))
 from doc_comments import CRATES, Fault, faults, faults_of  # noqa: E402
@@ -50,6 +55,34 @@ class Crates(unittest.TestCase):
         crates = {it.name for it in CRATES.iterdir() if (it / "src").is_dir()}
         self.assertLessEqual(OF_TESTS | TO_COME, crates)
         self.assertEqual([str(fault) for fault in faults(sorted(crates - OF_TESTS - TO_COME))], [])
+
+
+class Names(unittest.TestCase):
+    """What a comment of the crates names between marks of code is in the sources, under the name that it has now."""
+
+    def faults(self, path, text, known):
+        for line, code in zip(text.split("\n"), said_by_code(path, text).split("\n")):
+            comment = line[len(code):]
+            marked = comment + " ".join(f" `{target}`" for target in re.findall(r"`\]\(([a-z_]\w*(?:::\w+)+)\)", comment))
+            yield from (f"{path}: {name}" for name in prose.names(marked) if not known.has(name))
+            yield from (f"{path}: {fault}" for fault in renamed(marked))
+        for cell in re.findall(r"(?m)^//! \| ((?:`\w+(?:\.rt)?`(?:, )?)+) \|", text):
+            yield from (f"{path}: no file {file}" for file in re.findall(r"`(\w+)(?:\.rt)?`", cell) if f"src/{file}.rt" not in known.files)
+
+    def test_each_is_there(self):
+        texts = dict(sources())
+        known = Known(texts)
+        self.assertEqual([fault for path, text in texts.items() if path.parts[0] == "crates" and path.suffix in (".rt", ".antt")
+                          for fault in self.faults(path, text, known)], [])
+
+    def test_what_is_not_there_is_found(self):
+        path = Path("crates/a/src/lib.rt")
+        known = Known({path: "pub fn read_it() {}", Path("crates/a/src/b.rt"): "const ONE_LIMIT: u8 = 1;", Path("crates/a/specs/C.antt"): "IsIt : ℕ"})
+        for text in ("// `read_it` [`ONE_LIMIT`](a::ONE_LIMIT) `C.antt` `let x`", "//! | `b` | the b |\n//! | `lib`, `b.rt` | |", "let read_that = \"`no_one`\";", "/// | a | `b` |"):
+            self.assertEqual(list(self.faults(path, text, known)), [], text)
+        for text in ("// `read_that`", "let read_it = 1; // is `no_one`", "/// [`ONE_LIMIT`](a::TWO_LIMIT)", "//! | `c` | the c |", "//! See `d.rt`.", "// a `Ledger`"):
+            self.assertGreaterEqual(len(list(self.faults(path, text, known))), 1, text)
+        self.assertEqual(len(list(self.faults(Path("crates/a/specs/D.antt"), "a-b c -- `IsIt` `IsThat`\n", known))), 1)
 
 
 class Faults(unittest.TestCase):

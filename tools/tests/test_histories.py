@@ -1,9 +1,7 @@
 """The judge of the histories of fronts over etcd: a true history, and lies about it, each of which it has to find."""
 import os
-import random
 import signal
 import sys
-import types
 import unittest
 from unittest import mock
 
@@ -13,8 +11,6 @@ from fronts import Front, Told
 from over_small_etcd import A1, A2, B1, accepted, refused
 from program import LIST, TOP, publish, resolve, unyank, yank
 
-sys.path.insert(0, os.path.join(TOP, "tools"))
-import etcd_histories
 
 class Judge(unittest.TestCase):
     """What may not be is found in a history of two fronts, in which it is not at first."""
@@ -100,7 +96,8 @@ class Judge(unittest.TestCase):
         lines = [program.journal_line(line) for line in self.journal]
         for text in ("", "\n".join(["registry-journal 2", *lines, "end 3", ""]), "\n".join(["registry-journal 1", *lines, "end 2", ""]),
                      "\n".join(["registry-journal 1", *lines, "end 3"]), "\n".join(["registry-journal 1", *lines, ""])):
-            self.assertRegex(fronts.fault(text, [self.first, self.second]), r"\Ano journal: ", text)
+            ends = text.split("\n")
+            self.assertEqual(fronts.fault(text, [self.first, self.second]), f"no journal: {ends[:1]} .. {ends[-2:]}")
 
     def test_places_and_revisions_go_back(self):
         # within one front, and between two
@@ -154,7 +151,15 @@ class Judge(unittest.TestCase):
         self.first.append(Told(LIST, '{"packages":[["a",[["1.0.0",true]]],["b",[["1.0.0",false]]]],"place":4,"revision":3,"seat":1}', 7, 8))
         self.assertIsNone(self.fault())
         self.second.append(Told(LIST, listing(3, 2, 2, "true"), 21, 22))
-        self.assertIn("asked when revision 3 was told", self.fault())
+        self.assertEqual(self.fault(), f"asked when revision 3 was told: {LIST} {listing(3, 2, 2, 'true')}")
+
+    def test_a_command_counts_from_when_it_was_answered(self):
+        # another front sees it before, and a third one need not
+        self.first = [Told(A1, accepted(1), 0, 20)]
+        self.second, self.journal = [Told(LIST, listing(1, 1, 2, "false"), 2, 3)], [A1]
+        self.third = [Told(LIST, '{"packages":[],"place":0,"revision":0,"seat":3}', 4, 5)]
+        lines = ["registry-journal 1", program.journal_line(A1), "end 1", ""]
+        self.assertIsNone(fronts.fault("\n".join(lines), [self.first, self.second, self.third]))
 
     def test_entries_that_no_session_accepts(self):
         for wrong in (A1, yank("c", "1.0.0"), publish("A", "1.0.0")):
@@ -208,7 +213,34 @@ class Clients(unittest.TestCase):
     def test_words(self):
         self.front([(0, "")], writer="w")
         words = self.begun[0][0]
-        self.assertEqual(words[2:], [fronts.ETCD, "serve", "--endpoints", "http://x", "--program", program.PROGRAM, "--seat", "3", "--more", "--writer", "w"])
+        # nothing is looked for beside what comes with Python
+        self.assertEqual(words[:2], [sys.executable, "-S"])
+        self.assertEqual(words[2:], [os.path.join(TOP, "tools", "registryd-etcd"), "serve", "--endpoints", "http://x", "--program", program.PROGRAM, "--seat", "3", "--more", "--writer", "w"])
+
+    def test_words_without_a_name(self):
+        self.front([(0, "")])
+        self.assertNotIn("--writer", self.begun[0][0])
+
+    def test_how_it_ends(self):
+        front = self.front([(3, "said")])
+        child = self.begun[0][1]
+        self.assertEqual(front.end(), (3, "said"))
+        child.wait.assert_called_once_with(timeout=100)
+        for file in (child.stdin, child.stdout, child.stderr):
+            file.close.assert_called_once_with()
+        # one that has ended is not asked once more
+        child.stderr.closed, child.returncode = True, 3
+        self.assertEqual(front.end(), (3, "it had ended"))
+        # its input may be gone already
+        front = self.front([(0, "")])
+        self.begun[0][1].stdin.close.side_effect = BrokenPipeError()
+        self.assertEqual(front.end(), (0, ""))
+
+    def test_what_is_asked_once(self):
+        with mock.patch.object(fronts.subprocess, "run") as ran:
+            fronts.run("journal", ["http://x", "http://y"], "--more", given=b"lines")
+        ((words,), how) = ran.call_args
+        self.assertEqual((words[3:], how), (["journal", "--endpoints", "http://x,http://y", "--program", program.PROGRAM, "--more"], {"input": b"lines", "capture_output": True, "timeout": 100}))
 
     def test_lines_are_asked_again_where_a_front_was_killed(self):
         front = self.front([accepted(1), (-signal.SIGKILL, "")], [accepted(1), accepted(2), (0, "")])
@@ -218,9 +250,11 @@ class Clients(unittest.TestCase):
         self.assertEqual(self.begun[1][1].sent, [A1 + "\n", B1 + "\n"])
 
     def test_a_front_that_ends_by_itself(self):
-        for end in ((1, "no"), (0, ""), (1, fronts.NOT_KEPT)):
-            with self.assertRaisesRegex(AssertionError, "the front ended by itself"):
-                self.front([end]).ask(A1)
+        kept = "line 1 of w was answered before, and its reply is no longer kept"
+        for end, may_forget in (((1, "no"), True), ((1, "no"), False), ((0, ""), True), ((1, kept), False), ((2, kept), True), ((-signal.SIGTERM, ""), False)):
+            with self.assertRaises(AssertionError) as caught:
+                self.front([end], may_forget=may_forget).ask(A1)
+            self.assertEqual(str(caught.exception), f"the front ended by itself: {end[0]} {end[1]}")
 
     def test_another_answer_than_before(self):
         for told, is_again in ((accepted(1), True), (accepted(2), False)):
@@ -239,7 +273,7 @@ class Clients(unittest.TestCase):
         self.assertRaises(AssertionError, front.ask, B1)
 
     def test_a_reply_that_is_no_longer_kept(self):
-        front = self.front([accepted(1), (1, f"line 2 {fronts.NOT_KEPT}")], [accepted(2), (-signal.SIGKILL, "")], [accepted(2), accepted(3), (0, "")], writer="w", may_forget=True)
+        front = self.front([accepted(1), (1, "line 2 was answered before, and its reply is no longer kept")], [accepted(2), (-signal.SIGKILL, "")], [accepted(2), accepted(3), (0, "")], writer="w", may_forget=True)
         self.assertEqual([front.ask(line) for line in (A1, B1, A2)], [[accepted(1)], [accepted(2)], [accepted(3)]])
         # by another name it asks nothing of before, and of the line it is open whether it stands
         self.assertEqual((front.open, front.names, front.first), ([B1], 1, 1))
@@ -253,63 +287,6 @@ class Clients(unittest.TestCase):
         self.assertEqual([text.count("\n") for text in self.begun[0][1].sent], [100, 100, 50])
         self.assertIsNone(self.front([*replies[:150], (0, "")]).send([A1] * 250))
         self.assertEqual(len(self.begun[0][1].sent), 2)
-
-
-class Making(unittest.TestCase):
-    """What a history asks, and what goes wrong in it."""
-
-    def history(self, seed, members=None):
-        gate = mock.Mock(url="http://x")
-        with mock.patch.object(etcd_histories, "Gate", side_effect=lambda behind, hook: types.SimpleNamespace(url=f"http://{behind}", hook=hook, close=gate.close)):
-            return etcd_histories.History(members or mock.Mock(behind=lambda: ["one", "two", "three"]), seed, 4, 1.0, 1)
-
-    def test_each_kind_of_line_is_asked(self):
-        made = [line for seed in range(300) for line in etcd_histories.made_lines(random.Random(seed))]
-        for kind, least in (("publish", 100), ("yank", 30), ("unyank", 20), ("list", 20), ("resolve", 30)):
-            self.assertGreater(sum(f'"op": "{kind}"' in line or line == LIST and kind == "list" for line in made), least, kind)
-        self.assertGreater(sum('"name": "A"' in line for line in made), 5)
-        self.assertEqual({len(etcd_histories.made_lines(random.Random(seed))) for seed in range(50)}, {1, 2, 5})
-
-    def test_what_goes_wrong_in_a_history(self):
-        for seed, killed, dropped in ((1, False, True), (2, True, True), (3, True, False), (4, False, True)):
-            history = self.history(seed)
-            self.assertEqual((history.are_killed, history.are_dropped, history.may_forget), (killed, dropped, killed and dropped))
-            self.assertEqual([front.seat for front in history.fronts], [1, 2, 3, 4])
-            # each front begins with another member
-            self.assertEqual([front.words[front.words.index("--endpoints") + 1].split(",")[0] for front in history.fronts],
-                             ["http://two", "http://three", "http://one", "http://two"])
-            self.assertTrue(all(front.may_forget is history.may_forget for front in history.fronts))
-            every = [front.words[front.words.index("--compact-every") + 1] for front in history.fronts]
-            if not (killed and dropped):
-                self.assertEqual(set(every), {"16" if dropped else "0"})
-
-    def test_calls_are_lost_and_fronts_killed(self):
-        for seed in (1, 2):
-            history = self.history(seed)
-            front = history.fronts[0]
-            front.child = mock.Mock()
-            counts = dict.fromkeys(("lost", "killed"), 0)
-            for _ in range(2000):
-                before = front.child.kill.call_count
-                try:
-                    history.gates[0].hook("before", "/v3/kv/txn", {})
-                except etcd_histories.Drop:
-                    counts["killed" if front.child.kill.call_count > before else "lost"] += 1
-            self.assertTrue(20 < counts["lost"] < 200, counts)
-            self.assertEqual(counts["killed"] > 0, history.are_killed)
-            self.assertEqual((history.done["lost before a call"], history.done["front killed before a call"]), (counts["lost"], counts["killed"]))
-            # a watch is not, nor what is asked once it is over
-            for _ in range(300):
-                history.gates[0].hook("after", "/v3/watch", {})
-            history.is_over.set()
-            for _ in range(300):
-                history.gates[0].hook("after", "/v3/kv/txn", {})
-
-    def test_a_thread_that_fails_is_told(self):
-        faults = []
-        etcd_histories.started(faults, lambda one: {}[one], "key").join()
-        etcd_histories.guarded(faults, lambda: None)
-        self.assertEqual(faults, ["KeyError: 'key'"])
 
 
 if __name__ == "__main__":

@@ -29,6 +29,7 @@ three or four  four-command
 STUB = """#!/bin/sh
 here={folder}
 echo "$(basename "$0") $*" >> $here/called
+echo "$DEBIAN_FRONTEND" > $here/frontend
 for word; do last=$word; done
 case "$(basename "$0") $*" in
 dpkg-query*) [ -e $here/installed-$last ] && printf installed ;;
@@ -73,9 +74,15 @@ class Installing(unittest.TestCase):
     def test_what_lacks_is_installed_without_a_question(self):
         self.stub()
         self.assertEqual(self.run_it(), ("install_packages: installed one, two, four", 0))
-        update, install = self.called("apt-get")
-        self.assertTrue(update.endswith(" update"))
-        self.assertTrue(install.endswith(" install -y --no-install-recommends one two four"))
+        # it tries again once, and waits neither long for a server nor for ever for another run of dpkg
+        apt = "-q -o Acquire::Retries=1 -o Acquire::http::Timeout=20 -o DPkg::Lock::Timeout=60"
+        self.assertEqual(self.called("apt-get"), [f"{apt} update", f"{apt} install -y --no-install-recommends one two four"])
+        self.assertEqual((self.called("dpkg-query")[0], self.called("apt-cache")[0]), ("-W -f=${db:Status-Status} two", "show one"))
+
+    def test_apt_asks_nothing(self):
+        self.stub(install="cat $here/frontend > $here/asked")
+        self.run_it()
+        self.assertEqual(Path(self.folder, "asked").read_text(encoding="ascii"), "noninteractive\n")
 
     def test_what_is_there_is_left_alone(self):
         self.stub()
@@ -95,6 +102,20 @@ class Installing(unittest.TestCase):
         self.stub(update="echo 'Err:1 http://deb.debian.org'; echo 'E: Failed to fetch it'; exit 100")
         self.assertEqual(self.run_it(), ("install_packages: the tests lack one, two, three: E: Failed to fetch it", 1))
         self.assertEqual(len(self.called("apt-get")), 1)
+
+    def test_what_apt_says_of_a_failure(self):
+        for said in ("E: no", r"\377\nE: no\nE: and more", r"W: odd\nE: no"):
+            self.stub(update=f"printf '{said}'; exit 100")
+            self.assertEqual(self.run_it(), ("install_packages: the tests lack one, two, three: E: no", 1))
+            for name in ("dpkg-query", "apt-cache", "apt-get"):
+                os.unlink(os.path.join(self.folder, name))
+
+    def test_its_words(self):
+        for words, status, printed in ((["--list"], 0, "one two three\n"), (["other"], 2, ""), (["--list", "other"], 2, "")):
+            out, said = io.StringIO(), io.StringIO()
+            with contextlib.redirect_stdout(out), contextlib.redirect_stderr(said):
+                self.assertEqual(install_packages.main(words), status)
+            self.assertEqual((out.getvalue(), "tools/install_packages.py --list" in said.getvalue()), (printed, status == 2))
 
     def test_a_package_that_cannot_be_installed(self):
         self.stub(install=": > $here/installed-two; exit 7")

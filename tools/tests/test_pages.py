@@ -13,10 +13,10 @@ from test_map import LINK, fault_of, read
 PAGES = ("FORMATS", "USING", "WHY", "INSTALLING", "IMPORTING", "CONTRIBUTING", "DECISIONS", "BENCHMARKS", "GLOSSARY",
          "SERVICE", "REGISTRY", "REGISTRY_COMMAND", "SCALE", "TESTING", "ARCHITECTURE", "SOLVER", "MAP", "THEOREMS")
 CLIENTS = ("clients/README", "clients/rust/README", "clients/c/README")
-ALL = ("./README", *PAGES, *CLIENTS)
+ALL = ("./README", "./CHANGELOG", *PAGES, *CLIENTS, "rows/README")
 # Those that don't yet; a new page belongs to the first list.
 TO_COME = ()
-MOST_WORDS = 40
+MOST_WORDS = 30
 MOST_RECORD = 120
 MOST_GLOSSARY = 60
 # What a page says in place of each of these, which were coined here or say something else elsewhere.
@@ -25,11 +25,23 @@ COINED = {
     "obey(?:s|ed)?": "to run a command", "want of memory": "no memory", "(?:go|goes|gone|going|went) on with": "to continue",
     "gets? on": "to make progress", "worth it": "when it pays", "(?:says?|tells?) nothing of": "to be silent about", "who has no": "without",
     "(?:is|are) at fault": "faulty", "by (?:its|their|a) numbers? (?:refused|is refused)": "an error code", "amid": "during",
+    "anew": "again", "whoever": "anyone who", "as ever": "as before", "by turns": "in turn", "comes? of": "to come from",
 }
+# What the crates had and have no more, each by the name that it has now. No page or comment has one between marks of code.
+RENAMED = {
+    "Ledger": "Backend, Trail", "IsLedger": "IsTrail", "Served": "SessionState", "Intake": "RequestReader", "Heat": "Activity", "Spent": "Inactive",
+    "Saying": "Literal", "Wants": "RequirementIndex", "Want": "IndexedRequirement", "Twice": "SharedPair", "Desk": "WorkerState", "Spot": "SeatStamp",
+    "Obeyed": "CommandOutcome", "obey": "run_command", "told_of": "reply_body_of", "put_told": "put_reply", "act": "propagate_incompatibility",
+    "Recovered": "RecoveredSession", "derivations::LINE_LIMIT": "DERIVATION_LINE_LIMIT", "derivations::Known": "CausedIncompatibility",
+    "derivations::Store": "store::Store", "derivations::cut": "extraction::extract_derivation", "derivations::offers": "extraction::offers",
+}
+# Words of the glossary that say something else, or nothing, to who has not read it.
+OWN = {"row", "cell", "seat", "replica", "stamp", "front", "walk", "preferred selection", "newest selection", "ordinal", "pivot", "premise", "learnt incompatibility",
+       "kept journal", "law", "kit", "gate", "wrong body", "probe"}
 # as words, and not in the name of a file
 WRONG = re.compile("|".join(rf"\b(?:{word})\b(?!\.\w)" for word in COINED), re.I)
 # Names of other programs, of the system and of languages, which no file of the sources has to have.
-FOREIGN = {"env_logger", "posix_fadvise"}
+FOREIGN = {"env_logger", "posix_fadvise", "proxy_half_close", "M_MMAP_THRESHOLD", "M_TRIM_THRESHOLD"}
 # What stands below a prefix once it is installed, of which `test_install.py` knows.
 INSTALLED = ("bin/", "include/", "lib/", "share/")
 SOURCES = (".rt", ".antt", ".py", ".rs", ".c", ".h", ".rows", ".json", ".txt", ".edit", ".toml", ".md", ".svg", "")
@@ -59,11 +71,18 @@ def files_of(texts):
     return {"/".join(path.parts[at:]) for path in [*texts, *top] for at in range(len(path.parts))}
 
 
+def said_by_code(path, text):
+    """A source of the crates without its comments, or any other one."""
+    comment = {".rt": r"//.*", ".antt": r"(?m)(?:^|(?<=\s))--(?=\s|$).*"}.get(path.suffix)
+    return re.sub(comment, "", text) if comment else text
+
+
 class Known:
-    """What the sources have: their files, and which words stand in each."""
+    """What the sources have: their files, and which words stand in the code of each."""
 
     def __init__(self, texts):
-        self.texts, self.files = texts, files_of(texts)
+        self.files = files_of(texts)
+        texts = {path: said_by_code(path, text) for path, text in texts.items() if path.name != Path(__file__).name}
         self.words = {path: {*re.findall(r"\w+(?:-\w+)+|\w+", text), *re.findall(r"\w+", text)} for path, text in texts.items()}
         self.all = set().union(*self.words.values())
 
@@ -89,6 +108,10 @@ def unknown(text, known):
     return [it for it in dict.fromkeys(prose.names(text)) if not known.has(it)]
 
 
+def renamed(text):
+    return [f"{code} is {RENAMED[name]}" for code in prose.CODE.findall(text) for name in {code.removesuffix("()"), code.rpartition("::")[2]} if name in RENAMED]
+
+
 def lost(text, folder, anchors):
     """The links of a page that lead nowhere: to no file, or to no title of one of these pages."""
     for target in prose.links(text):
@@ -103,9 +126,23 @@ def lost(text, folder, anchors):
 
 
 def undeclared(text):
-    """What is wrong with the links from names to the files of crates that declare them."""
+    """What is wrong with the links from names to the files of crates that declare them, and from the names of files."""
     found = [fault_of(link, "crates/.*") for link in LINK.findall(text) if link[1].startswith("../crates/")]
-    return [fault for fault in found if fault]
+    misnamed = [f"{name} is {target}" for name, target in prose.LINK.findall(text) if prose.FILE.fullmatch(name) and not f"/{target}".partition("#")[0].endswith(f"/{name}")]
+    return [fault for fault in found if fault] + misnamed
+
+
+def entries(text):
+    """The lines of the glossary: a word, what it means, and where it is defined."""
+    return [[cell.strip() for cell in line.strip("|").split(" | ")] for line in text.splitlines() if re.match(r"\| [a-z]", line)]
+
+
+def untold(text, words):
+    """Which of these words a page uses before it leads to the glossary, other than in a title or a link to where the word is told."""
+    plain = prose.CODE.sub("", "\n".join(line for line in prose.blocks_left_out(text) if not line.startswith("#")))
+    told = re.search(r"\]\([^)]*\bGLOSSARY\.md", plain)
+    before = prose.LINK.sub("", plain[:plain.rfind("[", 0, told.start()) if told else len(plain)])
+    return [word for word in words if re.search(rf"\b{word}s?\b", before, re.I)]
 
 
 def records(text):
@@ -140,6 +177,9 @@ class Pages(unittest.TestCase):
     def test_words_are_the_field_s(self):
         self.each(coined)
 
+    def test_no_name_is_an_old_one(self):
+        self.each(renamed)
+
     def test_each_name_is_in_the_sources(self):
         self.each(lambda text: unknown(text, self.known))
         self.assertGreater(sum(len({*prose.names(page(name))}) for name in PAGES), 150)
@@ -158,7 +198,7 @@ class Pages(unittest.TestCase):
 
     def test_readme_leads_to_each(self):
         linked = prose.links(read(os.path.join(TOP, "README.md")))
-        self.assertEqual([name for name in (*PAGES, CLIENTS[0]) if path_of(name) not in linked], [])
+        self.assertEqual([name for name in (*PAGES, CLIENTS[0], "rows/README", "./CHANGELOG") if path_of(name) not in linked], [])
         self.assertLessEqual({os.path.relpath(path_of(name), "clients") for name in CLIENTS[1:]}, {*prose.links(page(CLIENTS[0]))})
 
     def test_each_decision_is_dated_and_short(self):
@@ -167,7 +207,7 @@ class Pages(unittest.TestCase):
         self.assertEqual([fault for record in found for fault in record_faults(*record)], [])
 
     def test_the_glossary_is_short_and_says_where(self):
-        rows = [[cell.strip() for cell in line.strip("|").split(" | ")] for line in page("GLOSSARY").splitlines() if re.match(r"\| [a-z]", line)]
+        rows = entries(page("GLOSSARY"))
         self.assertGreater(len(rows), 30)
         self.assertLessEqual(len(rows), MOST_GLOSSARY)
         self.assertEqual(len(rows), len({word for word, *_ in rows}))
@@ -175,6 +215,14 @@ class Pages(unittest.TestCase):
             with self.subTest(word):
                 self.assertEqual(len(list(prose.sentences(meaning))), 1)
                 self.assertTrue(prose.links(where))
+
+
+    def test_words_are_told_before_they_are_used(self):
+        homes = {word: prose.links(where) for word, _, where in entries(page("GLOSSARY")) if word in OWN}
+        self.assertEqual({*homes}, OWN)
+        for name in {*ALL} - {"GLOSSARY"}:
+            with self.subTest(name):
+                self.assertEqual(untold(page(name), [word for word, at in homes.items() if name not in " ".join(at)]), [])
 
 
 class WrongPages(unittest.TestCase):
@@ -200,8 +248,24 @@ class WrongPages(unittest.TestCase):
         for text in ("`read_request` `wire::read_request` `Seat::enter` `MOST_X` `limits.py` `tools/limits.py` `request.rt`", "plain `needs` words",
                      "    `Nowhere_1`", "`README.md`", "`read_request()`", "`--with-it`", "`share/x.json`"):
             self.assertEqual(unknown(text, known), [], text)
+        commented = Known({Path("a.rt"): "fn b_c() // `d_e` as\nlet f_g = 1;", Path("h.antt"): "i-j k_l = 1 -- `m_n`\n-- `o_p`\nq_r--s_t = 2", Path("tools/tests/test_pages.py"): "u_v"})
+        self.assertEqual(unknown("`b_c` `d_e` `f_g` `k_l` `m_n` `o_p` `q_r` `s_t` `u_v`", commented), ["d_e", "m_n", "o_p", "u_v"])
         for text in ("`read_requests`", "`Seat::leave`", "`Row::enter`", "`registry::read_request`", "`limit.py`", "`tool/limits.py`", "`MostX`", "`--without`"):
             self.assertEqual(len(unknown(text, known)), 1, text)
+
+    def test_an_old_name(self):
+        for text in ("`Backend` `LINE_LIMIT` `acts` `Known`", "The wants are told.", "`store::Store`", "the act", "`lines::LINE_LIMIT`"):
+            self.assertEqual(renamed(text), [], text)
+        for text in ("`Ledger`", "a `answers::Ledger` is", "`obey()`", "| a | `derivations::Store` |", "    `Heat`", "[`Wants`](a.rt)"):
+            self.assertEqual(len(renamed(text)), 1, text)
+
+    def test_a_word_that_is_used_before_it_is_told(self):
+        words = ["row", "kept journal"]
+        for text in ("[words](GLOSSARY.md). A row.", "A [row](GLOSSARY.md#journals) and a row.", "A [kept journal](FORMATS.md#kept).", "`row`, rowing, arrow",
+                     "    a row\n", "# Rows\n", "nothing", "Of [rows](../docs/GLOSSARY.md)"):
+            self.assertEqual(untold(text, words), [], text)
+        for text in ("A row. [words](GLOSSARY.md)", "Rows.", "| a | the kept journals |", "A [row](GLOSSARYS.md) or row"):
+            self.assertEqual(len(untold(text, words)), 1, text)
 
     def test_a_link_that_leads_nowhere(self):
         anchors = {"": prose.anchors("# Own title\n"), "docs/FORMATS.md": prose.anchors("## The journal's file\n")}
@@ -213,7 +277,8 @@ class WrongPages(unittest.TestCase):
     def test_a_name_that_its_link_does_not_lead_to(self):
         row = "../crates/chronicle/src/row.rt"
         self.assertEqual(undeclared(f"[`Row::open`]({row}) [`row.rt`]({row}) [`x`](../tools/x.py)"), [])
-        for wrong in (f"[`Row::close`]({row})", f"[`Seat`]({row})", f"[`seat.rt`]({row})", "[`Row`](../crates/chronicle/src/rows.rt)"):
+        self.assertEqual(undeclared(f"[row.rt]({row}) [src/row.rt]({row}) [doc/a.md](https://b.org/c/doc/a.md) [x.md](x.md#y) [the row]({row})"), [])
+        for wrong in (f"[`Row::close`]({row})", f"[`Seat`]({row})", f"[`seat.rt`]({row})", "[`Row`](../crates/chronicle/src/rows.rt)", f"[seat.rt]({row})", "[a/x.md](b/x.md)"):
             self.assertEqual(len(undeclared(wrong)), 1, wrong)
 
     def test_a_record_that_lacks_something(self):

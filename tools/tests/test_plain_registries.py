@@ -227,12 +227,12 @@ class Stores(unittest.TestCase):
         self.assertEqual(self.store.versions_of("zed"), [])
 
     def test_what_stands(self):
-        for premise_, stands in ((premise(1, [0, 1], 2, "^1.0.0", [0]), True), (premise(1, [1], 2, "^1.0.0", [0, 5]), True), (premise(1, [2], 3, "*", []), True),
+        for cause, stands in ((premise(1, [0, 1], 2, "^1.0.0", [0]), True), (premise(1, [1], 2, "^1.0.0", [0, 5]), True), (premise(1, [2], 3, "*", []), True),
                                  (premise(1, [0, 2], 2, "^1.0.0", [0]), False), (premise(1, [0], 2, "^1.0.0", []), False), (premise(1, [0], 2, "^1.0.0", [1]), False),
                                  (premise(1, [0], 2, "*", [0, 1]), False), (premise(1, [3], 2, "^1.0.0", [0]), False), (premise(4, [0], 2, "^1.0.0", [0]), False),
                                  (premise(0, [0], 2, "^1.0.0", [0]), False), (premise(1, [0], 4, "^1.0.0", [0]), False), (premise(1, [0], 0, "^1.0.0", [0]), False),
                                  (premise(2, [0], 1, "^1.0.0", [0]), False), (premise(1, [0], 3, "^1.0.0", [0]), False)):
-            self.assertEqual(self.store.check(line(premise_)), None if stands else {"refused": 14}, premise_)
+            self.assertEqual(self.store.check(line(cause)), None if stands else {"refused": 14}, cause)
         # what the last package needs of the first
         self.store.enter(publish("c", "1.0.0", "a ^1.0.0"))
         for versions, within, stands in (([0], [0, 1], True), ([0], [0], False), ([1], [0, 1], False)):

@@ -1,4 +1,4 @@
-"""Each public call that takes memory, with each of its requests refused in turn: it then answers want of memory and leaves
+"""Each public call that takes memory, with each of its requests refused in turn: it then answers lack of memory and leaves
 all as it was, or it answers what it answers otherwise.
 
 The calls stand in `rows/refused`. A table is named by the public calls that it is of. Its row with the member `refuse` is the
@@ -103,7 +103,7 @@ class RefusedCalls(unittest.TestCase):
         cls.library = built(cls, REFUSE_MEMORY)
 
     def refuse_each(self, session, table):
-        """Refuses each request of the table's call in turn; answers how many answered want of memory."""
+        """Refuses each request of the table's call in turn; answers how many answered lack of memory."""
         rows = [json.loads(line) for line in table.lines()]
         at = [number for number, row in enumerate(rows) if row.pop("refuse", False)]
         self.assertEqual(len(at), 1, f"{table.title}: one row is the call")
@@ -134,7 +134,7 @@ class RefusedCalls(unittest.TestCase):
         self.assertGreater(tried_again, 0, title)
 
     def judge(self, table, at, told, ample, before):
-        """Whether the call, which was refused a request, answered want of memory; fails where it may not leave this."""
+        """Whether the call, which was refused a request, answered lack of memory; fails where it may not leave this."""
         number = told.number
         if not told.is_whole:
             # the row could not be read, so nothing more was
@@ -167,6 +167,15 @@ class RefusedCalls(unittest.TestCase):
             count += 1
         self.assertGreater(count, 90)
 
+    def test_the_row_of_another_call_does_not_make_it(self):
+        calls, rows = RowCalls(sources_below(TOP)), [*refused_rows()]
+        made = {(library, json.dumps(row)): {"::".join(filter(None, (it.crate, it.owner, it.name))) for it in calls.called(library, row)} for library, _, row in rows}
+        pairs = [title.split(", ")[0] in made[library, json.dumps(other)] for library, title, row in rows for where, _, other in rows
+                 if where == library and (row["of"], row["call"]) != (other["of"], other["call"])]
+        # some make it too: they read the same names, sets and requirements for a call of their own
+        self.assertGreater(len(pairs), 4_000)
+        self.assertLess(sum(pairs), len(pairs) * 0.03)
+
     def test_a_call_that_another_row_makes_is_none_of_a_row(self):
         calls = RowCalls(sources_below(TOP))
         for of, call, name, more in (("term", "and", "terms::Term::or", {}), ("set", "copy", "terms::Term::copy", {"a": [1]}),
@@ -193,7 +202,7 @@ class RefusedCalls(unittest.TestCase):
                 self.assertGreater(self.refuse_each(session, table), 0, f"{table.title}: no request was refused")
 
     def test_each_request_of_the_loading_of_a_journal_at_fault(self):
-        # want of memory is never told as a fault, and a fault never as want of memory
+        # lack of memory is never told as a fault, and a fault never as lack of memory
         session, count, refused = Session(probe("texts"), self.library), 0, 0
         for row in journals_at_fault():
             table, = generated([("journals::load_journal", [{**json.loads(row.asked), "refuse": True, "gives": row.wanted}])])
@@ -201,7 +210,7 @@ class RefusedCalls(unittest.TestCase):
                 refused += self.refuse_each(session, table)
                 count += 1
         self.assertTrue(count > 10 and refused > 100, (count, refused))
-        print(f"({count} journals, {refused} times answered want of memory) ", end="")
+        print(f"({count} journals, {refused} times answered lack of memory) ", end="")
 
     def test_each_request_of_each_call(self):
         count = refused = 0
@@ -212,7 +221,7 @@ class RefusedCalls(unittest.TestCase):
                     short = self.refuse_each(session, table)
                     self.assertGreater(short, 0, f"{table.title}: no request was refused")
                     count, refused = count + 1, refused + short
-        print(f"({count} calls, {refused} times answered want of memory) ", end="")
+        print(f"({count} calls, {refused} times answered lack of memory) ", end="")
 
 
 if __name__ == "__main__":

@@ -174,7 +174,8 @@ class Nearest(unittest.TestCase):
                 ("publsh", ["publish", "resolve"], "publish"), ("lsit", ["list"], "list"), ("serde_jsn", ["serde", "serde_json"], "serde_json"),
                 ("serde-json", ["serde_json", "serde"], "serde_json"), ("Rand", ["rand"], "rand"), ("RESOLVE", ["resolve"], "resolve"),
                 ("ab", ["ba", "cd"], "ba"), ("a", ["b"], "b"), ("ab", ["cd"], None), ("tokio", ["toki", "tokyo", "tokoi"], "toki"),
-                ("abcdef", ["badcfe"], None), ("abcdef", ["bacdfe"], "bacdfe"), ("", ["a"], "a"), ("", ["ab"], None), ("yank", [], None)):
+                ("abcdef", ["badcfe"], None), ("abcdef", ["bacdfe"], "bacdfe"), ("", ["a"], "a"), ("", ["ab"], None), ("yank", [], None),
+                ("abcdefghijkl", ["abcdefghijxy"], "abcdefghijxy"), ("abcdefghijkl", ["abcdefghixyz"], None)):
             with self.subTest(word, words=words):
                 self.assertEqual(nearest(word, words), wanted)
 

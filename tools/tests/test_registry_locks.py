@@ -12,7 +12,7 @@ from registry_folder import Folder
 
 sys.path.insert(0, os.path.join(TOP, "tools"))
 from limits import MOST_LOCK_LINES
-from registry.locks import Unread, changes, lock_text, read_lock
+from registry.locks import Unread, changes, coloured, counted, judged, lock_text, read_lock
 
 TABLE = os.path.join(TOP, "rows", "texts", "locks.rows")
 # two locks, and what changed
@@ -62,13 +62,15 @@ class Lists(unittest.TestCase):
         self.assertEqual(str(told.exception).split(" ")[0], str(number), text[:100])
 
     def test_what_else_is_refused(self):
-        for text in (b"\xff", b'[["a","\\ud800"]]', b"[" * 100_000, b"[[1e999,1]]", b"null", b'[["a"]]', b'[{"a":"1.0.0"}]', b"[] x"):
+        for text in (b"\xff", b'[["a","\\ud800"]]', b'[["\\udfff","1.0.0"]]', b"[" * 100_000, b"[[1e999,1]]", b"null", b'[["a"]]', b'[{"a":"1.0.0"}]', b"[] x"):
             self.refused(text, 19)
         many = [[f"a{number}", "1.0.0"] for number in range(MOST_LOCK_LINES + 1)]
         text = json.dumps(many, separators=(",", ":")).encode()
         # so many lines are longer than a lock may be: they are refused for that
         self.assertGreater(len(text), 1_048_576)
         self.refused(text, 19)
+        self.assertRaisesRegex(Unread, rf"\A6 TooManyDependencies: {len(many)} lines\Z", judged, many)
+        self.assertEqual(len(judged(many[1:])), MOST_LOCK_LINES)
 
     def test_what_is_written(self):
         # the entries of the program's own lists, in its order, one a line
@@ -86,6 +88,12 @@ class Lists(unittest.TestCase):
     def test_what_changed(self):
         for old, new, told in CHANGED:
             self.assertEqual(changes(versions(old), versions(new)), told)
+
+    def test_how_it_is_told(self):
+        lines = CHANGED[-1][2]
+        self.assertEqual((counted(lines), counted(lines[-2:]), counted([])), ("1 came, 1 went, 8 changed", "1 came, 1 went, 0 changed", "0 came, 0 went, 0 changed"))
+        styled = mock.Mock(style=lambda text, name: f"{name} {text[0]}")
+        self.assertEqual(coloured(lines[-3:], styled), ["yellow ~", "red -", "green +"])
 
 
 class Kept(Folder):
@@ -184,6 +192,7 @@ class Kept(Folder):
         for words, told in ((["diff", good, bad], 'bad is no lock file: 2 BadVersion: "1.0" is no version'), (["diff", bad, good], "2 BadVersion"),
                             (["resolve", "a", "--lock", bad], "2 BadVersion"), (["diff", good, self.path("nowhere")], "nowhere: there is no such lock file"),
                             (["diff", good, self.path("x1", '[["A","1.0.0"]]')], "1 BadName"), (["diff", good, self.path("x2", '[["a",1]]')], "19 BadLine"),
+                            (["diff", good, self.path("x3", '[["a","1.0.0"],["a","2.0.0"]]')], '4 RepeatedDependency: "a" comes twice'),
                             (["diff", good, self.folder], "Is a directory"), (["tree", "a", "--lock", bad], "2 BadVersion"),
                             (["resolve", "a", "--write", bad], "2 BadVersion"), (["outdated", "--lock", bad], "2 BadVersion"), (["upgrade", "--lock", bad], "2 BadVersion")):
             status, printed, fault = self.registry(*words)

@@ -1,4 +1,6 @@
 """What `registry page` answers by HTTP: which requests are refused, and of a registry worked by hand each answer."""
+import contextlib
+import io
 import json
 import os
 import re
@@ -6,11 +8,17 @@ import socket
 import sys
 import unittest
 from html.parser import HTMLParser
+from types import SimpleNamespace
+from unittest import mock
 
 from called import registry
 from page_served import WORKED, Served
 from program import TOP
-from registry.page.server import FILES
+from registry.failures import Failed, Refused
+from registry.page import server
+from registry.page.answers import NotThere
+from registry.page.journal import Unanswered
+from registry.page.server import FILES, Handler, Server
 from test_registry_why import BRANCHING
 
 sys.path.append(os.path.join(TOP, "bench"))
@@ -68,11 +76,14 @@ class Requests(Served):
             _, headers, _ = self.ask(path, **more)
             policy = dict(part.strip().split(" ", 1) for part in headers["Content-Security-Policy"].split(";"))
             self.assertEqual((policy["default-src"], policy["script-src"], policy["style-src"]), ("'none'", "'self'", "'self'"), path)
+            self.assertEqual((policy["img-src"], policy["connect-src"]), ("'self'", "'self'"))
             self.assertEqual((policy["frame-ancestors"], policy["base-uri"], policy["form-action"]), ("'none'",) * 3)
             self.assertEqual((policy["require-trusted-types-for"], policy["trusted-types"]), ("'script'", "'none'"))
             self.assertFalse({"Access-Control-Allow-Origin", "Set-Cookie"} & set(headers))
             self.assertEqual((headers["X-Content-Type-Options"], headers["Cross-Origin-Resource-Policy"], headers["Cache-Control"]),
                              ("nosniff", "same-origin", "no-store"))
+            self.assertEqual((headers["X-Frame-Options"], headers["Referrer-Policy"], headers["Cross-Origin-Opener-Policy"]), ("DENY", "no-referrer", "same-origin"))
+            self.assertEqual(headers["Server"].strip(), "registry")  # and no version of Python
 
     def test_files(self):
         kinds = {"html": "text/html; charset=utf-8", "css": "text/css; charset=utf-8", "js": "text/javascript; charset=utf-8", "svg": "image/svg+xml"}
@@ -107,6 +118,47 @@ class Requests(Served):
                 text = file.read().replace("http://www.w3.org/2000/svg", "")
                 self.assertNotRegex(text, r"https?:|innerHTML|outerHTML|insertAdjacentHTML|document\.write|\beval\b|@import", name)
                 self.assertLessEqual(text.count("\n"), 300, name)
+
+
+class Parts(unittest.TestCase):
+    def test_the_status_of_what_goes_wrong(self):
+        handler, given = Handler.__new__(Handler), []
+        handler.server = SimpleNamespace(journal="journal")
+        for fault, status in ((Refused("no"), 400), (NotThere("no"), 404), (Unanswered("no"), 503), (Failed("no"), 500), (ValueError("no"), 400), (None, 200)):
+            def answer(*asked):
+                given.append(asked)
+                if fault:
+                    raise fault
+                return {"é": [1, 2]}
+            self.assertEqual(handler.answered(answer, "a=1&a=2&b="), (status, b'{"error":"no"}' if fault else b'{"\\u00e9":[1,2]}', "application/json"))
+        self.assertEqual(given, [("journal", {"a": ["1", "2"]})] * 6)
+        fields = [handler.answered(lambda _, found: len(found), "&".join(f"a{number}=1" for number in range(count))) for count in (100, 101)]
+        self.assertEqual([status for status, *_ in fields], [200, 400])
+
+    def test_hosts_and_ports(self):
+        taken = []
+
+        def begun(made, address, handler):
+            taken.append((address, handler))
+            made.server_address = address
+        with mock.patch.object(server.ThreadingHTTPServer, "__init__", begun):
+            self.assertEqual(Server(None, 80).hosts, {"127.0.0.1:80", "localhost:80", "127.0.0.1", "localhost"})
+            made = Server(None, 8000)
+        self.assertEqual((made.hosts, made.address, made.port), ({"127.0.0.1:8000", "localhost:8000"}, "http://127.0.0.1:8000/", 8000))
+        self.assertEqual((taken, made.daemon_threads, made.allow_reuse_address), ([(("127.0.0.1", 80), Handler), (("127.0.0.1", 8000), Handler)], True, True))
+        with mock.patch.object(server.ThreadingHTTPServer, "__init__", side_effect=OSError(98, "Address already in use")):
+            self.assertRaisesRegex(Failed, r"\Aport 7 can't be taken: Address already in use; without --port one is picked that is free\Z", Server, None, 7)
+
+    def test_faults_that_are_told(self):
+        made = Server.__new__(Server)
+        for fault, is_told in ((BrokenPipeError(), False), (ConnectionResetError(), False), (TimeoutError(), False), (ZeroDivisionError(), True)):
+            with contextlib.redirect_stderr(io.StringIO()) as said:
+                try:
+                    raise fault
+                except type(fault):
+                    made.handle_error(None, ("127.0.0.1", 1))
+            self.assertEqual(type(fault).__name__ in said.getvalue(), is_told)
+            self.assertEqual(bool(said.getvalue()), is_told)
 
 
 class Answers(Served):

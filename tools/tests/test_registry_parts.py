@@ -4,6 +4,7 @@ import contextlib
 import io
 import json
 import os
+import signal
 import sys
 import tempfile
 import unittest
@@ -14,8 +15,8 @@ from program import TOP, journal_line, publish, yank
 from test_journals import CHAIN, journal, learn
 
 sys.path.insert(0, os.path.join(TOP, "tools"))
-from registry import files, journal_faults, journal_file, near_limits, needs, output, packages, requests
-from registry.failures import Failed, Refused, Usage, told
+from registry import bar, files, journal_faults, journal_file, near_limits, needs, output, packages, requests
+from registry.failures import DONE, INTERRUPTED, NO_READER, Failed, Failure, Refused, Usage, told
 from registry.journal_file import CUT, FAULTY, WHOLE, Journal
 
 
@@ -52,20 +53,41 @@ class Needs(unittest.TestCase):
 
     def test_files(self):
         path, link = os.path.join(self.folder, "a"), os.path.join(self.folder, "link")
-        before = os.umask(0o027)
+        before = os.umask(0o026)
         self.addCleanup(os.umask, before)
         files.write_file(path, "one")
-        self.assertEqual((os.stat(path).st_mode & 0o777, files.umask()), (0o640, 0o027))
+        self.assertEqual((os.stat(path).st_mode & 0o777, files.umask()), (0o640, 0o026))
         os.chmod(path, 0o604)
         os.symlink(path, link)
         files.write_file(link, "two")
         self.assertEqual((files.read_file(path), os.stat(path).st_mode & 0o777, os.path.islink(link)), (b"two", 0o604, True))
         files.write_file("/dev/null", "x")
-        with mock.patch.object(os, "fsync", side_effect=OSError(28, "No space left on device")):
-            self.assertRaisesRegex(Failed, rf"\A{path} is as it was: No space left on device\Z", files.write_file, path, "three")
+        for place, call in ((os, "fsync"), (tempfile, "mkstemp"), (os, "replace")):
+            with mock.patch.object(place, call, side_effect=OSError(28, "No space left on device")):
+                self.assertRaisesRegex(Failed, rf"\A{path} is as it was: No space left on device\Z", files.write_file, path, "three")
         self.assertEqual((sorted(os.listdir(self.folder)), files.read_file(path)), (["a", "link"], b"two"))
         self.assertRaisesRegex(Failed, rf"\A{path}/b: Not a directory\Z", files.read_file, path + "/b")
         self.assertEqual([told(OSError("x")), told(OSError(2, "No such file", "p")), told(OSError(2, "No such file"))], ["x", "p: No such file", "No such file"])
+
+    def test_what_is_written_is_on_the_disk(self):
+        path, pipe, synced, before = os.path.join(self.folder, "a"), os.path.join(self.folder, "pipe"), [], os.listdir("/proc/self/fd")
+
+        def fsync(number):
+            name = os.readlink(f"/proc/self/fd/{number}")
+            synced.append(name if os.path.isdir(name) else (os.path.dirname(name), os.path.exists(path), os.fstat(number).st_size))
+        with mock.patch.object(os, "fsync", fsync):
+            files.write_file(path, "one")
+        self.assertEqual((synced, os.listdir("/proc/self/fd")), ([(self.folder, False, 3), self.folder], before))
+        os.mkfifo(pipe)
+        reader = os.open(pipe, os.O_RDONLY | os.O_NONBLOCK)
+        self.addCleanup(os.close, reader)
+        files.write_file(pipe, "two")
+        self.assertEqual(os.read(reader, 10), b"two")
+
+    def test_statuses(self):
+        # those of docs/REGISTRY_COMMAND.md; a shell tells of a signal by 128 and its number
+        self.assertEqual([kind("").status for kind in (Refused, Usage, Failed, Failure)], [1, 2, 3, 3])
+        self.assertEqual((DONE, INTERRUPTED, NO_READER), (0, 128 + signal.SIGINT, 128 + signal.SIGPIPE))
 
     def test_what_a_terminal_is_shown(self):
         class Terminal(io.StringIO):
@@ -88,6 +110,39 @@ class Needs(unittest.TestCase):
         self.assertEqual(out.getvalue(), '{"a":["é",1]}\nx\ny\n')
 
 
+class Progress(unittest.TestCase):
+    def shown(self, do, is_terminal=True):
+        with mock.patch.object(sys, "stderr", io.StringIO()) as said:
+            self.seen = []
+            said.isatty, said.flush = lambda: is_terminal, lambda: self.seen.append(said.getvalue())
+            do()
+            self.assertEqual(self.seen[-1:], [said.getvalue()] * bool(is_terminal and said.getvalue()))  # it is seen at once
+            return said.getvalue()
+
+    def test_a_bar(self):
+        # \r goes back to the beginning of the line, and ESC [ K of ECMA-48 erases it
+        def steps(whole, count):
+            made = bar.Bar("reading", whole)
+            for _ in range(count):
+                made.step()
+            made.end()
+        self.assertEqual(self.shown(lambda: steps(3, 3)), "\rreading [" + "#" * 10 + "." * 20 + "] 33%, 1 of 3\rreading [" + "#" * 20 + "." * 10 + "] 66%, 2 of 3\rreading [" + "#" * 30 + "] 100%, 3 of 3\r\x1b[K")
+        # a line for each percent
+        self.assertEqual([it.split()[-3:] for it in self.shown(lambda: steps(1000, 25)).split("\r")[1:-1]], [["1", "of", "1000"], ["10", "of", "1000"], ["20", "of", "1000"]])
+        self.assertEqual((self.shown(lambda: steps(0, 0)), self.shown(lambda: steps(3, 3), False)), ("", ""))
+        self.assertEqual(self.shown(lambda: steps(1, 1)), "\rreading [" + "#" * 30 + "] 100%, 1 of 1\r\x1b[K")
+
+    def test_what_is_being_done(self):
+        def reading(fault=None):
+            with bar.busy("reading"):
+                print("x", end="", file=sys.stderr)
+                if fault:
+                    raise fault
+        self.assertEqual((self.shown(reading), self.seen[0]), ("readingx\r\x1b[K", "reading"))
+        self.assertEqual(self.shown(reading, False), "x")
+        self.assertEqual(self.shown(lambda: self.assertRaises(ZeroDivisionError, reading, ZeroDivisionError())), "readingx\r\x1b[K")
+
+
 class Limits(unittest.TestCase):
     def warned(self, *lines, **limits):
         with contextlib.ExitStack() as patched:
@@ -108,6 +163,9 @@ class Limits(unittest.TestCase):
         self.assertEqual((self.warned(*some, MOST_PACKAGES=2), self.warned(*some, MOST_PACKAGES=3)), (["j names 2 of 2 packages"], []))
         self.assertEqual((self.warned(*some, MOST_VERSIONS=10), self.warned(*some, MOST_VERSIONS=11)), (["j has 9 of 10 versions of a"], []))
         self.assertEqual(self.warned(*some, MOST_COMMANDS=9, SHORTEST=10_000), [])
+        many = [publish("a", f"{number}.0.0", [f"p{number} *"]) for number in range(1000)]
+        self.assertEqual(self.warned(*many, MOST_COMMANDS=1111, MOST_PACKAGES=1112, MOST_VERSIONS=1111),
+                         ["j has 1,000 of 1,111 commands", "j names 1,001 of 1,112 packages", "j has 1,000 of 1,111 versions of a"])
         with mock.patch.object(near_limits, "MOST_COMMANDS", 10), mock.patch.object(near_limits, "SHORTEST", 0), contextlib.redirect_stderr(io.StringIO()) as err:
             near_limits.warn("j", journal(some))
             near_limits.warn("/none/of/this")

@@ -1,9 +1,13 @@
 """`registry resolve` and `registry tree`: selections and refusals worked by hand, and trees as `cargo tree` shows them."""
 import json
+import sys
 import unittest
+from types import SimpleNamespace
+from unittest import mock
 
 from program import publish, yank
-from registry_folder import Folder, pigeons
+from registry_folder import Folder, pigeons  # it finds the package
+from registry.commands import tree
 
 LINES = [publish("app", "1.0.0", ["web ^1", "log ^1"]), publish("web", "1.2.0", ["log ^1", "json ^1"]), publish("json", "1.0.0", ["num ~1.0"]),
          publish("num", "1.0.7"), publish("num", "1.1.0"), publish("log", "1.0.0"), publish("log", "2.0.0")]
@@ -101,6 +105,13 @@ app 1.0.0
     def test_packages_that_need_each_other(self):
         self.hold(publish("a", "1.0.0", ["b *"]), publish("b", "1.0.0", ["a *", "c *"]), publish("c", "1.0.0"))
         self.assertEqual(self.registry("tree", "a"), (0, "a 1.0.0\n└── b 1.0.0\n    ├── a 1.0.0 (*)\n    └── c 1.0.0\n", ""))
+
+    def test_letters_that_standard_output_has(self):
+        below, out = {"a": ["b", "c"], "b": ["d"], "c": ["e"], "d": [], "e": []}, SimpleNamespace(style=lambda text, _: text)
+        plain = ["a", "|-- b", "|   `-- d", "`-- c", "    `-- e"]
+        for encoding, wanted in (("utf-8", ["a", "├── b", "│   └── d", "└── c", "    └── e"]), ("ascii", plain), ("latin-1", plain), (None, plain), ("none", plain)):
+            with mock.patch.object(sys, "stdout", SimpleNamespace(encoding=encoding)):
+                self.assertEqual([*tree.drawn(["a"], below, str, None, out)], wanted, encoding)
 
     def test_a_long_chain(self):
         self.hold(*(publish(f"p{number}", "1.0.0", [f"p{number + 1} *"]) for number in range(2999)), publish("p2999", "1.0.0"))

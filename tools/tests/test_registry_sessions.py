@@ -1,146 +1,22 @@
-"""The sessions of the command registry in one process: with a service that breaks off, over a journal that is written meanwhile, and with
-programs that end. The programs are scripts."""
+"""The sessions of the command registry in one process: over a journal that is written meanwhile, and with programs that end. The programs
+are scripts."""
 import contextlib
 import io
 import json
 import os
-import socket
 import sys
 import tempfile
-import threading
 import unittest
 from types import SimpleNamespace
 from unittest import mock
 
-from program import LIST, TOP, in_time, publish, resolve
+from program import LIST, TOP, in_time, publish
 from test_journals import CHAIN, journal, learn
 
 sys.path.insert(0, os.path.join(TOP, "tools"))
-from registry import connected, session
+from registry import session
 from registry.commands import journal_renew, journal_repair
-from registry.failures import Failed, Refused, Usage
-
-A1, B1, C1 = (json.loads(publish(name, "1.0.0")) for name in "abc")
-OK, EMPTY = '{"ok":true,"revision":%d}', '{"revision":%d,"selected":[]}'
-
-
-class Connections:
-    """Services in turn, each of which answers these lines and is gone; and what was asked of each."""
-
-    def __init__(self, *lives):
-        self.lives, self.asked = list(lives), []
-
-    def connect(self, _):
-        if not self.lives:
-            raise Failed("no service answers")
-        answers = self.lives.pop(0)
-        asked = []
-        self.asked.append(asked)
-        return SimpleNamespace(sendall=lambda data: asked.extend(data.decode().splitlines()), close=lambda: None,
-                               makefile=lambda mode: io.BytesIO("".join(line if line.endswith("!") else line + "\n" for line in answers).replace("!", "").encode()))
-
-
-class Connecting(unittest.TestCase):
-    def setUp(self):
-        self.now, self.slept = 0.0, []
-        clock = SimpleNamespace(monotonic=lambda: self.now, sleep=self.sleep)
-        self.enterContext(mock.patch.object(connected, "time", clock))
-
-    def sleep(self, seconds):
-        self.slept.append(seconds)
-        self.now += seconds
-
-    def connected(self, *lives, journals=()):
-        self.connections = Connections(*lives)
-        self.enterContext(mock.patch.object(connected, "connect", self.connections.connect))
-        self.journals = self.enterContext(mock.patch.object(connected, "journal_of_service", side_effect=list(journals)))
-        return connected.Connected("address")
-
-    def sent(self, life):
-        return [json.loads(line) for line in self.connections.asked[life]]
-
-    def test_requests_and_commands(self):
-        made = self.connected([EMPTY % 2, OK % 3, '{"error":7,"name":"AlreadyPublished","revision":3}'])
-        self.assertEqual(made.revision, 2)
-        self.assertEqual(made.ask(A1, A1), [{"ok": True, "revision": 3}, {"error": 7, "name": "AlreadyPublished", "revision": 3}])
-        self.assertEqual((self.sent(0), made.revision, self.slept), ([connected.EMPTY, A1, A1], 3, []))
-
-    def test_what_was_carried_out_before_it_broke_off_is_not_asked_again(self):
-        for broken in ([EMPTY % 0, OK % 1], [EMPTY % 0, OK % 1, '{"error":503,"name":"Unavailable","revision":1}'], [EMPTY % 0, OK % 1, '{"ok":true,"revision":2}!']):
-            made = self.connected(broken, [OK % 3], journals=[journal([json.dumps(A1), json.dumps(B1)])])
-            self.assertEqual(made.ask(A1, B1, C1), [{"ok": True, "revision": number} for number in (1, 2, 3)])
-            self.assertEqual((self.sent(1), made.revision), ([C1], 3))
-
-    def test_what_was_not_is(self):
-        request = json.loads(resolve("a *"))
-        made = self.connected([EMPTY % 0, OK % 1], [OK % 2, '{"revision":2,"selected":[["a","1.0.0"]]}'], journals=[journal([json.dumps(A1)])])
-        self.assertEqual(made.ask(A1, B1, request), [{"ok": True, "revision": 1}, {"ok": True, "revision": 2}, {"revision": 2, "selected": [["a", "1.0.0"]]}])
-        self.assertEqual((self.sent(1), self.slept), ([B1, request], [0.2]))
-
-    def test_commands_of_others_are_told_apart(self):
-        # another one's command stands before it, and its own behind that
-        made = self.connected([EMPTY % 0], [], journals=[journal([json.dumps(C1), json.dumps(A1)])])
-        self.assertEqual((made.ask(A1), made.revision), ([{"ok": True, "revision": 2}], 2))
-
-    def test_a_service_that_does_not_come_back(self):
-        made = self.connected([EMPTY % 0])
-        with self.assertRaises(Failed) as caught:
-            made.ask(A1)
-        self.assertEqual(str(caught.exception), "the service at address broke off before it had answered, and does not come back: a command that was under way may have been accepted")
-        self.assertTrue(10 < self.now < 10.5, self.now)
-
-    def test_one_whose_journal_is_not_told_yet(self):
-        made = self.connected([EMPTY % 0], [], [OK % 1], journals=[Failed("not now"), journal([])])
-        self.assertEqual(made.ask(A1), [{"ok": True, "revision": 1}])
-        self.assertEqual(len(self.connections.asked), 3)
-
-    def test_many_lines_are_sent_by_a_thread(self):
-        with mock.patch.object(connected, "SMALL", 10), mock.patch.object(connected.threading, "Thread", wraps=threading.Thread) as made:
-            self.connected([EMPTY % 0, OK % 1]).ask(A1)
-        self.assertEqual(made.call_count, 2)
-
-    def test_commands_and_the_end(self):
-        made = self.connected([EMPTY % 2], journals=[journal([*CHAIN[:2], learn(0)]), journal([])])
-        self.assertEqual(made.commands(), [json.loads(line) for line in CHAIN[:2]])
-        self.journals.assert_called_with("address", 2)
-        with mock.patch.object(connected.near_limits, "warn") as warn:
-            for fault in (None, Refused("no"), Failed("no")):
-                with contextlib.suppress(Refused, Failed), made:
-                    if fault:
-                        raise fault
-        self.assertEqual([call.args for call in warn.call_args_list], [("address", made.text)] * 2)
-
-
-class Addresses(unittest.TestCase):
-    def served(self, family, address, told):
-        listening = self.enterContext(socket.socket(family))
-        listening.bind(address)
-        listening.listen()
-        heard = []
-
-        def serve():
-            connection, _ = listening.accept()
-            with connection:
-                heard.append(connection.recv(1000))
-                connection.sendall(told)
-        thread = threading.Thread(target=serve, daemon=True)
-        thread.start()
-        return listening.getsockname(), heard, thread
-
-    def test_where_a_service_is(self):
-        self.enterContext(in_time())
-        path = os.path.join(self.enterContext(tempfile.TemporaryDirectory()), "with:colon")
-        for family, at, revision in ((socket.AF_INET, ("127.0.0.1", 0), ""), (socket.AF_UNIX, path, 7)):
-            found, heard, thread = self.served(family, at, b"HTTP/1.1 200 OK\r\nX: y\r\n\r\nregistry\r\n\r\nx")
-            address = path if family == socket.AF_UNIX else f"[127.0.0.1]:{found[1]}"
-            self.assertEqual(connected.journal_of_service(address, revision), b"registry\r\n\r\nx")
-            thread.join()
-            self.assertEqual(heard, [b"GET /journal HTTP/1.0\r\n\r\n" if revision == "" else b"GET /journal?revision=7 HTTP/1.0\r\n\r\n"])
-        found, _, _ = self.served(socket.AF_INET, ("127.0.0.1", 0), b"HTTP/1.1 503 X\r\n\r\nnot now\n")
-        with self.assertRaisesRegex(Failed, r"does not tell its journal now: not now\Z"):
-            connected.journal_of_service(f"127.0.0.1:{found[1]}")
-        for address in (path + "x", "127.0.0.1:1"):
-            self.assertRaisesRegex(Failed, rf"\Ano service answers at {address}: ", connected.connect, address)
+from registry.failures import Failed, Usage
 
 
 class Journals(unittest.TestCase):

@@ -1,5 +1,7 @@
 """`registry outdated` and `registry upgrade`, over lock files: small registries, and what is to be told of them by hand."""
+import contextlib
 import json
+import os
 import unittest
 
 from program import PROGRAM, TOP, publish, yank
@@ -87,6 +89,15 @@ class Outdated(Locked):
         status, said, fault = self.outdated()
         self.assertEqual((status, said, fault.splitlines()[-1]),
                          (1, "", "  Because the request depends on app ^1 and every version of app is yanked, resolving failed."))
+
+    def test_without_a_lock_file_that_is_named(self):
+        self.hold(*NEW)
+        with contextlib.chdir(self.folder):
+            self.assertEqual(self.registry("outdated"), self.outdated())
+            self.assertEqual(self.registry("upgrade"), self.upgrade())
+            os.rename("registry.lock", "other.lock")
+            for word in ("outdated", "upgrade"):
+                self.assertEqual(self.registry(word)[2], "registry: registry.lock: there is no such lock file: `registry resolve NEED .. --write registry.lock` makes one\n")
 
     def test_files_that_are_not_there(self):
         self.hold(*NEW)

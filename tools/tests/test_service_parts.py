@@ -1,9 +1,11 @@
-"""The parts of a service in one process, over stand-ins of what is beside each: what it answers over HTTP, its counts and its log, and the
-supervisor of its programs."""
+"""The programs and sockets of a service in one process, over stand-ins of what is beside each: how programs are begun again, what the keeper
+of the journal answers, and where a service listens."""
 import asyncio
+import grp
 import io
 import os
 import socket
+import stat
 import sys
 import tempfile
 import unittest
@@ -11,173 +13,14 @@ from collections import deque
 from types import SimpleNamespace
 from unittest import mock
 
-from program import LIST, TOP, publish
-from test_journals import CHAIN, journal, learn
+from program import TOP, publish
 
 sys.path.insert(0, os.path.join(TOP, "tools"))
 from registry.failures import Failed
-from registry.service import child, http, keeper, sockets, supervisor, watching
-from registry.service.journal import commands_after, text_at
+from registry.service import child, keeper, sockets, supervisor
 
 A1, B1 = publish("a", "1.0.0").encode(), publish("b", "1.0.0").encode()
 OK = b'{"ok":true,"revision":%d}'
-
-
-class Http(unittest.TestCase):
-    def setUp(self):
-        self.folder = self.enterContext(tempfile.TemporaryDirectory())
-        self.path = os.path.join(self.folder, "journal")
-        with open(self.path, "wb") as file:
-            file.write(journal([*CHAIN[:2], CHAIN[2]])[:-6])
-        self.service = SimpleNamespace(path=self.path, is_stopping=False, clients=[SimpleNamespace(asked=[1, 2], lines=[3]), SimpleNamespace(asked=[], lines=[])],
-                                       keeper=SimpleNamespace(is_up=True, revision=3), readers=SimpleNamespace(ready=lambda: 2), watch=watching.Watch(None))
-
-    def answer(self, head, address=("127.0.0.1", 1)):
-        async def asked():
-            self.service.loop = asyncio.get_running_loop()
-            return await http.answer(self.service, head, address)
-        status, _, text = asyncio.run(asked())
-        return status, text.decode()
-
-    def get(self, target, **more):
-        return self.answer(f"GET {target} HTTP/1.1\r\nHost: localhost\r\n\r\n".encode(), **more)
-
-    def test_what_is_http(self):
-        for line, is_one in ((b"GET / HTTP/1.1\r", True), (b"POST /x HTTP/1.0", True), (b"GET / HTTP/2", False), (b"get / HTTP/1.1", False), (LIST.encode(), False), (b"", False), (b"GET /", False)):
-            self.assertIs(http.is_http(line), is_one, line)
-        with mock.patch.object(http, "MOST_LINE_BYTES", 10):
-            for line, is_one in ((b"GET /xxxxxx", True), (b"GET /xxxxx", False), (b"xxxxxxxxxxx", False), (b'{"op":"list"}', False)):
-                self.assertIs(http.is_http(line), is_one, line)
-
-    def test_what_is_refused(self):
-        for head, status in ((b"x\r\n\r\n", "400"), (b"GET / HTTP/1.1", "400"), (b"POST /health HTTP/1.1\r\n\r\n", "405"), (b"GET /none HTTP/1.1\r\n\r\n", "404"),
-                             (b"GET /healthy HTTP/1.1\r\n\r\n", "404"), (b"GET /health HTTP/1.0\n\n", "200"), (b"GET /health?x HTTP/1.1\r\n\r\n", "200")):
-            self.assertEqual(self.answer(head)[0][:3], status, head)
-        for host, status in (("localhost", "200"), ("LOCALHOST:80", "200"), ("127.0.0.1:1", "200"), ("[::1]", "200"), ("[::1]:7", "200"), ("evil.example", "421"), ("localhost.evil", "421")):
-            head = f"GET /health HTTP/1.1\r\nAccept: x\r\nhOsT: {host}\r\n\r\n".encode()
-            self.assertEqual((self.answer(head)[0][:3], self.answer(head, address=None)[0][:3]), (status, "200"), host)
-
-    def test_health(self):
-        self.assertEqual(self.get("/health"), ("200 OK", "ok\n"))
-        self.service.readers.ready = lambda: 0
-        self.assertEqual(self.get("/health"), ("503 Service Unavailable", "no reader is ready: requests wait\n"))
-        self.service.keeper.is_up = False
-        self.assertEqual(self.get("/health")[1], "the program that keeps the journal is being begun again: commands wait\n")
-        self.assertEqual(self.get("/journal"), ("503 Service Unavailable", "what stands in the journal is known again once it is kept again\n"))
-        self.service.is_stopping = True
-        self.assertEqual(self.get("/health"), ("503 Service Unavailable", "stopping\n"))
-
-    def test_the_journal(self):
-        for target, count in (("/journal", 3), ("/journal?revision=2", 2), ("/journal?revision=0", 0), ("/journal?revision=9", 3), ("/journal?revision=", 3), ("/journal?revision=-1", 3)):
-            self.assertEqual(self.get(target), ("200 OK", journal(CHAIN[:count]).decode()), target)
-
-    def test_counts(self):
-        told = self.get("/metrics")[1]
-        for line in ("registryd_clients 2", "registryd_lines_waiting 3", "registryd_readers 2", "registryd_keeper_up 1", "registryd_revision 3",
-                     f"registryd_journal_bytes {os.path.getsize(self.path)}"):
-            self.assertIn(f"\n{line}\n", told)
-        os.unlink(self.path)
-        self.assertIn("\nregistryd_journal_bytes 0\n", self.get("/metrics")[1])
-
-    def test_a_request_comes_in_pieces(self):
-        async def told(*given, ended=True):
-            reader, writer = asyncio.StreamReader(), mock.Mock()
-            self.service.loop = SimpleNamespace(call_later=mock.Mock())
-            writer.get_extra_info.return_value = ("127.0.0.1", 1)
-            for piece in given:
-                reader.feed_data(piece)
-            if ended:
-                reader.feed_eof()
-            await http.tell(self.service, reader, writer)
-            self.service.loop.call_later.assert_called_once_with(30, writer.transport.abort)
-            writer.close.assert_called_once()
-            return writer.write.call_args and writer.write.call_args.args[0]
-        wanted = b"HTTP/1.1 200 OK\r\nContent-Type: text/plain; charset=utf-8\r\nContent-Length: 3\r\nConnection: close\r\n\r\nok\n"
-        for given in ([b"GET /health HTTP/1.1\r\n\r\n"], [b"GET /health HT", b"TP/1.1\n\n"]):
-            self.assertEqual(asyncio.run(told(*given, ended=False)), wanted)
-        self.assertIsNone(asyncio.run(told(b"GET /health HTTP/1.1\r\n")))
-        # a head that is too long is answered as it is
-        with mock.patch.object(http, "MOST_HEAD", 20):
-            self.assertIn(b"HTTP/1.1 200 OK", asyncio.run(told(b"GET /health HTTP/1.1\r\nx", ended=False)))
-
-
-class Texts(unittest.TestCase):
-    def test_what_stands_in_a_journal_that_grows(self):
-        with tempfile.TemporaryDirectory() as folder:
-            path = os.path.join(folder, "journal")
-            lines = [*CHAIN, learn(0), publish("d", "1.0.0")]
-            with open(path, "wb") as file:
-                file.write(journal(lines)[:-6])
-            for revision, count in ((0, 0), (2, 2), (3, 4), (4, 5), (5, 5)):
-                self.assertEqual(text_at(path, revision), journal(lines[:count]), revision)
-            commands = [line.rstrip(b"\n") for line in journal([*CHAIN, lines[4]]).splitlines()[1:-1]]
-            for revision in range(5):
-                self.assertEqual(commands_after(path, revision), commands[revision:])
-
-
-class Watched(unittest.TestCase):
-    def asked(self, op, reply, line=b"line"):
-        return SimpleNamespace(op=op, reply=reply, line=line, client=SimpleNamespace(name="me"))
-
-    def test_counts(self):
-        watch = watching.Watch(None)
-        with mock.patch.object(watch, "note") as note:
-            for op, reply, seconds in (("publish", b'{"ok":true,"revision":1}', 0.001), ("publish", b'{"error":7,"name":"AlreadyPublished","revision":1}', 0.0011),
-                                       ("resolve", b'{"error":22,"name":"BudgetSpent","revision":1}', 1.0), ("", b'{"error":19,"name":"BadLine","revision":1}', 31.0)):
-                watch.answered(self.asked(op, reply), seconds)
-        self.assertEqual([call.kwargs["op"] for call in note.call_args_list], ["other"])
-        lines = watch.text({"clients": 3}).decode().splitlines()
-        for line in ("registryd_commands_accepted_total 1", 'registryd_refused_total{number="7",name="AlreadyPublished"} 1', 'registryd_refused_total{number="22",name="BudgetSpent"} 1',
-                     "registryd_budgets_spent_total 1", "registryd_clients 3", "# TYPE registryd_clients gauge", "# TYPE registryd_restarts_total counter", "registryd_restarts_total 0",
-                     "# HELP registryd_clients Clients that are connected.", 'registryd_request_seconds_bucket{op="publish",le="0.001"} 1',
-                     'registryd_request_seconds_bucket{op="publish",le="0.003"} 2', 'registryd_request_seconds_bucket{op="resolve",le="0.3"} 0',
-                     'registryd_request_seconds_bucket{op="resolve",le="1.0"} 1', 'registryd_request_seconds_bucket{op="other",le="30.0"} 0',
-                     'registryd_request_seconds_bucket{op="other",le="+Inf"} 1', 'registryd_request_seconds_sum{op="publish"} 0.002100', 'registryd_request_seconds_count{op="publish"} 2'):
-            self.assertIn(line, lines)
-        self.assertTrue(watch.text({}).endswith(b"\n"))
-
-    def test_the_log(self):
-        with tempfile.TemporaryDirectory() as folder:
-            path = os.path.join(folder, "log")
-            watch = watching.Watch(path)
-            for reply, kind in ((b'{"ok":true}', "accepted"), (b'{"revision":1}', "selected"), (b'{"refused":true}', "refused"), (b'{"derivation":[]}', "refused"),
-                                (b'{"follows":true}', "checked"), (b'{"packages":[]}', "listed"), (b'{"x":1}', "other"), (b'{"error":7,"name":"AlreadyPublished"}', "AlreadyPublished")):
-                watch.answered(self.asked("list", reply), 0.25)
-                with open(path, encoding="utf-8") as file:
-                    line = file.read().splitlines()[-1]
-                self.assertRegex(line, rf"\A\d{{4}}-\d\d-\d\dT\d\d:\d\d:\d\d\.\d{{3}}Z client=me op=list seconds=0\.250000 reply={kind} request_bytes=4 reply_bytes={len(reply)}\Z")
-            os.rename(path, path + ".1")
-            watch.reopen()
-            watch.restarted("reader", "it's gone")
-            watch.cut_off(SimpleNamespace(name="me"))
-            with open(path, encoding="utf-8") as file:
-                first, second = (line.partition(" ")[2] for line in file.read().splitlines())
-            self.assertEqual((first, second), ('event=restart program=reader why="it\'s gone"', "event=cut-off client=me why='it does not read its replies'"))
-            lines = watch.text({}).decode().splitlines()
-            self.assertIn('registryd_restarts_total{program="reader"} 1', lines)
-            self.assertIn("registryd_clients_cut_off_total 1", lines)
-            # where it can't be opened anew it goes on where it is
-            before, watch.path = watch.file, os.path.join(folder, "none", "log")
-            watch.reopen()
-            self.assertIs(watch.file, before)
-            self.assertFalse(before.closed)
-            before.close()
-
-    def test_where_what_is_wrong_goes(self):
-        for path, stream in ((None, "stderr"), ("-", "stdout")):
-            with mock.patch.object(sys, stream, io.StringIO()) as out:
-                watch = watching.Watch(path)
-                watch.answered(self.asked("list", b'{"packages":[]}'), 0.5)
-                watch.reopen()
-                watch.answered(self.asked("list", b'{"packages":[]}'), 1.5)
-            self.assertEqual(out.getvalue().count("\n"), 2 if path else 1)
-
-    def test_who_is_at_the_other_end(self):
-        self.assertEqual(watching.name_of(SimpleNamespace(get_extra_info=lambda name: ("127.0.0.1", 7))), "127.0.0.1:7")
-        one, other = socket.socketpair()
-        with one, other:
-            transport = SimpleNamespace(get_extra_info=lambda name: one if name == "socket" else "")
-            self.assertEqual(watching.name_of(transport), f"user:{os.getuid()}:process:{os.getpid()}")
 
 
 class Small(supervisor.Supervisor):
@@ -358,6 +201,26 @@ class Sockets(unittest.TestCase):
             self.assertRaisesRegex(Failed, rf"\A{self.path}: a socket can't be made there: Operation not permitted\Z", sockets.bound_file, self.path, 0o600, "daemon")
         self.assertFalse(os.path.lexists(self.path))
 
+    def test_who_reaches_a_socket(self):
+        mask = os.umask(0o027)
+        self.addCleanup(os.umask, mask)
+        for mode in (0o600, 0o660, 0o666):
+            with mock.patch.object(os, "chown", side_effect=lambda path, *to: seen.append((stat.S_IMODE(os.lstat(path).st_mode), to))):
+                seen = []
+                sockets.bound_file(self.path, mode, "daemon").close()
+            # nobody else, until it is the group's
+            self.assertEqual(seen, [(0o600, (-1, grp.getgrnam("daemon").gr_gid))])
+            self.assertEqual(stat.S_IMODE(os.lstat(self.path).st_mode), mode)
+        # what is made after it is made as before
+        self.assertEqual(os.umask(0o027), 0o027)
+        with mock.patch.object(os, "chown") as chown:
+            sockets.bound_file(self.path, 0o600, None).close()
+        chown.assert_called_once_with(self.path, -1, -1)
+
+    def test_a_port_is_free_again_at_once(self):
+        with sockets.bound_port(0) as bound:
+            self.assertTrue(bound.getsockopt(socket.SOL_SOCKET, socket.SO_REUSEADDR))
+
     def test_a_port_that_is_taken(self):
         with sockets.bound_port(0) as bound:
             bound.listen()
@@ -389,6 +252,11 @@ class Sockets(unittest.TestCase):
             self.assertEqual(heard.recv(100), b"STOPPING=1")
         with mock.patch.dict(os.environ, NOTIFY_SOCKET=self.path + ".none"):
             sockets.notify("READY=1")
+        # where it wants to hear nothing no socket is made
+        with mock.patch.dict(os.environ), mock.patch.object(sockets.socket, "socket") as made:
+            os.environ.pop("NOTIFY_SOCKET", None)
+            sockets.notify("READY=1")
+            made.assert_not_called()
 
 
 if __name__ == "__main__":

@@ -74,6 +74,16 @@ class Limits(unittest.TestCase):
         self.assertEqual((self.one.told, self.two.told), ([(b"first", self.SPENT)], []))
         self.assertEqual(reader.held(), [second])
 
+    def test_time_counts_from_when_it_was_asked(self):
+        self.pool.time = 100
+        first, second = asked(self.one, b"first"), asked(self.two, b"second")
+        reader = reader_with(self.pool, first, second)
+        for seconds, is_held_up, is_killed in ((0.25, False, False), (0.26, True, False), (10, True, False), (10.1, False, True)):
+            self.pool.time = 100 + seconds
+            reader.look(10)
+            self.assertEqual((reader.is_held_up, reader.child.is_killed), (is_held_up, is_killed), seconds)
+        self.assertEqual((self.one.told, self.pool.back), ([(b"first", self.SPENT)], [second]))
+
     def test_what_is_behind_it_is_handed_back_once_and_its_late_reply_counts_for_nothing(self):
         first, second = asked(self.one, b"first"), asked(self.two, b"second")
         reader = reader_with(self.pool, first, second)

@@ -97,7 +97,7 @@ class Slow(Case):
         self.assertLess(time.monotonic() - begun, 20)
 
     def test_a_request_that_ends_readers_is_given_up(self):
-        """A search that has a reader ended by the system, as for want of memory, is tried twice."""
+        """A search that has a reader ended by the system, as for lack of memory, is tried twice."""
         service = self.begin_full("--readers", 1, "--seconds", 30)
         with service.client() as client:
             client.send(HARD)

@@ -1,0 +1,203 @@
+"""What is seen of a service from outside, in one process: what it answers over HTTP, its counts and its log."""
+import asyncio
+import io
+import os
+import socket
+import sys
+import tempfile
+import unittest
+from types import SimpleNamespace
+from unittest import mock
+
+from program import LIST, TOP, publish
+from test_journals import CHAIN, journal, learn
+
+sys.path.insert(0, os.path.join(TOP, "tools"))
+from registry.service import http, watching
+from registry.service.journal import commands_after, text_at
+
+
+class Http(unittest.TestCase):
+    def setUp(self):
+        self.folder = self.enterContext(tempfile.TemporaryDirectory())
+        self.path = os.path.join(self.folder, "journal")
+        with open(self.path, "wb") as file:
+            file.write(journal([*CHAIN[:2], CHAIN[2]])[:-6])
+        self.service = SimpleNamespace(path=self.path, is_stopping=False, clients=[SimpleNamespace(asked=[1, 2], lines=[3]), SimpleNamespace(asked=[], lines=[])],
+                                       keeper=SimpleNamespace(is_up=True, revision=3), readers=SimpleNamespace(ready=lambda: 2), watch=watching.Watch(None))
+
+    def answer(self, head, address=("127.0.0.1", 1)):
+        async def asked():
+            self.service.loop = asyncio.get_running_loop()
+            return await http.answer(self.service, head, address)
+        status, _, text = asyncio.run(asked())
+        return status, text.decode()
+
+    def get(self, target, **more):
+        return self.answer(f"GET {target} HTTP/1.1\r\nHost: localhost\r\n\r\n".encode(), **more)
+
+    def test_what_is_http(self):
+        for line, is_one in ((b"GET / HTTP/1.1\r", True), (b"POST /x HTTP/1.0", True), (b"GET / HTTP/2", False), (b"get / HTTP/1.1", False), (LIST.encode(), False), (b"", False), (b"GET /", False)):
+            self.assertIs(http.is_http(line), is_one, line)
+        with mock.patch.object(http, "MOST_LINE_BYTES", 10):
+            for line, is_one in ((b"GET /xxxxxx", True), (b"GET /xxxxx", False), (b"xxxxxxxxxxx", False), (b'{"op":"list"}', False)):
+                self.assertIs(http.is_http(line), is_one, line)
+
+    def test_what_is_refused(self):
+        for head, status in ((b"x\r\n\r\n", "400"), (b"GET / HTTP/1.1", "400"), (b"POST /health HTTP/1.1\r\n\r\n", "405"), (b"GET /none HTTP/1.1\r\n\r\n", "404"),
+                             (b"GET /healthy HTTP/1.1\r\n\r\n", "404"), (b"GET /health HTTP/1.0\n\n", "200"), (b"GET /health?x HTTP/1.1\r\n\r\n", "200")):
+            self.assertEqual(self.answer(head)[0][:3], status, head)
+        for host, status in (("localhost", "200"), ("LOCALHOST:80", "200"), ("127.0.0.1:1", "200"), ("[::1]", "200"), ("[::1]:7", "200"), ("evil.example", "421"), ("localhost.evil", "421")):
+            head = f"GET /health HTTP/1.1\r\nAccept: x\r\nhOsT: {host}\r\n\r\n".encode()
+            self.assertEqual((self.answer(head)[0][:3], self.answer(head, address=None)[0][:3]), (status, "200"), host)
+
+    def test_health(self):
+        self.assertEqual(self.get("/health"), ("200 OK", "ok\n"))
+        self.service.readers.ready = lambda: 0
+        self.assertEqual(self.get("/health"), ("503 Service Unavailable", "no reader is ready: requests wait\n"))
+        self.service.keeper.is_up = False
+        self.assertEqual(self.get("/health")[1], "the program that keeps the journal is being begun again: commands wait\n")
+        self.assertEqual(self.get("/journal"), ("503 Service Unavailable", "what stands in the journal is known again once it is kept again\n"))
+        self.service.is_stopping = True
+        self.assertEqual(self.get("/health"), ("503 Service Unavailable", "stopping\n"))
+
+    def test_the_journal(self):
+        for target, count in (("/journal", 3), ("/journal?revision=2", 2), ("/journal?revision=0", 0), ("/journal?revision=9", 3), ("/journal?revision=", 3), ("/journal?revision=-1", 3)):
+            self.assertEqual(self.get(target), ("200 OK", journal(CHAIN[:count]).decode()), target)
+
+    def test_counts(self):
+        told = self.get("/metrics")[1]
+        for line in ("registryd_clients 2", "registryd_lines_waiting 3", "registryd_readers 2", "registryd_keeper_up 1", "registryd_revision 3",
+                     f"registryd_journal_bytes {os.path.getsize(self.path)}"):
+            self.assertIn(f"\n{line}\n", told)
+        os.unlink(self.path)
+        self.assertIn("\nregistryd_journal_bytes 0\n", self.get("/metrics")[1])
+
+    def test_a_request_comes_in_pieces(self):
+        async def told(*given, ended=True):
+            reader, writer = asyncio.StreamReader(), mock.Mock()
+            self.service.loop = SimpleNamespace(call_later=mock.Mock())
+            writer.get_extra_info.return_value = ("127.0.0.1", 1)
+            for piece in given:
+                reader.feed_data(piece)
+            if ended:
+                reader.feed_eof()
+            await http.tell(self.service, reader, writer)
+            self.service.loop.call_later.assert_called_once_with(30, writer.transport.abort)
+            writer.close.assert_called_once()
+            return writer.write.call_args and writer.write.call_args.args[0]
+        wanted = b"HTTP/1.1 200 OK\r\nContent-Type: text/plain; charset=utf-8\r\nContent-Length: 3\r\nConnection: close\r\n\r\nok\n"
+        for given in ([b"GET /health HTTP/1.1\r\n\r\n"], [b"GET /health HT", b"TP/1.1\n\n"]):
+            self.assertEqual(asyncio.run(told(*given, ended=False)), wanted)
+        self.assertIsNone(asyncio.run(told(b"GET /health HTTP/1.1\r\n")))
+        # a head that is too long is answered as it is
+        with mock.patch.object(http, "MOST_HEAD", 20):
+            self.assertIn(b"HTTP/1.1 200 OK", asyncio.run(told(b"GET /health HTTP/1.1\r\nx", ended=False)))
+
+
+    def test_a_connection_on_which_http_is_spoken(self):
+        get, wanted = b"GET /health HTTP/1.1\r\n\r\n", b"HTTP/1.1 200 OK\r\nContent-Type: text/plain; charset=utf-8\r\nContent-Length: 3\r\nConnection: close\r\n\r\nok\n"
+
+        async def told(begun, sent):
+            self.service.loop = asyncio.get_running_loop()
+            here, there = socket.socketpair()
+            transport, _ = await self.service.loop.create_connection(asyncio.Protocol if begun else lambda: http.page(self.service), sock=here)
+            if begun:
+                http.page(self.service, transport, begun)
+            reader, writer = await asyncio.open_unix_connection(sock=there)
+            writer.write(sent)
+            said = await asyncio.wait_for(reader.read(), 60)
+            writer.close()
+            return said
+        # a new connection, and one that has begun with a line, or with a whole request
+        for begun, sent in ((b"", get), (get[:10], get[10:]), (get, b"")):
+            self.assertEqual(asyncio.run(told(begun, sent)), wanted, begun)
+
+    def test_what_is_told_of_a_refusal(self):
+        for head, text in ((b"x\r\n\r\n", "this is no request over HTTP\n"), (b"PUT / HTTP/1.1\r\n\r\n", "GET alone is answered over HTTP; request lines come without it\n"),
+                           (b"GET / HTTP/1.1\r\n\r\n", "there are /metrics, /health and /journal\n"),
+                           (b"GET / HTTP/1.1\r\nHost: a.example\r\n\r\n", "this service is of another host\n")):
+            self.assertEqual(self.answer(head)[1], text)
+
+
+class Texts(unittest.TestCase):
+    def test_what_stands_in_a_journal_that_grows(self):
+        with tempfile.TemporaryDirectory() as folder:
+            path = os.path.join(folder, "journal")
+            lines = [*CHAIN, learn(0), publish("d", "1.0.0")]
+            with open(path, "wb") as file:
+                file.write(journal(lines)[:-6])
+            for revision, count in ((0, 0), (2, 2), (3, 4), (4, 5), (5, 5)):
+                self.assertEqual(text_at(path, revision), journal(lines[:count]), revision)
+            commands = [line.rstrip(b"\n") for line in journal([*CHAIN, lines[4]]).splitlines()[1:-1]]
+            for revision in range(5):
+                self.assertEqual(commands_after(path, revision), commands[revision:])
+
+
+class Watched(unittest.TestCase):
+    def asked(self, op, reply, line=b"line"):
+        return SimpleNamespace(op=op, reply=reply, line=line, client=SimpleNamespace(name="me"))
+
+    def test_counts(self):
+        watch = watching.Watch(None)
+        with mock.patch.object(watch, "note") as note:
+            for op, reply, seconds in (("publish", b'{"ok":true,"revision":1}', 0.001), ("publish", b'{"error":7,"name":"AlreadyPublished","revision":1}', 0.0011),
+                                       ("resolve", b'{"error":22,"name":"BudgetSpent","revision":1}', 1.0), ("", b'{"error":19,"name":"BadLine","revision":1}', 31.0)):
+                watch.answered(self.asked(op, reply), seconds)
+        self.assertEqual([call.kwargs["op"] for call in note.call_args_list], ["other"])
+        lines = watch.text({"clients": 3}).decode().splitlines()
+        for line in ("registryd_commands_accepted_total 1", 'registryd_refused_total{number="7",name="AlreadyPublished"} 1', 'registryd_refused_total{number="22",name="BudgetSpent"} 1',
+                     "registryd_budgets_spent_total 1", "registryd_clients 3", "# TYPE registryd_clients gauge", "# TYPE registryd_restarts_total counter", "registryd_restarts_total 0",
+                     "# HELP registryd_clients Clients that are connected.", 'registryd_request_seconds_bucket{op="publish",le="0.001"} 1',
+                     'registryd_request_seconds_bucket{op="publish",le="0.003"} 2', 'registryd_request_seconds_bucket{op="resolve",le="0.3"} 0',
+                     'registryd_request_seconds_bucket{op="resolve",le="1.0"} 1', 'registryd_request_seconds_bucket{op="other",le="30.0"} 0',
+                     'registryd_request_seconds_bucket{op="other",le="+Inf"} 1', 'registryd_request_seconds_sum{op="publish"} 0.002100', 'registryd_request_seconds_count{op="publish"} 2'):
+            self.assertIn(line, lines)
+        self.assertTrue(watch.text({}).endswith(b"\n"))
+
+    def test_the_log(self):
+        with tempfile.TemporaryDirectory() as folder:
+            path = os.path.join(folder, "log")
+            watch = watching.Watch(path)
+            for reply, kind in ((b'{"ok":true}', "accepted"), (b'{"revision":1}', "selected"), (b'{"refused":true}', "refused"), (b'{"derivation":[]}', "refused"),
+                                (b'{"follows":true}', "checked"), (b'{"packages":[]}', "listed"), (b'{"x":1}', "other"), (b'{"error":7,"name":"AlreadyPublished"}', "AlreadyPublished")):
+                watch.answered(self.asked("list", reply), 0.25)
+                with open(path, encoding="utf-8") as file:
+                    line = file.read().splitlines()[-1]
+                self.assertRegex(line, rf"\A\d{{4}}-\d\d-\d\dT\d\d:\d\d:\d\d\.\d{{3}}Z client=me op=list seconds=0\.250000 reply={kind} request_bytes=4 reply_bytes={len(reply)}\Z")
+            os.rename(path, path + ".1")
+            watch.reopen()
+            watch.restarted("reader", "it's gone")
+            watch.cut_off(SimpleNamespace(name="me"))
+            with open(path, encoding="utf-8") as file:
+                first, second = (line.partition(" ")[2] for line in file.read().splitlines())
+            self.assertEqual((first, second), ('event=restart program=reader why="it\'s gone"', "event=cut-off client=me why='it does not read its replies'"))
+            lines = watch.text({}).decode().splitlines()
+            self.assertIn('registryd_restarts_total{program="reader"} 1', lines)
+            self.assertIn("registryd_clients_cut_off_total 1", lines)
+            # where it can't be opened anew it goes on where it is
+            before, watch.path = watch.file, os.path.join(folder, "none", "log")
+            watch.reopen()
+            self.assertIs(watch.file, before)
+            self.assertFalse(before.closed)
+            before.close()
+
+    def test_where_what_is_wrong_goes(self):
+        for path, stream in ((None, "stderr"), ("-", "stdout")):
+            with mock.patch.object(sys, stream, io.StringIO()) as out:
+                watch = watching.Watch(path)
+                watch.answered(self.asked("list", b'{"packages":[]}'), 0.5)
+                watch.reopen()
+                watch.answered(self.asked("list", b'{"packages":[]}'), 1.5)
+            self.assertEqual(out.getvalue().count("\n"), 2 if path else 1)
+
+    def test_who_is_at_the_other_end(self):
+        self.assertEqual(watching.name_of(SimpleNamespace(get_extra_info=lambda name: ("127.0.0.1", 7))), "127.0.0.1:7")
+        one, other = socket.socketpair()
+        with one, other:
+            transport = SimpleNamespace(get_extra_info=lambda name: one if name == "socket" else "")
+            self.assertEqual(watching.name_of(transport), f"user:{os.getuid()}:process:{os.getpid()}")
+
+
+if __name__ == "__main__":
+    unittest.main()
