@@ -301,7 +301,7 @@ static int feed(struct session *session, const char *bytes, size_t length)
         return it->is_lost ? REGISTRYD_ENDED : REGISTRYD_MISUSE;
     if (!note(&it->asked, bytes, length))
         return REGISTRYD_MEMORY;
-    /* what could not be sent now for want of memory is sent with the next call */
+    /* what could not be sent now for lack of memory is sent with the next call */
     int answer = go_on(it, false);
     return answer == REGISTRYD_MEMORY ? REGISTRYD_OK : answer;
 }
