@@ -50,7 +50,7 @@ COMPLETIONS = {
     "fish": ("share/fish/vendor_completions.d/{}.fish", "share/fish/vendor_completions.d/{}.fish"),
 }
 TOLD = {
-    programs.PROVED: "The program is proved: it was built from proofs of all its sources.",
+    programs.PROVED: "The program is proved: all its sources were proved before it was built.",
     programs.COMPILED: "The program is compiled from its sources, with checks as it runs. It is not proved.",
 }
 # How a command in bin finds what is installed with it, through links too.

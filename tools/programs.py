@@ -27,7 +27,7 @@ SECONDS = 110
 # How far the time of a file may lie behind the clock, in nanoseconds.
 LAG = 20_000_000
 TOLD = {
-    PROVED: "The program is proved: it was built from proofs of just these sources.",
+    PROVED: "The program is proved: just these sources were proved before it was built.",
     COMPILED: "The program is compiled from these sources, with checks as it runs. It is not proved on this machine: ./test does that.",
     UNCHECKED: "The program is compiled from these sources without checks as it runs, for measurements. It is not proved on this machine: "
                "./test does that.",

@@ -97,7 +97,7 @@ class Programs(Case):
         return Program(path, kind, "")
 
     def test_the_program_and_its_command(self):
-        for kind, said in ((PROVED, "The program is proved: it was built from proofs of all its sources."),
+        for kind, said in ((PROVED, "The program is proved: all its sources were proved before it was built."),
                            (COMPILED, "The program is compiled from its sources, with checks as it runs. It is not proved.")):
             command, program = installed.program_pieces(self.program(kind))
             self.assertEqual(program, Piece("lib/registryd/registryd", b"its bytes", 0o755))
