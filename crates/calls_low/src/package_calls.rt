@@ -1,7 +1,7 @@
 //! Calls of a registry about one of its packages.
 
 use crate::releases_calls::is_kept;
-use registry::{Facts, Matching, Registry, ordinals_are_below_the_count};
+use registry::{Facts, Matching, PlaceHint, Registry, ordinals_are_below_the_count};
 use rows::{AnswerText, CallResult, Shows, Unread, at, given_if, shown, size_at, whole_at};
 use serde_json::Value;
 use std::alloc::Global;
@@ -41,6 +41,8 @@ fn about(
         ("has_yanks", _) => Ok(CallResult::Bool(registry.has_yanks(pkg))),
         ("facts", Ok(k)) => facts(alloc, registry, pkg, k),
         ("facts_at", Ok(k)) => facts_at(alloc, registry, pkg, k),
+        ("places", Ok(k)) => places(alloc, registry.places(pkg, k)),
+        ("low_bits", Ok(place)) => low_bits(alloc, registry.low_bits(pkg, place)),
         _ => Err(Unread::Row),
     }
 }
@@ -66,6 +68,38 @@ fn highest(
 
 fn repeats(alloc: Global, registry: &Registry, pkg: u32) -> Result<CallResult, Unread> {
     shown(alloc, &registry.repeats(pkg))
+}
+
+/// The places of dependencies: that of each name, and that of its requirement.
+fn places(alloc: Global, places: &[PlaceHint]) -> Result<CallResult, Unread> {
+    let mut text = AnswerText::new(alloc);
+    let mut is_first = true;
+    text.put("[");
+    for place in places {
+        text.put_between(is_first);
+        put_place(&mut text, place);
+        is_first = false;
+    }
+    text.put("]");
+    text.answer()
+}
+
+fn put_place(text: &mut AnswerText, place: &PlaceHint) {
+    text.put("[");
+    text.put_plain(place.name());
+    text.put(",");
+    text.put_plain(place.need());
+    text.put("]");
+}
+
+/// The bits as a number.
+fn low_bits(alloc: Global, bits: Option<u64>) -> Result<CallResult, Unread> {
+    let Some(bits) = bits else {
+        return Ok(CallResult::None);
+    };
+    let mut text = AnswerText::new(alloc);
+    text.put_plain(bits);
+    text.answer()
 }
 
 /// The name of a package, by the call that requires one or the call that answers none.

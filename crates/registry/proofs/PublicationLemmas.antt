@@ -6,6 +6,7 @@ use Rattle.std.proofs.lemmas.List.{length-map}
 use Rattle.versions.specs.Words.{Text, precedence, same_precedence}
 use Rattle.std.specs.declared.alloc.AllocError.{AllocError}
 use Rattle.terms.specs.Sets.{has}
+use Rattle.terms.specs.Words.{AreLowBits}
 use Rattle.releases.specs.declared.matching.Matching.{Matching}
 use Rattle.releases.specs.declared.release.Release.{Release}
 use Rattle.releases.specs.Matching.{ordinals_of}
@@ -14,7 +15,7 @@ use Rattle.releases.specs.Releases.{IsFound, marked, version_at}
 use Rattle.releases.specs.Rising as rising
 use Rattle.registry.specs.Highest.{IsHighest}
 use Rattle.registry.specs.Publications.{publications_of}
-use Rattle.registry.specs.Registry.{Publication, has_version, publication_equals, publication_meets}
+use Rattle.registry.specs.Registry.{Publication, has_version, needs_or_none, publication_equals, publication_meets}
 use Rattle.registry.specs.Step.{set_yanked, yank_of}
 use Rattle.registry.proofs.NeedLemmas.{both_false}
 
@@ -52,6 +53,15 @@ publication-placed (x ∷ rs) [] k r n e lt at own = absurd (omega (arith, e))
 publication-placed (x ∷ rs) (y ∷ ns) zero r n e lt at own =
     ap (λ (q : Release). Some (publication q y)) (sym at) ∙ ap (λ (m : Needs). Some (publication r m)) (sym own)
 publication-placed (x ∷ rs) (y ∷ ns) (suc k) r n e lt at own = publication-placed rs ns k r n (omega (arith, e)) (omega (arith, lt)) at own
+
+-- what the publication at a place depends on
+pub needs-placed : (releases : List Release) (needs : List Needs) (k : ℕ) (n : Needs) → length needs ≡ length releases → k < length needs → n ≡ get_or needs k n
+    → needs_or_none (slice_get (publications_of releases needs) k) ≡ n
+needs-placed [] [] k n e lt own = absurd (omega (arith, lt))
+needs-placed [] (y ∷ ns) k n e lt own = absurd (omega (arith, e))
+needs-placed (r ∷ rs) [] k n e lt own = absurd (omega (arith, lt))
+needs-placed (r ∷ rs) (y ∷ ns) zero n e lt own = sym own
+needs-placed (r ∷ rs) (y ∷ ns) (suc k) n e lt own = needs-placed rs ns k n (omega (arith, e)) (omega (arith, lt)) own
 
 -- ---- by equal precedence
 
@@ -154,6 +164,13 @@ pub if-matching : (releases : List Release) (needs : List Needs) (need : Text) �
     → IfOk result (λ set. (k : ℕ) → has (ordinals_of set) k ≡ publication_meets (slice_get (publications_of releases needs) k) need)
 if-matching releases needs need e (Ok set) h = λ k. h k ∙ meets-releases releases needs need k e
 if-matching releases needs need e (Err fault) h = h
+
+-- the lowest ordinals that meet a requirement, where their bits are kept
+pub if-low_bits : (releases : List Release) (needs : List Needs) (named : List Text) (place : ℕ) → length needs ≡ length releases → (result : Option ℕ)
+    → IfSome result (λ bits. (need : Text) × (slice_get named place ≡ Some need) × AreLowBits bits (released.meets_at (released.versions_of releases) need))
+    → IfSome result (λ bits. (need : Text) × AreLowBits bits (λ k. publication_meets (slice_get (publications_of releases needs) k) need))
+if-low_bits releases needs named place e (Some bits) h = (h.0, λ k lt. h.2 k lt ∙ meets-releases releases needs h.0 k e)
+if-low_bits releases needs named place e None h = h
 
 -- the version with an ordinal is that of the publication there
 version-placed : (releases : List Release) (needs : List Needs) (k : ℕ) (v : Publication) → slice_get (publications_of releases needs) k ≡ Some v

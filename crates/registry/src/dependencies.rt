@@ -1,6 +1,6 @@
 //! What a version depends on.
 
-ghost use Rattle.std.specs.Prelude.{◌≡◌, ◌≢◌, ◌↔◌, ◌∷◌, ℕ, List, IfNone, IfOk, IfSome, IsTrue};
+ghost use Rattle.std.specs.Prelude.{◌≡◌, ◌≢◌, ◌↔◌, ◌≤◌, ◌∷◌, ℕ, List, length, IfNone, IfOk, IfSome, IsTrue};
 ghost use Rattle.registry.specs.Needs.{has_name, repeats_name};
 
 use crate::by_name::{places_by_name, repeats};
@@ -68,6 +68,13 @@ impl Dependencies {
     /// Where a registry may keep the name and the requirement at an index.
     pub(crate) fn place(&self, index: usize) -> PlaceHint {
         self.listed.place(index)
+    }
+
+    /// As `place`, of each in their order, as far as they are known.
+    pub(crate) fn places(&self) -> &[PlaceHint]
+        ensures { length result.now ≤ length self.now }
+    {
+        self.listed.places()
     }
 
     /// Whether a name comes twice; takes no time.

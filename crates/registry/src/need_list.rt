@@ -1,6 +1,6 @@
 //! Needs in a list, and where a registry keeps their names and requirements.
 
-ghost use Rattle.std.specs.Prelude.{◌≡◌, ◌∷◌, ◌++◌, [], IfOk, OnOk};
+ghost use Rattle.std.specs.Prelude.{◌≡◌, ◌≤◌, ◌∷◌, ◌++◌, [], length, IfOk, OnOk};
 
 use std::alloc::{AllocError, Global};
 use std::marker::Model;
@@ -24,7 +24,7 @@ fn kept(place: usize) -> u32 {
 
 impl PlaceHint {
     /// Two indexes, each kept in 32 bits: one that needs more is the highest of these.
-    pub fn new(name: usize, need: usize) -> PlaceHint {
+    pub(crate) fn new(name: usize, need: usize) -> PlaceHint {
         PlaceHint {
             name: kept(name),
             need: kept(need),
@@ -52,11 +52,13 @@ pub struct NeedList {
 }
 
 impl Model for NeedList {
-    ghost use Rattle.std.specs.Prelude.{List, ℕ};
+    ghost use Rattle.std.specs.Prelude.{◌≤◌, List, ℕ, length};
 
     ghost Value = { List (List ℕ × List ℕ) };
 
     ghost view = { λ l. l.needs.items };
+
+    ghost invariant = { λ l. length l.places.items ≤ length l.needs.items };
 }
 
 impl NeedList {
@@ -94,6 +96,13 @@ impl NeedList {
         ensures { result.now ≡ self.now }
     {
         &self.needs
+    }
+
+    /// The places of the needs, in order, as far as they are known.
+    pub fn places(&self) -> &[PlaceHint]
+        ensures { length result.now ≤ length self.now }
+    {
+        &self.places
     }
 
     /// The place of the need at an index; any where none is known.

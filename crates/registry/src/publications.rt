@@ -1,9 +1,11 @@
 //! The publications of one package.
 
-ghost use Rattle.std.specs.Prelude.{◌≡◌, ◌↔◌, ◌<◌, ◌+◌, ◌∷◌, ◌++◌, [], ℕ, false, length, slice_get, None, Some, IfErr, IfNone, IfOk, IfSome, IsOk, IsTrue, OnOk, is_some, true};
+ghost use Rattle.std.specs.Prelude.{◌≡◌, ◌↔◌, ◌<◌, ◌≤◌, ◌+◌, ◌∷◌, ◌++◌, [], ℕ, false, length, slice_get, None, Some, IfErr, IfNone, IfOk, IfSome, IsOk, IsTrue, OnOk, is_some, true};
 ghost use Rattle.std.specs.Option.{option_copied};
 ghost use Rattle.releases.specs.Matching.{ordinals_of};
 ghost use Rattle.terms.specs.Sets.{has};
+ghost use Rattle.terms.specs.Words.{AreLowBits};
+ghost use Rattle.versions.specs.Words.{Text};
 ghost use Rattle.registry.specs.declared.registry.TheConstants.{VERSION_LIMIT};
 ghost use Rattle.registry.specs.Highest.{IsHighest};
 ghost use Rattle.registry.specs.Publications.{any_yanked, publications_in, EndsWith};
@@ -166,6 +168,24 @@ impl Publications {
             Some(needs) => needs.place(index),
             None => PlaceHint::new(0, 0),
         }
+    }
+
+    /// Where the name and the requirement of each dependency of one may stand; nothing where it is not published.
+    pub fn places(&self, ordinal: u32) -> &[PlaceHint]
+        ensures { length result.now ≤ length (needs_or_none (slice_get self.now.publications ordinal)) }
+    {
+        let place = ordinal as usize;
+        if place >= self.needs.len() {
+            return &[];
+        }
+        self.needs[place].places()
+    }
+
+    /// As [`Releases::low_bits`].
+    pub fn low_bits(&self, place: usize) -> Option<u64>
+        ensures { IfSome result (λ bits. (need : Text) × AreLowBits bits (λ k. publication_meets (slice_get self.now.publications k) need)) }
+    {
+        self.releases.low_bits(place)
     }
 
     /// Names a requirement, whose matching set is kept from now on if it is one of the first, and answers the

@@ -4,6 +4,8 @@ ghost use Rattle.std.specs.Prelude.{◌≡◌, ◌↔◌, ◌<◌, ◌≤◌, �
 ghost use Rattle.std.specs.Option.{option_copied, option_map};
 ghost use Rattle.releases.specs.Matching.{ordinals_of};
 ghost use Rattle.terms.specs.Sets.{has, IsAscending};
+ghost use Rattle.terms.specs.Words.{AreLowBits};
+ghost use Rattle.versions.specs.Words.{Text};
 ghost use Rattle.registry.specs.Commands.{change_of};
 ghost use Rattle.registry.specs.Dependencies.{IsDependency};
 ghost use Rattle.registry.specs.Highest.{IsHighest};
@@ -20,6 +22,7 @@ use crate::Pkg;
 use crate::commands::Command;
 use crate::dependencies::{Dependencies, has_name};
 use crate::growing::{add_names, count_new, enter_name, set_yanked_in};
+use crate::need_list::PlaceHint;
 use crate::publications::{Publications, check_unyank, check_yank, count, has_version};
 use crate::ready::{Ready, make_ready, ready_for};
 use crate::requests::Request;
@@ -279,6 +282,27 @@ impl Registry {
         };
         let matching = self.matching_at(target, &entry.1, place.need())?;
         Ok((target, matching))
+    }
+
+    /// Where the registry keeps the name and the requirement of each dependency of a version, in their order;
+    /// nothing where it is not published. Equal texts stand at the same place, so a search may compare places
+    /// where it would compare texts. Each place is a hint: no contract says that it is right.
+    pub fn places(&self, pkg: Pkg, ordinal: u32) -> &[PlaceHint]
+        ensures { length result.now ≤ length (needs_of self.now.packages pkg ordinal) }
+    {
+        match self.publications_at(pkg) {
+            None => &[],
+            Some(publications) => publications.places(ordinal),
+        }
+    }
+
+    /// Of a package's ordinals below 64 those that meet the requirement which is named at a place, a bit each, if
+    /// their set is kept: bit k stands for the ordinal k. Takes no memory. Which requirement stands at a place, no
+    /// contract says.
+    pub fn low_bits(&self, pkg: Pkg, place: u32) -> Option<u64>
+        ensures { IfSome result (λ bits. (need : Text) × AreLowBits bits (λ k. meets_at self.now.packages pkg k need)) }
+    {
+        self.publications_at(pkg)?.low_bits(place as usize)
     }
 
     /// The ordinal of the version of a package with equal precedence. The cost grows with the

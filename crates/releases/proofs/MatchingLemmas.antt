@@ -10,6 +10,7 @@ use Rattle.std.proofs.Math.Bool.{and-false, and-true, or-false, or-true}
 use Rattle.std.proofs.Math.Seq.{get_or-append_seam}
 use Rattle.terms.specs.Growing.{Growing}
 use Rattle.terms.specs.Sets.{has}
+use Rattle.terms.specs.Words.{AreLowBits}
 use Rattle.versions.specs.Bounds.{IsBounded, Reach}
 use Rattle.versions.specs.Words.{Text, meets}
 use Rattle.releases.specs.declared.matching.TheConstants.{KEPT_SETS}
@@ -281,3 +282,12 @@ placed-bounds needs bounds need i of all at is =
 pub placed-named : (needs : List Text) (need : Text) (i : ℕ) → slice_get needs i ≡ Some need → bytes_eq need need ≡ true → true ≡ is_named needs need
 placed-named needs need i at is =
     sym (list_any_at (bytes_eq need) needs i [] (slice_get_within needs i need at) (ap (bytes_eq need) (get_or_from_slice_get needs i need [] at) ∙ is))
+
+-- the requirement whose set stands at a place, and those of the ordinals below 64 that meet it
+pub placed-low_bits : (versions needs : List Text) (sets : List Growing) (i : ℕ) (set : Growing) (bits : ℕ) → AreMatching versions needs sets
+    → i < length sets → set ≡ get_or sets i set → AreLowBits bits (has set.ordinals)
+    → (need : Text) × (slice_get needs i ≡ Some need) × AreLowBits bits (meets_at versions need)
+placed-low_bits versions needs sets i set bits m within is low =
+    let at = slice_get-get_or needs i [] (omega (arith, within, m.paired)) in
+    let exact = placed-matching versions needs sets (get_or needs i []) i set m at within is in
+    (get_or needs i [], at, λ k lt. low k lt ∙ exact k)

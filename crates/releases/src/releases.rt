@@ -2,6 +2,8 @@
 
 ghost use Rattle.std.specs.Prelude.{◌≡◌, ◌<◌, ◌≤◌, ◌^◌, ◌∷◌, ◌++◌, [], ℕ, true, false, is_some, length, slice_get, Some, IfNone, IfOk, IfSome, IsOk, OnErr, OnOk};
 ghost use Rattle.terms.specs.Sets.{has};
+ghost use Rattle.terms.specs.Words.{AreLowBits};
+ghost use Rattle.versions.specs.Words.{Text};
 ghost use Rattle.releases.specs.Kept.{IsMatching};
 ghost use Rattle.releases.specs.Matching.{ordinals_of};
 ghost use Rattle.releases.specs.Releases.{has_version, is_named, marked, meets_at, published, stamped, versions_of, with_need, AreStamped, IsFound, IsYankedAs};
@@ -129,6 +131,18 @@ impl Releases {
             return Matching::Known(&self.sets[place]);
         }
         Matching::Tested(Tested::new(&self.releases, need, &self.bounds[place]))
+    }
+
+    /// Of the ordinals below 64 those that meet the requirement which is named at a place, a bit each, if its set
+    /// is kept. Takes no memory.
+    pub fn low_bits(&self, place: usize) -> Option<u64>
+        ensures { IfSome result (λ bits. (need : Text) × (slice_get self.now.needs place ≡ Some need)
+            × AreLowBits bits (meets_at (versions_of self.now.releases) need)) }
+    {
+        if place < self.sets.len() {
+            return Some(self.sets[place].low_bits());
+        }
+        None
     }
 
     /// The matching set of a requirement, computed for once.

@@ -64,6 +64,13 @@ has_bit-at ws n i lt =
     let place : (64 * n + i) % 64 ≡ i = omega arith in
     ap (λ m. is_bit (bits_of ws m) ((64 * n + i) % 64)) number ∙ ap (λ m. is_bit (bits_of ws n) m) place
 
+-- the bits of the first word are the ordinals below 64
+pub low-bits : (ws : List Word) → AreWords ws → (k : ℕ) → k < 64 → is_bit (bits_of ws 0) k ≡ has (ordinals_of ws) k
+low-bits ws h k lt =
+    let number : 0 ≡ k / 64 = omega (arith, lt) in
+    let place : k ≡ k % 64 = omega (arith, lt) in
+    ap (λ m. is_bit (bits_of ws m) k) number ∙ ap (λ m. is_bit (bits_of ws (k / 64)) m) place ∙ sym (has-ordinals_of 0 ws h k)
+
 pub bits_of-first : (w : Word) (rest : List Word) → bits_of (w ∷ rest) w.number ≡ w.bits
 bits_of-first w rest = rw (nat_eq-itself w.number) refl
 

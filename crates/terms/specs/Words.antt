@@ -32,6 +32,10 @@ bits_of (w ∷ rest) number = if nat_eq w.number number then w.bits else bits_of
 abbrev pub has_bit : List Word → ℕ → Bool
 has_bit words k = is_bit (bits_of words (k / WORD_BITS)) (k % WORD_BITS)
 
+-- the lowest 64 bits tell which of the numbers below 64 pass a test
+abbrev pub AreLowBits : ℕ → (ℕ → Bool) → Type 0
+AreLowBits bits passes = (k : ℕ) → k < 64 → is_bit bits k ≡ passes k
+
 -- numbers rise from low on, no word is zero, and each ordinal has 32 bits
 abbrev pub WordsFrom : ℕ → List Word → Type 0
 WordsFrom low [] = Unit {0}

@@ -2,9 +2,10 @@
 
 ghost use Rattle.std.specs.Prelude.{◌≡◌, ◌<◌, ◌≤◌, ◌+◌, [], IfOk, IsOk, OnErr, OnOk};
 ghost use Rattle.terms.specs.Sets.{has, AddsOrdinal, IsAscending};
+ghost use Rattle.terms.specs.Words.{AreLowBits};
 
 use crate::sets::VSet;
-use crate::words::{Words, has_ordinal, insert_ordinal};
+use crate::words::{Words, bits_of, has_ordinal, insert_ordinal};
 use smallvec::SmallVec;
 use std::alloc::{AllocError, Global};
 use std::marker::Model;
@@ -68,6 +69,13 @@ impl GrowingSet {
         ensures { result ≡ has self.now.ordinals ordinal }
     {
         has_ordinal(&self.words, ordinal)
+    }
+
+    /// The ordinals below 64, a bit each: bit k stands for the ordinal k.
+    pub fn low_bits(&self) -> u64
+        ensures { AreLowBits result (has self.now.ordinals) }
+    {
+        bits_of(&self.words, 0)
     }
 
     /// The set as it is now.

@@ -53,7 +53,7 @@ fn place_of(words: &[Word], number: u32) -> Result<usize, usize>
 }
 
 /// The bits of the word with this number, none where it is not there.
-fn bits_of(words: &[Word], number: u32) -> u64
+pub(crate) fn bits_of(words: &[Word], number: u32) -> u64
     requires { AreWords words.now }
     ensures { result ≡ spec.bits_of words.now number }
 {
