@@ -130,26 +130,20 @@ def offers_have_so_many_lines_together():
         yield f"Of {count} lines that take {MOST} lines each, {offered} are offered", rows
 
 
-def _feet(rows, count):
-    """A package "top" that needs "l" and "r", of which no two versions go together: each two that need the same version
-    of "k" are the heads of rows of packages that end in different versions of "x". That is shown by conflicts that rest
-    on one another."""
-    yield "top", "0.9.0"
-    yield "top", "1.0.0", "l *", "r *"
-    for row in range(rows):
-        yield "l", f"1.{row}.0", f"c{row}n1 *", f"k ~1.{row}.0"
-        yield "r", f"1.{row}.0", f"c{row + 1}n1 *", f"k ~1.{row}.0"
-        yield "k", f"1.{row}.0"
-    for row in range(rows + 1):
-        for patch in range(3):
-            yield "x", f"1.{row}.{patch}"
-        for number in range(1, count):
-            yield f"c{row}n{number}", "1.0.0", f"c{row}n{number + 1} *"
-        yield f"c{row}n{count}", "1.0.0", f"x ~1.{row}.0"
+def _pigeons(count):
+    """Pigeons in one hole less: the version of a pigeon names a hole, of which one version lets one pigeon in. That they don't all
+    fit is shown by conflicts that rest on one another, each on several."""
+    for hole in range(count - 1):
+        for pigeon in range(count):
+            yield f"hole{hole}", f"{pigeon}.0.0"
+    for pigeon in range(count):
+        for hole in range(count - 1):
+            yield f"pigeon{pigeon}", f"{hole}.0.0", f"hole{hole} ={pigeon}.0.0"
 
 
 @rows_of("high")
 def a_line_that_is_cited_again_counts_once():
-    rows = _published(*_feet(7, 14))
-    rows.append(_asked("solver", "solve", [True, False], "top *", by=_beyond_the_most))
+    rows = _published(*_pigeons(8))
+    needs = [[f"pigeon{pigeon}", "*"] for pigeon in range(8)]
+    rows.append({"of": "solver", "call": "solve", "needs": needs, "lock": [], "by": _beyond_the_most, "gives": [True, False]})
     yield f"What takes more than {MOST} lines as they are cited, and no more where each counts once, is offered", rows

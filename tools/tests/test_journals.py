@@ -39,6 +39,11 @@ def journal(lines, form=2, end=None):
     return "".join(f"{line}\n" for line in [f"registry-journal {form}", *lines, f"end {len(lines) if end is None else end}"]).encode()
 
 
+def speaking_of(name, learnt):
+    """Those of these learn lines that speak of versions of a package."""
+    return [line for line in learnt if f'"name":"{name}"' in line]
+
+
 # How many packages a version needs of which a line that is too long to be written tells.
 ROWS = 56
 CHAIN_LEARNT = journal([*CHAIN, learn(0)])
@@ -319,23 +324,28 @@ class Limits(Sessions):
         self.fault(journal([*CHAIN, *(learn(0, 100 + number) for number in range(MOST_STORED + 1))]), MOST_STORED + 5)
 
     def test_what_was_learnt_by_too_long_a_line_is_left_out(self):
-        ((other, line), _), (many, then) = (self.learnt_of(versions) for versions in (4, MOST_VERSIONS))
-        # the one line speaks of no version of p, and the other one has each of its ordinals dozens of times
+        (few, _), (many, then) = (self.learnt_of(versions) for versions in (4, MOST_VERSIONS))
+        # the one line that speaks of p has each of its ordinals dozens of times
+        line, = speaking_of("p", few)
         ordinals = ",".join(map(str, range(MOST_VERSIONS)))
         self.assertGreater(line.count('"name":"p"') * len(ordinals), MOST_LINE_BYTES)
-        self.assertEqual(many, [other])
+        self.assertEqual(speaking_of("p", many), [])
+        # what was learnt before it stays
+        self.assertNotEqual(speaking_of("foo", many), [])
+        self.assertEqual(speaking_of("foo", many), speaking_of("foo", few))
         # the session knows what it does not write, and the next one doesn't
-        self.assertEqual(then, '{"refused":true,"revision":%d}' % (ROWS * 4 + MOST_VERSIONS))
+        self.assertEqual(then, '{"refused":true,"revision":%d}' % (len(CONFLICT) + ROWS * 4 + MOST_VERSIONS))
         self.assertIn("BudgetSpent", *self.session([resolve("p *", budget=1)], self.saved))
 
     def learnt_of(self, versions):
-        """The learn lines that a session leaves in which no version of p can be had, since each needs all of some packages, of which
-        each is in the way of one version of z; and what is answered then under a budget of one conflict."""
+        """The learn lines that a session leaves that first resolves foo, and in which no version of p can be had, since each needs all
+        of some packages, of which each is in the way of one version of z; and what is answered then under a budget of one conflict."""
         lines = [line for number in range(ROWS) for line in (
             publish(f"c{number}", "1.0.0"), publish(f"c{number}", "2.0.0"), publish(f"t{number}", "1.0.0", [f"c{number} ^1"]),
             publish("z", f"1.{number}.0", [f"c{number} ^2"]))]
         lines += [publish("p", f"1.{number}.0", ["z *", *(f"t{row} ^1" for row in range(ROWS))]) for number in range(versions)]
-        told = self.session([*lines, resolve("p *"), LIST, resolve("p *", budget=1)], save=self.saved)
+        lines += CONFLICT
+        told = self.session([*lines, resolve("foo >=1.0.0"), resolve("p *"), LIST, resolve("p *", budget=1)], save=self.saved)
         text = self.read(self.saved).decode().split("\n")
         learnt = [line for line in text if line.startswith('{"derivation"')]
         self.assertEqual((text[:len(lines) + 1], text[-2]), (["registry-journal 2", *map(journal_line, lines)], f"end {len(lines) + len(learnt)}"))

@@ -29,7 +29,7 @@ STATED = [
     ("docs/FORMATS.md", r"line has more than (\d+) needs", "MOST_NEEDS"), ("docs/FORMATS.md", r"more than ([\d,]+) pairs", "MOST_LOCK_LINES"),
     ("docs/FORMATS.md", r"in lines of at most ([\d,]+) bytes", "MOST_LINE_BYTES"), ("docs/FORMATS.md", r"command beyond ([\d,]+)", "MOST_COMMANDS"),
     ("docs/FORMATS.md", r"learnt line beyond ([\d,]+)", "MOST_LEARNT"), ("docs/FORMATS.md", r"takes 1 to (\d+) files", "MOST_FILES"),
-    ("docs/IMPORTING.md", r"\*\*More than a session takes\*\*, ([\d,]+) lines", "MOST_COMMANDS"),
+    ("docs/IMPORTING.md", r"It has at most ([\d,]+) commands", "MOST_COMMANDS"),
     ("docs/lines.schema.json", r"a line has at most ([\d,]+) bytes", "MOST_LINE_BYTES"),
     ("docs/SCALE.md", r"\| ([\d,]+) names a journal", "MOST_PACKAGES"), ("docs/SCALE.md", r"\| ([\d,]+) versions a package", "MOST_VERSIONS"),
 ]

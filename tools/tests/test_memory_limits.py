@@ -21,7 +21,7 @@ ALL = resolve(*(f"pigeon-{number} *" for number in range(PIGEONS)))
 LIMIT, MOST_OF_A_RACE, MOST_OF_A_FILE = 16_000, 8_000, 128
 PIPE = 4_096  # bytes
 # More conflicts than that memory has room for, and fewer than twice as much has.
-CONFLICTS = 1_450
+CONFLICTS = 16_000
 
 
 def holes():

@@ -60,7 +60,7 @@ class Folded(Folder):
             derivation = refusal(storeys)
             lines = [it for it in derivation.steps if it.number]
             said = [it for it, _, _ in drawn(drawing.draw_derivation(derivation, "what was asked"))[1]]
-            self.assertEqual((len(lines) > 48, any("folded" in it for it in said)), (is_folded, is_folded))
+            self.assertEqual((len(lines) > 50, any("folded" in it for it in said)), (is_folded, is_folded))
             self.assertEqual(sum(it.isdigit() for it in said) < len(lines), is_folded)
 
     def test_the_command(self):

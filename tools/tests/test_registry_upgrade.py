@@ -35,7 +35,7 @@ class Outdated(Locked):
 
     def test_newer_ones_and_what_holds_them_back(self):
         self.hold(*NEW)
-        held = {"log": "app 1.1.0 depends on log ^1.2; app 1.0.0 depends on log ^1; 1 more", "zlib": "with it app 1.1.0 -> 1.0.0 (older)"}
+        held = {"log": "app 1.0.0 depends on log ^1; app 1.1.0 depends on log ^1.2; 1 more", "zlib": "with it app 1.1.0 -> 1.0.0 (older)"}
         self.assertEqual(self.outdated(), (0, HEADS + f"log      1.2.0   1.3.0    2.0.0   {held['log']}\nzlib     1.0.0   1.1.0    2.0.0   {held['zlib']}\n", ""))
         self.assertEqual(json.loads(self.outdated("--json")[1]),
                          [{"name": "log", "locked": "1.2.0", "state": "", "allowed": "1.3.0", "newest": "2.0.0", "held_back_by": held["log"]},
@@ -80,7 +80,9 @@ class Outdated(Locked):
                                              "log      1.3.0-rc.1  1.2.0    1.3.0-rc.2  every version of app depends on log ^1; the request depends on app ^1\n")
 
     def test_what_is_not_found_out_within_the_budget_is_told_so(self):
-        self.hold(*NEW)
+        # log 2 goes with neither version of what both versions of app need, which takes two conflicts to be found out
+        self.hold(*(publish("app", version, ["mid *"]) for version in ("1.0.0", "1.1.0")), publish("mid", "1.0.0", ["log ^1"]),
+                  publish("mid", "1.1.0", ["log ^1.2"]), publish("log", "1.2.0"), *NEW[4:6], publish("zlib", "1.0.0"))
         told = self.outdated("--budget", "1")[1].splitlines()
         self.assertEqual(told[1], "log      1.2.0   1.3.0    2.0.0   not found out: app ^1: no answer was found within the budget of conflicts: raise it by --budget")
 

@@ -12,6 +12,8 @@ VERSIONS = ["1.0.0", "1.1.0", "2.0.0", "2.0.0-rc.1", "0.3.1"]
 REQUIREMENTS = ["*", "^1.0.0", "^2.0.0", "=1.1.0", ">=1.1.0", "<2.0.0", ">=1.0.0, <2.0.0", "^2.0.0-rc.1", "~1.0.0",
                 "^0.3.0", ">2.0.0"]
 UNKNOWN = "zed"
+TIGHT_NAMES, TIGHT_VERSIONS = "abcdefgh", ["1.0.0", "1.1.0", "1.2.0", "1.3.0"]
+TIGHT = ["=1.0.0", "=1.1.0", "=1.2.0", ">=1.1.0, <1.3.0", ">=1.2.0", "<1.2.0"]
 
 
 def commands(rng):
@@ -26,6 +28,15 @@ def commands(rng):
         made.append({"op": "publish", "name": name, "version": version, "needs": needs})
     made += [{"op": "yank", "name": name, "version": version} for name, version in rows if rng.random() < 0.15]
     return made
+
+
+def tight_commands(rng):
+    """Publications of packages whose versions each go with few versions of the others: most requests meet several conflicts."""
+    rows = [(name, version) for name in TIGHT_NAMES for version in rng.sample(TIGHT_VERSIONS, rng.choice([2, 3, 4]))]
+    rng.shuffle(rows)
+    return [{"op": "publish", "name": name, "version": version,
+             "needs": [[target, rng.choice(TIGHT)] for target in rng.sample([it for it in TIGHT_NAMES if it != name], rng.choice([1, 2]))]}
+            for name, version in rows]
 
 
 def resolving(rng):
@@ -84,6 +95,12 @@ class Selections(unittest.TestCase):
             made = commands(rng)
             least += [self.least_budget(made, resolving(rng), 8) for _ in range(8)]
         self.assertGreater(least.count(0), 80)
+        for seed in range(20):
+            rng = random.Random(seed)
+            made = tight_commands(rng)
+            for _ in range(4):
+                request = {"op": "resolve", "needs": [[name, "*"] for name in rng.sample(TIGHT_NAMES, 3)]}
+                least.append(self.least_budget(made, request, 12))
         self.assertGreater(sum(conflicts > 1 for conflicts in least), 8)
 
     def test_a_request_of_many_conflicts_has_a_least_budget(self):

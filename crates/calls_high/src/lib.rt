@@ -8,6 +8,7 @@ mod book_calls;
 mod chronicle_calls;
 mod item_texts;
 mod jobs_calls;
+mod oracles;
 mod order;
 mod outcomes;
 mod pool_calls;

@@ -95,7 +95,7 @@ fn changed_told<'a>(
     }
 }
 
-/// A refusal of a step; want of memory, and a row that can't be read, are the whole row's answer.
+/// A refusal of a step; lack of memory, and a row that can't be read, are the whole row's answer.
 fn refusal_told(why: Unread) -> Result<CallResult, Unread> {
     match why {
         Unread::Refused(Refusal::NoMemory) => Err(why),

@@ -1,11 +1,13 @@
 //! Calls of the solver.
 
+use crate::oracles::{Liar, Lie, lie_at};
 use crate::outcomes::{budget_at, offered, options_at, put_outcome};
 use derivations::{Learnt, check};
+use heuristics::Question;
 use registry::{Registry, Request};
 use rows::{AnswerText, CallResult, Shows, Unread, request_at, shown};
 use serde_json::Value;
-use solver::{Options, Outcome, solve, solve_with, solve_within};
+use solver::{Options, Outcome, solve, solve_by, solve_with, solve_within};
 use std::alloc::Global;
 use store::Store;
 use versions::Refusal;
@@ -33,6 +35,9 @@ fn answered(
     if name == "solve_with" {
         return solved_with(alloc, registry, request, options_at(row)?);
     }
+    if name == "solve_by" {
+        return solved_by(alloc, registry, request, options_at(row)?, lie_at(row)?);
+    }
     let outcome = solved(alloc, registry, request, budget_at(row)?)?;
     let answer = told(alloc, registry, request, &outcome, name);
     drop(outcome);
@@ -51,6 +56,40 @@ fn solved(
         Some(budget) => solve_within(alloc, registry, request, &store, budget),
         None => solve(alloc, registry, request, &store),
     };
+    drop(store);
+    outcome
+}
+
+/// As [`judged`], of what a request is answered by an oracle that loses or lies.
+fn solved_by(
+    alloc: Global,
+    registry: &Registry,
+    request: &Request,
+    options: Options,
+    lie: Lie,
+) -> Result<CallResult, Unread> {
+    let outcome = answered_by(alloc, registry, request, options, lie)?;
+    let answer = judged(alloc, registry, request, &outcome);
+    drop(outcome);
+    answer
+}
+
+fn answered_by(
+    alloc: Global,
+    registry: &Registry,
+    request: &Request,
+    options: Options,
+    lie: Lie,
+) -> Result<Outcome, Refusal> {
+    let store = Store::new(alloc);
+    let question = Question {
+        alloc,
+        registry,
+        request,
+    };
+    let mut oracle = Liar::new(question, &store, lie);
+    let outcome = solve_by(alloc, registry, request, &store, options, &mut oracle);
+    drop(oracle);
     drop(store);
     outcome
 }

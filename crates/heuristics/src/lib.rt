@@ -1,7 +1,7 @@
 //! No proof rests on this: it only chooses what a search looks at next, and what it decides first.
 //!
 //! What it leaves out is found by the walk that ends a search, and what it names twice costs time. So
-//! its calls promise no more than that nothing but want of memory refuses them. The section is that of
+//! its calls promise no more than that nothing but lack of memory refuses them. The section is that of
 //! Dart pub's doc/solver.md.
 //!
 //! | File | What it does | Section |

@@ -10,7 +10,7 @@ use partial::Partial;
 use std::alloc::{AllocError, Global};
 use terms::{Incompat, Pkg, Relation, Term, relation};
 
-/// How many spent lines of a package are passed over before they are put aside: so a package with very many
+/// How many inactive lines of a package are passed over before they are put aside: so a package with very many
 /// lines costs no look at each of them whenever it changes, and short lists are left as they are.
 const PASSED: usize = 32;
 
@@ -49,7 +49,7 @@ pub(crate) struct Occurrences {
     kept: Vec<PackageState>,
     occurrences: Vec<Occurrence>,
     sayings: Vec<Literal>,
-    /// How many occurrences are put aside. Their lines are spent.
+    /// How many occurrences are put aside. Their lines are inactive.
     aside: usize,
     covered: Covered,
 }
@@ -180,7 +180,7 @@ impl Occurrences {
     }
 
     /// Puts an occurrence that was put aside into its package's list again, behind the one that it was
-    /// taken out from. That stands there: it was spent later, if at all, and so it came back before.
+    /// taken out from. That stands there: it became inactive later, if at all, and so it came back before.
     fn put_back(&mut self, number: u32) {
         let Some(saying) = self.saying_mut(number) else {
             return;
@@ -214,7 +214,7 @@ impl Occurrences {
         }
     }
 
-    /// Takes back what was spent above a level.
+    /// Takes back what became inactive above a level.
     pub fn backjump(&mut self, spent: &mut Inactive, level: usize) {
         if self.aside > 0 {
             for (at, _) in spent.above(level).iter().rev() {
@@ -365,7 +365,7 @@ impl Occurrences {
         }
     }
 
-    /// Puts the spent lines of a package aside.
+    /// Puts the inactive lines of a package aside.
     fn sweep(&mut self, pkg: Pkg, spent: &Inactive) {
         let mut before = 0;
         let mut number = self.after(pkg, 0);
@@ -382,10 +382,10 @@ impl Occurrences {
         }
     }
 
-    /// Gathers the places of those lines that are not spent and whose term on a package is satisfied by
+    /// Gathers the places of those lines that are active and whose term on a package is satisfied by
     /// what is said of it. Of the others nothing new follows: their term on the package is contradicted,
-    /// or is the one that is left. Those that are contradicted are spent at this level. Answers how many
-    /// lines were spent before.
+    /// or is the one that is left. Those that are contradicted are inactive from this level on. Answers how many
+    /// lines were inactive before.
     fn gather_ripe(
         &self,
         partial: &Partial,
@@ -416,7 +416,7 @@ impl Occurrences {
         Ok(passed)
     }
 
-    /// As `gather_ripe`; where many lines were spent, they are put aside.
+    /// As `gather_ripe`; where many lines were inactive, they are put aside.
     pub fn gather(
         &mut self,
         partial: &Partial,

@@ -139,7 +139,7 @@ impl Queue {
     }
 
     /// The package that comes first in the queue and is to be decided: the one with the fewest versions
-    /// to choose from, of several the hottest, where activity is minded, and the one with the lowest number. It
+    /// to choose from, of several the most active, where activity counts, and the one with the lowest number. It
     /// leaves the queue, unless it is not decided then.
     pub fn next(
         &mut self,

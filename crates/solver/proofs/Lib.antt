@@ -9,6 +9,7 @@ pub mod GoingBack
 pub mod Publishing
 pub mod Numbering
 pub mod Pushed
+pub mod Barring
 pub mod Reused
 pub mod Using
 pub mod Decisions

@@ -1,5 +1,5 @@
 -- Facts as lines.
-use Rattle.std.proofs.Common.{◌≡◌, ◌≢◌, ◌↔◌, ◌∙◌, ℕ, List, [], ◌∷◌, ◌++◌, length, refl, sym, ap, true≢false, Bool}
+use Rattle.std.proofs.Common.{◌≡◌, ◌≢◌, ◌↔◌, ◌∙◌, ℕ, List, [], ◌∷◌, ◌++◌, length, refl, sym, subst, ap, true≢false, Bool}
 use Rattle.std.specs.Prelude.{Contains, IsTrue, Some}
 use Rattle.versions.specs.Words.{Text}
 use Rattle.terms.specs.Sets.{has}
@@ -10,7 +10,8 @@ use Rattle.derivations.specs.Derivations.{IsFact}
 use Rattle.derivations.specs.Facts.{Stands, Terms}
 use Rattle.derivations.specs.Lines.{Cause, Premise}
 use Rattle.derivations.specs.declared.known.CausedIncompatibility.{CausedIncompatibility}
-use Rattle.derivations.specs.declared.known.Reason.TheVariants.{Fact}
+use Rattle.derivations.specs.CausedIncompatibilities.{FollowsFrom, StandsBy}
+use Rattle.derivations.specs.declared.known.Reason.TheVariants.{Fact, Resolved}
 use Rattle.solver.specs.Pushing.{AreDependents, SaysAt}
 use Rattle.solver.specs.Searching.{IsSearch}
 use Rattle.solver.proofs.Lists.{get-last}
@@ -25,6 +26,12 @@ fact_extends packages wanted old new cause terms fact is made search =
 pub fact_place : (old new : List CausedIncompatibility) (cause : Cause) (terms : Terms) (at : ℕ) → new ≡ old ++ record { conclusion = terms; reason = Fact cause } ∷ [] → at ≡ length old → SaysAt new terms at
 fact_place old new cause terms at is place =
     rw (is, place) (record { conclusion = terms; reason = Fact cause }, get-last old (record { conclusion = terms; reason = Fact cause }), refl)
+
+-- what follows from two lines, behind the lines
+pub follows_extends : {in_order : Bool} (packages : Packages) (wanted : Wanted) (old new : List CausedIncompatibility) (line : CausedIncompatibility) (i j pivot : ℕ) → line.reason ≡ Resolved i j pivot
+    → FollowsFrom old line.conclusion i j pivot → new ≡ old ++ line ∷ [] → (made : List Assignment) → IsSearch in_order packages wanted made old → IsSearch in_order packages wanted made new
+follows_extends packages wanted old new line i j pivot reason follows is made search =
+    rw is (IsSearch-line packages wanted made old line search (subst (λ r. StandsBy packages wanted old line.conclusion r) (sym reason) follows))
 
 -- where a set has exactly the versions that have a dependency, and one has it
 pub exactly_dependents : (packages : Packages) (p k : ℕ) (entry : Text × Text) (versions : List ℕ) → ((j : ℕ) → IsTrue (has versions j) ↔ Contains (needs_of packages p j) entry)

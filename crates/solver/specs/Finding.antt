@@ -1,5 +1,5 @@
 -- What a search finds, before it is told.
-use Rattle.std.specs.Prelude.{◌≡◌, ℕ, All, List, nat_eq}
+use Rattle.std.specs.Prelude.{◌≡◌, ℕ, All, List, Option, None, Some, nat_eq}
 use Rattle.std.specs.List.{IsDistinct}
 use Rattle.std.specs.Map.{keys_of}
 use Rattle.registry.specs.Selections.{Choices, Meets}
@@ -15,6 +15,11 @@ use Rattle.solver.specs.Searching.{Refuses}
 abbrev pub IsFound : Task → Found → Type 0
 IsFound task (found.Selected list offered) = IsAnswer task list.items × All (AllStand task.registry.now.packages) offered.items
 IsFound task (found.Refused known end offered) = Refuses task known.items end × All (AllStand task.registry.now.packages) offered.items
+
+-- what was found is, if anything was
+abbrev pub IsValidated : Task → Option Found → Type 0
+IsValidated task None = Unit {0}
+IsValidated task (Some found) = IsFound task found
 
 -- a selection that meets the task's request, each package once, whichever it is
 pub record IsFirstAnswer (task : Task) (list : List (ℕ × ℕ)) : Type 0 where

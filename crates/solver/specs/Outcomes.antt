@@ -75,7 +75,7 @@ OnlyWhereNone packages wanted (outcome.Refused derivation offered) = NoSelection
 abbrev pub NonePreferred : Packages → Wanted → Type 0
 NonePreferred packages wanted = IfPreferredServes packages wanted (λ s. ⊥)
 
--- why a request may be left without an answer: for want of memory, or, under a budget, since that is spent; but no budget is spent on a preferred selection that meets it
+-- why a request may be left without an answer: for lack of memory, or, under a budget, since that is spent; but no budget is spent on a preferred selection that meets it
 abbrev pub MayStop : Packages → Wanted → Option ℕ → Refusal → Type 0
 MayStop packages wanted None e = e ≡ NoMemory
 MayStop packages wanted (Some budget) e = (e ≡ NoMemory) ⊎ ((e ≡ BudgetSpent) × NonePreferred packages wanted)

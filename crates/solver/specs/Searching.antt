@@ -96,7 +96,7 @@ IsIdle task old new = (new.partial ≡ old.partial) × Searches task new
 abbrev pub IsUnused : Search → Search → ℕ → Type 0
 IsUnused old new at = IsUnchanged old new × AtLine old.known.items at (λ line. IsNeither old.partial line.conclusion)
 
--- a refusal for want of memory, or, where there is a budget, since it is spent
+-- a refusal for lack of memory, or, where there is a budget, since it is spent
 abbrev pub MayRefuse : Option ℕ → Refusal → Type 0
 MayRefuse None e = e ≡ refusal.NoMemory
 MayRefuse (Some budget) e = (e ≡ refusal.NoMemory) ⊎ (e ≡ refusal.BudgetSpent)

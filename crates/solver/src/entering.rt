@@ -10,6 +10,7 @@ use crate::picking::is_open;
 use crate::task::Task;
 use crate::worklist::Worklist;
 use derivations::CausedIncompatibility;
+use heuristics::Sharing;
 use partial::Partial;
 use registry::ordinals_are_below_the_count;
 use std::alloc::AllocError;
@@ -44,6 +45,33 @@ fn add_dependency(
     let versions = versions_sharing(task, &mut worklist.sharing, pkg, ordinal, entry)?;
     let at = push_dependency(task, known, pkg, versions, entry, target, within)?;
     worklist.note_dependency(task.alloc, known, at, pkg, target)
+}
+
+/// Puts the dependency of a version at an index behind the lines, for all versions that share it, and answers
+/// its place.
+pub(crate) fn push_shared(
+    task: &Task<'_>,
+    known: &mut Vec<CausedIncompatibility>,
+    sharing: &mut Sharing,
+    pkg: Pkg,
+    ordinal: u32,
+    index: usize,
+) -> Result<Option<usize>, AllocError>
+    requires { index < length (needs_of task.now.registry.now.packages pkg ordinal) }
+    ensures { OnOk result (Extends task.now known.old.items known.new.items) }
+{
+    let (target, matching) = task.registry.dependency(pkg, ordinal, index)?;
+    if target == pkg {
+        drop(matching);
+        return Ok(None);
+    }
+    let entry = &task.registry.facts(pkg, ordinal).needs[index];
+    let members = matching.set(task.alloc);
+    drop(matching);
+    let within = members?;
+    let versions = versions_sharing(task, sharing, pkg, ordinal, entry)?;
+    let at = push_dependency(task, known, pkg, versions, entry, target, within)?;
+    Ok(Some(at))
 }
 
 /// Puts the dependencies of a package that is needed behind the lines, if all its versions have the same:

@@ -38,7 +38,7 @@ pub(crate) fn obstacle_in(
 }
 
 /// The selection that these decisions make, if they do.
-fn selection_of(
+pub(crate) fn selection_of(
     task: &Task<'_>,
     decided: &IndexMap<Pkg, u32>,
 ) -> Result<Option<Vec<(Pkg, u32)>>, AllocError>

@@ -8,6 +8,10 @@
 //! | `solving.rt` | the answer of a request: the preferred walk, the greedy search, the full search | | `IsLawful`, `Answers` |
 //! | `found.rt` | what a search found, before it is told | | `IsFound` |
 //! | `greedy.rt` | what a greedy search finds, validated by the walk | | `IsAnswer` |
+//! | `oracle.rt` | who is asked for the answer of a hard request | | none |
+//! | `validating.rt` | what an oracle says, checked by the walk or a replay | | `IsValidated` |
+//! | `over_trace.rt` | the newest selection, searched for over the lines of a trace | | `IsFound` |
+//! | `replaying.rt` | the trace of a refusal, derived again line by line | | `Refuses` |
 //! | `starting.rt` | the root, and the needs of the request | The Algorithm | `Searches` |
 //! | `turns.rt` | propagation, else a decision, else the walk, until there is an answer | The Algorithm | `TurnsBy`, `StopsBy` |
 //! | `propagating.rt` | the lines that name what changed | Unit Propagation | `ActsBy` |
@@ -38,8 +42,11 @@ mod laws;
 mod lines;
 mod meeting;
 mod offering;
+mod oracle;
+mod over_trace;
 mod picking;
 mod propagating;
+mod replaying;
 mod reusing;
 mod search;
 mod solving;
@@ -47,7 +54,9 @@ mod starting;
 mod store_lookups;
 mod task;
 mod turns;
+mod validating;
 mod worklist;
 
 pub use laws::there_is_one_newest_list;
-pub use solving::{Options, Outcome, solve, solve_with, solve_within};
+pub use oracle::{EngineOracle, Oracle};
+pub use solving::{Options, Outcome, solve, solve_by, solve_with, solve_within};

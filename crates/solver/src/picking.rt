@@ -19,7 +19,7 @@ use walk::{ahead_is_locked_or_higher, locked_ordinal};
 // ---- the package
 
 /// Whether a package is numbered.
-fn is_package(task: &Task<'_>, pkg: Pkg) -> bool
+pub(crate) fn is_package(task: &Task<'_>, pkg: Pkg) -> bool
     ensures { result ≡ true → IsSome (package_at task.now.registry.now.packages pkg) }
 {
     pkg >= 1 && pkg as usize <= task.registry.packages()

@@ -17,7 +17,7 @@ use versions::Refusal;
 /// Uses the lines at these places, newest first, up to the first conflict. Answers the last
 /// derivation, if there was one; the packages of those before it are changed. The lines by which
 /// something was derived are used.
-fn use_places(
+pub(crate) fn use_places(
     task: &Task<'_>,
     search: &mut Search,
     changed: &mut Vec<Pkg>,

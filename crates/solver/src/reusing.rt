@@ -86,7 +86,7 @@ pub(crate) fn push_learnt(
 }
 
 /// The member in a place of the store.
-fn member_of<'a>(task: &Task<'a>, place: u32) -> Option<&'a Learnt>
+pub(crate) fn member_of<'a>(task: &Task<'a>, place: u32) -> Option<&'a Learnt>
     requires { StoreStands task.now }
     ensures { IfSome result (λ learnt. AllStand task.now.registry.now.packages learnt.now) }
 {

@@ -8,31 +8,30 @@ ghost use Rattle.registry.specs.Registry.{is_published};
 ghost use Rattle.registry.specs.Selections.{Choices, IsSelection};
 ghost use Rattle.walk.specs.Choosing.{choice_of};
 ghost use Rattle.walk.specs.Preferring.{IfPreferredServes};
-ghost use Rattle.solver.specs.Answering.{EndsBy, IsAnswer};
-ghost use Rattle.solver.specs.Finding.{Finds, IsFirstAnswer, IsFound};
+ghost use Rattle.solver.specs.Answering.{EndsBy};
+ghost use Rattle.solver.specs.Finding.{Finds, IsFound};
 ghost use Rattle.solver.specs.Outcomes.{told, SelectsNewest, Answers, IsLawful, MayStop, Tells};
 ghost use Rattle.solver.specs.Reusing.{StoreStands};
 ghost use Rattle.solver.specs.Searching.{IsSearch, MayRefuse};
 
-use crate::found::{Found, found_of};
+use crate::found::{Found, found_of, suffices};
 use crate::greedy::{obstacle_in, search_greedily};
+use crate::oracle::{EngineOracle, Oracle};
 use crate::search::Search;
 use crate::starting::{restart, start};
 use crate::task::Task;
 use crate::turns::{Ended, run};
+use crate::validating::validate;
 use crate::worklist::Worklist;
 use derivations::{Derivation, Learnt, kept_lines_refute};
 use extraction::extract_derivation;
-use heuristics::Obstacle;
+use heuristics::{Obstacle, Question};
 use registry::{Registry, Request, ordinals_are_below_the_count};
 use std::alloc::{AllocError, Global};
 use store::Store;
 use terms::Pkg;
 use versions::{Name, Published, Refusal};
-use walk::{
-    Reached, choose_newest, is_plainly_newest, reach_preferred, sort_by_name,
-    the_preferred_is_the_newest,
-};
+use walk::{Reached, choose_newest, reach_preferred, sort_by_name, the_preferred_is_the_newest};
 
 /// What a request is answered, and what may be learnt of it.
 #[derive(Drop)]
@@ -101,16 +100,6 @@ fn tell(
     Ok(named_all(alloc, registry, &list)?)
 }
 
-/// Whether a selection that was found is what is asked for: any is, unless the newest one is asked for.
-fn suffices(task: &Task<'_>, list: &[(Pkg, u32)]) -> Result<bool, AllocError>
-    ensures { IfOk result (λ answer. answer ≡ true → IsFirstAnswer task.now list.now → IsAnswer task.now list.now) }
-{
-    if !task.newest {
-        return Ok(true);
-    }
-    is_plainly_newest(task.alloc, task.registry, task.request, list)
-}
-
 /// Goes on with a search that has started, in any order or in that of the walk. Where a selection is found in any
 /// order that can't be seen to be the newest, which is asked for, the search begins again, in the order of the
 /// walk and over the lines that it knows: most of what rules better versions out was learnt already.
@@ -150,12 +139,13 @@ fn search_on(
 }
 
 /// Searches for an answer from the start on, in any order first or in that of the walk at once, with backjumps
-/// and with room for so many packages.
+/// and with room for so many packages. Its conflicts are counted on from so many.
 fn search_from(
     task: &Task<'_>,
     in_order: bool,
     worklist: &mut Worklist,
     room: usize,
+    conflicts: u32,
 ) -> Result<Found, Refusal>
     requires { StoreStands task.now }
     ensures found { IfOk result (IsFound task.now) }
@@ -170,6 +160,7 @@ fn search_from(
         newest: in_order,
     };
     let mut search = start(&first, worklist, room)?;
+    search.conflicts = conflicts;
     match search_on(task, in_order, &mut search, worklist) {
         Ok(ended) => {
             let Search { partial, known, .. } = search;
@@ -184,22 +175,44 @@ fn search_from(
 }
 
 /// As [`search_from`]. What conflicts led to is offered to be learnt, in whichever order it was met.
-fn search_fully(task: &Task<'_>, in_order: bool, room: usize) -> Result<Found, Refusal>
+fn search_fully(
+    task: &Task<'_>,
+    in_order: bool,
+    room: usize,
+    conflicts: u32,
+) -> Result<Found, Refusal>
     requires { StoreStands task.now }
     ensures found { IfOk result (IsFound task.now) }
     ensures only { IfErr result (MayRefuse task.now.budget) }
 {
     let mut worklist = Worklist::new(task.alloc, room)?;
-    let found = search_from(task, in_order, &mut worklist, room);
+    let found = search_from(task, in_order, &mut worklist, room, conflicts);
     // By a call, so that what dropping it does stands in no proof here.
     drop(worklist);
     found
 }
 
+/// Finds what answers a task for which nothing is found without a conflict: what is right of what an oracle says,
+/// else by the full search, with room for so many packages, which counts on from the oracle's conflicts.
+fn search_hard<O: Oracle>(task: &Task<'_>, oracle: &mut O, room: usize) -> Result<Found, Refusal>
+    requires { StoreStands task.now }
+    ensures found { IfOk result (IsFound task.now) }
+    ensures only { IfErr result (MayRefuse task.now.budget) }
+{
+    match validate(task, oracle)? {
+        Some(found) => Ok(found),
+        None => Ok(search_fully(task, false, room, oracle.conflicts())?),
+    }
+}
+
 /// Finds what answers a task by a search: by the one that does not jump back, which minds an obstacle, else by
 /// the one that does. Where that finds no selection that is seen to be the newest, and this is asked for, no
 /// conflict was met, and so nothing is known that a search in the order of the walk could begin with.
-fn search_in_turn(task: &Task<'_>, obstacle: Option<Obstacle>) -> Result<Found, Refusal>
+fn search_in_turn<O: Oracle>(
+    task: &Task<'_>,
+    oracle: &mut O,
+    obstacle: Option<Obstacle>,
+) -> Result<Found, Refusal>
     requires { StoreStands task.now }
     ensures found { IfOk result (IsFound task.now) }
     ensures only { IfErr result (MayRefuse task.now.budget) }
@@ -214,19 +227,23 @@ fn search_in_turn(task: &Task<'_>, obstacle: Option<Obstacle>) -> Result<Found, 
     };
     let (found, room) = search_greedily(&any, obstacle)?;
     match found {
-        None => Ok(search_fully(task, false, room)?),
+        None => Ok(search_hard(task, oracle, room)?),
         Some(list) => {
             if suffices(task, &list)? {
                 return Ok(Found::Selected(list, Vec::new(task.alloc)));
             }
-            Ok(search_fully(task, true, list.len())?)
+            Ok(search_fully(task, true, list.len(), 0)?)
         }
     }
 }
 
 /// Finds what answers a task that the preferred selection doesn't: the newest selection, where that is asked for
 /// and it is chosen without going back; else by searches.
-fn search_for(task: &Task<'_>, obstacle: Option<Obstacle>) -> Result<Found, Refusal>
+fn search_for<O: Oracle>(
+    task: &Task<'_>,
+    oracle: &mut O,
+    obstacle: Option<Obstacle>,
+) -> Result<Found, Refusal>
     requires { StoreStands task.now }
     ensures found { IfOk result (IsFound task.now) }
     ensures only { IfErr result (MayRefuse task.now.budget) }
@@ -236,11 +253,11 @@ fn search_for(task: &Task<'_>, obstacle: Option<Obstacle>) -> Result<Found, Refu
             return Ok(Found::Selected(list, Vec::new(task.alloc)));
         }
     }
-    Ok(search_in_turn(task, obstacle)?)
+    Ok(search_in_turn(task, oracle, obstacle)?)
 }
 
 /// Finds what answers a task: the preferred selection where it serves, else by a search.
-fn find(task: &Task<'_>) -> Result<Found, Refusal>
+fn find<O: Oracle>(task: &Task<'_>, oracle: &mut O) -> Result<Found, Refusal>
     requires { StoreStands task.now }
     ensures found { IfOk result (IsFound task.now) }
     ensures preferred { IfPreferredServes task.now.registry.now.packages task.now.request.now (λ s. IfOk result (Finds s)) }
@@ -254,9 +271,9 @@ fn find(task: &Task<'_>) -> Result<Found, Refusal>
         Reached::Selection(list) => Ok(Found::Selected(list, Vec::new(task.alloc))),
         Reached::Unmet(asker, index) => {
             let obstacle = obstacle_in(task, asker, index)?;
-            Ok(search_for(task, obstacle)?)
+            Ok(search_for(task, oracle, obstacle)?)
         }
-        Reached::NotAllowed(_, _) => Ok(search_for(task, None)?),
+        Reached::NotAllowed(_, _) => Ok(search_for(task, oracle, None)?),
     }
 }
 
@@ -300,7 +317,7 @@ fn outcome_of(task: &Task<'_>, found: Found, explain: bool) -> Result<Outcome, R
 /// lines, so that a derivation carries them. It asks as many members as its own size allows, and what
 /// the store says of other packages costs it nothing. What is offered to be learnt, the last part of
 /// an outcome, is what conflicts led to, where it rests on premises alone, by the lines of members too.
-/// Nothing is offered that the store has, nor to a store that is full; and for want of memory nothing
+/// Nothing is offered that the store has, nor to a store that is full; and for lack of memory nothing
 /// is offered, where there is enough for the answer.
 pub fn solve_with(
     alloc: Global,
@@ -308,6 +325,35 @@ pub fn solve_with(
     request: &Request,
     store: &Store,
     options: Options,
+) -> Result<Outcome, Refusal>
+    requires stored { All (AllStand registry.now.packages) store.now.members }
+    ensures lawful { IfOk result (IsLawful registry.now.packages request.now options.explain) }
+    ensures preferred { IfPreferredServes registry.now.packages request.now (λ s. IfOk result (Answers registry.now.packages s)) }
+    ensures newest { options.newest ≡ true → IfOk result (SelectsNewest registry.now.packages request.now) }
+    ensures unspent { IfPreferredServes registry.now.packages request.now (λ s. IfErr result (λ e. e ≡ Refusal.NoMemory)) }
+    ensures only { IfErr result (MayStop registry.now.packages request.now options.budget) }
+{
+    let question = Question {
+        alloc,
+        registry,
+        request,
+    };
+    let mut oracle = EngineOracle::new(question, store, options.budget);
+    let outcome = solve_by(alloc, registry, request, store, options, &mut oracle);
+    drop(oracle);
+    outcome
+}
+
+/// As [`solve_with`], with an oracle in place of the engine: it is asked where the request is hard. Whatever it says,
+/// answers are right; where it is wrong they cost more time, and more conflicts if it counts some. The errors are
+/// those of `solve_with`.
+pub fn solve_by<O: Oracle>(
+    alloc: Global,
+    registry: &Registry,
+    request: &Request,
+    store: &Store,
+    options: Options,
+    oracle: &mut O,
 ) -> Result<Outcome, Refusal>
     requires stored { All (AllStand registry.now.packages) store.now.members }
     ensures lawful { IfOk result (IsLawful registry.now.packages request.now options.explain) }
@@ -324,7 +370,7 @@ pub fn solve_with(
         budget: options.budget,
         newest: options.newest,
     };
-    let found = find(&task)?;
+    let found = find(&task, oracle)?;
     outcome_of(&task, found, options.explain)
 }
 

@@ -42,7 +42,7 @@ fn put_root(task: &Task<'_>, search: &mut Search, room: usize) -> Result<(), All
 }
 
 /// The root alone: its fact, its derivation and its decision.
-fn begin(task: &Task<'_>, room: usize) -> Result<Search, AllocError>
+pub(crate) fn begin(task: &Task<'_>, room: usize) -> Result<Search, AllocError>
     ensures { IfOk result (Searches task.now) }
 {
     let partial = Partial::with_room(task.alloc, room.saturating_mul(2))?;

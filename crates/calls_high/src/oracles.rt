@@ -1,0 +1,119 @@
+//! Oracles that lose or lie, so that rows show that no answer depends on what an oracle says.
+
+use engine::{Engine, Found, Stop, Trace};
+use heuristics::Question;
+use indexmap::IndexMap;
+use rows::{Unread, text_at};
+use serde_json::Value;
+use solver::Oracle;
+use std::alloc::Global;
+use store::Store;
+use terms::Pkg;
+
+/// What an oracle says wrongly.
+#[derive(Clone, Copy, PartialEq, Eq)]
+pub enum Lie {
+    /// That it is lost.
+    Lost,
+    /// Other versions than those that make a selection, and where there is none, that nothing makes one.
+    Selection,
+    /// That there is no selection, and where there is none, why: by steps on other packages.
+    Refusal,
+    /// Why no other selection is newer: by steps on other packages.
+    Newest,
+}
+
+/// What the oracle of a row says wrongly, as `"oracle":"lost"`.
+pub fn lie_at(row: &Value) -> Result<Lie, Unread> {
+    match text_at(row, "oracle")? {
+        "lost" => Ok(Lie::Lost),
+        "selection" => Ok(Lie::Selection),
+        "refusal" => Ok(Lie::Refusal),
+        "newest" => Ok(Lie::Newest),
+        _ => Err(Unread::Row),
+    }
+}
+
+/// The engine, of which some answers are changed.
+#[derive(Drop)]
+pub struct Liar<'a> {
+    alloc: Global,
+    engine: Engine<'a>,
+    lie: Lie,
+}
+
+/// The same packages in other versions.
+fn with_other_versions(
+    alloc: Global,
+    decided: &IndexMap<Pkg, u32>,
+) -> Result<IndexMap<Pkg, u32>, Stop> {
+    let mut others = IndexMap::new(alloc);
+    for (pkg, ordinal) in decided.iter() {
+        others.insert(*pkg, ordinal.wrapping_add(1))?;
+    }
+    Ok(others)
+}
+
+/// The same steps on other packages.
+fn on_other_packages(trace: Trace) -> Trace {
+    let mut changed = trace;
+    for step in changed.steps.iter_mut() {
+        step.on = step.on.wrapping_add(1);
+    }
+    changed
+}
+
+impl<'a> Liar<'a> {
+    pub fn new(question: Question<'a>, store: &'a Store, lie: Lie) -> Liar<'a> {
+        Liar {
+            alloc: question.alloc,
+            engine: Engine::new(&question, store, None),
+            lie,
+        }
+    }
+
+    /// What is said in place of a selection.
+    fn changed_selection(
+        &mut self,
+        decided: IndexMap<Pkg, u32>,
+        trace: Trace,
+    ) -> Result<Found, Stop> {
+        match self.lie {
+            Lie::Selection => {
+                let others = with_other_versions(self.alloc, &decided)?;
+                Ok(Found::Selected(others, trace))
+            }
+            Lie::Refusal => Ok(Found::Refused(self.engine.search_newest()?)),
+            Lie::Lost | Lie::Newest => Ok(Found::Selected(decided, trace)),
+        }
+    }
+
+    /// What is said in place of a refusal.
+    fn changed_refusal(&self, trace: Trace) -> Found {
+        match self.lie {
+            Lie::Selection => Found::Selected(IndexMap::new(self.alloc), trace),
+            Lie::Refusal => Found::Refused(on_other_packages(trace)),
+            Lie::Lost | Lie::Newest => Found::Refused(trace),
+        }
+    }
+}
+
+impl Oracle for Liar<'_> {
+    fn search(&mut self) -> Result<Found, Stop> {
+        if self.lie == Lie::Lost {
+            return Err(Stop::Lost);
+        }
+        match self.engine.search()? {
+            Found::Selected(decided, trace) => self.changed_selection(decided, trace),
+            Found::Refused(trace) => Ok(self.changed_refusal(trace)),
+        }
+    }
+
+    fn search_newest(&mut self) -> Result<Trace, Stop> {
+        Ok(on_other_packages(self.engine.search_newest()?))
+    }
+
+    fn conflicts(&self) -> u32 {
+        self.engine.conflicts()
+    }
+}

@@ -1,0 +1,260 @@
+//! What a refusal rests on: few of the incompatibilities, mostly.
+
+use crate::bits::Bits;
+use crate::engine::Engine;
+use crate::incompats::Term;
+use crate::origins::{Origin, Step};
+use crate::stop::{Stop, at, at_mut, count_of};
+use std::alloc::{AllocError, Global};
+
+/// By how many steps what is told of what was learnt follows at most, all of it together: more is not offered to be
+/// learnt.
+const LEARNT_STEPS: u32 = 1024;
+
+/// What is cited by a refusal, directly or not.
+#[derive(Drop)]
+pub(crate) struct Cited {
+    /// The incompatibilities, by index.
+    pub incompats: Vec<bool>,
+    /// The entries of the trail, by place.
+    pub entries: Vec<bool>,
+    /// The packages, by index, of which it is used that versions are not allowed.
+    pub barred: Vec<bool>,
+    /// Cited entries whose reasons were not looked at.
+    unread: Vec<u32>,
+}
+
+/// So many marks, none of them set.
+fn unset(alloc: Global, count: u32) -> Result<Vec<bool>, AllocError> {
+    let mut marks = Vec::with_capacity(alloc, count as usize)?;
+    for _ in 0..count {
+        marks.push(false)?;
+    }
+    Ok(marks)
+}
+
+/// Whether a mark is set.
+pub(crate) fn is_set(marks: &[bool], index: u32) -> bool {
+    marks.get(index as usize).copied() == Some(true)
+}
+
+/// How many of the steps in a range are told.
+fn resolved_in(steps: &[Step], first: u32, end: u32) -> Result<u32, Stop> {
+    let mut count = 0u32;
+    for index in first..end {
+        match *at(steps, index)? {
+            Step::Resolved { .. } => count = count.saturating_add(1),
+            Step::LeftOut { .. } => {}
+        }
+    }
+    Ok(count)
+}
+
+impl Cited {
+    fn new(engine: &Engine<'_>) -> Result<Cited, Stop> {
+        let alloc = engine.question.alloc;
+        Ok(Cited {
+            incompats: unset(alloc, engine.incompats.count())?,
+            entries: unset(alloc, count_of(engine.trail.entries().len()))?,
+            barred: unset(alloc, count_of(engine.trail.variables().len()))?,
+            unread: Vec::new(alloc),
+        })
+    }
+
+    fn cite(&mut self, incompat: u32) -> Result<(), Stop> {
+        *at_mut(&mut self.incompats, incompat)? = true;
+        Ok(())
+    }
+
+    /// Cites what level 0 says of a package from an entry on, or from the beginning.
+    fn cite_entry(&mut self, variable: u32, since: Option<u32>) -> Result<(), Stop> {
+        let Some(place) = since else {
+            *at_mut(&mut self.barred, variable)? = true;
+            return Ok(());
+        };
+        if !is_set(&self.entries, place) {
+            *at_mut(&mut self.entries, place)? = true;
+            self.unread.push(place)?;
+        }
+        Ok(())
+    }
+
+    /// Cites what satisfies a term at level 0.
+    fn cite_satisfier(&mut self, engine: &Engine<'_>, term: &Term) -> Result<(), Stop> {
+        let last = engine.trail.variable(term.variable)?.last;
+        let since = engine.trail.satisfier(last, term.choices)?;
+        self.cite_entry(term.variable, since)
+    }
+
+    /// Cites the reason of an entry, and what satisfied its other terms.
+    fn cite_reason(&mut self, engine: &Engine<'_>, place: u32) -> Result<(), Stop> {
+        let entry = engine.trail.entry(place)?;
+        // A decision has none.
+        let Some(reason) = entry.reason else {
+            return Ok(());
+        };
+        self.cite(reason)?;
+        self.cite_entry(entry.variable, entry.previous)?;
+        for term in engine.incompats.terms(reason)? {
+            if term.variable != entry.variable {
+                self.cite_satisfier(engine, term)?;
+            }
+        }
+        Ok(())
+    }
+
+    /// Cites the reasons of all entries that are cited.
+    fn cite_reasons(&mut self, engine: &Engine<'_>) -> Result<(), Stop> {
+        for _ in 0..self.entries.len() {
+            let Some(place) = self.unread.pop() else {
+                return Ok(());
+            };
+            self.cite_reason(engine, place)?;
+        }
+        Ok(())
+    }
+
+    /// Cites a step.
+    fn cite_step(&mut self, step: Step) -> Result<(), Stop> {
+        match step {
+            Step::Resolved { with, .. } => self.cite(with),
+            Step::LeftOut { on, since } => self.cite_entry(on, since),
+        }
+    }
+
+    /// Cites what an incompatibility was learnt from, if it was.
+    fn cite_source(&mut self, engine: &Engine<'_>, incompat: u32) -> Result<(), Stop> {
+        let Origin::Learnt {
+            conflict,
+            first,
+            end,
+        } = engine.incompats.origin(incompat)?
+        else {
+            return Ok(());
+        };
+        self.cite(conflict)?;
+        for index in first..end {
+            self.cite_step(*at(&engine.steps, index)?)?;
+        }
+        self.cite_reasons(engine)
+    }
+
+    /// Cites a conflict of level 0.
+    fn cite_conflict(&mut self, engine: &Engine<'_>, conflict: u32) -> Result<(), Stop> {
+        self.cite(conflict)?;
+        for term in engine.incompats.terms(conflict)? {
+            self.cite_satisfier(engine, term)?;
+        }
+        Ok(())
+    }
+
+    /// Cites the entries of a package by which a version was ruled out that is better than the selected one.
+    fn cite_better(&mut self, engine: &Engine<'_>, variable: u32) -> Result<(), Stop> {
+        let row = engine.trail.variable(variable)?;
+        let selected = row.left;
+        let mut after = row.left;
+        let mut place = row.last;
+        for _ in 0..engine.trail.entries().len() {
+            let Some(here) = place else {
+                return Ok(());
+            };
+            let entry = engine.trail.entry(here)?;
+            let versions = entry.before.minus(after).minus(Bits::absence());
+            let best = engine.best_choice(row.pkg, versions.or(selected))?;
+            if !selected.has(best) {
+                self.cite_entry(variable, place)?;
+            }
+            after = entry.before;
+            place = entry.previous;
+        }
+        Ok(())
+    }
+
+    /// Cites what rules better versions out than those that are selected.
+    fn cite_selection(&mut self, engine: &Engine<'_>) -> Result<(), Stop> {
+        for variable in engine.turn.listed() {
+            self.cite_better(engine, *variable)?;
+        }
+        Ok(())
+    }
+
+    /// Cites what was learnt first, as far as it follows by few steps.
+    fn cite_learnt(&mut self, engine: &Engine<'_>) -> Result<(), Stop> {
+        let mut left = LEARNT_STEPS;
+        for incompat in 0..engine.incompats.count() {
+            if let Origin::Learnt { first, end, .. } = engine.incompats.origin(incompat)? {
+                let steps = resolved_in(&engine.steps, first, end)?;
+                if steps > left {
+                    return Ok(());
+                }
+                left = left.saturating_sub(steps);
+                self.cite(incompat)?;
+            }
+        }
+        Ok(())
+    }
+
+    /// Cites what an incompatibility was learnt from, if it was, but for what level 0 says.
+    fn cite_parents(&mut self, engine: &Engine<'_>, incompat: u32) -> Result<(), Stop> {
+        let Origin::Learnt {
+            conflict,
+            first,
+            end,
+        } = engine.incompats.origin(incompat)?
+        else {
+            return Ok(());
+        };
+        self.cite(conflict)?;
+        for index in first..end {
+            if let Step::Resolved { with, .. } = *at(&engine.steps, index)? {
+                self.cite(with)?;
+            }
+        }
+        Ok(())
+    }
+
+    /// Cites what was learnt first, and what that was learnt from.
+    fn cite_first(&mut self, engine: &Engine<'_>) -> Result<(), Stop> {
+        self.cite_learnt(engine)?;
+        for incompat in (0..engine.incompats.count()).rev() {
+            if is_set(&self.incompats, incompat) {
+                self.cite_parents(engine, incompat)?;
+            }
+        }
+        Ok(())
+    }
+
+    /// Cites all that is rested on by what is cited: each incompatibility rests on earlier ones.
+    fn cite_all(&mut self, engine: &Engine<'_>) -> Result<(), Stop> {
+        self.cite_reasons(engine)?;
+        for incompat in (0..engine.incompats.count()).rev() {
+            if is_set(&self.incompats, incompat) {
+                self.cite_source(engine, incompat)?;
+            }
+        }
+        Ok(())
+    }
+}
+
+/// What a conflict of level 0 rests on.
+pub(crate) fn cited_by(engine: &Engine<'_>, conflict: u32) -> Result<Cited, Stop> {
+    let mut cited = Cited::new(engine)?;
+    cited.cite_conflict(engine, conflict)?;
+    cited.cite_all(engine)?;
+    Ok(cited)
+}
+
+/// What was learnt first, and what it rests on.
+pub(crate) fn cited_by_learnt(engine: &Engine<'_>) -> Result<Cited, Stop> {
+    let mut cited = Cited::new(engine)?;
+    cited.cite_first(engine)?;
+    Ok(cited)
+}
+
+/// What it rests on that no better versions are selected, in the order of the walk.
+pub(crate) fn cited_by_selection(engine: &Engine<'_>) -> Result<Cited, Stop> {
+    let mut cited = Cited::new(engine)?;
+    cited.cite_selection(engine)?;
+    cited.cite_all(engine)?;
+    Ok(cited)
+}

@@ -1,0 +1,26 @@
+//! A conflict-driven search whose word nobody takes: what it selects is validated by the walk, and where it
+//! finds no selection another search answers. It is proved to be safe and to end, and nothing else.
+#![tactic(auto)]
+
+mod analysis;
+mod bits;
+mod cited;
+mod deciding;
+mod engine;
+mod entering;
+mod incompats;
+mod members;
+mod order;
+mod origins;
+mod stop;
+mod trace;
+mod trail;
+mod turn;
+mod verdict;
+mod view;
+mod watches;
+
+pub use engine::Engine;
+pub use stop::Stop;
+pub use trace::{Record, Step, Trace};
+pub use verdict::Found;

@@ -1,0 +1,69 @@
+//! Why a search stops without a verdict, and the look-ups that may stop it.
+
+use std::alloc::{AllocError, AllocFailed};
+
+/// Why a search stops without a verdict.
+#[derive(Clone, Copy, Debug, PartialEq, Eq)]
+pub enum Stop {
+    NoMemory,
+    /// More conflicts were met than the budget allows.
+    Spent,
+    /// A package has more versions than a row of choices holds.
+    TooWide,
+    /// What can't be: an index is out of its row, or the search does not end. Another search is to answer.
+    Lost,
+}
+
+impl From<AllocError> for Stop {
+    fn from(_error: AllocError) -> Stop {
+        Stop::NoMemory
+    }
+}
+
+impl<T: Drop> From<AllocFailed<T>> for Stop {
+    fn from(_error: AllocFailed<T>) -> Stop {
+        Stop::NoMemory
+    }
+}
+
+/// The row at an index.
+#[inline(always)]
+pub(crate) fn at<T>(rows: &[T], index: u32) -> Result<&T, Stop> {
+    match rows.get(index as usize) {
+        None => Err(Stop::Lost),
+        Some(row) => Ok(row),
+    }
+}
+
+/// As `at`, to write there.
+#[inline(always)]
+pub(crate) fn at_mut<T>(rows: &mut [T], index: u32) -> Result<&mut T, Stop> {
+    match rows.get_mut(index as usize) {
+        None => Err(Stop::Lost),
+        Some(row) => Ok(row),
+    }
+}
+
+/// The rows from an index on. To skip those before would take time for each of them.
+#[inline(always)]
+pub(crate) fn rows_from<T>(rows: &[T], first: usize) -> &[T] {
+    match rows.get(first..) {
+        None => &[],
+        Some(rest) => rest,
+    }
+}
+
+/// The index of the row that comes next.
+#[inline(always)]
+pub(crate) fn index_of(rows: usize) -> Result<u32, Stop> {
+    match u32::try_from(rows) {
+        Err(_) => Err(Stop::Lost),
+        Ok(index) => Ok(index),
+    }
+}
+
+/// How many rows there are, of which there are never more than this says.
+#[inline(always)]
+pub(crate) fn count_of(rows: usize) -> u32 {
+    u32::try_from(rows).unwrap_or(u32::MAX)
+}

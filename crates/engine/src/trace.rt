@@ -1,0 +1,283 @@
+//! The trace of a refusal: what follows from what, so that it can be derived again by another.
+//
+// It holds no terms: who reads it derives each conclusion anew, so there is nothing in it to believe. That is
+// the form of proofs of unsatisfiability with hints: Cruz-Filipe et al., "Efficient certified RAT
+// verification" (LRAT), 2017.
+//
+// What level 0 satisfies is left in the conclusions of the reader, and goes last of all: so all but the last
+// of them rest on what the registry says alone.
+
+use crate::cited::{Cited, cited_by, cited_by_learnt, cited_by_selection, is_set};
+use crate::engine::Engine;
+use crate::origins::{Origin, Step as Kept};
+use crate::stop::{Stop, at, count_of, index_of};
+use terms::Pkg;
+
+/// Something that is known of all selections that meet the request.
+#[derive(Clone, Copy)]
+pub enum Record {
+    /// By the need with this index.
+    Need(usize),
+    /// By the dependency at this index of a version, and of all that share it.
+    Dependency {
+        pkg: Pkg,
+        ordinal: u32,
+        index: usize,
+    },
+    /// Since versions of this package are not allowed.
+    NotAllowed(Pkg),
+    /// By the member in this place of the store.
+    Member(u32),
+    /// From an earlier record, by some of the steps, in order.
+    Follows {
+        from: u32,
+        first: u32,
+        end: u32,
+    },
+}
+
+/// A step: resolve with a record, on a package.
+#[derive(Clone, Copy)]
+pub struct Step {
+    pub with: u32,
+    pub on: Pkg,
+}
+
+/// Records in order, each by earlier ones: by the last one no selection meets the request.
+#[derive(Drop)]
+pub struct Trace {
+    pub records: Vec<Record>,
+    pub steps: Vec<Step>,
+}
+
+/// A trace that is being written.
+#[derive(Drop)]
+struct Writer {
+    trace: Trace,
+    /// The record of each incompatibility that is cited; any of the others.
+    numbers: Vec<u32>,
+    /// The records that say which versions are not allowed.
+    barred: Vec<Step>,
+}
+
+impl Writer {
+    fn new(engine: &Engine<'_>) -> Writer {
+        let alloc = engine.question.alloc;
+        Writer {
+            trace: Trace {
+                records: Vec::new(alloc),
+                steps: Vec::new(alloc),
+            },
+            numbers: Vec::new(alloc),
+            barred: Vec::new(alloc),
+        }
+    }
+
+    /// How many steps there are.
+    fn steps(&self) -> Result<u32, Stop> {
+        index_of(self.trace.steps.len())
+    }
+
+    /// Adds a step with an incompatibility on a package.
+    fn step(&mut self, engine: &Engine<'_>, with: u32, variable: u32) -> Result<(), Stop> {
+        let with = *at(&self.numbers, with)?;
+        let on = engine.trail.variable(variable)?.pkg;
+        self.trace.steps.push(Step { with, on })?;
+        Ok(())
+    }
+
+    /// The record of what was learnt from a conflict by some of the steps that were kept.
+    fn follow(
+        &mut self,
+        engine: &Engine<'_>,
+        conflict: u32,
+        kept: (u32, u32),
+    ) -> Result<Record, Stop> {
+        let from = *at(&self.numbers, conflict)?;
+        let first = self.steps()?;
+        for index in kept.0..kept.1 {
+            if let Kept::Resolved { with, on } = *at(&engine.steps, index)? {
+                self.step(engine, with, on)?;
+            }
+        }
+        let end = self.steps()?;
+        Ok(Record::Follows { from, first, end })
+    }
+
+    /// The record of an incompatibility.
+    fn record_of(&mut self, engine: &Engine<'_>, incompat: u32) -> Result<Record, Stop> {
+        match engine.incompats.origin(incompat)? {
+            Origin::Need(index) => Ok(Record::Need(index)),
+            Origin::Dependency {
+                pkg,
+                ordinal,
+                index,
+            } => Ok(Record::Dependency {
+                pkg,
+                ordinal,
+                index,
+            }),
+            Origin::Member(place) => Ok(Record::Member(place)),
+            Origin::Learnt {
+                conflict,
+                first,
+                end,
+            } => self.follow(engine, conflict, (first, end)),
+        }
+    }
+
+    /// Writes the incompatibilities that are cited.
+    fn write_cited(&mut self, engine: &Engine<'_>, cited: &Cited) -> Result<(), Stop> {
+        for incompat in 0..engine.incompats.count() {
+            let number = index_of(self.trace.records.len())?;
+            self.numbers.push(number)?;
+            if is_set(&cited.incompats, incompat) {
+                let record = self.record_of(engine, incompat)?;
+                self.trace.records.push(record)?;
+            }
+        }
+        Ok(())
+    }
+
+    /// Writes which versions are not allowed, of the packages of which that is used.
+    fn write_barred(&mut self, engine: &Engine<'_>, cited: &Cited) -> Result<(), Stop> {
+        for variable in 0..count_of(engine.trail.variables().len()) {
+            let on = engine.trail.variable(variable)?.pkg;
+            if is_set(&cited.barred, variable) && engine.question.registry.has_yanks(on) {
+                let with = index_of(self.trace.records.len())?;
+                self.barred.push(Step { with, on })?;
+                self.trace.records.push(Record::NotAllowed(on))?;
+            }
+        }
+        Ok(())
+    }
+
+    /// The step by what is not allowed of a package of a conflict, if that was written.
+    fn barred_on(&self, engine: &Engine<'_>, conflict: u32) -> Result<Option<Step>, Stop> {
+        for term in engine.incompats.terms(conflict)? {
+            let row = engine.trail.variable(term.variable)?;
+            // That of a need which no version meets is none for who reads the trace: all choices are in it.
+            if row.all.is_within(term.choices) {
+                continue;
+            }
+            for step in self.barred.as_slice() {
+                if step.on == row.pkg {
+                    return Ok(Some(*step));
+                }
+            }
+        }
+        Ok(None)
+    }
+
+    /// The record that a conflict is resolved from: where no version of a package is left, what is not allowed of it,
+    /// and the conflict comes first then.
+    fn begin_end(&mut self, engine: &Engine<'_>, conflict: u32) -> Result<u32, Stop> {
+        let with = *at(&self.numbers, conflict)?;
+        let Some(barred) = self.barred_on(engine, conflict)? else {
+            return Ok(with);
+        };
+        let on = barred.on;
+        self.trace.steps.push(Step { with, on })?;
+        Ok(barred.with)
+    }
+
+    /// Writes that the conflict leaves no selection: from the last entry of level 0 to the first, each term
+    /// goes by the reason of its satisfier.
+    fn write_end(&mut self, engine: &Engine<'_>, cited: &Cited, conflict: u32) -> Result<(), Stop> {
+        let first = self.steps()?;
+        let from = self.begin_end(engine, conflict)?;
+        for place in (0..count_of(engine.trail.entries().len())).rev() {
+            let entry = engine.trail.entry(place)?;
+            if let Some(reason) = entry.reason {
+                if is_set(&cited.entries, place) {
+                    self.step(engine, reason, entry.variable)?;
+                }
+            }
+        }
+        self.trace.steps.extend_from_slice(&self.barred)?;
+        let end = self.steps()?;
+        self.trace
+            .records
+            .push(Record::Follows { from, first, end })?;
+        Ok(())
+    }
+
+    /// Writes a refusal.
+    fn write_refusal(&mut self, engine: &Engine<'_>, conflict: u32) -> Result<(), Stop> {
+        let cited = cited_by(engine, conflict)?;
+        let written = self.write_parts(engine, &cited, conflict);
+        drop(cited);
+        written
+    }
+
+    /// Writes what was learnt first.
+    fn write_learnt(&mut self, engine: &Engine<'_>) -> Result<(), Stop> {
+        let cited = cited_by_learnt(engine)?;
+        let written = self.write_cited(engine, &cited);
+        drop(cited);
+        written
+    }
+
+    /// Writes what rules better versions out than those that are selected.
+    fn write_selection(&mut self, engine: &Engine<'_>) -> Result<(), Stop> {
+        let cited = cited_by_selection(engine)?;
+        let written = self.write_cited(engine, &cited);
+        drop(cited);
+        written
+    }
+
+    /// The trace that was written.
+    fn into_trace(self) -> Trace {
+        let Writer {
+            trace,
+            numbers,
+            barred,
+        } = self;
+        drop(numbers);
+        drop(barred);
+        trace
+    }
+
+    fn write_parts(
+        &mut self,
+        engine: &Engine<'_>,
+        cited: &Cited,
+        conflict: u32,
+    ) -> Result<(), Stop> {
+        self.write_cited(engine, cited)?;
+        self.write_barred(engine, cited)?;
+        self.write_end(engine, cited, conflict)
+    }
+}
+
+/// The trace of a conflict of level 0, once the search went back there.
+pub(crate) fn trace_of(engine: &Engine<'_>, conflict: u32) -> Result<Trace, Stop> {
+    let mut writer = Writer::new(engine);
+    writer.write_refusal(engine, conflict)?;
+    Ok(writer.into_trace())
+}
+
+/// The trace of what was learnt first, as far as it follows by few steps.
+pub(crate) fn trace_of_learnt(engine: &Engine<'_>) -> Result<Trace, Stop> {
+    let mut writer = Writer::new(engine);
+    writer.write_learnt(engine)?;
+    Ok(writer.into_trace())
+}
+
+/// The trace of a selection that was found in the order of the walk: what rules better versions out.
+pub(crate) fn trace_of_selection(engine: &Engine<'_>) -> Result<Trace, Stop> {
+    let mut writer = Writer::new(engine);
+    writer.write_selection(engine)?;
+    Ok(writer.into_trace())
+}
+
+/// The trace of a need that nothing meets, since its package is not numbered.
+pub(crate) fn trace_of_need(engine: &Engine<'_>, index: usize) -> Result<Trace, Stop> {
+    let alloc = engine.question.alloc;
+    let mut records = Vec::new(alloc);
+    records.push(Record::Need(index))?;
+    Ok(Trace {
+        records,
+        steps: Vec::new(alloc),
+    })
+}

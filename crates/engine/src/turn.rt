@@ -1,0 +1,190 @@
+//! Whose turn it is in the order of the walk (crate `walk`): the needs by their names, then what each version
+// that is selected depends on, in order.
+//
+// A search that decides in this order, each package for its best version that is left, ends with the newest
+// selection.
+
+use crate::bits::{Bits, choice_of};
+use crate::engine::Engine;
+use crate::stop::{Stop, at_mut, rows_from};
+use crate::trail::Trail;
+use crate::view::{needs_count, target_of};
+use std::alloc::Global;
+use std::cmp::Ordering;
+use terms::Pkg;
+use versions::{Name, Need};
+
+/// A package of which the dependencies are listed.
+#[derive(Clone, Copy)]
+struct Passed {
+    /// The version that was selected.
+    ordinal: u32,
+    /// How many packages were listed before those that it depends on.
+    before: usize,
+}
+
+/// Packages in the order of the walk, as far as versions are selected.
+#[derive(Drop)]
+pub(crate) struct Turn {
+    listed: Vec<u32>,
+    /// By index of the package, whether it is listed.
+    is_listed: Vec<bool>,
+    /// The first of those that are listed.
+    passed: Vec<Passed>,
+}
+
+/// How the names at two places compare.
+fn compare_names(needs: &[(Name, Need)], a: usize, b: usize) -> Ordering {
+    match (needs.get(a), needs.get(b)) {
+        (Some(first), Some(second)) => first.0.cmp(&second.0),
+        (_, _) => Ordering::Equal,
+    }
+}
+
+/// The places of needs in the order of their names.
+fn places_by_name(alloc: Global, needs: &[(Name, Need)]) -> Result<Vec<usize>, Stop> {
+    let mut places = Vec::with_capacity(alloc, needs.len())?;
+    for place in 0..needs.len() {
+        places.push(place)?;
+    }
+    places.sort_unstable_by(|a, b| compare_names(needs, *a, *b));
+    Ok(places)
+}
+
+/// The version of a package that is selected, if one is.
+fn selected(trail: &Trail, variable: u32) -> Result<Option<u32>, Stop> {
+    match trail.left(variable)?.only() {
+        None => Ok(None),
+        Some(choice) => Ok(choice.checked_sub(1)),
+    }
+}
+
+impl Turn {
+    /// No package is listed. Nothing is allocated before the first one.
+    pub fn new(alloc: Global) -> Turn {
+        Turn {
+            listed: Vec::new(alloc),
+            is_listed: Vec::new(alloc),
+            passed: Vec::new(alloc),
+        }
+    }
+
+    /// The packages in the order of the walk.
+    pub fn listed(&self) -> &[u32] {
+        &self.listed
+    }
+
+    /// Lists a package, unless it is.
+    fn list(&mut self, variable: u32) -> Result<(), Stop> {
+        for _ in self.is_listed.len()..variable as usize + 1 {
+            self.is_listed.push(false)?;
+        }
+        let is_listed = at_mut(&mut self.is_listed, variable)?;
+        if !*is_listed {
+            *is_listed = true;
+            self.listed.push(variable)?;
+        }
+        Ok(())
+    }
+
+    /// How many of those that were passed have the version still that they had.
+    fn kept(&self, trail: &Trail) -> Result<usize, Stop> {
+        for (index, (passed, variable)) in self.passed.iter().zip(self.listed.iter()).enumerate() {
+            if selected(trail, *variable)? != Some(passed.ordinal) {
+                return Ok(index);
+            }
+        }
+        Ok(self.passed.len())
+    }
+
+    /// Takes away what was listed behind so many that were passed.
+    fn cut(&mut self, kept: usize) -> Result<(), Stop> {
+        let Some(first) = self.passed.as_slice().get(kept).copied() else {
+            return Ok(());
+        };
+        for variable in rows_from(&self.listed, first.before) {
+            *at_mut(&mut self.is_listed, *variable)? = false;
+        }
+        self.listed.truncate(first.before);
+        self.passed.truncate(kept);
+        Ok(())
+    }
+
+    /// Takes away what was listed for versions that are not selected any more.
+    pub fn go_back(&mut self, trail: &Trail) -> Result<(), Stop> {
+        let kept = self.kept(trail)?;
+        self.cut(kept)
+    }
+
+    /// The first package that was not passed, if there is one.
+    fn first_left(&self) -> Option<u32> {
+        self.listed.as_slice().get(self.passed.len()).copied()
+    }
+}
+
+impl Engine<'_> {
+    /// Lists the packages that the request needs, by their names.
+    pub(crate) fn list_needs(&mut self) -> Result<(), Stop> {
+        let needs = self.question.request.needs();
+        let places = places_by_name(self.question.alloc, needs)?;
+        for place in places.as_slice() {
+            self.list_need(needs, *place)?;
+        }
+        Ok(())
+    }
+
+    /// Lists the package of the need at a place.
+    fn list_need(&mut self, needs: &[(Name, Need)], place: usize) -> Result<(), Stop> {
+        let Some((name, _)) = needs.get(place) else {
+            return Ok(());
+        };
+        let Some(pkg) = self.question.registry.number(name) else {
+            return Ok(());
+        };
+        let variable = self.variable_of(pkg)?;
+        self.turn.list(variable)
+    }
+
+    /// Lists what a version depends on.
+    fn list_dependencies(&mut self, pkg: Pkg, ordinal: u32) -> Result<(), Stop> {
+        for index in 0..needs_count(&self.question, pkg, ordinal) {
+            let target = target_of(&self.question, pkg, ordinal, index)?;
+            let variable = self.variable_of(target)?;
+            self.turn.list(variable)?;
+        }
+        Ok(())
+    }
+
+    /// Passes a package of which a version is selected, and whose dependencies are among the
+    /// incompatibilities. Answers whether it is one.
+    fn pass(&mut self, variable: u32) -> Result<bool, Stop> {
+        let Some(ordinal) = selected(&self.trail, variable)? else {
+            return Ok(false);
+        };
+        let row = self.trail.variable(variable)?;
+        let pkg = row.pkg;
+        if !row.entered.has(choice_of(ordinal)) {
+            return Ok(false);
+        }
+        let before = self.turn.listed.len();
+        self.list_dependencies(pkg, ordinal)?;
+        self.turn.passed.push(Passed { ordinal, before })?;
+        Ok(true)
+    }
+
+    /// The package whose turn it is.
+    pub(crate) fn next_in_walk(&mut self) -> Result<Option<u32>, Stop> {
+        for _ in 0..u32::MAX {
+            let Some(variable) = self.turn.first_left() else {
+                return Ok(None);
+            };
+            if self.trail.left(variable)? == Bits::absence() {
+                return Err(Stop::Lost);
+            }
+            if !self.pass(variable)? {
+                return Ok(Some(variable));
+            }
+        }
+        Err(Stop::Lost)
+    }
+}

@@ -1,0 +1,80 @@
+//! What a search finds.
+
+use crate::engine::{Engine, Verdict};
+use crate::stop::Stop;
+use crate::trace::{Trace, trace_of, trace_of_learnt, trace_of_need, trace_of_selection};
+use crate::trail::Variable;
+use heuristics::Question;
+use indexmap::IndexMap;
+use std::alloc::AllocError;
+use store::Store;
+use terms::Pkg;
+
+/// What a search found.
+#[derive(Drop)]
+pub enum Found {
+    /// Packages with the ordinals of their versions, which may make a selection, and the trace of what conflicts
+    /// led to first.
+    Selected(IndexMap<Pkg, u32>, Trace),
+    /// That no selection meets the request, as the trace is to show.
+    Refused(Trace),
+}
+
+/// The version of a package that is selected, if one is.
+fn selected(variable: &Variable) -> Option<u32> {
+    if variable.left.has_absence() {
+        return None;
+    }
+    variable.left.only()?.checked_sub(1)
+}
+
+impl<'a> Engine<'a> {
+    /// A search for a selection that meets a request, with what is stored of earlier ones. At the first conflict
+    /// beyond the budget it stops.
+    pub fn new(question: &Question<'a>, store: &'a Store, budget: Option<u32>) -> Engine<'a> {
+        Engine::with(*question, store, budget)
+    }
+
+    /// How many conflicts were met.
+    pub fn conflicts(&self) -> u32 {
+        self.conflicts
+    }
+
+    /// What is selected, by package.
+    fn selection(&self) -> Result<IndexMap<Pkg, u32>, AllocError> {
+        let variables = self.trail.variables();
+        let mut selection = IndexMap::with_capacity(self.question.alloc, variables.len())?;
+        for variable in variables {
+            if let Some(ordinal) = selected(variable) {
+                selection.insert(variable.pkg, ordinal)?;
+            }
+        }
+        Ok(selection)
+    }
+
+    fn found(&self, verdict: Verdict) -> Result<Found, Stop> {
+        match verdict {
+            Verdict::Selected => {
+                let trace = trace_of_learnt(self)?;
+                Ok(Found::Selected(self.selection()?, trace))
+            }
+            Verdict::Refused(conflict) => Ok(Found::Refused(trace_of(self, conflict)?)),
+            Verdict::Unnumbered(need) => Ok(Found::Refused(trace_of_need(self, need)?)),
+        }
+    }
+
+    /// Searches for a selection, whichever is found first.
+    pub fn search(&mut self) -> Result<Found, Stop> {
+        let verdict = self.run_first()?;
+        self.found(verdict)
+    }
+
+    /// Once a selection was found, searches on for the newest one, over what was learnt, and answers the trace
+    /// of what rules better versions out than those it has.
+    pub fn search_newest(&mut self) -> Result<Trace, Stop> {
+        match self.run_in_order()? {
+            Verdict::Selected => trace_of_selection(self),
+            Verdict::Refused(_) | Verdict::Unnumbered(_) => Err(Stop::Lost),
+        }
+    }
+}
