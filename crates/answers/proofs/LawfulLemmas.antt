@@ -26,7 +26,7 @@ use Rattle.answers.specs.declared.answer.Answer.TheVariants as answer
 use Rattle.answers.specs.declared.settings.Settings.{Settings}
 use Rattle.answers.proofs.OutcomeLemmas.{stopped_told}
 
--- a refusal tells want of memory, or what the definition says
+-- a refusal tells lack of memory, or what the definition says
 pub told : {Y : Type 0} (e : Refusal) (said : Result Y Refusal) → Refuses e said → (e ≡ NoMemory) ⊎ (said ≡ Err e)
 told BadName said is = inr is
 told BadVersion said is = inr is
@@ -123,7 +123,7 @@ module _ {S : Type 0} (w : Ways S) where
   pub stopped_reply : (newest : Bool) (request : Request) (old new : S) (e : Refusal) → w.looks old new → IsStopped w new e → MayAnswer w newest request old (reply_at w new (refused e)) new
   stopped_reply newest request old new e looks stopped = inl (looks, (e, stopped, refl))
 
-  -- such a body, or want of memory
+  -- such a body, or lack of memory
   told_reply : (newest : Bool) (request : Request) (old new : S) (is : Packages → Body → Type 0) (body : Body)
       → (LooksAndTells w is old (reply_at w new body) new → MayAnswer w newest request old (reply_at w new body) new)
       → w.looks old new → MayTell (is (w.packages new)) body → MayAnswer w newest request old (reply_at w new body) new

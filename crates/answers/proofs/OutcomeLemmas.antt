@@ -45,7 +45,7 @@ told_explained refute packages wanted lines named texts derivation same told = r
 
 -- ---- what is told where nothing is
 
--- why there is no answer is want of memory, or may be told
+-- why there is no answer is lack of memory, or may be told
 pub stopped_told : (packages : Packages) (wanted : Wanted) (budget : Option ℕ) (e : Refusal) → MayStop packages wanted budget e
     → (e ≡ NoMemory) ⊎ TellsSpent packages wanted budget (refused e)
 stopped_told packages wanted None e memory = inl memory

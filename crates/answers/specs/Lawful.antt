@@ -30,7 +30,7 @@ pub record Ways (S : Type 0) : Type 1 where
   pub enters : S → Item → S → Type 0
   -- the lowest refusal that applies to an item there
   pub refusal : S → Item → Option Refusal
-  -- why a call may go no further there, beside want of memory
+  -- why a call may go no further there, beside lack of memory
   pub halts : S → Refusal → Type 0
 
 -- a reply where it stands
@@ -112,7 +112,7 @@ abbrev pub asked_within : Option ℕ → List ℕ → Result Request Refusal
 asked_within None line = request_of line
 asked_within (Some budget) line = bounded_if budget (request_of line)
 
--- A line may be answered so, within such settings: for want of memory, or as what it asks is.
+-- A line may be answered so, within such settings: for lack of memory, or as what it asks is.
 abbrev pub IsLawfulWithin : {S : Type 0} → Settings → Ways S → List ℕ → S → Reply → S → Type 0
 IsLawfulWithin settings w line old reply new = IsRefused w NoMemory old reply new
     ⊎ MatchResult (asked_within settings.budget line) (λ request. MayAnswer w settings.newest request old reply new) (λ fault. IsRefused w fault old reply new)

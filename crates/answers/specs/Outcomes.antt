@@ -68,6 +68,6 @@ TellsListing packages body = (rows : List Row) × IsListing packages rows × (bo
 
 -- ---- memory
 
--- Such a body is told, or want of memory.
+-- Such a body is told, or lack of memory.
 abbrev pub MayTell : (Body → Type 0) → Body → Type 0
 MayTell is body = (body ≡ refused NoMemory) ⊎ is body

@@ -51,7 +51,7 @@ pub enum Words {
     },
 }
 
-/// Why there are no words to obey.
+/// Why there is no command to run.
 #[derive(Clone, Copy, Debug, PartialEq, Eq, ThisError)]
 pub enum WordFault {
     /// clap refuses the words, as it does for `--help`, or a race has too many files, or a session keeps a
@@ -74,7 +74,7 @@ impl From<AllocError> for WordFault {
 pub fn read_words(alloc: Global, words: &[String]) -> Result<Words, WordFault>
     // The subcommand, the options and the files are those that clap gives for the words.
     ensures ok { IfOk result (λ w. Says w (subcommand_of program_app (texts words.now))) }
-    // Only words in which clap finds no fault are obeyed.
+    // Only words in which clap finds no fault are taken.
     ensures taken { OnOk result (fault_of program_app (texts words.now) ≡ []) }
     // Only words in which clap finds a fault are bad, or too many files, or files or flags that are not named together.
     ensures bad { IsErrOf result WordFault.Bad → fault_of program_app (texts words.now) ≡ []

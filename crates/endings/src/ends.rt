@@ -53,7 +53,7 @@ impl From<LoadFault> for End {
     }
 }
 
-/// How the program ends where a file can't be read: want of memory is told apart.
+/// How the program ends where a file can't be read: lack of memory is told apart.
 pub fn end_of_read(e: &io::Error) -> End
     ensures memory { error_kind e.now ≡ ErrorKind.OutOfMemory → result ≡ End.Memory }
     ensures input { error_kind e.now ≢ ErrorKind.OutOfMemory → result ≡ End.Input }
@@ -65,7 +65,7 @@ pub fn end_of_read(e: &io::Error) -> End
     }
 }
 
-/// How the program ends where the file that a session is to leave can't be made: want of memory is told apart.
+/// How the program ends where the file that a session is to leave can't be made: lack of memory is told apart.
 pub fn end_of_making(e: &io::Error) -> End
     ensures memory { error_kind e.now ≡ ErrorKind.OutOfMemory → result ≡ End.Memory }
     ensures output { error_kind e.now ≢ ErrorKind.OutOfMemory → result ≡ End.Output }

@@ -97,7 +97,7 @@ fn write_all<W: Write>(writer: &mut W, lines: &[String]) -> io::Result<()>
 
 /// Writes the lines that explain a derivation, each ended by a line feed, and nothing else.
 ///
-/// All lines are made before the first is written: want of memory is answered before that, as
+/// All lines are made before the first is written: lack of memory is answered before that, as
 /// [`ErrorKind::OutOfMemory`]. After any other error a beginning of the text is written.
 pub fn write_lines<W: Write>(
     alloc: Global,

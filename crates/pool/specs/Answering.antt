@@ -9,7 +9,7 @@ use Rattle.solver.specs.Outcomes.{Answers, IfPreferredServes, IsLawful, MayStop,
 use Rattle.solver.specs.declared.solving.Options.{Options}
 use Rattle.solver.specs.declared.solving.Outcome.{Outcome}
 
--- a request, with how it is to be answered, has a lawful outcome, or is left without one for want of memory or since its budget is spent; where the preferred selection serves, the outcome is that selection, and where the newest is asked for, what is selected is that one
+-- a request, with how it is to be answered, has a lawful outcome, or is left without one for lack of memory or since its budget is spent; where the preferred selection serves, the outcome is that selection, and where the newest is asked for, what is selected is that one
 pub record IsAnswerTo (packages : Packages) (asked : Wanted × Options) (answer : Result Outcome Refusal) : Type 0 where
   pub lawful : MatchResult answer (IsLawful packages asked.0 asked.1.explain) (MayStop packages asked.0 asked.1.budget)
   pub preferred : IfPreferredServes packages asked.0 (λ s. IfOk answer (Answers packages s))

@@ -12,7 +12,7 @@ use std::alloc::Global;
 use store::Store;
 use versions::Refusal;
 
-/// The effort in which a thread is started, in the packages and lines that answers have.
+/// The effort in which a thread is started, in the packages and lines that answers have. Starting one takes some 10 µs.
 pub const THREAD: usize = 64;
 
 /// How much there was to do for a refusal that is not shown and led to nothing that may be learnt: as much as

@@ -3,7 +3,8 @@
 use std::alloc::{AllocError, Global};
 
 /// The largest piece of memory that makes the allocator change its thresholds (mallopt(3),
-/// `M_MMAP_THRESHOLD`: up to 32 MB on 64-bit systems), with what it takes for itself.
+/// `M_MMAP_THRESHOLD`: up to 32 MB on 64-bit systems), with what it takes for itself. The workload `partial` takes an
+/// eighth less time than with 1 MB.
 const LARGE: usize = (32 << 20) - (64 << 10);
 
 /// A piece that can be had where memory is scarce.

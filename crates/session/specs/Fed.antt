@@ -95,7 +95,7 @@ is_read_search (Err fault) = false
 abbrev pub needs_of : List ℕ → List Item → List Item → ℕ
 needs_of line old new = if is_search (request_of line) then length old else length new
 
--- A line was answered, and its reply stands behind the others, whole, or for want of memory not at all.
+-- A line was answered, and its reply stands behind the others, whole, or for lack of memory not at all.
 abbrev pub RepliesWhole : {E : Type 0} → Settings → List ℕ → List Item → List Item → List ℕ → List ℕ → Result ℕ E → Type 0
 RepliesWhole settings line old new before after result = (reply : Reply) × IsLawfulWithin settings session_ways line old reply new
     × MatchResult result (λ needs. (after ≡ before ++ reply_text reply) × (needs ≡ needs_of line old new)) (λ _. after ≡ before)

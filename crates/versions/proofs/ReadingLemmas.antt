@@ -31,7 +31,7 @@ err-same r x y e f = cc
 not_memory : (e : Error) → is_memory e.kind ≡ false → e ≡ memory_error → ⊥
 not_memory e h same = true≢false (sym (ap (λ (f : Error). is_memory f.kind) same) ∙ h)
 
--- a fault that is told apart from want of memory is `bad` exactly where the reader refuses the text
+-- a fault that is told apart from lack of memory is `bad` exactly where the reader refuses the text
 pub told_apart : {A T : Type 0} (read : Result A Error) (result : Result T Error) (fault : Error) (answer bad : Refusal) → NeverMemory read → (bad ≡ NoMemory → ⊥)
     → result ≡ Err fault → (fault ≡ memory_error) ⊎ (read ≡ Err fault) → IsRefused read result
     → (fault ≡ memory_error → answer ≡ NoMemory) → ((fault ≡ memory_error → ⊥) → answer ≡ bad)

@@ -17,7 +17,7 @@ use Rattle.wire.specs.NamedShapes.{premise_requirements, requirement_of}
 use Rattle.wire.specs.Shapes.{Request, check, resolve}
 use Rattle.by_name.specs.NamedLines.{NamedCause, NamedLine}
 
--- want of memory is no answer
+-- lack of memory is no answer
 pub refuses_memory : {Y : Type 0} (e : Refusal) (said : Result Y Refusal) → e ≡ NoMemory → Refuses e said
 refuses_memory e said is = rw is tt
 

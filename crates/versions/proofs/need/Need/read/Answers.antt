@@ -22,7 +22,7 @@ not_read text fault short refused = let within : nat_le (length text) REQUIREMEN
 refused_by : (text : Text) → is_requirement text ≡ false → need_in text ≡ Err BadRequirement
 refused_by text fails = ap (λ b. if b then Ok text else Err BadRequirement) fails
 
--- a fault of the reader is want of memory, or the text is refused
+-- a fault of the reader is lack of memory, or the text is refused
 refuses : (text : Text) (answer : Refusal) (fault : Error) → length text ≤ REQUIREMENT_LIMIT → (fault ≡ memory_error) ⊎ (req_of text ≡ Err fault)
     → (fault ≡ memory_error → answer ≡ NoMemory) → (is_requirement text ≡ false → answer ≡ BadRequirement) → Refuses answer (need_in text)
 refuses text answer fault short (inl same) memory bad = rw (memory same) tt

@@ -22,7 +22,7 @@ not_read text fault short refused = let within : nat_le (length text) VERSION_TE
 refused_by : (text : Text) → is_version text ≡ false → version_in text ≡ Err BadVersion
 refused_by text fails = ap (λ b. if b then Ok text else Err BadVersion) fails
 
--- a fault of the reader is want of memory, or the text is refused
+-- a fault of the reader is lack of memory, or the text is refused
 refuses : (text : Text) (answer : Refusal) (fault : Error) → length text ≤ VERSION_TEXT_LIMIT → (fault ≡ memory_error) ⊎ (version_parts text ≡ Err fault)
     → (fault ≡ memory_error → answer ≡ NoMemory) → (is_version text ≡ false → answer ≡ BadVersion) → Refuses answer (version_in text)
 refuses text answer fault short (inl same) memory bad = rw (memory same) tt
