@@ -68,14 +68,20 @@ impl Analysis {
         &self.touched
     }
 
-    /// Begins with a conflict at a level, and so many packages.
-    fn begin(&mut self, variables: usize, level: u32) -> Result<(), Stop> {
+    /// Makes the rows of packages that came in, of which there are so many now.
+    fn add_rows(&mut self, variables: usize) -> Result<(), Stop> {
         for _ in self.rows.len()..variables {
             self.rows.push(Row {
                 choices: Bits::none(),
                 satisfier: None,
             })?;
         }
+        Ok(())
+    }
+
+    /// Begins with a conflict at a level, and so many packages.
+    fn begin(&mut self, variables: usize, level: u32) -> Result<(), Stop> {
+        self.add_rows(variables)?;
         for variable in self.touched.as_slice() {
             at_mut(&mut self.rows, *variable)?.satisfier = None;
         }
@@ -188,6 +194,14 @@ impl Analysis {
         Ok(())
     }
 
+    /// Joins the terms of a conflict.
+    fn join_all(&mut self, trail: &Trail, terms: &[Term]) -> Result<(), Stop> {
+        for term in terms {
+            self.join(trail, term)?;
+        }
+        Ok(())
+    }
+
     /// Learns from a conflict at a level, which is the last one: fills `learnt` and `back`.
     pub fn learn(
         &mut self,
@@ -197,9 +211,7 @@ impl Analysis {
         level: u32,
     ) -> Result<(), Stop> {
         self.begin(trail.variables().len(), level)?;
-        for term in incompats.terms(conflict)? {
-            self.join(trail, term)?;
-        }
+        self.join_all(trail, incompats.terms(conflict)?)?;
         let unique = self.first_unique(trail, incompats)?;
         self.learnt.clear();
         self.back = 0;

@@ -30,6 +30,22 @@ impl Bits {
         }
     }
 
+    /// The choice of none, and those of so many versions, of which each has a bit.
+    #[inline(always)]
+    pub fn up_to(versions: u32) -> Bits {
+        Bits {
+            word: u64::MAX.wrapping_shr(63u32.saturating_sub(versions)),
+        }
+    }
+
+    /// The choices of these versions: bit k stands for the one with ordinal k.
+    #[inline(always)]
+    pub fn of_versions(versions: u64) -> Bits {
+        Bits {
+            word: versions.wrapping_shl(1),
+        }
+    }
+
     /// Whether a choice has a bit.
     pub fn holds(choice: u32) -> bool {
         choice < MOST_CHOICES

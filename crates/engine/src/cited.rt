@@ -20,12 +20,14 @@ pub(crate) struct Cited {
     pub entries: Vec<bool>,
     /// The packages, by index, of which it is used that versions are not allowed.
     pub barred: Vec<bool>,
+    /// The entries that rule better versions out, by place.
+    pub better: Vec<u32>,
     /// Cited entries whose reasons were not looked at.
     unread: Vec<u32>,
 }
 
 /// So many marks, none of them set.
-fn unset(alloc: Global, count: u32) -> Result<Vec<bool>, AllocError> {
+pub(crate) fn unset(alloc: Global, count: u32) -> Result<Vec<bool>, AllocError> {
     let mut marks = Vec::with_capacity(alloc, count as usize)?;
     for _ in 0..count {
         marks.push(false)?;
@@ -57,6 +59,7 @@ impl Cited {
             incompats: unset(alloc, engine.incompats.count())?,
             entries: unset(alloc, count_of(engine.trail.entries().len()))?,
             barred: unset(alloc, count_of(engine.trail.variables().len()))?,
+            better: Vec::new(alloc),
             unread: Vec::new(alloc),
         })
     }
@@ -160,9 +163,10 @@ impl Cited {
             };
             let entry = engine.trail.entry(here)?;
             let versions = entry.before.minus(after).minus(Bits::absence());
-            let best = engine.best_choice(row.pkg, versions.or(selected))?;
+            let best = engine.best_choice(variable, row.pkg, versions.or(selected))?;
             if !selected.has(best) {
                 self.cite_entry(variable, place)?;
+                self.better.push(here)?;
             }
             after = entry.before;
             place = entry.previous;

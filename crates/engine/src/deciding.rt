@@ -31,9 +31,12 @@ impl Engine<'_> {
     }
 
     /// What is to be decided of a package, of these choices: for the lock's version, else for the highest.
-    pub(crate) fn best_choice(&self, pkg: Pkg, choices: Bits) -> Result<u32, Stop> {
+    pub(crate) fn best_choice(&self, variable: u32, pkg: Pkg, choices: Bits) -> Result<u32, Stop> {
         if let Some(only) = choices.only() {
             return Ok(only);
+        }
+        if let Some(wide) = self.wide(variable) {
+            return wide.best_of(choices, self.in_order);
         }
         match self.locked_choice(pkg, choices) {
             Some(choice) => Ok(choice),
@@ -48,7 +51,7 @@ impl Engine<'_> {
             return Ok(Some(Verdict::Selected));
         };
         let row = self.trail.variable(variable)?;
-        let choice = self.best_choice(row.pkg, row.left)?;
+        let choice = self.best_choice(variable, row.pkg, row.left)?;
         let before = self.trail.entries().len();
         self.enter(variable, choice)?;
         if self.pending.is_some() || self.trail.entries().len() > before {

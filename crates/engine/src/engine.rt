@@ -8,13 +8,14 @@ use crate::stop::{Stop, count_of};
 use crate::trail::Trail;
 use crate::turn::Turn;
 use crate::view::View;
+use crate::wide::Wide;
 use heuristics::Question;
 use store::Store;
 
 /// For so many conflicts the dependencies of a version become incompatibilities when it is about to be
-/// decided, as in doc/solver.md. Few requests meet more, and those that do are hard. With 32 in place of 4
-/// random formulas of 40 variables take twice as long.
-const FIRST_CONFLICTS: u32 = 4;
+/// decided, as in doc/solver.md. Few requests meet more, and those that do are hard. With 4 in place of 2
+/// stairs take 14 % longer and random formulas 3 %, with 32 the formulas twice as long.
+const FIRST_CONFLICTS: u32 = 2;
 
 /// After so many assignments a conflict is taken for the last one of those.
 const FIRST_ASSIGNMENTS: u64 = 4096;
@@ -42,6 +43,14 @@ pub(crate) enum Verdict {
     Unnumbered(usize),
 }
 
+/// An incompatibility that propagation may miss after a jump back.
+#[derive(Clone, Copy)]
+struct Late {
+    id: u32,
+    /// The level at which it was looked at last. What it says holds until the search jumps below.
+    level: u32,
+}
+
 /// A search.
 #[derive(Drop)]
 pub struct Engine<'a> {
@@ -58,8 +67,8 @@ pub struct Engine<'a> {
     pub(crate) phase: Phase,
     /// By number of the package, its index on the trail.
     pub(crate) numbers: Vec<Option<u32>>,
-    /// Which rows of the view are among the incompatibilities.
-    pub(crate) is_entered: Vec<bool>,
+    /// By index of the package, what its choices stand for if it has many versions, up to the last that has.
+    pub(crate) wides: Vec<Option<Wide>>,
     /// How many packages were asked for in the store, and how many members were looked at.
     pub(crate) asked: u32,
     pub(crate) looks: u32,
@@ -68,13 +77,13 @@ pub struct Engine<'a> {
     /// Of how many entries of the trail it was seen whether all versions of their packages depend on the same.
     pub(crate) looked: u32,
     /// Incompatibilities to look at again after a jump back: those of one term that came in above level 0, and
-    /// conflicts behind a first one.
-    pub(crate) late: Vec<u32>,
+    /// conflicts behind a first one. The levels rise.
+    late: Vec<Late>,
     /// A conflict that was met outside of propagation.
     pub(crate) pending: Option<u32>,
     pub(crate) conflicts: u32,
     /// Whether it decides in the order of the walk, and whose turn it is there.
-    in_order: bool,
+    pub(crate) in_order: bool,
     pub(crate) turn: Turn,
 }
 
@@ -97,7 +106,7 @@ impl<'a> Engine<'a> {
             steps: Vec::new(alloc),
             phase: Phase::Lazy,
             numbers: Vec::new(alloc),
-            is_entered: Vec::new(alloc),
+            wides: Vec::new(alloc),
             asked: 0,
             looks: 0,
             named: Vec::new(alloc),
@@ -121,7 +130,16 @@ impl<'a> Engine<'a> {
         }
         match self.pending {
             None => self.pending = Some(by),
-            Some(_) => self.late.push(by)?,
+            Some(_) => self.put_late(by)?,
+        }
+        Ok(())
+    }
+
+    /// Has an incompatibility looked at again after each jump back, unless the search is at level 0.
+    pub(crate) fn put_late(&mut self, id: u32) -> Result<(), Stop> {
+        let level = self.trail.level();
+        if level > 0 {
+            self.late.push(Late { id, level })?;
         }
         Ok(())
     }
@@ -168,14 +186,27 @@ impl<'a> Engine<'a> {
         Ok(())
     }
 
-    /// Derives again what came in late, after the search has jumped back.
+    /// Looks again at the incompatibility that came in late and stands there.
+    fn derive_late_at(&mut self, index: usize, level: u32) -> Result<(), Stop> {
+        let Some(late) = self.late.as_mut_slice().get_mut(index) else {
+            return Ok(());
+        };
+        late.level = level;
+        let id = late.id;
+        self.derive_by(id)
+    }
+
+    /// Derives again what came in late and was taken back as the search jumped to its level.
     pub(crate) fn derive_late(&mut self) -> Result<(), Stop> {
-        for index in 0..self.late.len() {
-            if let Some(id) = self.late.as_slice().get(index).copied() {
-                self.derive_by(id)?;
-            }
+        let level = self.trail.level();
+        let kept = self
+            .late
+            .as_slice()
+            .partition_point(|late| late.level <= level);
+        for index in kept..self.late.len() {
+            self.derive_late_at(index, level)?;
         }
-        if self.trail.level() == 0 {
+        if level == 0 {
             self.late.clear();
         }
         Ok(())

@@ -3,12 +3,14 @@
 use crate::bits::{Bits, choice_of};
 use crate::engine::{Engine, Phase};
 use crate::incompats::Term;
+use crate::meeting::versions_meeting;
 use crate::origins::Origin;
 use crate::stop::{Stop, at_mut, count_of};
 use crate::trail::Variable;
-use crate::view::{choices_of, several_depend_alike};
+use crate::view::several_depend_alike;
+use crate::wide::{Wide, wide_at};
 use terms::Pkg;
-use versions::{Name, Need};
+use versions::Name;
 
 /// How many dependencies are entered ahead of decisions at once, and how many more for each that was
 /// entered before: so this takes a share of what the search took already.
@@ -23,20 +25,7 @@ const AHEAD_EACH: u32 = 8;
 impl Engine<'_> {
     // ---- packages
 
-    /// The choices of a package: none, and each version.
-    fn all_choices(&self, pkg: Pkg) -> Result<Bits, Stop> {
-        let count = self.question.registry.version_count(pkg);
-        if !Bits::holds(count) {
-            return Err(Stop::TooWide);
-        }
-        let mut choices = Bits::absence();
-        for ordinal in 0..count {
-            choices = choices.or(Bits::of(choice_of(ordinal)));
-        }
-        Ok(choices)
-    }
-
-    /// Those that are allowed.
+    /// Those that are allowed, of a package whose choices stand for a version each.
     fn allowed_choices(&self, pkg: Pkg, all: Bits) -> Bits {
         let registry = self.question.registry;
         if !registry.has_yanks(pkg) {
@@ -51,16 +40,28 @@ impl Engine<'_> {
         choices
     }
 
-    /// The index of a package on the trail.
-    pub(crate) fn variable_of(&mut self, pkg: Pkg) -> Result<u32, Stop> {
+    /// All choices of a package that is reached by a requirement, and those that are allowed.
+    fn choices_for(&mut self, pkg: Pkg, by: Origin) -> Result<(Bits, Bits), Stop> {
+        let count = self.question.registry.version_count(pkg);
+        if Bits::holds(count) {
+            let all = Bits::up_to(count);
+            return Ok((all, self.allowed_choices(pkg, all)));
+        }
+        let meeting = versions_meeting(&self.question, pkg, by)?;
+        let made = Wide::new(&self.question, pkg, &meeting);
+        drop(meeting);
+        let wide = made?;
+        let choices = (wide.all(), wide.left());
+        self.put_wide(wide)?;
+        Ok(choices)
+    }
+
+    /// Puts a package on the trail that is reached by a requirement, and answers its index.
+    fn add_variable(&mut self, pkg: Pkg, by: Origin) -> Result<u32, Stop> {
         for _ in self.numbers.len()..pkg as usize + 1 {
             self.numbers.push(None)?;
         }
-        if let Some(variable) = *at_mut(&mut self.numbers, pkg)? {
-            return Ok(variable);
-        }
-        let all = self.all_choices(pkg)?;
-        let left = self.allowed_choices(pkg, all);
+        let (all, left) = self.choices_for(pkg, by)?;
         let variable = self.trail.add(Variable {
             pkg,
             all,
@@ -73,14 +74,21 @@ impl Engine<'_> {
         Ok(variable)
     }
 
+    /// The index on the trail of a package that is reached by a requirement: that of a need or of a dependency.
+    #[inline(always)]
+    pub(crate) fn variable_of(&mut self, pkg: Pkg, by: Origin) -> Result<u32, Stop> {
+        match self.numbers.as_slice().get(pkg as usize) {
+            Some(Some(variable)) => Ok(*variable),
+            _ => self.add_variable(pkg, by),
+        }
+    }
+
     // ---- incompatibilities
 
     /// Adds that no choice of a term may be selected, at whatever level. Answers its index.
     fn add_one(&mut self, term: Term, origin: Origin) -> Result<u32, Stop> {
         let id = self.incompats.add(&[term], origin)?;
-        if self.trail.level() > 0 {
-            self.late.push(id)?;
-        }
+        self.put_late(id)?;
         Ok(id)
     }
 
@@ -117,16 +125,25 @@ impl Engine<'_> {
         }
     }
 
+    /// As `derive_entered`, from each incompatibility from one on, from the newest to the oldest (doc/solver.md, "Unit
+    /// Propagation").
+    fn derive_entered_from(&mut self, first: u32) -> Result<(), Stop> {
+        for id in (first..self.incompats.count()).rev() {
+            self.derive_entered(id)?;
+        }
+        Ok(())
+    }
+
     /// Adds a dependency of a package, in a row of the view.
     fn enter_row(&mut self, variable: u32, pkg: Pkg, row: u32) -> Result<(), Stop> {
-        let dependency = self.view.row(row)?;
-        let target = self.variable_of(dependency.target)?;
-        let within = self.view.within(&self.question, pkg, row)?;
+        let dependency = *self.view.row(row)?;
         let origin = Origin::Dependency {
             pkg,
             ordinal: dependency.ordinal,
             index: dependency.index,
         };
+        let target = self.variable_of(dependency.target, origin)?;
+        let within = self.within(target, &dependency, origin)?;
         let needing = Term {
             variable,
             choices: dependency.sharing,
@@ -143,32 +160,18 @@ impl Engine<'_> {
         self.add_two(needing, missing, origin)
     }
 
-    /// Whether a row of the view was not entered yet; it is taken to be from now on.
-    fn enters(&mut self, row: u32) -> Result<bool, Stop> {
-        for _ in self.is_entered.len()..row as usize + 1 {
-            self.is_entered.push(false)?;
-        }
-        let is_entered = at_mut(&mut self.is_entered, row)?;
-        let is_new = !*is_entered;
-        *is_entered = true;
-        Ok(is_new)
-    }
-
-    /// Adds the dependencies of a package that versions among these have, and derives what follows now, from the
-    /// newest to the oldest (doc/solver.md, "Unit Propagation").
+    /// Adds the dependencies of a package that versions among these have, and derives what follows now.
     fn enter_rows(&mut self, variable: u32, having: Bits) -> Result<(), Stop> {
         let pkg = self.trail.variable(variable)?.pkg;
-        let span = self.view.span(&self.question, pkg)?;
+        let wide = wide_at(&self.wides, variable);
+        let span = self.view.span(self.question.registry, variable, pkg, wide)?;
         let first = self.incompats.count();
         for row in span.first..span.end {
-            if !self.view.row(row)?.sharing.is_apart(having) && self.enters(row)? {
+            if self.view.enters(row, having)? {
                 self.enter_row(variable, pkg, row)?;
             }
         }
-        for id in (first..self.incompats.count()).rev() {
-            self.derive_entered(id)?;
-        }
-        Ok(())
+        self.derive_entered_from(first)
     }
 
     /// Adds the dependencies that are to be among the incompatibilities before a version of a package is
@@ -192,7 +195,7 @@ impl Engine<'_> {
         let row = *self.trail.variable(variable)?;
         if row.left.has_absence()
             || !row.entered.is_empty()
-            || !several_depend_alike(&self.question, row.pkg)
+            || !several_depend_alike(self.question.registry, row.pkg)
         {
             return Ok(());
         }
@@ -248,20 +251,15 @@ impl Engine<'_> {
     // ---- the request
 
     /// Adds a need of the request. Answers whether its package is numbered.
-    fn enter_need(&mut self, index: usize, name: &Name, need: &Need) -> Result<bool, Stop> {
-        let registry = self.question.registry;
-        let Some(pkg) = registry.number(name) else {
+    fn enter_need(&mut self, index: usize, name: &Name) -> Result<bool, Stop> {
+        let Some(pkg) = self.question.registry.number(name) else {
             return Ok(false);
         };
-        let variable = self.variable_of(pkg)?;
-        let matching = registry.matching_set(pkg, need)?;
-        let set = matching.set(self.question.alloc);
-        drop(matching);
-        let versions = set?;
-        let within = choices_of(&versions);
-        drop(versions);
+        let origin = Origin::Need(index);
+        let variable = self.variable_of(pkg, origin)?;
+        let within = self.meeting(variable, pkg, origin)?;
         let choices = self.trail.variable(variable)?.all.minus(within);
-        self.enter_one(Term { variable, choices }, Origin::Need(index))?;
+        self.enter_one(Term { variable, choices }, origin)?;
         Ok(true)
     }
 
@@ -271,8 +269,8 @@ impl Engine<'_> {
     pub(crate) fn enter_needs(&mut self) -> Result<Option<usize>, Stop> {
         let needs = self.question.request.needs();
         for index in (0..needs.len()).rev() {
-            if let Some((name, need)) = needs.get(index) {
-                if !self.enter_need(index, name, need)? {
+            if let Some((name, _)) = needs.get(index) {
+                if !self.enter_need(index, name)? {
                     return Ok(Some(index));
                 }
             }

@@ -90,6 +90,16 @@ impl Incompats {
         }
     }
 
+    /// The choices of the term on a package; none where there is no term on it.
+    pub fn choices_on(&self, id: u32, variable: u32) -> Result<Bits, Stop> {
+        for term in self.terms(id)? {
+            if term.variable == variable {
+                return Ok(term.choices);
+            }
+        }
+        Ok(Bits::none())
+    }
+
     /// Where an incompatibility comes from.
     pub fn origin(&self, id: u32) -> Result<Origin, Stop> {
         Ok(*at(&self.origins, id)?)

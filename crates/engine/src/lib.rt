@@ -5,13 +5,16 @@
 mod analysis;
 mod bits;
 mod cited;
+mod classes;
 mod deciding;
 mod engine;
 mod entering;
 mod incompats;
+mod meeting;
 mod members;
 mod order;
 mod origins;
+mod ruling;
 mod stop;
 mod trace;
 mod trail;
@@ -19,6 +22,7 @@ mod turn;
 mod verdict;
 mod view;
 mod watches;
+mod wide;
 
 pub use engine::Engine;
 pub use stop::Stop;

@@ -19,7 +19,7 @@ const NEWEST: u32 = 256;
 const LOOKS_EACH: u32 = 16;
 
 /// The choices of these versions, among all.
-fn choices_among(all: Bits, versions: &VSet) -> Bits {
+pub(crate) fn choices_among(all: Bits, versions: &VSet) -> Bits {
     let mut choices = Bits::none();
     for ordinal in versions.iter() {
         let choice = choice_of(ordinal);
@@ -67,8 +67,8 @@ impl Engine<'_> {
         };
         let all = self.trail.variable(variable)?.all;
         let choices = match said {
-            terms::Term::In(versions) => choices_among(all, versions),
-            terms::Term::NotIn(versions) => all.minus(choices_among(all, versions)),
+            terms::Term::In(versions) => self.all_of(variable, versions, all),
+            terms::Term::NotIn(versions) => all.minus(self.any_of(variable, versions)),
         };
         Ok(Some(Term { variable, choices }))
     }

@@ -8,9 +8,8 @@ pub enum Stop {
     NoMemory,
     /// More conflicts were met than the budget allows.
     Spent,
-    /// A package has more versions than a row of choices holds.
-    TooWide,
-    /// What can't be: an index is out of its row, or the search does not end. Another search is to answer.
+    /// A selection has a choice that stands for several versions. Or what can't be: an index is out of its row, or the
+    /// search does not end. Another search is to answer.
     Lost,
 }
 

@@ -1,11 +1,11 @@
-//! The trace of a refusal: what follows from what, so that it can be derived again by another.
+//! The trace of a refusal, or of a selection: what follows from what, so that it can be derived again by another.
 //
 // It holds no terms: who reads it derives each conclusion anew, so there is nothing in it to believe. That is
 // the form of proofs of unsatisfiability with hints: Cruz-Filipe et al., "Efficient certified RAT
 // verification" (LRAT), 2017.
 //
-// What level 0 satisfies is left in the conclusions of the reader, and goes last of all: so all but the last
-// of them rest on what the registry says alone.
+// In the trace of a refusal, what level 0 satisfies is left in the conclusions of the reader, and goes last of all: so
+// all but the last of them rest on what the registry says alone. `ruling.rt` writes that of the newest selection.
 
 use crate::cited::{Cited, cited_by, cited_by_learnt, cited_by_selection, is_set};
 use crate::engine::Engine;
@@ -43,21 +43,28 @@ pub struct Step {
     pub on: Pkg,
 }
 
-/// Records in order, each by earlier ones: by the last one no selection meets the request.
+/// Records in order, each by earlier ones. By the last one of a refusal no selection meets the request.
 #[derive(Drop)]
 pub struct Trace {
     pub records: Vec<Record>,
     pub steps: Vec<Step>,
+    /// Of the newest selection, packages with the ordinals of their versions.
+    pub selected: Vec<(Pkg, u32)>,
+    /// Of the newest selection, packages in rising order, each with the index of a record that rules better versions
+    /// of it out: its other terms are true of the versions of packages that come earlier in the walk.
+    pub ruling: Vec<(Pkg, u32)>,
 }
 
 /// A trace that is being written.
 #[derive(Drop)]
-struct Writer {
-    trace: Trace,
+pub(crate) struct Writer {
+    pub trace: Trace,
     /// The record of each incompatibility that is cited; any of the others.
-    numbers: Vec<u32>,
-    /// The records that say which versions are not allowed.
-    barred: Vec<Step>,
+    pub numbers: Vec<u32>,
+    /// By index of the package, the record of which versions of it are not allowed, if that is cited.
+    pub barred: Vec<Option<u32>>,
+    /// The record of the line of each entry of the trail (`ruling.rt`), if it is cited; any of the others.
+    pub lines: Vec<u32>,
 }
 
 impl Writer {
@@ -67,19 +74,22 @@ impl Writer {
             trace: Trace {
                 records: Vec::new(alloc),
                 steps: Vec::new(alloc),
+                selected: Vec::new(alloc),
+                ruling: Vec::new(alloc),
             },
             numbers: Vec::new(alloc),
             barred: Vec::new(alloc),
+            lines: Vec::new(alloc),
         }
     }
 
     /// How many steps there are.
-    fn steps(&self) -> Result<u32, Stop> {
+    pub fn steps(&self) -> Result<u32, Stop> {
         index_of(self.trace.steps.len())
     }
 
     /// Adds a step with an incompatibility on a package.
-    fn step(&mut self, engine: &Engine<'_>, with: u32, variable: u32) -> Result<(), Stop> {
+    pub fn step(&mut self, engine: &Engine<'_>, with: u32, variable: u32) -> Result<(), Stop> {
         let with = *at(&self.numbers, with)?;
         let on = engine.trail.variable(variable)?.pkg;
         self.trace.steps.push(Step { with, on })?;
@@ -105,7 +115,7 @@ impl Writer {
     }
 
     /// The record of an incompatibility.
-    fn record_of(&mut self, engine: &Engine<'_>, incompat: u32) -> Result<Record, Stop> {
+    pub fn record_of(&mut self, engine: &Engine<'_>, incompat: u32) -> Result<Record, Stop> {
         match engine.incompats.origin(incompat)? {
             Origin::Need(index) => Ok(Record::Need(index)),
             Origin::Dependency {
@@ -139,15 +149,52 @@ impl Writer {
         Ok(())
     }
 
-    /// Writes which versions are not allowed, of the packages of which that is used.
-    fn write_barred(&mut self, engine: &Engine<'_>, cited: &Cited) -> Result<(), Stop> {
+    /// Writes which versions of a package are not allowed, if that is cited. Answers the record.
+    fn write_barred_of(
+        &mut self,
+        engine: &Engine<'_>,
+        cited: &Cited,
+        variable: u32,
+    ) -> Result<Option<u32>, Stop> {
+        let pkg = engine.trail.variable(variable)?.pkg;
+        if !is_set(&cited.barred, variable) || !engine.question.registry.has_yanks(pkg) {
+            return Ok(None);
+        }
+        let number = index_of(self.trace.records.len())?;
+        self.trace.records.push(Record::NotAllowed(pkg))?;
+        Ok(Some(number))
+    }
+
+    /// Writes which versions are not allowed, of the packages of which that is cited.
+    pub fn write_barred(&mut self, engine: &Engine<'_>, cited: &Cited) -> Result<(), Stop> {
         for variable in 0..count_of(engine.trail.variables().len()) {
-            let on = engine.trail.variable(variable)?.pkg;
-            if is_set(&cited.barred, variable) && engine.question.registry.has_yanks(on) {
-                let with = index_of(self.trace.records.len())?;
-                self.barred.push(Step { with, on })?;
-                self.trace.records.push(Record::NotAllowed(on))?;
-            }
+            let record = self.write_barred_of(engine, cited, variable)?;
+            self.barred.push(record)?;
+        }
+        Ok(())
+    }
+
+    /// The step by what is not allowed of a package, if that was written.
+    fn barred_step(&self, engine: &Engine<'_>, variable: u32) -> Result<Option<Step>, Stop> {
+        let Some(with) = *at(&self.barred, variable)? else {
+            return Ok(None);
+        };
+        let on = engine.trail.variable(variable)?.pkg;
+        Ok(Some(Step { with, on }))
+    }
+
+    /// Adds the step by what is not allowed of a package, if that was written.
+    pub fn step_barred(&mut self, engine: &Engine<'_>, variable: u32) -> Result<(), Stop> {
+        if let Some(step) = self.barred_step(engine, variable)? {
+            self.trace.steps.push(step)?;
+        }
+        Ok(())
+    }
+
+    /// Adds the steps by all that is not allowed.
+    fn step_all_barred(&mut self, engine: &Engine<'_>) -> Result<(), Stop> {
+        for variable in 0..count_of(self.barred.len()) {
+            self.step_barred(engine, variable)?;
         }
         Ok(())
     }
@@ -155,15 +202,17 @@ impl Writer {
     /// The step by what is not allowed of a package of a conflict, if that was written.
     fn barred_on(&self, engine: &Engine<'_>, conflict: u32) -> Result<Option<Step>, Stop> {
         for term in engine.incompats.terms(conflict)? {
-            let row = engine.trail.variable(term.variable)?;
             // That of a need which no version meets is none for who reads the trace: all choices are in it.
-            if row.all.is_within(term.choices) {
+            if engine
+                .trail
+                .variable(term.variable)?
+                .all
+                .is_within(term.choices)
+            {
                 continue;
             }
-            for step in self.barred.as_slice() {
-                if step.on == row.pkg {
-                    return Ok(Some(*step));
-                }
+            if let Some(step) = self.barred_step(engine, term.variable)? {
+                return Ok(Some(step));
             }
         }
         Ok(None)
@@ -194,7 +243,7 @@ impl Writer {
                 }
             }
         }
-        self.trace.steps.extend_from_slice(&self.barred)?;
+        self.step_all_barred(engine)?;
         let end = self.steps()?;
         self.trace
             .records
@@ -221,7 +270,7 @@ impl Writer {
     /// Writes what rules better versions out than those that are selected.
     fn write_selection(&mut self, engine: &Engine<'_>) -> Result<(), Stop> {
         let cited = cited_by_selection(engine)?;
-        let written = self.write_cited(engine, &cited);
+        let written = self.write_ruled_out(engine, &cited);
         drop(cited);
         written
     }
@@ -232,9 +281,11 @@ impl Writer {
             trace,
             numbers,
             barred,
+            lines,
         } = self;
         drop(numbers);
         drop(barred);
+        drop(lines);
         trace
     }
 
@@ -279,5 +330,7 @@ pub(crate) fn trace_of_need(engine: &Engine<'_>, index: usize) -> Result<Trace, 
     Ok(Trace {
         records,
         steps: Vec::new(alloc),
+        selected: Vec::new(alloc),
+        ruling: Vec::new(alloc),
     })
 }

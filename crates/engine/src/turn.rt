@@ -4,11 +4,12 @@
 // A search that decides in this order, each package for its best version that is left, ends with the newest
 // selection.
 
-use crate::bits::{Bits, choice_of};
+use crate::bits::Bits;
 use crate::engine::Engine;
-use crate::stop::{Stop, at_mut, rows_from};
+use crate::origins::Origin;
+use crate::stop::{Stop, at_mut, count_of, rows_from};
 use crate::trail::Trail;
-use crate::view::{needs_count, target_of};
+use crate::view::target_of;
 use std::alloc::Global;
 use std::cmp::Ordering;
 use terms::Pkg;
@@ -17,10 +18,10 @@ use versions::{Name, Need};
 /// A package of which the dependencies are listed.
 #[derive(Clone, Copy)]
 struct Passed {
-    /// The version that was selected.
-    ordinal: u32,
     /// How many packages were listed before those that it depends on.
     before: usize,
+    /// By how many entries of the trail its version is selected, and those of the packages passed before.
+    entries: u32,
 }
 
 /// Packages in the order of the walk, as far as versions are selected.
@@ -51,14 +52,6 @@ fn places_by_name(alloc: Global, needs: &[(Name, Need)]) -> Result<Vec<usize>, S
     Ok(places)
 }
 
-/// The version of a package that is selected, if one is.
-fn selected(trail: &Trail, variable: u32) -> Result<Option<u32>, Stop> {
-    match trail.left(variable)?.only() {
-        None => Ok(None),
-        Some(choice) => Ok(choice.checked_sub(1)),
-    }
-}
-
 impl Turn {
     /// No package is listed. Nothing is allocated before the first one.
     pub fn new(alloc: Global) -> Turn {
@@ -87,33 +80,44 @@ impl Turn {
         Ok(())
     }
 
-    /// How many of those that were passed have the version still that they had.
-    fn kept(&self, trail: &Trail) -> Result<usize, Stop> {
-        for (index, (passed, variable)) in self.passed.iter().zip(self.listed.iter()).enumerate() {
-            if selected(trail, *variable)? != Some(passed.ordinal) {
-                return Ok(index);
-            }
-        }
-        Ok(self.passed.len())
-    }
-
-    /// Takes away what was listed behind so many that were passed.
-    fn cut(&mut self, kept: usize) -> Result<(), Stop> {
-        let Some(first) = self.passed.as_slice().get(kept).copied() else {
-            return Ok(());
-        };
-        for variable in rows_from(&self.listed, first.before) {
+    /// Takes away what was listed from a place on.
+    fn cut(&mut self, first: usize) -> Result<(), Stop> {
+        for variable in rows_from(&self.listed, first) {
             *at_mut(&mut self.is_listed, *variable)? = false;
         }
-        self.listed.truncate(first.before);
-        self.passed.truncate(kept);
+        self.listed.truncate(first);
         Ok(())
     }
 
     /// Takes away what was listed for versions that are not selected any more.
     pub fn go_back(&mut self, trail: &Trail) -> Result<(), Stop> {
-        let kept = self.kept(trail)?;
-        self.cut(kept)
+        let made = count_of(trail.entries().len());
+        for _ in 0..self.passed.len() {
+            let Some(last) = self.passed.as_slice().last().copied() else {
+                return Ok(());
+            };
+            if last.entries <= made {
+                return Ok(());
+            }
+            self.passed.truncate(self.passed.len().saturating_sub(1));
+            self.cut(last.before)?;
+        }
+        Ok(())
+    }
+
+    /// Notes that a package is passed whose version an entry of the trail selects, before its dependencies are listed.
+    fn pass(&mut self, by: Option<u32>) -> Result<(), Stop> {
+        let own = match by {
+            None => 0,
+            Some(place) => place.saturating_add(1),
+        };
+        let entries = match self.passed.as_slice().last() {
+            None => own,
+            Some(last) => last.entries.max(own),
+        };
+        let before = self.listed.len();
+        self.passed.push(Passed { before, entries })?;
+        Ok(())
     }
 
     /// The first package that was not passed, if there is one.
@@ -141,15 +145,20 @@ impl Engine<'_> {
         let Some(pkg) = self.question.registry.number(name) else {
             return Ok(());
         };
-        let variable = self.variable_of(pkg)?;
+        let variable = self.variable_of(pkg, Origin::Need(place))?;
         self.turn.list(variable)
     }
 
     /// Lists what a version depends on.
     fn list_dependencies(&mut self, pkg: Pkg, ordinal: u32) -> Result<(), Stop> {
-        for index in 0..needs_count(&self.question, pkg, ordinal) {
-            let target = target_of(&self.question, pkg, ordinal, index)?;
-            let variable = self.variable_of(target)?;
+        let registry = self.question.registry;
+        for (index, place) in registry.places(pkg, ordinal).iter().enumerate() {
+            let by = Origin::Dependency {
+                pkg,
+                ordinal,
+                index,
+            };
+            let variable = self.variable_of(target_of(*place), by)?;
             self.turn.list(variable)?;
         }
         Ok(())
@@ -158,17 +167,15 @@ impl Engine<'_> {
     /// Passes a package of which a version is selected, and whose dependencies are among the
     /// incompatibilities. Answers whether it is one.
     fn pass(&mut self, variable: u32) -> Result<bool, Stop> {
-        let Some(ordinal) = selected(&self.trail, variable)? else {
+        let Some(ordinal) = self.selected(variable)? else {
             return Ok(false);
         };
-        let row = self.trail.variable(variable)?;
-        let pkg = row.pkg;
-        if !row.entered.has(choice_of(ordinal)) {
+        let row = *self.trail.variable(variable)?;
+        if !row.left.is_within(row.entered) {
             return Ok(false);
         }
-        let before = self.turn.listed.len();
-        self.list_dependencies(pkg, ordinal)?;
-        self.turn.passed.push(Passed { ordinal, before })?;
+        self.turn.pass(row.last)?;
+        self.list_dependencies(row.pkg, ordinal)?;
         Ok(true)
     }
 

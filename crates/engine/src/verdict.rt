@@ -1,12 +1,10 @@
 //! What a search finds.
 
 use crate::engine::{Engine, Verdict};
-use crate::stop::Stop;
+use crate::stop::{Stop, count_of};
 use crate::trace::{Trace, trace_of, trace_of_learnt, trace_of_need, trace_of_selection};
-use crate::trail::Variable;
 use heuristics::Question;
 use indexmap::IndexMap;
-use std::alloc::AllocError;
 use store::Store;
 use terms::Pkg;
 
@@ -18,14 +16,6 @@ pub enum Found {
     Selected(IndexMap<Pkg, u32>, Trace),
     /// That no selection meets the request, as the trace is to show.
     Refused(Trace),
-}
-
-/// The version of a package that is selected, if one is.
-fn selected(variable: &Variable) -> Option<u32> {
-    if variable.left.has_absence() {
-        return None;
-    }
-    variable.left.only()?.checked_sub(1)
 }
 
 impl<'a> Engine<'a> {
@@ -41,12 +31,12 @@ impl<'a> Engine<'a> {
     }
 
     /// What is selected, by package.
-    fn selection(&self) -> Result<IndexMap<Pkg, u32>, AllocError> {
+    fn selection(&self) -> Result<IndexMap<Pkg, u32>, Stop> {
         let variables = self.trail.variables();
         let mut selection = IndexMap::with_capacity(self.question.alloc, variables.len())?;
-        for variable in variables {
-            if let Some(ordinal) = selected(variable) {
-                selection.insert(variable.pkg, ordinal)?;
+        for variable in 0..count_of(variables.len()) {
+            if let Some(ordinal) = self.selected(variable)? {
+                selection.insert(self.trail.variable(variable)?.pkg, ordinal)?;
             }
         }
         Ok(selection)

@@ -1,25 +1,25 @@
-//! What the registry says, as a search asks for it: of each package the dependencies of its versions, in a
-// row. Versions with the same target and requirement share one.
+//! What the registry says, as a search asks for it: of each package the dependencies of its versions, in
+// rows. Versions with the same target and requirement share one.
 //
-// A row is made when its package is first asked for, and what meets a requirement when that is.
-
-ghost use Rattle.std.specs.Prelude.{◌≡◌};
-ghost use Rattle.registry.specs.Registry.{needs_of};
+// The registry keeps each name and each requirement once, and notes with each dependency where. So two numbers
+// stand for the texts here, and what meets a requirement is read where it is kept: nothing is tested or looked up
+// by its text. If a place were wrong, so might be what the search claims: that is refused, and another search answers.
 
 use crate::bits::{Bits, choice_of};
 use crate::stop::{Stop, at, at_mut, count_of, index_of};
-use heuristics::Question;
-use indexmap::IndexMap;
-use registry::Registry;
+use crate::wide::Wide;
+use registry::{PlaceHint, Registry};
 use std::alloc::Global;
-use std::hash::{DefaultHasher, Hash, Hasher};
-use std::mem;
 use terms::{Pkg, VSet};
-use versions::{Name, Need};
 
 /// From how many versions on what all of them depend on is entered before one is decided. Packages with fewer are
-/// decided early.
+/// decided early. Without this, chains of such packages take 1.6 times as long.
 const SEVERAL: usize = 4;
+
+/// In how many rows a dependency is looked for, beside that of the version before. One that stands further back gets
+/// another row, which costs no more than that. With 64 in place of 8, a hundred small conflicts side by side take 2 %
+/// longer.
+const LOOKS: u32 = 8;
 
 /// A dependency of versions of a package.
 #[derive(Clone, Copy)]
@@ -27,11 +27,13 @@ pub(crate) struct Dependency {
     /// The versions that have it.
     pub sharing: Bits,
     pub target: Pkg,
-    /// The versions of the target that meet it, once that was asked.
-    within: Option<Bits>,
+    /// The place of its requirement among those on the target.
+    pub need: u32,
     /// One of the versions that have it, and its index there.
     pub ordinal: u32,
     pub index: usize,
+    /// Whether it is among the incompatibilities.
+    is_entered: bool,
 }
 
 /// Where the dependencies of a package stand.
@@ -45,29 +47,15 @@ pub(crate) struct Span {
 #[derive(Drop)]
 pub(crate) struct View {
     rows: Vec<Dependency>,
-    /// By number of the package, up to the highest that was asked for.
+    /// By index of the package, up to the highest that was asked for.
     spans: Vec<Option<Span>>,
-    /// Of the package that is looked at, by target and key of the requirement: the row.
-    found: IndexMap<(Pkg, u64), u32>,
     /// The rows of the version that is looked at, in the order of its dependencies.
     current: Vec<u32>,
 }
 
-/// What a version depends on, in order; nothing where it is not published.
-fn needs<'a>(registry: &'a Registry, pkg: Pkg, ordinal: u32) -> &'a [(Name, Need)]
-    ensures { result.now ≡ needs_of registry.now.packages pkg ordinal }
-{
-    match registry.facts_at(pkg, ordinal) {
-        None => &[],
-        Some(facts) => facts.needs,
-    }
-}
-
-/// A key of a requirement: equal ones have the same, and others hardly ever.
-fn key_of(need: &Need) -> u64 {
-    let mut state = DefaultHasher::new();
-    need.text().hash(&mut state);
-    state.finish()
+/// The package of a dependency.
+pub(crate) fn target_of(place: PlaceHint) -> Pkg {
+    count_of(place.name()).saturating_add(1)
 }
 
 /// The choices of these versions.
@@ -79,46 +67,12 @@ pub(crate) fn choices_of(versions: &VSet) -> Bits {
     choices
 }
 
-/// How many dependencies a version has.
-pub(crate) fn needs_count(question: &Question<'_>, pkg: Pkg, ordinal: u32) -> usize {
-    needs(question.registry, pkg, ordinal).len()
-}
-
 /// Whether several versions of a package, which are all, depend on the same, and on something.
-pub(crate) fn several_depend_alike(question: &Question<'_>, pkg: Pkg) -> bool {
-    let repeats = question.registry.repeats(pkg);
+pub(crate) fn several_depend_alike(registry: &Registry, pkg: Pkg) -> bool {
+    let repeats = registry.repeats(pkg);
     repeats.len() >= SEVERAL
-        && needs_count(question, pkg, 0) > 0
+        && !registry.places(pkg, 0).is_empty()
         && repeats.iter().skip(1).all(|repeats| *repeats)
-}
-
-/// The target of a dependency, if there is one at this index.
-pub(crate) fn target_of(
-    question: &Question<'_>,
-    pkg: Pkg,
-    ordinal: u32,
-    index: usize,
-) -> Result<Pkg, Stop> {
-    if index >= needs(question.registry, pkg, ordinal).len() {
-        return Err(Stop::Lost);
-    }
-    let (target, matching) = question.registry.dependency(pkg, ordinal, index)?;
-    drop(matching);
-    Ok(target)
-}
-
-/// The versions that meet a dependency.
-fn meeting(question: &Question<'_>, pkg: Pkg, ordinal: u32, index: usize) -> Result<Bits, Stop> {
-    if index >= needs(question.registry, pkg, ordinal).len() {
-        return Err(Stop::Lost);
-    }
-    let (_target, matching) = question.registry.dependency(pkg, ordinal, index)?;
-    let set = matching.set(question.alloc);
-    drop(matching);
-    let versions = set?;
-    let choices = choices_of(&versions);
-    drop(versions);
-    Ok(choices)
 }
 
 impl View {
@@ -127,51 +81,82 @@ impl View {
         View {
             rows: Vec::new(alloc),
             spans: Vec::new(alloc),
-            found: IndexMap::new(alloc),
             current: Vec::new(alloc),
         }
     }
 
     // ---- making the rows of a package
 
-    /// The row of a dependency, which is made if there is none.
+    /// Whether a row is that of a target and a requirement.
+    #[inline(always)]
+    fn is_of(&self, row: u32, target: Pkg, need: u32) -> Result<bool, Stop> {
+        let row = at(&self.rows, row)?;
+        Ok(row.need == need && row.target == target)
+    }
+
+    /// The row of a target and a requirement, among those of a package from a row on.
+    fn found(&self, first: u32, target: Pkg, need: u32) -> Result<Option<u32>, Stop> {
+        let end = count_of(self.rows.len());
+        for row in first.max(end.saturating_sub(LOOKS))..end {
+            if self.is_of(row, target, need)? {
+                return Ok(Some(row));
+            }
+        }
+        Ok(None)
+    }
+
+    /// The row of a dependency, which is made if there is none: mostly it is that of the version before.
     fn row_of(
         &mut self,
-        target: Pkg,
-        need: &Need,
+        first: u32,
+        place: PlaceHint,
         ordinal: u32,
         index: usize,
     ) -> Result<u32, Stop> {
-        let key = (target, key_of(need));
-        if let Some(row) = self.found.get(&key).copied() {
+        let (target, need) = (target_of(place), count_of(place.need()));
+        if let Some(row) = self.current.as_slice().get(index).copied() {
+            if self.is_of(row, target, need)? {
+                return Ok(row);
+            }
+        }
+        if let Some(row) = self.found(first, target, need)? {
             return Ok(row);
         }
         let row = index_of(self.rows.len())?;
         self.rows.push(Dependency {
             sharing: Bits::none(),
             target,
-            within: None,
+            need,
             ordinal,
             index,
+            is_entered: false,
         })?;
-        self.found.insert(key, row)?;
         Ok(row)
     }
 
-    /// Finds the rows of a version.
-    fn find(&mut self, question: &Question<'_>, pkg: Pkg, ordinal: u32) -> Result<(), Stop> {
-        self.current.clear();
-        for (index, entry) in needs(question.registry, pkg, ordinal).iter().enumerate() {
-            let target = target_of(question, pkg, ordinal, index)?;
-            let row = self.row_of(target, &entry.1, ordinal, index)?;
-            self.current.push(row)?;
+    /// Notes the row of the dependency at an index of the version that is looked at.
+    fn note(&mut self, index: usize, row: u32) -> Result<(), Stop> {
+        match self.current.as_mut_slice().get_mut(index) {
+            Some(current) => *current = row,
+            None => self.current.push(row)?,
         }
         Ok(())
     }
 
-    /// Notes that a version has the dependencies of the rows at hand.
-    fn share(&mut self, ordinal: u32) -> Result<(), Stop> {
-        let choice = Bits::of(choice_of(ordinal));
+    /// Finds the rows of a version, of a package whose rows stand from one on.
+    #[inline(always)]
+    fn find(&mut self, first: u32, places: &[PlaceHint], ordinal: u32) -> Result<(), Stop> {
+        for (index, place) in places.iter().enumerate() {
+            let row = self.row_of(first, *place, ordinal, index)?;
+            self.note(index, row)?;
+        }
+        self.current.truncate(places.len());
+        Ok(())
+    }
+
+    /// Notes that the version of a choice has the dependencies of the rows at hand.
+    fn share(&mut self, choice: u32) -> Result<(), Stop> {
+        let choice = Bits::of(choice);
         for row in self.current.as_slice() {
             let row = at_mut(&mut self.rows, *row)?;
             row.sharing = row.sharing.or(choice);
@@ -180,16 +165,30 @@ impl View {
     }
 
     /// Makes the rows of a package.
-    fn list(&mut self, question: &Question<'_>, pkg: Pkg) -> Result<Span, Stop> {
+    fn list(&mut self, registry: &Registry, pkg: Pkg) -> Result<Span, Stop> {
         let first = index_of(self.rows.len())?;
-        self.found.clear();
         self.current.clear();
-        let repeats = question.registry.repeats(pkg);
-        for ordinal in 0..question.registry.version_count(pkg) {
+        let repeats = registry.repeats(pkg);
+        for ordinal in 0..registry.version_count(pkg) {
             if repeats.get(ordinal as usize).copied() != Some(true) {
-                self.find(question, pkg, ordinal)?;
+                self.find(first, registry.places(pkg, ordinal), ordinal)?;
             }
-            self.share(ordinal)?;
+            self.share(choice_of(ordinal))?;
+        }
+        let end = index_of(self.rows.len())?;
+        Ok(Span { first, end })
+    }
+
+    /// Makes the rows of a package that has many versions, of those that have a choice each.
+    fn list_single(&mut self, registry: &Registry, pkg: Pkg, wide: &Wide) -> Result<Span, Stop> {
+        let first = index_of(self.rows.len())?;
+        self.current.clear();
+        for (place, ordinal) in wide.best().iter().enumerate() {
+            let choice = choice_of(count_of(place));
+            if wide.is_single(choice) {
+                self.find(first, registry.places(pkg, *ordinal), *ordinal)?;
+                self.share(choice)?;
+            }
         }
         let end = index_of(self.rows.len())?;
         Ok(Span { first, end })
@@ -197,32 +196,40 @@ impl View {
 
     // ---- what is asked
 
-    /// Where the dependencies of a package stand.
-    pub fn span(&mut self, question: &Question<'_>, pkg: Pkg) -> Result<Span, Stop> {
-        for _ in self.spans.len()..pkg as usize + 1 {
+    /// Where the dependencies of a package stand, which has this index, and maybe many versions.
+    pub fn span(
+        &mut self,
+        registry: &Registry,
+        variable: u32,
+        pkg: Pkg,
+        wide: Option<&Wide>,
+    ) -> Result<Span, Stop> {
+        for _ in self.spans.len()..variable as usize + 1 {
             self.spans.push(None)?;
         }
-        if let Some(span) = *at(&self.spans, pkg)? {
+        if let Some(span) = *at(&self.spans, variable)? {
             return Ok(span);
         }
-        let span = self.list(question, pkg)?;
-        *at_mut(&mut self.spans, pkg)? = Some(span);
+        let span = match wide {
+            None => self.list(registry, pkg)?,
+            Some(wide) => self.list_single(registry, pkg, wide)?,
+        };
+        *at_mut(&mut self.spans, variable)? = Some(span);
         Ok(span)
     }
 
     /// The dependency that stands there; Lost, if none does.
-    pub fn row(&self, row: u32) -> Result<Dependency, Stop> {
-        Ok(*at(&self.rows, row)?)
+    pub fn row(&self, row: u32) -> Result<&Dependency, Stop> {
+        at(&self.rows, row)
     }
 
-    /// The versions that meet the dependency in a row, which is one of this package.
-    pub fn within(&mut self, question: &Question<'_>, pkg: Pkg, row: u32) -> Result<Bits, Stop> {
-        let dependency = *at(&self.rows, row)?;
-        if let Some(within) = dependency.within {
-            return Ok(within);
+    /// Whether a dependency was not entered yet, and is one of these versions; it is taken to be entered from now on.
+    pub fn enters(&mut self, row: u32, having: Bits) -> Result<bool, Stop> {
+        let row = at_mut(&mut self.rows, row)?;
+        if row.is_entered || row.sharing.is_apart(having) {
+            return Ok(false);
         }
-        let within = meeting(question, pkg, dependency.ordinal, dependency.index)?;
-        at_mut(&mut self.rows, row)?.within = Some(within);
-        Ok(within)
+        row.is_entered = true;
+        Ok(true)
     }
 }

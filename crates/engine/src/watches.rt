@@ -86,6 +86,15 @@ impl Watches {
         }
     }
 
+    /// Adds so many lists, and answers where the first one stands.
+    fn add_lists(&mut self, count: u32) -> Result<u32, Stop> {
+        let first = index_of(self.lists.len())?;
+        for _ in 0..count {
+            self.lists.push(Vec::new(self.alloc))?;
+        }
+        Ok(first)
+    }
+
     /// As `first`; the lists of the package are made if there are none.
     fn make_lists(&mut self, trail: &Trail, variable: u32) -> Result<u32, Stop> {
         if let Some(first) = self.first(variable) {
@@ -94,10 +103,11 @@ impl Watches {
         for _ in self.firsts.len()..variable as usize + 1 {
             self.firsts.push(None)?;
         }
-        let first = index_of(self.lists.len())?;
-        for _ in 0..trail.variable(variable)?.all.count() {
-            self.lists.push(Vec::new(self.alloc))?;
-        }
+        let count = match trail.variable(variable)?.all.highest() {
+            None => 0,
+            Some(highest) => highest.saturating_add(1),
+        };
+        let first = self.add_lists(count)?;
         *at_mut(&mut self.firsts, variable)? = Some(first);
         Ok(first)
     }
