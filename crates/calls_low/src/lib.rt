@@ -1,10 +1,11 @@
-//! Calls of `versions`, `terms`, `releases`, `registry`, `partial`, `derivations`, `store`, `extraction` and `walk`: makes
-//! the one that each row names, and writes what it answered.
+//! Calls of `versions`, `terms`, `releases`, `registry`, `partial`, `derivations`, `store`, `extraction`, `chains` and `walk`:
+//! makes the one that each row names, and writes what it answered.
 //!
 //! A call is guarded by what the crate offers to test what the call requires; where that does not hold, the answer
 //! says that the call was left out.
 #![tactic(auto)]
 
+mod chain_calls;
 mod command_calls;
 mod derivation_calls;
 mod held_calls;

@@ -1,5 +1,6 @@
 //! What rows change.
 
+use crate::chain_calls::chain_call;
 use crate::command_calls::{command_call, dependencies_call};
 use crate::derivation_calls::derivation_call;
 use crate::held_calls::{growing_set_call, held_set_call};
@@ -137,6 +138,7 @@ fn search_for(
         "derivation" => derivation_call(alloc, registry, name, row),
         "learnt" => learnt_call(alloc, registry, name, row),
         "search" => search_call(alloc, name, row),
+        "chain" => chain_call(alloc, name, row),
         "walk" => walk_call(alloc, registry, name, row),
         _ => Err(Unread::Row),
     }

@@ -5,6 +5,7 @@ ghost use Rattle.std.specs.BTreeMap.{get};
 ghost use Rattle.std.specs.Prelude.{OnOk};
 ghost use Rattle.walk.specs.Listing.{IsOrder};
 
+use indexmap::IndexMap;
 use registry::{Pkg, Registry, Request};
 use rows::{AnswerText, CallResult, Given, Shows, Unread, items, member, request_at, whole_at};
 use serde_json::Value;
@@ -12,9 +13,9 @@ use std::alloc::Global;
 use std::collections::BTreeMap;
 use versions::{Name, Need, Published};
 use walk::{
-    Asker, Chooser, NextPackage, Order, Preferred, Reached, WalkListing, choose_newest,
-    is_plainly_newest, list_in_order, locked_ordinal, preferred_version, reach, reach_preferred,
-    sort_by_name,
+    Asker, Chooser, Evidence, NextPackage, Order, Preferred, Reached, WalkListing, choose_newest,
+    is_newest_by, is_plainly_newest, list_in_order, locked_ordinal, preferred_version, reach,
+    reach_preferred, sort_by_name,
 };
 
 pub fn walk_call(
@@ -43,6 +44,7 @@ fn about(
         "list_in_order" => list_chosen(alloc, registry, row, request),
         "go_on" => go_on_chosen(alloc, registry, row, request),
         "choose_newest" => chosen_newest(alloc, registry, request),
+        "is_newest_by" => newest_by_nothing(alloc, registry, row, request),
         "is_plainly_newest" => plainly_newest(alloc, registry, row, request),
         "locked_ordinal" => {
             let pkg = whole_at(row, "pkg")?;
@@ -255,17 +257,47 @@ fn chosen_newest(
     }
 }
 
-/// Whether what a row selects, as `[[1,0],[2,1]]`, is plainly the newest.
+/// Shows nothing of any version.
+#[derive(Clone, Copy)]
+struct NoEvidence;
+
+impl Evidence for NoEvidence {
+    ghost shows = { λ evidence before p j. ⊥ };
+
+    fn rules_out(&self, _before: &IndexMap<Pkg, u32>, _pkg: Pkg, _ordinal: u32) -> bool {
+        false
+    }
+}
+
+/// What a row selects, as `[[1,0],[2,1]]`.
+fn selection_at(alloc: Global, row: &Value) -> Result<Vec<(Pkg, u32)>, Unread> {
+    let mut selection = Vec::new(alloc);
+    for item in items(member(row, "selection")?)? {
+        selection.push(<(Pkg, u32)>::of(alloc, item)?)?;
+    }
+    Ok(selection)
+}
+
+/// Whether what a row selects is seen to be the newest where nothing else shows it.
+fn newest_by_nothing(
+    alloc: Global,
+    registry: &Registry,
+    row: &Value,
+    request: &Request,
+) -> Result<CallResult, Unread> {
+    let selection = selection_at(alloc, row)?;
+    let newest = is_newest_by(alloc, registry, request, &selection, &NoEvidence)?;
+    Ok(CallResult::Bool(newest))
+}
+
+/// Whether what a row selects is plainly the newest.
 fn plainly_newest(
     alloc: Global,
     registry: &Registry,
     row: &Value,
     request: &Request,
 ) -> Result<CallResult, Unread> {
-    let mut selection = Vec::new(alloc);
-    for item in items(member(row, "selection")?)? {
-        selection.push(<(Pkg, u32)>::of(alloc, item)?)?;
-    }
+    let selection = selection_at(alloc, row)?;
     let plain = is_plainly_newest(alloc, registry, request, &selection)?;
     Ok(CallResult::Bool(plain))
 }

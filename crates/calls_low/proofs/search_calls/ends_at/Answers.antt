@@ -1,15 +1,11 @@
-use Rattle.std.proofs.Common.{◌≡◌, Bool, false, length, refl, true}
+use Rattle.std.proofs.Common.{length, refl, true}
 use Rattle.std.proofs.lemmas.Option.{slice_get_read}
-use Rattle.std.specs.Bool.{OnTrue}
+use Rattle.std.proofs.lemmas.Bool.{OnTrue_from}
 use Rattle.calls_low.proofs.search_calls.ends_at.Goals as goal
-
-on_true : {P : Type 0} (b : Bool) → (b ≡ true → P) → OnTrue b P
-on_true true f = f refl
-on_true false f = tt
 
 pub returns-then-place-known : goal.returns-then-place-known
 returns-then-place-known c =
-    on_true c.is_empty_end.result (λ t.
+    OnTrue_from c.is_empty_end.result _ (λ t.
     let found = c.is_empty_end.ensures.0 t in
     record {
       line = c.index-known-place.result;

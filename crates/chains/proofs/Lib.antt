@@ -1,0 +1,4 @@
+-- Lemmas.
+pub mod Showing
+pub mod Joining
+pub mod Members

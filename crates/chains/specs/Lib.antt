@@ -1,0 +1,4 @@
+-- What contracts say.
+pub mod Shown
+pub mod Laws
+pub mod Tables
