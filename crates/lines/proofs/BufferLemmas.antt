@@ -105,6 +105,10 @@ moved-read old mid new i k n low moved kept =
     slice_range-join new 0 (k - i) (k - i + n) (omega arith) (omega arith)
     ∙ ap (λ l. l ++ slice_range new (k - i) (k - i + n)) (moved-part old mid new i k k low (omega arith) moved kept)
 
+-- a front stays where bytes come behind all
+pub front_stays : (old longer : List ℕ) (size n : ℕ) → n ≤ size → take size longer ≡ old → take n longer ≡ take n old
+front_stays old longer size n low front = sym (take-take n size longer low) ∙ ap (λ l. take n l) front
+
 -- ---- what numbers say of a part, so that no proof of a call looks for it among all that it knows
 
 pub from_none : (n : ℕ) → 0 ≤ n

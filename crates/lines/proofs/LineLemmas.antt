@@ -1,5 +1,5 @@
 -- The lines of a text, one after another.
-use Rattle.std.proofs.Common.{◌≡◌, ◌≢◌, ℕ, ◌<◌, List, [], ◌∷◌, ◌++◌, ◌==◌, ◌+◌, ◌-◌, length, take, drop, refl, ap, subst, ◌∙◌, sym, Bool, false, true, flat_map, arith, rules}
+use Rattle.std.proofs.Common.{◌≡◌, ◌≢◌, ℕ, ◌<◌, List, [], ◌∷◌, ◌++◌, ◌==◌, ◌+◌, ◌-◌, length, take, drop, refl, ap, subst, ◌∙◌, sym, Bool, false, true, arith, rules}
 use Rattle.std.specs.Prelude.{MatchBool}
 use Rattle.std.proofs.lemmas.List.{append_assoc, take_all, take_rest, take-append-drop}
 use Rattle.std.proofs.Math.Seq.{drop-length}

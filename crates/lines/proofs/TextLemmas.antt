@@ -80,11 +80,6 @@ writes_waiting (Ok u) a b c mid text written appends is (sent, more, all) =
 writes_waiting (Err e) a b c mid text written appends is (sent, more, front) =
     (written ++ sent, Appends-trans a b c _ _ appends more, subst (IsBeginning (written ++ sent)) is (append-beginning written sent mid front))
 
-pub writes_texts : (a b c : Option (List ℕ)) (texts : List (Bor (List ℕ))) (i : ℕ) (d : Bor (List ℕ)) (written : List ℕ) → i < length texts
-    → Appends a b (flat_map now_of (take i texts)) → Appends b c written → written ≡ (get_or texts i d).now → Appends a c (flat_map now_of (take (i + 1) texts))
-writes_texts a b c texts i d written h before here all =
-    subst (Appends a c) (ap (λ l. flat_map now_of (take i texts) ++ l) all ∙ sym (parts-more texts i d h)) (Appends-trans a b c _ _ before here)
-
 pub writes_texts_fail : (a b c : Option (List ℕ)) (texts : List (Bor (List ℕ))) (i : ℕ) (d : Bor (List ℕ)) (written : List ℕ) → i < length texts
     → Appends a b (flat_map now_of (take i texts)) → Appends b c written → IsBeginning written (get_or texts i d).now
     → (all : List ℕ) × Appends a c all × IsBeginning all (flat_map now_of texts)

@@ -1,5 +1,5 @@
 //! Lines that are taken off a reader, in whatever pieces they come.
-ghost use Rattle.std.specs.Prelude.{◌≡◌, ◌≢◌, ℕ, ◌+◌, ◌<◌, ◌≤◌, ◌-◌, List, [], ◌∷◌, Bool, length, take, drop, slice_range, IfNone, IfSome, IfOk, IfErr, OnErr, vec_len};
+ghost use Rattle.std.specs.Prelude.{◌≡◌, ◌≢◌, ℕ, ◌+◌, ◌<◌, ◌≤◌, ◌-◌, List, [], ◌∷◌, Bool, length, take, drop, slice_range, IfNone, IfSome, IfOk, IfErr, OnErr, vec_len, vec_capacity};
 ghost use Rattle.std.specs.Io.KnownBytes.{Keeps};
 ghost use Rattle.std.specs.IoError.{error_kind};
 ghost use Rattle.lines.specs.declared.buffer.TheConstants.{LINE_LIMIT};
@@ -32,7 +32,8 @@ pub enum Next {
 ///
 /// Call `next` until it answers `More`, then `read_more`, and so on until that answers `false`; then
 /// `last`. So each byte is looked at once, and moved at most once, in whatever pieces it comes, and
-/// `next` never waits for a reader. Room for one line and one read is made once, by `new`.
+/// `next` never waits for a reader. Room for one line and one read is taken once, by `new`; it is filled as far as
+/// lines and reads have needed so far.
 #[derive(Drop)]
 pub struct LineBuffer {
     held: Vec<u8>,
@@ -57,7 +58,7 @@ impl Model for LineBuffer {
     } };
 
     ghost invariant = { λ b. record {
-      room : vec_len b.held ≡ LINE_LIMIT + READ_SIZE;
+      room : LINE_LIMIT + READ_SIZE ≤ vec_capacity b.held;
       line_ordered : b.line_start ≤ b.line_end;
       line_within : b.line_end ≤ vec_len b.held;
       start_ordered : b.start ≤ b.scanned;
@@ -68,13 +69,13 @@ impl Model for LineBuffer {
 }
 
 impl LineBuffer {
-    /// Makes the room, about 1.1 MB.
+    /// Takes the room, about 1.1 MB.
     pub fn new(alloc: Global) -> Result<LineBuffer, AllocError>
         ensures taken { IfOk result (λ b. StandsFor b []) }
         ensures shown { IfOk result (λ b. b.line ≡ []) }
     {
         Ok(LineBuffer {
-            held: room(alloc)?,
+            held: Vec::with_capacity(alloc, LINE_LIMIT + READ_SIZE)?,
             line_start: 0,
             line_end: 0,
             start: 0,
@@ -136,7 +137,7 @@ impl LineBuffer {
         ensures retried { IfErr result (λ e. error_kind e ≢ ErrorKind.Interrupted) }
     {
         let (start, end) = (self.start, self.end);
-        move_to_front(&mut self.held, start, end);
+        make_room(&mut self.held, start, end);
         self.line_start = 0;
         self.line_end = 0;
         self.start = 0;
@@ -173,13 +174,6 @@ impl LineBuffer {
     }
 }
 
-// Room for the longest line and one read behind it.
-fn room(alloc: Global) -> Result<Vec<u8>, AllocError>
-    ensures { IfOk result (λ held. vec_len held ≡ LINE_LIMIT + READ_SIZE) }
-{
-    vec![in alloc; 0; LINE_LIMIT + READ_SIZE]
-}
-
 /// The index of the first line feed, if there is one. Linear in the bytes before it.
 pub fn find_feed(bytes: &[u8]) -> Option<usize>
     ensures none { IfNone result (HasNoFeed bytes.now) }
@@ -197,8 +191,39 @@ fn move_to_front(held: &mut Vec<u8>, start: usize, end: usize)
     requires within { end ≤ vec_len held.old }
     ensures moved { take (end - start) held.new.items ≡ slice_range held.old.items start end }
     ensures len { vec_len held.new ≡ vec_len held.old }
+    ensures capacity { vec_capacity held.new ≡ vec_capacity held.old }
 {
     if start > 0 {
         held.as_mut_slice().copy_within(start..end, 0);
     }
+}
+
+// Moves the part from `start` to `end` to the front, and has bytes for one read behind it.
+fn make_room(held: &mut Vec<u8>, start: usize, end: usize)
+    requires ordered { start ≤ end }
+    requires within { end ≤ vec_len held.old }
+    requires room { end - start + READ_SIZE ≤ vec_capacity held.old }
+    ensures moved { take (end - start) held.new.items ≡ slice_range held.old.items start end }
+    ensures len { end - start + READ_SIZE ≤ vec_len held.new }
+    ensures kept { vec_len held.old ≤ vec_len held.new }
+    ensures capacity { vec_capacity held.old ≤ vec_capacity held.new }
+{
+    move_to_front(held, start, end);
+    lengthen(held, end - start + READ_SIZE);
+}
+
+// Has at least so many bytes, where there is room for them: what comes behind is 0.
+fn lengthen(held: &mut Vec<u8>, len: usize)
+    requires { len ≤ vec_capacity held.old }
+    ensures front { take (vec_len held.old) held.new.items ≡ held.old.items }
+    ensures len { len ≤ vec_len held.new }
+    ensures kept { vec_len held.old ≤ vec_len held.new }
+    ensures capacity { vec_capacity held.old ≤ vec_capacity held.new }
+{
+    if held.len() >= len {
+        return;
+    }
+    let Ok(()) = held.resize(len, 0) else {
+        unreachable!()
+    };
 }

@@ -1,5 +1,5 @@
 //! One read, into a part of what is held.
-ghost use Rattle.std.specs.Prelude.{◌≡◌, ◌≢◌, ℕ, ◌+◌, ◌<◌, ◌≤◌, length, take, slice_range, IfOk, IfErr, OnErr, vec_len};
+ghost use Rattle.std.specs.Prelude.{◌≡◌, ◌≢◌, ℕ, ◌+◌, ◌<◌, ◌≤◌, length, take, slice_range, IfOk, IfErr, OnErr, vec_len, vec_capacity};
 ghost use Rattle.std.specs.Io.KnownBytes.{Keeps, Consumes, IsAtEnd};
 ghost use Rattle.std.specs.IoError.{error_kind};
 
@@ -16,6 +16,7 @@ pub fn read_at<R: Read>(reader: &mut R, held: &mut Vec<u8>, at: usize) -> io::Re
     requires { at + READ_SIZE ≤ vec_len held.old }
     ensures front { take at held.new.items ≡ take at held.old.items }
     ensures len { vec_len held.new ≡ vec_len held.old }
+    ensures capacity { vec_capacity held.new ≡ vec_capacity held.old }
     ensures within { IfOk result (λ n. at + n ≤ vec_len held.new) }
     ensures ok { IfOk result (λ n. Consumes (R.remaining reader.old) (R.remaining reader.new) (slice_range held.new.items at (at + n))) }
     ensures end { IfOk result (λ n. n ≡ 0 → IsAtEnd (R.remaining reader.new)) }

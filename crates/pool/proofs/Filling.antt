@@ -1,5 +1,5 @@
 -- The answers to the first requests.
-use Rattle.std.proofs.Common.{◌≡◌, ℕ, zero, suc, ◌<◌, ◌≤◌, List, [], ◌∷◌, ◌++◌, Global, Result, Some, Vec, length, take, vec_capacity, vec_len, refl, sym, subst, arith}
+use Rattle.std.proofs.Common.{◌≡◌, ℕ, zero, suc, ◌<◌, List, [], ◌∷◌, ◌++◌, Global, Result, Some, Vec, length, take, vec_capacity, vec_len, refl, sym, subst, arith}
 use Rattle.std.specs.Prelude.{slice_get}
 use Rattle.std.specs.List.{AllZip}
 use Rattle.versions.specs.declared.refusal.Refusal.{Refusal}
@@ -23,13 +23,6 @@ module _ {A B : Type 0} (R : A → B → Type 0) where
   zip_more (x ∷ xs) (suc k) [] y z l r = absurd z
   zip_more (x ∷ xs) (suc k) (b ∷ ys) y z l r = (z.0, zip_more xs k ys y z.1 (omega arith) r)
 
-  pub zip_whole : (xs : List A) (k : ℕ) (ys : List B) → AllZip R (take k xs) ys → length xs ≤ k → AllZip R xs ys
-  zip_whole [] zero ys z l = z
-  zip_whole [] (suc k) ys z l = z
-  zip_whole (x ∷ xs) zero ys z l = absurd (omega arith)
-  zip_whole (x ∷ xs) (suc k) [] z l = absurd z
-  zip_whole (x ∷ xs) (suc k) (b ∷ ys) z l = (z.0, zip_whole xs k ys z.1 (omega arith))
-
 -- ---- answers that came
 
 -- one answer more
@@ -42,7 +35,3 @@ begun_more packages asked answers answers' answer begun inside here items longer
   fits = omega arith;
   room = let r = begun.room in omega arith;
 }
-
--- all are answered
-pub begun_whole : (packages : Packages) (asked : List (Wanted × Options)) (answers : Vec (Result Outcome Refusal) Global) → AreBegun packages asked answers → length asked ≤ vec_len answers → AreAnswers packages asked answers.items
-begun_whole packages asked answers begun over = zip_whole (IsAnswerTo packages) asked (vec_len answers) answers.items begun.done over

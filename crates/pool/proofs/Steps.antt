@@ -1,14 +1,14 @@
 -- Each step of the jobs keeps their rule.
 use Rattle.std.proofs.Common.{◌≡◌, ℕ, ◌+◌, ◌-◌, ◌<◌, ◌||◌, true, false, true≢false, List, [], ◌∷◌, ◌++◌, length, Option, Some, None, set, sym, refl, ap, ◌∙◌, subst, ⊎_elim, length-append, arith}
-use mathlib.Core.Option.{some, some-ne-none}
+use mathlib.Core.Option.{some}
 use lib.ListN.{get_elem?}
 use Rattle.crossbeam_queue.specs.Fifo.{Pushes, Pops, Forks, Merges, Learns}
-use Rattle.crossbeam_queue.proofs.Lists.{at_set, at_snoc}
+use Rattle.crossbeam_queue.proofs.Lists.{at_set}
 use Rattle.pool.specs.declared.rule.Hand.{Hand}
 use Rattle.pool.specs.Hands.{hand}
 use Rattle.pool.specs.Sharing.{times, once, indexes, stops, total, Fits, Shares, IsShared, IsPut, IsTaken, IsAll, IsHeld, IsWaitedFor}
 use Rattle.pool.proofs.Totals.{total_set, total_push, total_at, total_only, others_none, AllAt, all_set, all_push}
-use Rattle.pool.proofs.Orders.{times_append, indexes_put, indexes_stop, stops_put, stops_stop, ordered_put, ordered_stop, once_next, once_has, once_none, cons_some, either_told, length_items}
+use Rattle.pool.proofs.Orders.{times_append, indexes_put, indexes_stop, stops_put, stops_stop, ordered_put, ordered_stop, once_next, once_has, cons_some, either_told, length_items}
 
 -- the hand that has every part knows of every other that it is idle
 module _ (count all_parts : ℕ) (items : List (Option ℕ)) (views : List Hand) (s : Shares count all_parts items views) (port : ℕ) (v : Hand) (at : get_elem? views port ≡ some v) (some_part : 0 < v.parts) (all : v.parts ≡ v.all_parts) where
@@ -26,22 +26,6 @@ module _ (count all_parts : ℕ) (items : List (Option ℕ)) (views : List Hand)
 
   pub knows_count : v.count ≡ count
   knows_count = ((s.fits port v at).0 some_part).0
-
-pub begins : IsShared [] (hand 1 1 0 false 0 [] ∷ [])
-begins = (
-  0,
-  1,
-  record {
-    whole = refl;
-    a_stop_each = refl;
-    ordered = tt;
-    balanced = once_none;
-    sized = refl;
-    fits = λ port v e. ⊎_elim (λ x. absurd (some-ne-none v (sym x)))
-        (λ (is : hand 1 1 0 false 0 [] ≡ v). subst (λ (u : Hand). Fits 0 1 [] u) is ((λ _. (refl, refl)), (λ none. absurd (omega arith)), λ _. refl))
-        (at_snoc [] (hand 1 1 0 false 0 []) v port e);
-  },
-)
 
 pub puts : (n port : ℕ) (v : Hand) → 0 < v.parts → v.parts ≡ v.all_parts → v.stops ≡ 0 → v.told ≡ false → Pushes IsShared n port v (Some v.count) (IsPut v (Some v.count))
 puts n port v some_part all no_stop untold items views room h at =

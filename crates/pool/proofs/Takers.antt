@@ -1,7 +1,9 @@
 -- What the takers took, put together.
 use Rattle.std.proofs.Common.{All, ◌≡◌, ℕ, zero, suc, ◌+◌, ◌<◌, ◌≤◌, ◌||◌, Bool, true, false, List, [], ◌∷◌, ◌++◌, length, Option, get_or, replicate, sym, refl, ap, subst, ◌∙◌, append_assoc, arith}
 use Rattle.std.proofs.lemmas.Bool.Decides.{nat_tests}
+use Rattle.std.proofs.lemmas.List.{append-nil, nil_from_length}
 use Rattle.std.proofs.lemmas.List.Elements.{All-cons, All-head, All-nil, All-replicate, All-tail}
+use Rattle.std.proofs.lemmas.Bool.{or_right}
 use Rattle.pool.specs.declared.rule.Hand.{Hand}
 use Rattle.pool.specs.Sharing.{times, once, indexes, IsAll}
 use Rattle.pool.proofs.Orders.{times_append}
@@ -24,23 +26,11 @@ pub or_assoc : (a b c : Bool) → (a || (b || c)) ≡ ((a || b) || c)
 or_assoc true b c = refl
 or_assoc false b c = refl
 
-or_true : (b : Bool) → (b || true) ≡ true
-or_true true = refl
-or_true false = refl
-
-pub none_there : {A : Type 0} (xs : List A) → length xs ≡ 0 → xs ≡ []
-none_there [] e = refl
-none_there (x ∷ xs) e = absurd (omega arith)
-
-pub append_nil : {A : Type 0} (xs : List A) → xs ++ [] ≡ xs
-append_nil [] = refl
-append_nil (x ∷ xs) = ap (λ l. x ∷ l) (append_nil xs)
-
 pub all_there : {A : Type 0} (xs ys zs : List A) → xs ++ ys ≡ zs → length ys ≡ 0 → xs ≡ zs
-all_there xs ys zs e none = sym (append_nil xs) ∙ ap (λ l. xs ++ l) (sym (none_there ys none)) ∙ e
+all_there xs ys zs e none = sym (append-nil xs) ∙ ap (λ l. xs ++ l) (sym (nil_from_length ys none)) ∙ e
 
 pub taken_by-push : (ts : List Took) (t : Took) → taken_by (ts ++ t ∷ []) ≡ taken_by ts ++ t.taken
-taken_by-push [] t = append_nil t.taken
+taken_by-push [] t = append-nil t.taken
 taken_by-push (x ∷ ts) t = ap (λ l. x.taken ++ l) (taken_by-push ts t) ∙ sym (append_assoc x.taken (taken_by ts) t.taken)
 
 pub is_any_told-push : (ts : List Took) (t : Took) → is_any_told (ts ++ t ∷ []) ≡ (is_any_told ts || t.told)
@@ -50,7 +40,7 @@ is_any_told-push (x ∷ ts) t = ap (λ b. x.told || b) (is_any_told-push ts t) �
 told_somewhere : (takers : List Took) (k : ℕ) (d : Took) → k < length takers → (get_or takers k d).told ≡ true → is_any_told takers ≡ true
 told_somewhere [] k d short t = absurd (omega arith)
 told_somewhere (x ∷ ts) zero d short t = ap (λ b. b || is_any_told ts) t
-told_somewhere (x ∷ ts) (suc k) d short t = ap (λ b. x.told || b) (told_somewhere ts k d (omega arith) t) ∙ or_true x.told
+told_somewhere (x ∷ ts) (suc k) d short t = ap (λ b. x.told || b) (told_somewhere ts k d (omega arith) t) ∙ or_right x.told true refl
 
 once_below : (n i : ℕ) → i < n → once n i ≡ 1
 once_below n i h = grind (arith, nat_tests)

@@ -60,14 +60,15 @@ impl<'a, G: Gate, Q: Query> Answers<'a, G, Q> {
     }
 
     /// Whether the next answer is there, or was found now since few conflicts stood in its way. Where it isn't,
-    /// [`Answers::next`] may take long.
+    /// [`Answers::next`] may take long. The first one is not looked for here: no other is held back by its search, and
+    /// one that is cut short would be made again.
     pub fn is_ready<R: Wait>(&mut self, rt: &R) -> bool
         requires { self.old < length Q.asked }
         ensures { self.new ≡ self.old }
     {
         let was_own = self.is_own;
         self.look(rt);
-        if self.is_own && !was_own {
+        if self.at > 0 && self.is_own && !was_own {
             self.held = self.ahead.find_soon(self.at);
             if self.held.is_some() {
                 self.leave(rt);

@@ -154,7 +154,7 @@ impl Batch {
     {
         puts_add_up();
         journals_grow();
-        self.reply_soon(alloc, served, outbox, writer, BATCH_LIMIT, offered)?;
+        self.reply_first(alloc, served, outbox, writer, BATCH_LIMIT, true, offered)?;
         for _ in rt.forever() {
             if self.is_empty() {
                 return send_if(none_behind, outbox, writer);
@@ -194,6 +194,27 @@ impl Batch {
         );
         self.leave_out(count);
         put
+    }
+
+    /// Replies as [`Batch::reply_soon`]. Where `is_free`, so that replies may go out before any search, it replies to
+    /// nothing if one request waits alone: its search holds no other back, and one that is given up would be made again.
+    pub fn reply_first<W: Write>(
+        &mut self,
+        alloc: Global,
+        served: &SessionState,
+        outbox: &mut Outbox,
+        writer: &mut W,
+        most: usize,
+        is_free: bool,
+        offered: &mut Vec<Learnt>,
+    ) -> io::Result<bool>
+        ensures { Tells (W.contents writer.old) (W.contents writer.new) outbox.old outbox.new result
+            self.old self.new served.now offered.old.items offered.new.items }
+    {
+        if is_free && self.asked.len() == 1 {
+            return Ok(false);
+        }
+        self.reply_soon(alloc, served, outbox, writer, most, offered)
     }
 
     /// Replies to the first request, or where several threads may answer, to all that wait, however long the searches are.

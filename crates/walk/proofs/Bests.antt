@@ -1,27 +1,26 @@
 -- Choosing the best versions in the order of the walk: what is kept of packages, and what is asked.
-use Rattle.std.proofs.Common.{◌≡◌, ◌<◌, ◌≤◌, ◌+◌, ◌∙◌, ◌⊎◌, ℕ, zero, suc, refl, sym, ap, subst, arith, Bool, true, false, true≢false, ◌&&◌, if◌then◌else◌, List, [], ◌∷◌, ◌++◌, length, take, drop, map, get_or, inl, inr, nat_eq}
-use Rattle.std.proofs.lemmas.Bool.{cases_Bool, cases_eq, eq-eqb}
+use Rattle.std.proofs.Common.{◌≡◌, ◌<◌, ◌≤◌, ◌+◌, ◌∙◌, ◌⊎◌, ℕ, zero, suc, refl, sym, ap, subst, arith, Bool, true, false, true≢false, ◌&&◌, ◌||◌, if◌then◌else◌, List, [], ◌∷◌, ◌++◌, length, take, drop, map, get_or, inl, inr, nat_eq}
+use Rattle.std.proofs.lemmas.Bool.{cases_Bool, cases_eq, eq-eqb, eqb-true, and_from}
 use Rattle.std.proofs.Math.Seq.{take-append_seam}
 use Rattle.std.proofs.lemmas.Option.{none-some, same_Some, slice_get_within, get_or_from_slice_get}
-use Rattle.std.proofs.lemmas.List.{append_assoc, append-nil, take_all, take-append-le}
-use Rattle.std.specs.Prelude.{IfSome, None, Option, Some, Contains, is_some, slice_get, slice_set}
+use Rattle.std.proofs.lemmas.List.{append_assoc, append-nil, take_all, take-append-le, map-append}
+use Rattle.std.specs.Prelude.{None, Option, Some, Contains, is_some, slice_get, slice_set}
 use Rattle.versions.specs.Words.{Text, precedence}
 use Rattle.terms.specs.Sets.{has}
 use Rattle.terms.specs.Terms.{true_of}
 use Rattle.terms.specs.declared.term.Term.{Term}
 use Rattle.terms.specs.declared.term.Term.TheVariants.{In}
 use Rattle.std.specs.declared.cmp.Ordering.TheVariants.{Less}
-use Rattle.versions.specs.Precedence.{PrecedenceIsATotalPreorder}
 use Rattle.registry.specs.Dependencies.{IsDependency}
 use Rattle.registry.specs.Highest.{IsHighest}
 use Rattle.std.specs.Option.{option_and_then}
-use Rattle.registry.specs.Registry.{Package, Packages, Publication, Repeats, is_published, meets_at, needs_of, number_of, package_at, publication_at, versions_or_none}
-use Rattle.registry.specs.Requests.{Wanted, is_allowed}
-use Rattle.registry.specs.Selections.{Choices, IsMet, Meets}
-use Rattle.walk.specs.Best.{AreAlike, AreBest, AreLeft, AreNeeded, ArePassed, AreTargets, AskAlike, AsksOf, AsksOne, Holds, IsBest, IsChoosing, IsOf, IsOut, MeetsOf, Narrows, OfEach}
+use Rattle.registry.specs.Registry.{Package, Packages, Publication, is_published, meets_at, needs_of, number_of, package_at, publication_at, versions_or_none}
+use Rattle.registry.specs.Requests.{Wanted}
+use Rattle.registry.specs.Selections.{Choices, Meets}
+use Rattle.walk.specs.Best.{AreAlike, AreBest, ArePassed, AreTargets, AskAlike, AsksOf, AsksOne, Holds, IsBest, IsChoosing, IsOf, IsOut, MeetsOf, Narrows, OfEach}
 use Rattle.walk.specs.Choosing.{Follows, choice_of}
 use Rattle.walk.specs.PlainlyNewest.{IsLocked, NoneLocked}
-use Rattle.walk.specs.Newest.{Has, IsAhead, IsNewest, dependencies_of, first_new, in_name_order, new_or_later, next_package}
+use Rattle.walk.specs.Newest.{IsAhead, IsNewest, dependencies_of, first_new, in_name_order, new_or_later, next_package}
 use Rattle.walk.specs.declared.best.Choosing.{Choosing}
 use Rattle.walk.specs.declared.best.Needed.{Needed}
 use Rattle.walk.proofs.Better.{ahead_cases}
@@ -40,10 +39,6 @@ get-cases [] y (suc i) x h = absurd (none-some x h)
 get-cases (z ∷ xs) y zero x h = inl h
 get-cases (z ∷ xs) y (suc i) x h = get-cases xs y i x h
 
-map-append : {A B : Type 0} (f : A → B) (xs ys : List A) → map f (xs ++ ys) ≡ map f xs ++ map f ys
-map-append f [] ys = refl
-map-append f (x ∷ xs) ys = ap (λ l. f x ∷ l) (map-append f xs ys)
-
 take_one : (xs : List (Text × Text)) (i : ℕ) (x : Text × Text) → slice_get xs i ≡ Some x → take (i + 1) xs ≡ take i xs ++ x ∷ []
 take_one xs i x at = let s : i + 1 ≡ suc i = omega arith in ap (λ n. take n xs) s ∙ one xs i at
   where
@@ -53,16 +48,6 @@ take_one xs i x at = let s : i + 1 ≡ suc i = omega arith in ap (λ n. take n x
     one (y ∷ ys) (suc j) h = ap (λ zs. y ∷ zs) (one ys j h)
 
 -- ---- versions that depend alike
-
-pub alike_more : (packages : Packages) (p at : ℕ) → ((k : ℕ) → k < at → needs_of packages p k ≡ needs_of packages p 0) → Repeats packages p at → (k : ℕ) → k < at + 1 → needs_of packages p k ≡ needs_of packages p 0
-alike_more packages p at before repeats k lt = elim (cases_eq k at) [
-  | inl same ↦ ap (needs_of packages p) same ∙ repeats.3 ∙ before repeats.1 (omega (arith, repeats.2))
-  | inr apart ↦ before k (omega (arith, lt, apart))
-]
-
-pub alike_one : (packages : Packages) (p k : ℕ) → k < 1 → needs_of packages p k ≡ needs_of packages p 0
-alike_one packages p zero lt = refl
-alike_one packages p (suc k) lt = absurd (omega (arith, lt))
 
 pub published_within : (packages : Packages) (p k : ℕ) → is_published packages p k ≡ true → k < length (versions_or_none (package_at packages p))
 unfolding publication_at
@@ -139,16 +124,36 @@ narrows_added set p old new found asked needed fresh = record {
   };
 }
 
+-- where a package is looked at once more
+pub narrows_again : (set : List ℕ) (p : ℕ) (old new : Choosing) → new.found ≡ old.found → new.asked ≡ old.asked → new.needed ≡ old.needed → new.fresh.items ≡ old.fresh.items ++ p ∷ [] → Narrows set p old new
+narrows_again set p old new found asked needed fresh = record {
+  found = found;
+  asked = ap (λ v. v.items) asked;
+  holds = λ packages wanted each h. record {
+    left = λ i e at. subst (λ m. OfEach packages wanted m.entries (λ t. true_of e.left (t e.pkg) ≡ true)) (sym found) (h.left i e (ap (λ v. slice_get v.items i) (sym needed) ∙ at));
+    fresh = λ i q at.
+        subst (λ m. OfEach packages wanted m.entries (λ t. (k : ℕ) × (t q ≡ Some k))) (sym found)
+        (elim (get-cases old.fresh.items p i q (ap (λ xs. slice_get xs i) (sym fresh) ∙ at)) [
+          | inl before ↦ h.fresh i q before
+          | inr last ↦ λ t meets has. let one = each t meets has in (one.0, ap t (sym last) ∙ one.1)
+        ]);
+  };
+}
+
+-- one after the other
+pub narrows_both : (set : List ℕ) (p : ℕ) (old mid new : Choosing) → Narrows set p old mid → Narrows set p mid new → Narrows set p old new
+narrows_both set p old mid new one two = record {
+  found = two.found ∙ one.found;
+  asked = two.asked ∙ one.asked;
+  holds = λ packages wanted each h. two.holds packages wanted (subst (λ m. OfEach packages wanted m.entries (λ t. IsOf set (t p))) (sym one.found) each) (one.holds packages wanted each h);
+}
+
 set-cases : {A : Type 0} (xs : List A) (i : ℕ) (x : A) (j : ℕ) (y : A) → slice_get (slice_set xs i x) j ≡ Some y → (x ≡ y) ⊎ (slice_get xs j ≡ Some y)
 set-cases [] i x j y h = inr h
 set-cases (z ∷ xs) zero x zero y h = inl (same_Some x y h)
 set-cases (z ∷ xs) zero x (suc j) y h = inr h
 set-cases (z ∷ xs) (suc i) x zero y h = inr h
 set-cases (z ∷ xs) (suc i) x (suc j) y h = set-cases xs i x j y h
-
-both_from : (a b : Bool) → a ≡ true → b ≡ true → (a && b) ≡ true
-both_from true b h g = g
-both_from false b h g = absurd (true≢false (sym h))
 
 pub narrows_less : (set : List ℕ) (p place : ℕ) (both : Term) (e : Needed) (old new : Choosing) → slice_get old.needed.items place ≡ Some e → e.pkg ≡ p → ((c : Option ℕ) → true_of both c ≡ (true_of e.left c && true_of (In set) c))
     → new.found ≡ old.found → new.asked ≡ old.asked → new.fresh ≡ old.fresh → new.needed.items ≡ slice_set old.needed.items place (record { pkg = p; left = both }) → Narrows set p old new
@@ -161,7 +166,7 @@ narrows_less set p place both e old new at own exact found asked fresh needed = 
         (elim (set-cases old.needed.items place (record { pkg = p; left = both }) i f (ap (λ xs. slice_get xs i) (sym needed) ∙ here)) [
           | inl this ↦ λ t meets has.
               subst (λ (x : Needed). true_of x.left (t x.pkg) ≡ true) this
-              (exact (t p) ∙ both_from (true_of e.left (t p)) (true_of (In set) (t p)) (ap (λ q. true_of e.left (t q)) (sym own) ∙ h.left place e at t meets has) (is_of-true set (t p) (each t meets has)))
+              (exact (t p) ∙ and_from (true_of e.left (t p)) (true_of (In set) (t p)) (ap (λ q. true_of e.left (t q)) (sym own) ∙ h.left place e at t meets has) (is_of-true set (t p) (each t meets has)))
           | inr other ↦ h.left i f other
         ]);
     fresh = λ i q here.
@@ -307,18 +312,6 @@ module _ (packages : Packages) (wanted : Wanted) (found : List (ℕ × ℕ)) (p 
     | inr above ↦ highest_open k Gives h out j a above.1
   ]
 
-  pub best_locked : (k : ℕ) → PrecedenceIsATotalPreorder → IsLocked packages wanted p k → IsBest packages wanted found p k
-  best_locked k total here j a = elim (ahead_cases packages wanted p k j a) [
-    | inl locked ↦ absurd (true≢false (sym here.locked ∙ locked.1))
-    | inr above ↦ elim above.0 [
-      | inl locked ↦
-          let place : j ≡ k = here.only j locked in
-          let same : a.one ≡ a.other = same_Some a.one a.other (sym a.first ∙ ap (publication_at packages p) place ∙ a.second) in
-          absurd (own total a.other.version (ap (λ (v : Publication). precedence a.other.version v.version) (sym same) ∙ above.1))
-      | inr unlocked ↦ absurd (true≢false (sym here.locked ∙ unlocked))
-    ]
-  ]
-
 -- ---- one more that is chosen
 
 pub best_none : (packages : Packages) (wanted : Wanted) (found : List (ℕ × ℕ)) → found ≡ [] → AreBest packages wanted found
@@ -364,16 +357,30 @@ best_newest packages wanted found s h own follows meets = record {
   best = λ i j e at ahead t others has chosen. h.best i e at j ahead t others has chosen;
 }
 
-pub some_then : {A : Type 0} {P Q : A → Type 0} (o : Option A) → IfSome o P → ((x : A) → P x → Q x) → IfSome o Q
-some_then None h f = tt
-some_then (Some x) h f = f x h
-
 -- what is left of a package, as it is read
 pub left_read : (packages : Packages) (wanted : Wanted) (c : Choosing) (place p : ℕ) (e x : Needed) → Holds packages wanted c → slice_get c.needed.items place ≡ Some e → e.pkg ≡ p → x ≡ get_or c.needed.items place x
     → OfEach packages wanted c.found.entries (λ t. true_of x.left (t p) ≡ true)
 left_read packages wanted c place p e x h at own read t meets has =
     let same : e ≡ x = sym (get_or_from_slice_get c.needed.items place e x at) ∙ sym read in
     subst (λ (y : Needed). true_of y.left (t p) ≡ true) same (ap (λ q. true_of e.left (t q)) (sym own) ∙ h.left place e at t meets has)
+
+-- the only version that is left
+pub only_true : (k : ℕ) (choice : Option ℕ) → true_of (In (k ∷ [])) choice ≡ true → choice ≡ Some k
+only_true k None h = absurd (true≢false (sym h))
+only_true k (Some j) h = elim (cases_Bool (nat_eq k j)) [
+  | inl same ↦ ap Some (sym (eqb-true k j same))
+  | inr apart ↦ absurd (true≢false (sym h ∙ ap (λ (b : Bool). b || false) apart))
+]
+
+-- each selection has the only version that is left of a package
+pub only_left : (packages : Packages) (wanted : Wanted) (c : Choosing) (place p k : ℕ) (e x : Needed) → Holds packages wanted c → slice_get c.needed.items place ≡ Some e → e.pkg ≡ p → x ≡ get_or c.needed.items place x → x.left ≡ In (k ∷ [])
+    → OfEach packages wanted c.found.entries (λ t. t p ≡ Some k)
+only_left packages wanted c place p k e x h at own read only t meets has =
+    only_true k (t p) (subst (λ (l : Term). true_of l (t p) ≡ true) only (left_read packages wanted c place p e x h at own read t meets has))
+
+-- and depends on what that does
+pub ask_only : (packages : Packages) (wanted : Wanted) (found : List (ℕ × ℕ)) (p k : ℕ) → OfEach packages wanted found (λ t. t p ≡ Some k) → AskAlike packages wanted found p k
+ask_only packages wanted found p k each t meets has = (k, each t meets has, refl)
 
 -- ---- a choice
 

@@ -10,7 +10,6 @@ use Rattle.std.specs.Ordering.{is_lt}
 use Rattle.std.specs.Str.{bytes_eq}
 use Rattle.std.specs.declared.cmp.Ordering.{Ordering}
 use Rattle.std.specs.declared.cmp.Ordering.TheVariants.{Less, Equal, Greater}
-use Rattle.versions.specs.Precedence.{PrecedenceIsATotalPreorder}
 use Rattle.versions.specs.Words.{Text, meets, precedence}
 use Rattle.registry.specs.Dependencies.{IsDependency}
 use Rattle.registry.specs.Laws.{NamesHaveTheirNumbers}
@@ -18,12 +17,13 @@ use Rattle.registry.specs.Lawful.{IsRegistry}
 use Rattle.registry.specs.Highest.{IsHighest}
 use Rattle.registry.specs.Registry.{Package, Packages, Publication, equals_at, meets_at, number_of, package_at, publication_at, publication_equals, publication_meets, versions_or_none}
 use Rattle.registry.specs.Requests.{Wanted, is_locked, locks}
+use Rattle.walk.specs.Best.{IsBest, IsOut}
 use Rattle.walk.specs.Choosing.{choice_of}
-use Rattle.walk.specs.Newest.{IsAhead, IsExcluded, IsPlainlyOut}
-use Rattle.walk.specs.PlainlyNewest.{AreHigherOut, IsLocked, IsPlainlyBest, NoneLocked, is_locked_at, locks_some}
+use Rattle.walk.specs.Newest.{IsAhead, IsExcluded}
+use Rattle.walk.specs.PlainlyNewest.{AreHigherOut, IsLocked, NoneLocked, is_locked_at, locks_some}
 use Rattle.walk.proofs.Lists.{get-contains}
 use Rattle.walk.proofs.Preferring.{package-named}
-use Rattle.walk.proofs.Publications.{listed_at, own}
+use Rattle.walk.proofs.Publications.{listed_at}
 
 -- ---- what the lock names
 
@@ -113,35 +113,22 @@ module _ (packages : Packages) (wanted : Wanted) (p k : ℕ) where
       ]
 
   -- behind what fails a test, each version of higher precedence than the highest that passes it is out
-  pub higher_out : (before : List (ℕ × ℕ)) (Gives : ℕ → Bool → Type 0) → IsHighest Gives (versions_or_none (package_at packages p)) k → ((j : ℕ) → Gives j false → IsPlainlyOut packages wanted before p j)
+  pub higher_out : (before : List (ℕ × ℕ)) (Gives : ℕ → Bool → Type 0) → IsHighest Gives (versions_or_none (package_at packages p)) k → ((j : ℕ) → Gives j false → IsOut packages wanted before p j)
       → AreHigherOut packages wanted before p k
   higher_out before Gives h out j one other at_j at_k less = out j (h.fails j other one (listed_at packages p k other at_k) (listed_at packages p j one at_j) less)
 
   module _ (before : List (ℕ × ℕ)) where
     -- where the lock names none
-    pub best_unlocked : NoneLocked packages wanted p → AreHigherOut packages wanted before p k → IsPlainlyBest packages wanted before p k
+    pub best_unlocked : NoneLocked packages wanted p → AreHigherOut packages wanted before p k → IsBest packages wanted before p k
     best_unlocked none higher j a = elim (ahead_cases j a) [
       | inl locked ↦ absurd (true≢false (sym locked.0 ∙ none j))
       | inr above ↦ higher j a.one a.other a.first a.second above.1
     ]
 
-    -- where it names this one
-    pub best_locked : PrecedenceIsATotalPreorder → IsLocked packages wanted p k → IsPlainlyBest packages wanted before p k
-    best_locked total here j a = elim (ahead_cases j a) [
-      | inl locked ↦ absurd (true≢false (sym here.locked ∙ locked.1))
-      | inr above ↦ elim above.0 [
-        | inl locked ↦
-            let place : j ≡ k = here.only j locked in
-            let same : a.one ≡ a.other = same_Some a.one a.other (sym a.first ∙ ap (publication_at packages p) place ∙ a.second) in
-            absurd (own total a.other.version (ap (λ (v : Publication). precedence a.other.version v.version) (sym same) ∙ above.1))
-        | inr unlocked ↦ absurd (true≢false (sym here.locked ∙ unlocked))
-      ]
-    ]
-
     -- where it names one that is out
-    pub best_other : (q : ℕ) → IsLocked packages wanted p q → IsPlainlyOut packages wanted before p q → AreHigherOut packages wanted before p k → IsPlainlyBest packages wanted before p k
+    pub best_other : (q : ℕ) → IsLocked packages wanted p q → IsOut packages wanted before p q → AreHigherOut packages wanted before p k → IsBest packages wanted before p k
     best_other q there out higher j a = elim (ahead_cases j a) [
-      | inl locked ↦ subst (λ i. IsPlainlyOut packages wanted before p i) (sym (there.only j locked.0)) out
+      | inl locked ↦ subst (λ i. IsOut packages wanted before p i) (sym (there.only j locked.0)) out
       | inr above ↦ higher j a.one a.other a.first a.second above.1
     ]
 

@@ -6,8 +6,9 @@ use Rattle.std.specs.Prelude.{Some, slice_get}
 use Rattle.std.specs.Option.{option_or}
 use Rattle.registry.specs.Registry.{Packages}
 use Rattle.registry.specs.Requests.{Wanted}
+use Rattle.walk.specs.Best.{IsBest}
 use Rattle.walk.specs.Choosing.{choice_of}
-use Rattle.walk.specs.PlainlyNewest.{ArePlainlyBest, IsPlainlyBest, SelectsAs}
+use Rattle.walk.specs.PlainlyNewest.{FirstAreBest, SelectsAs}
 use Rattle.walk.proofs.NewestLaws.{take_next}
 use Rattle.walk.proofs.Wholes.{choice-again, choice-append}
 
@@ -27,12 +28,12 @@ module _ (list entries : List (ℕ × ℕ)) (i : ℕ) (e : ℕ × ℕ) (at : sli
   pub entries_more : entries ≡ take i list → entries ++ e ∷ [] ≡ take (i + 1) list
   entries_more same = ap (λ xs. xs ++ e ∷ []) same ∙ sym next
 
--- one more that is plainly the best
-pub best_more : (packages : Packages) (wanted : Wanted) (list : List (ℕ × ℕ)) (i : ℕ) (e : ℕ × ℕ) → slice_get list i ≡ Some e → ArePlainlyBest packages wanted list i → IsPlainlyBest packages wanted (take i list) e.0 e.1
-    → ArePlainlyBest packages wanted list (i + 1)
+-- one more that is the best
+pub best_more : (packages : Packages) (wanted : Wanted) (list : List (ℕ × ℕ)) (i : ℕ) (e : ℕ × ℕ) → slice_get list i ≡ Some e → FirstAreBest packages wanted list i → IsBest packages wanted (take i list) e.0 e.1
+    → FirstAreBest packages wanted list (i + 1)
 best_more packages wanted list i e at before here j f lt at_j = elim (cases_eq j i) [
   | inl same ↦
       let is : e ≡ f = same_Some e f (sym at ∙ ap (slice_get list) (sym same) ∙ at_j) in
-      subst (λ (x : ℕ × ℕ). IsPlainlyBest packages wanted (take j list) x.0 x.1) is (subst (λ n. IsPlainlyBest packages wanted (take n list) e.0 e.1) (sym same) here)
+      subst (λ (x : ℕ × ℕ). IsBest packages wanted (take j list) x.0 x.1) is (subst (λ n. IsBest packages wanted (take n list) e.0 e.1) (sym same) here)
   | inr apart ↦ before j f (omega (arith, lt, apart)) at_j
 ]

@@ -119,12 +119,6 @@ pushed_at (y ∷ xs) x (suc i) e at = elim (pushed_at xs x i e at) [
 ]
 
 module _ (packages : Packages) (needs : List (Text × Text)) (chooses : Choices) where
-  pub listing_none : (found : List (ℕ × ℕ)) → found ≡ [] → IsListing packages needs chooses found
-  listing_none found empty = record {
-    walked = λ i e at. absurd (none-some e (sym (ap (λ (xs : List (ℕ × ℕ)). slice_get xs i) empty) ∙ at));
-    chosen = λ i e at. absurd (none-some e (sym (ap (λ (xs : List (ℕ × ℕ)). slice_get xs i) empty) ∙ at));
-  }
-
   pub listing_push : (found : List (ℕ × ℕ)) (p k : ℕ) → IsListing packages needs chooses found → next_package packages needs found ≡ Some p → chooses p ≡ Some k
       → IsListing packages needs chooses (found ++ (p, k) ∷ [])
   listing_push found p k listing next chosen = record {

@@ -1,5 +1,5 @@
 -- What a growing list of packages with their ordinals selects.
-use Rattle.std.proofs.Common.{◌≡◌, ◌<◌, ◌∙◌, ℕ, zero, suc, refl, sym, ap, arith, ◌⊎◌, List, [], ◌∷◌, ◌++◌, length, inl, inr, nat_eq, Contains, Bool, true, false, true≢false, not, get_or}
+use Rattle.std.proofs.Common.{◌≡◌, ◌<◌, ◌∙◌, ℕ, zero, suc, refl, sym, ap, arith, ◌⊎◌, List, [], ◌∷◌, ◌++◌, length, inl, inr, nat_eq, Contains, true, false, true≢false}
 use Rattle.std.proofs.lemmas.Bool.{cases_Bool, eq-eqb, eqb-true}
 use Rattle.std.proofs.lemmas.List.{append_assoc}
 use Rattle.std.proofs.lemmas.Option.{slice_get_read, none-some, same_Some}
@@ -75,16 +75,6 @@ some_value (Some x) e = (x, refl)
 pub no_value : {A : Type 0} (o : Option A) → is_some o ≡ false → o ≡ None
 no_value None e = refl
 no_value (Some x) e = absurd (true≢false e)
-
-pub not_true : (b : Bool) → not b ≡ true → b ≡ false
-not_true true e = sym e
-not_true false e = refl
-
--- what is read within a list stands there
-pub get_there : {A : Type 0} (xs : List A) (i : ℕ) (d : A) → i < length xs → slice_get xs i ≡ Some (get_or xs i d)
-get_there [] i d lt = absurd (omega (arith, lt))
-get_there (x ∷ xs) zero d lt = refl
-get_there (x ∷ xs) (suc i) d lt = get_there xs i d (omega (arith, lt))
 
 -- where two lists grow one after the other, the first grows to the last
 pub grown-grown : (old found new : List (ℕ × ℕ)) → Grows old found → Grows found new → Grows old new

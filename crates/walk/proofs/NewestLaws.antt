@@ -14,8 +14,9 @@ use Rattle.registry.specs.Laws.{HighestIsOne}
 use Rattle.registry.specs.Lawful.{IsRegistry}
 use Rattle.registry.specs.Registry.{Package, Packages, Publication, meets_at, needs_of, number_of, package_at, publication_at}
 use Rattle.registry.specs.Requests.{Wanted, is_locked}
-use Rattle.registry.specs.Selections.{Choices, IsMet, Meets}
-use Rattle.walk.specs.Newest.{Has, IsAhead, IsAtOdds, IsExcluded, IsNewest, IsPlainlyNewest, dependencies_of, first_new, in_name_order, insert_by_name, new_or_later, next_package}
+use Rattle.registry.specs.Selections.{Choices, IsMet}
+use Rattle.walk.specs.Best.{IsOut}
+use Rattle.walk.specs.Newest.{Has, IsAhead, IsAtOdds, IsExcluded, IsNewest, IsPlainlyNewest, IsPlainlyOut, dependencies_of, first_new, in_name_order, insert_by_name, new_or_later, next_package}
 use Rattle.walk.specs.Choosing.{choice_of}
 use Rattle.walk.proofs.Lists.{choice-left, choice-push_here}
 use Rattle.walk.proofs.Publications.{publication_at-package, tied_once}
@@ -235,15 +236,25 @@ met_by packages t name need p j m numbered chosen =
     let version : m.ordinal ≡ j = same_Some m.ordinal j (sym m.selected ∙ ap t same ∙ chosen) in
     sym (ap (λ q. meets_at packages q j need) same) ∙ sym (ap (λ k. meets_at packages m.target k need) version) ∙ m.meeting
 
-module _ (packages : Packages) (wanted : Wanted) (before : List (ℕ × ℕ)) (p j : ℕ) (t : Choices) (meets : Meets packages wanted t) (has : Has t before) (chosen : t p ≡ Some j) where
-  not_excluded : IsExcluded packages wanted before p j → ⊥
-  not_excluded out = elim out.among [
+module _ (packages : Packages) (wanted : Wanted) (before : List (ℕ × ℕ)) (p j : ℕ) where
+  not_excluded : IsExcluded packages wanted before p j → IsOut packages wanted before p j
+  not_excluded out t meets has chosen = elim out.among [
     | inl need ↦ true≢false (sym (met_by packages t out.name out.need p j (meets.needs out.name out.need need) out.numbered chosen) ∙ out.unmet)
     | inr line ↦ true≢false (sym (met_by packages t out.name out.need p j (meets.closed line.0 line.1 out.name out.need (has line.0 line.1 line.2) line.3) out.numbered chosen) ∙ out.unmet)
   ]
 
-  not_at_odds : IsAtOdds packages before p j → ⊥
-  not_at_odds out = true≢false (sym (met_by packages t out.name out.need out.target out.ordinal (meets.closed p j out.name out.need chosen out.among) out.numbered (has out.target out.ordinal out.chosen)) ∙ out.unmet)
+  not_at_odds : IsAtOdds packages before p j → IsOut packages wanted before p j
+  not_at_odds out t meets has chosen =
+      true≢false (sym (met_by packages t out.name out.need out.target out.ordinal (meets.closed p j out.name out.need chosen out.among) out.numbered (has out.target out.ordinal out.chosen)) ∙ out.unmet)
+
+  pub plainly-out : IsPlainlyOut packages wanted before p j → IsOut packages wanted before p j
+  plainly-out out t meets has chosen = elim out [
+    | inl barred ↦ true≢false (sym (meets.allowed p j chosen) ∙ barred)
+    | inr other ↦ elim other [
+      | inl excluded ↦ not_excluded excluded t meets has chosen
+      | inr at_odds ↦ not_at_odds at_odds t meets has chosen
+    ]
+  ]
 
 pub plainly-newest : (packages : Packages) (wanted : Wanted) (found : List (ℕ × ℕ)) → IsPlainlyNewest packages wanted found → IsNewest packages wanted (choice_of found)
 plainly-newest packages wanted found one = record {
@@ -251,11 +262,5 @@ plainly-newest packages wanted found one = record {
   selects = refl;
   meets = one.meets;
   walked = one.walked;
-  best = λ i j e at ahead t meets has chosen. elim (one.out i j e at ahead) [
-    | inl barred ↦ true≢false (sym (meets.allowed e.0 j chosen) ∙ barred)
-    | inr other ↦ elim other [
-      | inl out ↦ not_excluded packages wanted (take i found) e.0 j t meets has chosen out
-      | inr out ↦ not_at_odds packages wanted (take i found) e.0 j t meets has chosen out
-    ]
-  ];
+  best = λ i j e at ahead. plainly-out packages wanted (take i found) e.0 j (one.out i j e at ahead);
 }

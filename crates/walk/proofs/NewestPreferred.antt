@@ -1,6 +1,6 @@
 -- That the preferred selection is the newest one, where it meets the request.
 use Rattle.std.proofs.Common.{◌≡◌, ◌<◌, ◌∙◌, ◌+◌, inl, inr, ℕ, zero, suc, List, [], ◌∷◌, ◌++◌, take, refl, sym, ap, subst, arith, true, false, true≢false, ◌&&◌, ◌||◌, not, cond, filter, if◌then◌else◌, Bool, Contains}
-use Rattle.std.proofs.lemmas.Bool.{cases_Bool}
+use Rattle.std.proofs.lemmas.Bool.{cases_Bool, and_parts, or_parts, not-true}
 use Rattle.std.proofs.lemmas.Option.{none-some, same_Some}
 use Rattle.std.proofs.lemmas.Slice.Eq.{bytes_eq-Decides}
 use Rattle.std.specs.Prelude.{None, Option, Some, find, is_some, slice_get}
@@ -28,37 +28,25 @@ use Rattle.walk.proofs.Publications.{is_allowed-published, publication_at-packag
 
 -- ---- bools
 
-both_true : (a b : Bool) → (a && b) ≡ true → (a ≡ true) × (b ≡ true)
-both_true true b e = (refl, e)
-both_true false b e = absurd (true≢false (sym e))
-
-both_false : (a b : Bool) → (a || b) ≡ false → (a ≡ false) × (b ≡ false)
-both_false true b e = absurd (true≢false e)
-both_false false b e = (refl, e)
-
-true_not : (b : Bool) → not b ≡ true → b ≡ false
-true_not true e = absurd (true≢false (sym e))
-true_not false e = refl
-
 -- ---- a lock names a package once
 
 module _ (equal : EqualPrecedenceIsAnEquivalence) where
   unnamed : (lock : List (Text × Text)) (name version : Text) → has_name lock name ≡ false → is_locked lock name version ≡ false
   unnamed [] name version e = refl
   unnamed (l ∷ rest) name version e =
-      let parts = both_false (bytes_eq name l.0) (has_name rest name) e in
+      let parts = or_parts (bytes_eq name l.0) (has_name rest name) e in
       rw parts.0 (unnamed rest name version parts.1)
 
   locked-once : (lock : List (Text × Text)) (name a b : Text) → repeats_name lock ≡ false → is_locked lock name a ≡ true → is_locked lock name b ≡ true → same_precedence a b ≡ true
   locked-once [] name a b once one two = absurd (true≢false (sym one))
   locked-once (l ∷ rest) name a b once one two = elim (cases_Bool (bytes_eq name l.0)) [
     | inl t ↦
-        let parts = both_false (has_name rest l.0) (repeats_name rest) once in
+        let parts = or_parts (has_name rest l.0) (repeats_name rest) once in
         let none : has_name rest name ≡ false = ap (has_name rest) ((bytes_eq-Decides name l.0).0 t) ∙ parts.0 in
         let here : (v : Text) → is_locked (l ∷ rest) name v ≡ true → same_precedence l.1 v ≡ true = λ v e. alone (same_precedence l.1 v) (is_locked rest name v) (rw t at e) (unnamed rest name v none) in
         equal.congr a l.1 b (equal.symm a l.1 ∙ here a one) ∙ here b two
     | inr f ↦
-        let parts = both_false (has_name rest l.0) (repeats_name rest) once in
+        let parts = or_parts (has_name rest l.0) (repeats_name rest) once in
         locked-once rest name a b parts.1 (rw f at one) (rw f at two)
   ]
     where
@@ -155,18 +143,18 @@ module _ (equal : EqualPrecedenceIsAnEquivalence) (tie : EqualPrecedenceIsATie) 
       highest none (Some c) e =
           let here : c.0 ≡ k = same_Some c.0 k (first_is None (Some c) none e) in
           let got = found-passes (λ x. test x && top x) 0 pack.versions c (sym (find-filter test top (enumerate_from 0 pack.versions)) ∙ e) in
-          let parts = both_true (test c) (top c) got.0 in
+          let parts = and_parts (test c) (top c) got.0 in
           let is : c.1 ≡ other = other_is c here got.1.0 got.1.1 got.1.2 in
           let free = none-passes (λ x. test x && locked_test x) 0 pack.versions j one (sym (find-filter test locked_test (enumerate_from 0 pack.versions)) ∙ none) at_j in
           let high = passing-all (is_candidate wanted pack.name) (λ (v : Publication). not (is_lt (precedence c.1.version v.version))) 0 pack.versions j one parts.1 at_j passes in
-          lower (rw passes at free) (true_not (is_lt (precedence other.version one.version)) (subst (λ (v : Publication). not (is_lt (precedence v.version one.version)) ≡ true) is high))
+          lower (rw passes at free) (not-true (is_lt (precedence other.version one.version)) (subst (λ (v : Publication). not (is_lt (precedence v.version one.version)) ≡ true) is high))
 
       by : (o : Option (ℕ × Publication)) → locked_candidate wanted pack ≡ o → ⊥
       by None e = highest e (highest_candidate wanted pack) refl
       by (Some c) e =
           let here : c.0 ≡ k = same_Some c.0 k (first_is (Some c) (highest_candidate wanted pack) e refl) in
           let got = found-passes (λ x. test x && locked_test x) 0 pack.versions c (sym (find-filter test locked_test (enumerate_from 0 pack.versions)) ∙ e) in
-          let parts = both_true (test c) (locked_test c) got.0 in
+          let parts = and_parts (test c) (locked_test c) got.0 in
           let is : c.1 ≡ other = other_is c here got.1.0 got.1.1 got.1.2 in
           locked (ap (λ (v : Publication). is_locked wanted.lock pack.name v.version) (sym is) ∙ parts.1)
 

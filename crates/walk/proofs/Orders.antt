@@ -3,7 +3,7 @@ use Rattle.std.proofs.Common.{◌≡◌, ◌<◌, ◌≤◌, ◌+◌, ◌∙◌,
 use Rattle.std.proofs.lemmas.Bool.{cases_eq}
 use Rattle.std.proofs.lemmas.List.{take-append-le}
 use Rattle.std.proofs.lemmas.Option.{none-some, same_Some, slice_get_within}
-use Rattle.std.specs.Prelude.{None, Option, Some, slice_get}
+use Rattle.std.specs.Prelude.{Some, slice_get}
 use Rattle.versions.specs.Words.{Text}
 use Rattle.registry.specs.Registry.{Packages}
 use Rattle.registry.specs.Selections.{Choices}
@@ -53,10 +53,6 @@ chosen_more chooses found place e before at chosen i x here =
 -- ---- stages
 
 module _ (packages : Packages) (needs : List (Text × Text)) where
-  pub stage_at : (found : List (ℕ × ℕ)) (stage place : ℕ) → stage ≡ place + 1 → IsPassedTo packages needs found place → IsStage packages needs found stage
-  stage_at found zero place e to = absurd (omega (arith, e))
-  stage_at found (suc n) place e to = let same : place ≡ n = omega (arith, e) in subst (λ m. IsPassedTo packages needs found m) same to
-
   pub at_stage : (found : List (ℕ × ℕ)) (stage place : ℕ) → stage ≡ place + 1 → IsStage packages needs found stage → IsPassedTo packages needs found place
   at_stage found zero place e to = absurd (omega (arith, e))
   at_stage found (suc n) place e to = let same : n ≡ place = omega (arith, e) in subst (λ m. IsPassedTo packages needs found m) same to

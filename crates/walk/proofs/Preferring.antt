@@ -1,6 +1,6 @@
 -- The preferred version, as it is found; and that there is one preferred selection, which is what follows the preferred versions and meets the request.
 use Rattle.std.proofs.Common.{◌≡◌, ◌<◌, ◌+◌, ◌∙◌, ℕ, zero, suc, refl, sym, ap, subst, arith, Bool, true, false, true≢false, not, ◌&&◌, ◌||◌, cond, List, [], ◌∷◌, length, filter, inl, inr}
-use Rattle.std.proofs.lemmas.Bool.{cases_Bool}
+use Rattle.std.proofs.lemmas.Bool.{cases_Bool, and_parts}
 use Rattle.std.proofs.lemmas.Option.{none-some, same_Some, slice_get_within}
 use Rattle.std.specs.Prelude.{Option, IfNone, IfSome, None, Some, find, slice_get}
 use Rattle.std.specs.List.{enumerate_from, list_all}
@@ -20,10 +20,6 @@ use Rattle.walk.specs.Preferring.{Fails, Highest, is_kept, is_kept_at, is_open, 
 use Rattle.walk.proofs.Steps.{reached_by_both, selected}
 
 -- ---- tests of elements that are counted
-
-both_true : (a b : Bool) → (a && b) ≡ true → (a ≡ true) × (b ≡ true)
-both_true true b e = (refl, e)
-both_true false b e = absurd (true≢false (sym e))
 
 find-filter : {A : Type 0} (t q : A → Bool) (xs : List A) → find q (filter t xs) ≡ find (λ x. t x && q x) xs
 find-filter t q [] = refl
@@ -71,11 +67,11 @@ module _ {A : Type 0} where
   passing-all f g n (x ∷ xs) zero y all at t =
       let same : x ≡ y = same_Some x y at in
       let here : f x ≡ true = ap f same ∙ t in
-      let parts = both_true (g x) (list_all (λ (c : ℕ × A). g c.1) (filter (λ (c : ℕ × A). f c.1) (enumerate_from (n + 1) xs))) (rw here at all) in
+      let parts = and_parts (g x) (list_all (λ (c : ℕ × A). g c.1) (filter (λ (c : ℕ × A). f c.1) (enumerate_from (n + 1) xs))) (rw here at all) in
       ap g (sym same) ∙ parts.0
   passing-all f g n (x ∷ xs) (suc j) y all at t = elim (cases_Bool (f x)) [
     | inl e ↦
-        let parts = both_true (g x) (list_all (λ (c : ℕ × A). g c.1) (filter (λ (c : ℕ × A). f c.1) (enumerate_from (n + 1) xs))) (rw e at all) in
+        let parts = and_parts (g x) (list_all (λ (c : ℕ × A). g c.1) (filter (λ (c : ℕ × A). f c.1) (enumerate_from (n + 1) xs))) (rw e at all) in
         passing-all f g (n + 1) xs j y parts.1 at t
     | inr e ↦ passing-all f g (n + 1) xs j y (rw e at all) at t
   ]
@@ -102,7 +98,7 @@ kept-unlocked packages p need k lt = by (publication_at packages p k)
 -- what the lock names is a version of equal precedence
 kept_equals : (need : Option Text) (locked : Text) (o : Option Publication) → is_kept_at need (Some locked) o ≡ true → publication_equals o locked ≡ true
 kept_equals need locked None e = absurd (true≢false (sym e))
-kept_equals need locked (Some v) e = (both_true (same_precedence locked v.version) (admits need v.version) e).0
+kept_equals need locked (Some v) e = (and_parts (same_precedence locked v.version) (admits need v.version) e).0
 
 -- nor where no version has the precedence of the one that is named
 pub kept-absent : (packages : Packages) (p : ℕ) (need : Option Text) (locked : Text) → ((k : ℕ) → equals_at packages p k locked ≡ false) → Fails packages p (is_kept_at need (Some locked))
@@ -194,7 +190,7 @@ module _ (packages : Packages) (wanted : Wanted) (p : ℕ) (pack : Package) (at 
   -- a candidate than which none is higher is the highest that is open
   top_highest : (j : ℕ) (u : Publication) → slice_get pack.versions j ≡ Some u → top_test u ≡ true → Highest packages p (is_open_at need locked) j
   top_highest j u there t =
-      let parts = both_true (is_candidate wanted pack.name u) (is_top u) t in
+      let parts = and_parts (is_candidate wanted pack.name u) (is_top u) t in
       record {
         published = subst (λ (o : Option Package). j < length (versions_or_none o)) (sym at) (slice_get_within pack.versions j u there);
         passes = ap (is_open_at need locked) (published j u there) ∙ sym (candidate u) ∙ parts.0;

@@ -13,8 +13,8 @@ use Rattle.registry.specs.Requests.{Wanted}
 use Rattle.registry.specs.Selections.{Choices, Meets}
 use Rattle.walk.specs.Choosing.{choice_of}
 use Rattle.walk.specs.Listing.{AllPassed, IsListing, IsPassed}
-use Rattle.walk.specs.Newest.{IsNewest, PlainlyNewestIsNewest, dependencies_of, first_new, in_name_order, insert_by_name, new_or_later, next_package}
-use Rattle.walk.specs.PlainlyNewest.{AreEachNew, ArePlainlyBest, IsNewestIfMet, SelectsAs}
+use Rattle.walk.specs.Newest.{IsNewest, dependencies_of, first_new, in_name_order, insert_by_name, new_or_later, next_package}
+use Rattle.walk.specs.PlainlyNewest.{AreEachNew, FirstAreBest, IsNewestIfMet, SelectsAs}
 use Rattle.walk.proofs.Lists.{choice-entry, choice-left, choice-push_cases, contains_at}
 use Rattle.walk.proofs.NewestLaws.{is_new}
 use Rattle.walk.proofs.NewestPreferred.{holds-reached}
@@ -129,15 +129,17 @@ choice-again found p k j has q = by (choice_of found q) refl (choice_of (found +
       | inr last ↦ absurd (none-some k (sym e ∙ ap (choice_of found) (sym last.0) ∙ has))
     ]
 
--- what is plainly newest
-pub plain : PlainlyNewestIsNewest → (packages : Packages) (wanted : Wanted) (selection entries found : List (ℕ × ℕ)) → SelectsAs entries selection → IsListing packages wanted.needs (choice_of entries) found
-    → next_package packages wanted.needs found ≡ None → ArePlainlyBest packages wanted found (length found) → IsNewestIfMet packages wanted selection
-plain law packages wanted selection entries found same listing ended best meets =
-    subst (λ (s : Choices). IsNewest packages wanted s) is (law packages wanted found (record {
+-- where each is the best with those before
+pub newest-if_met : (packages : Packages) (wanted : Wanted) (selection entries found : List (ℕ × ℕ)) → SelectsAs entries selection → IsListing packages wanted.needs (choice_of entries) found
+    → next_package packages wanted.needs found ≡ None → FirstAreBest packages wanted found (length found) → IsNewestIfMet packages wanted selection
+newest-if_met packages wanted selection entries found same listing ended best meets =
+    subst (λ (s : Choices). IsNewest packages wanted s) is (record {
+      found = found;
+      selects = refl;
       meets = subst (λ (s : Choices). Meets packages wanted s) (sym is) meets;
       walked = listing.walked;
-      out = λ i j e at ahead. best i e (slice_get_within found i e at) at j ahead;
-    }))
+      best = λ i j e at ahead. best i e (slice_get_within found i e at) at j ahead;
+    })
   where
     own : choice_of entries ≡ choice_of selection
     own = λ i p. same p i

@@ -5,8 +5,9 @@ use Rattle.versions.specs.Words.{precedence}
 use Rattle.registry.specs.Registry.{Package, Packages, Publication, package_at, publication_at}
 use Rattle.registry.specs.Requests.{Wanted, is_locked}
 use Rattle.registry.specs.Selections.{Meets}
+use Rattle.walk.specs.Best.{IsBest, IsOut}
 use Rattle.walk.specs.Choosing.{choice_of}
-use Rattle.walk.specs.Newest.{IsAhead, IsNewest, IsPlainlyOut}
+use Rattle.walk.specs.Newest.{IsAhead, IsNewest}
 
 -- ---- the version that the lock names
 
@@ -36,18 +37,18 @@ AheadIsLockedOrHigher = (packages : Packages) (wanted : Wanted) (p k j : ℕ) (a
     → ((is_locked_at packages wanted p j ≡ true) × (is_locked_at packages wanted p k ≡ false))
     ⊎ (((is_locked_at packages wanted p j ≡ true) ⊎ (is_locked_at packages wanted p k ≡ false)) × (precedence a.other.version a.one.version ≡ Less))
 
--- each version of higher precedence is plainly out
+-- what is shown so is out
+abbrev pub ShowsWhatIsOut : Packages → Wanted → (List (ℕ × ℕ) → ℕ → ℕ → Type 0) → Type 0
+ShowsWhatIsOut packages wanted shows = (before : List (ℕ × ℕ)) (p j : ℕ) → shows before p j → IsOut packages wanted before p j
+
+-- each version of higher precedence is out
 abbrev pub AreHigherOut : Packages → Wanted → List (ℕ × ℕ) → ℕ → ℕ → Type 0
 AreHigherOut packages wanted before p k = (j : ℕ) (one other : Publication) → publication_at packages p j ≡ Some one → publication_at packages p k ≡ Some other
-    → precedence other.version one.version ≡ Less → IsPlainlyOut packages wanted before p j
+    → precedence other.version one.version ≡ Less → IsOut packages wanted before p j
 
--- each version that is preferred to this one is plainly out
-abbrev pub IsPlainlyBest : Packages → Wanted → List (ℕ × ℕ) → ℕ → ℕ → Type 0
-IsPlainlyBest packages wanted before p k = (j : ℕ) → IsAhead packages wanted p j k → IsPlainlyOut packages wanted before p j
-
--- so it is of the first i of the list
-abbrev pub ArePlainlyBest : Packages → Wanted → List (ℕ × ℕ) → ℕ → Type 0
-ArePlainlyBest packages wanted found i = (j : ℕ) (e : ℕ × ℕ) → j < i → slice_get found j ≡ Some e → IsPlainlyBest packages wanted (take j found) e.0 e.1
+-- each of the first i of the list is the best with those before
+abbrev pub FirstAreBest : Packages → Wanted → List (ℕ × ℕ) → ℕ → Type 0
+FirstAreBest packages wanted found i = (j : ℕ) (e : ℕ × ℕ) → j < i → slice_get found j ≡ Some e → IsBest packages wanted (take j found) e.0 e.1
 
 -- ---- the selection
 

@@ -2,9 +2,9 @@
 //
 // Of each package that is needed it is kept which of its versions are left: each selection that meets the
 // request and has the versions that are chosen has one of these. What is asked by the request and by chosen
-// versions takes versions away, and so does what all versions of a needed package depend on. Each package in
-// turn takes the best version that is left. So no selection that has those before has a better one, whatever
-// comes of the packages behind.
+// versions takes versions away, and so does what all versions of a needed package depend on, or the only one that
+// is left. Each package in turn takes the best version that is left. So no selection that has those before has a
+// better one, whatever comes of the packages behind.
 
 ghost use Rattle.std.specs.Prelude.{◌≡◌, ◌<◌, ◌+◌, ◌++◌, ℕ, true, length, nat_eq, slice_get, List, [], ◌∷◌, None, Some, IfOk, IfSome, OnOk};
 ghost use Rattle.std.specs.Bool.{OnFalse};
@@ -13,7 +13,8 @@ ghost use Rattle.std.specs.Map.{keys_of};
 ghost use Rattle.releases.specs.Matching.{ordinals_of};
 ghost use Rattle.terms.specs.Sets.{has};
 ghost use Rattle.terms.specs.Terms.{true_of};
-ghost use Rattle.registry.specs.Registry.{is_published, needs_of};
+ghost use Rattle.terms.specs.declared.term.Term.TheVariants.{In};
+ghost use Rattle.registry.specs.Registry.{Packages, is_published, needs_of};
 ghost use Rattle.registry.specs.Requests.{Wanted};
 ghost use Rattle.walk.specs.Best.{AreAlike, AreBest, ArePassed, AreTargets, AsksFor, AsksNeed, AsksOne, Holds, IsBest, IsChoosing, IsOut, MeetsOf, Narrows, OfEach};
 ghost use Rattle.walk.specs.declared.best.Needed.{Needed};
@@ -50,7 +51,8 @@ struct Choosing {
     needed: Vec<Needed>,
     /// By number of the package, one more than its index among those, or 0. Nothing rests on it.
     numbers: Vec<usize>,
-    /// Packages that are needed, and not looked at yet for what all their versions depend on.
+    /// Packages that are needed, and not looked at yet for what all their versions depend on, or the only one that is
+    /// left.
     fresh: Vec<Pkg>,
 }
 
@@ -81,6 +83,28 @@ fn is_some(left: &Term) -> bool {
     match left {
         Term::In(versions) => !versions.is_empty(),
         Term::NotIn(_) => true,
+    }
+}
+
+/// The only version of a set, if it has one.
+fn only_in(versions: &VSet) -> Option<u32>
+    ensures { IfSome result (λ k. versions.now ≡ k ∷ []) }
+{
+    let mut ordinals = versions.iter();
+    let first = ordinals.next()?;
+    match ordinals.next() {
+        None => Some(first),
+        Some(_) => None,
+    }
+}
+
+/// The only version that is left, if one is.
+fn only_of(left: &Term) -> Option<u32>
+    ensures { IfSome result (λ k. left.now ≡ In (k ∷ [])) }
+{
+    match left {
+        Term::In(versions) => only_in(versions),
+        Term::NotIn(_) => None,
     }
 }
 
@@ -162,21 +186,34 @@ impl Choosing {
         Ok(())
     }
 
-    /// Leaves of a package, at the index of what is left of it, only versions of a set.
+    /// Leaves of a package, at the index of what is left of it, only versions of a set. Answers whether some are left,
+    /// and whether one is.
     fn lessen(
         &mut self,
         alloc: Global,
         pkg: Pkg,
         place: usize,
         set: VSet,
-    ) -> Result<bool, AllocError>
+    ) -> Result<(bool, bool), AllocError>
         requires { (e : Needed) × (slice_get self.old.needed.items place ≡ Some e) × (e.pkg ≡ pkg) }
         ensures { OnOk result (Narrows set pkg self.old self.new) }
     {
         let both = self.needed[place].left.and(alloc, &Term::In(set))?;
         let some = is_some(&both);
+        let one = only_of(&both).is_some();
         self.needed[place] = Needed { pkg, left: both };
-        Ok(some)
+        Ok((some, one))
+    }
+
+    /// Has a package looked at once more, where that is wanted.
+    fn look_again(&mut self, is_wanted: bool, pkg: Pkg) -> Result<(), AllocError>
+        ensures { OnOk result ((set : List ℕ) → Narrows set pkg self.old self.new) }
+    {
+        if !is_wanted {
+            return Ok(());
+        }
+        self.fresh.push(pkg)?;
+        Ok(())
     }
 
     /// Leaves of a package only versions of a matching set. Answers no where none is left, or another one is
@@ -204,9 +241,27 @@ impl Choosing {
                     return Ok(true);
                 }
                 let set = matching.set(alloc)?;
-                Ok(self.lessen(alloc, pkg, place, set)?)
+                let (some, one) = self.lessen(alloc, pkg, place, set)?;
+                self.look_again(one, pkg)?;
+                Ok(some)
             }
         }
+    }
+
+    /// As [`Choosing::narrow`], unless it was done before.
+    fn narrow_unless(
+        &mut self,
+        is_met: bool,
+        alloc: Global,
+        pkg: Pkg,
+        matching: &Matching<'_>,
+    ) -> Result<bool, AllocError>
+        ensures { OnOk result (Narrows (ordinals_of matching.now) pkg self.old self.new) }
+    {
+        if is_met {
+            return Ok(true);
+        }
+        self.narrow(alloc, pkg, matching)
     }
 
     /// Asks for a package, where that is wanted.
@@ -232,18 +287,46 @@ impl Choosing {
         ensures meets { OnOk result (MeetsOf registry.now.packages version.0 version.1 self.old self.new) }
         ensures asks { IfOk result (λ whole. whole ≡ true → AsksFor registry.now.packages version.0 version.1 is_chosen self.old.asked.items self.new.asked.items) }
     {
+        // It is met already where a package was looked at with this outcome.
+        let is_met = is_chosen
+            && (self.only(version.0).is_some() || are_alike(registry, version.0));
         let count = needs_count(registry, version);
         for index in 0..count {
             let (target, matching) = registry.dependency(version.0, version.1, index)?;
             self.ask(is_chosen, target)?;
-            if !self.narrow(alloc, target, &matching)? {
+            if !self.narrow_unless(is_met, alloc, target, &matching)? {
                 return Ok(false);
             }
         }
         Ok(true)
     }
 
-    /// Meets what all versions of a package depend on, if that is the same.
+    /// The only version that is left of a package, if one is.
+    fn only(&self, pkg: Pkg) -> Option<u32>
+        ensures { IfSome result (λ k. (packages : Packages) (wanted : Wanted) → Holds packages wanted self.now → OfEach packages wanted self.now.found.entries (λ t. t pkg ≡ Some k)) }
+    {
+        let place = self.place_of(pkg)?;
+        only_of(&self.needed[place].left)
+    }
+
+    /// Meets what the only version that is left of a package depends on, if one is.
+    fn meet_only(
+        &mut self,
+        alloc: Global,
+        registry: &Registry,
+        pkg: Pkg,
+    ) -> Result<bool, AllocError>
+        ensures found { OnOk result (self.new.found ≡ self.old.found) }
+        ensures asked { IfOk result (λ whole. whole ≡ true → self.new.asked.items ≡ self.old.asked.items) }
+        ensures holds { OnOk result ((wanted : Wanted) → Holds registry.now.packages wanted self.old → Holds registry.now.packages wanted self.new) }
+    {
+        let Some(ordinal) = self.only(pkg) else {
+            return Ok(true);
+        };
+        Ok(self.meet(alloc, registry, (pkg, ordinal), false)?)
+    }
+
+    /// Meets what all versions of a package depend on, if that is the same, or what the only one that is left does.
     fn meet_if_alike(
         &mut self,
         alloc: Global,
@@ -255,7 +338,7 @@ impl Choosing {
         ensures holds { OnOk result ((wanted : Wanted) → OfEach registry.now.packages wanted self.old.found.entries (λ t. (k : ℕ) × (t pkg ≡ Some k)) → Holds registry.now.packages wanted self.old → Holds registry.now.packages wanted self.new) }
     {
         if !are_alike(registry, pkg) {
-            return Ok(true);
+            return Ok(self.meet_only(alloc, registry, pkg)?);
         }
         Ok(self.meet(alloc, registry, (pkg, 0), false)?)
     }
@@ -266,8 +349,8 @@ impl Choosing {
         ensures asked { IfOk result (λ whole. whole ≡ true → self.new.asked.items ≡ self.old.asked.items) }
         ensures holds { OnOk result ((wanted : Wanted) → Holds registry.now.packages wanted self.old → Holds registry.now.packages wanted self.new) }
     {
-        // Each package is new once at most.
-        for _ in 0..registry.packages() {
+        // Each package is new once at most, and once comes to its only version.
+        for _ in 0..registry.packages().saturating_mul(2) {
             let Some(pkg) = self.fresh.pop() else {
                 return Ok(true);
             };
@@ -362,12 +445,14 @@ impl Choosing {
         false
     }
 
-    /// Whether a version of a package, of which these are left, may be had.
+    /// Whether a version of a package, of which these are left, may be had. Of the only one that is left it is seen
+    /// once it is chosen.
     fn is_open(
         &self,
         registry: &Registry,
         request: &Request,
         left: &Term,
+        is_only: bool,
         version: (Pkg, u32),
     ) -> bool
         requires holds { Holds registry.now.packages request.now self.now }
@@ -376,7 +461,7 @@ impl Choosing {
     {
         left.allows(version.1)
             && registry.allowed(request, version.0, version.1)
-            && !self.is_at_odds(registry, request, version)
+            && (is_only || !self.is_at_odds(registry, request, version))
     }
 
     /// The best version that may be had of a package, of which these are left.
@@ -386,13 +471,14 @@ impl Choosing {
         ensures { IfSome result (IsBest registry.now.packages request.now self.now.found.entries pkg) }
     {
         precedence_is_a_total_preorder();
+        let is_only = only_of(left).is_some();
         let highest = registry.highest_where(pkg, |other| {
-            self.is_open(registry, request, left, (pkg, other))
+            self.is_open(registry, request, left, is_only, (pkg, other))
         });
         match locked_ordinal(registry, request, pkg) {
             None => highest,
             Some(locked) => {
-                if self.is_open(registry, request, left, (pkg, locked)) {
+                if self.is_open(registry, request, left, is_only, (pkg, locked)) {
                     Some(locked)
                 } else {
                     highest
@@ -504,8 +590,8 @@ fn choose_from_needs(
 /// that is left by what holds then. Where it answers none, a search is needed; there may be a selection all the
 /// same.
 ///
-/// The cost is linear in the dependencies of what is chosen, and of packages whose versions all depend on the same,
-/// each with a look at the versions that are left.
+/// The cost is linear in the dependencies of what is chosen, and of packages whose versions all depend on the same or of
+/// which one is left, each with a look at the versions that are left.
 pub fn choose_newest(
     alloc: Global,
     registry: &Registry,

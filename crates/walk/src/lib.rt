@@ -8,6 +8,7 @@
 
 mod best;
 mod chooser;
+mod evidence;
 mod laws;
 mod listing;
 mod names;
@@ -19,6 +20,7 @@ mod walking;
 
 pub use best::choose_newest;
 pub use chooser::Chooser;
+pub use evidence::Evidence;
 pub use laws::{
     a_list_in_order_is_its_selection, ahead_is_locked_or_higher, plainly_newest_is_newest,
     the_preferred_is_the_newest, there_is_one_list_in_order, there_is_one_newest_selection,
@@ -26,7 +28,7 @@ pub use laws::{
 };
 pub use listing::{NextPackage, WalkListing, list_in_order};
 pub use names::sort_by_name;
-pub use newest::is_plainly_newest;
+pub use newest::{is_newest_by, is_plainly_newest};
 pub use order::Order;
 pub use preferred::{Preferred, locked_ordinal, preferred_version, reach_preferred};
 pub use reached::{Asker, Reached};

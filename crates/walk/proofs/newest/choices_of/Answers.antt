@@ -1,9 +1,10 @@
 use Rattle.std.proofs.Common.{◌≡◌, ◌∙◌, ℕ, List, ap, get_or, nat_eq, sym}
 use Rattle.std.specs.Prelude.{None}
+use Rattle.std.proofs.lemmas.Option.{slice_get-get_or}
 use Rattle.indexmap.proofs.CallerLemmas.{insert_entry-new}
 use Rattle.walk.specs.Choosing.{choice_of}
 use Rattle.walk.proofs.Entries.{selects_more, selects_same}
-use Rattle.walk.proofs.Lists.{get_there, no_value, some_value}
+use Rattle.walk.proofs.Lists.{no_value, some_value}
 use Rattle.walk.proofs.newest.choices_of.Goals as goal
 use Rattle.walk.proofs.newest.choices_of.Goals.{then-not-contains_key+in_ok-insert, else-not-contains_key}
 
@@ -13,7 +14,7 @@ loop-i-preserved c =
     let i = c.loop-i.i in
     let old = c.loop-i.choices.entries in
     let e = get_or list i (0, 0) in
-    let at = get_there list i (0, 0) c.loop-i-test.true in
+    let at = slice_get-get_or list i (0, 0) c.loop-i-test.true in
     elim c.if-not-contains_key.branch [
       | then-not-contains_key+in_ok-insert w ↦ λ p.
           let new : choice_of old e.0 ≡ None = no_value (choice_of old e.0) (sym c.contains_key.ensures ∙ w.if-not-contains_key.true) in

@@ -5,7 +5,7 @@ use Rattle.walk.proofs.Better.{higher_out}
 use Rattle.walk.proofs.newest.is_highest_left.Goals as goal
 
 pub returns-in-Some : goal.returns-in-Some
-returns-in-Some c = λ yes.
+returns-in-Some g c = λ yes.
     let behind = c.args.behind.now in
     let packages = behind.registry.now.packages in
     let wanted = behind.request.now in

@@ -10,13 +10,13 @@ invariant_of-self g c =
     let i = c.self.invariant in
     let b = c.self.inside in
     record {
-      room = omega (arith, c.in_err-n.ensures.len);
+      room = omega (arith, i.room, c.make_room.ensures.capacity, c.in_err-n.ensures.capacity);
       line_ordered = omega arith;
       line_within = omega arith;
       start_ordered = omega arith;
       scanned_ordered = omega arith;
-      end_within = omega (arith, c.in_err-n.ensures.len);
-      no_feed = subst HasNoFeed (sym (moved-part b.held.items _ _ b.start b.scanned b.end i.start_ordered i.scanned_ordered c.move_to_front.ensures.moved c.in_err-n.ensures.front)) i.no_feed;
+      end_within = omega (arith, c.make_room.ensures.kept, c.in_err-n.ensures.len);
+      no_feed = subst HasNoFeed (sym (moved-part b.held.items _ _ b.start b.scanned b.end i.start_ordered i.scanned_ordered c.make_room.ensures.moved c.in_err-n.ensures.front)) i.no_feed;
     }
 
 pub invariant_of-self-2 : goal.invariant_of-self-2
@@ -24,13 +24,13 @@ invariant_of-self-2 g c =
     let i = c.self.invariant in
     let b = c.self.inside in
     record {
-      room = omega (arith, c.in_ok-n.ensures.len);
+      room = omega (arith, i.room, c.make_room.ensures.capacity, c.in_ok-n.ensures.capacity);
       line_ordered = omega arith;
       line_within = omega arith;
       start_ordered = omega arith;
       scanned_ordered = omega arith;
       end_within = omega (arith, c.in_ok-n.ensures.within);
-      no_feed = subst HasNoFeed (sym (moved-part b.held.items _ _ b.start b.scanned b.end i.start_ordered i.scanned_ordered c.move_to_front.ensures.moved c.in_ok-n.ensures.front)) i.no_feed;
+      no_feed = subst HasNoFeed (sym (moved-part b.held.items _ _ b.start b.scanned b.end i.start_ordered i.scanned_ordered c.make_room.ensures.moved c.in_ok-n.ensures.front)) i.no_feed;
     }
 
 pub returns-clause-more : goal.returns-clause-more
@@ -40,7 +40,7 @@ returns-clause-more g c =
     let e = b.end - b.start in (
       _,
       c.in_ok-n.ensures.ok,
-      moved-read b.held.items _ _ b.start b.end c.in_ok-n.n (omega arith) c.move_to_front.ensures.moved c.in_ok-n.ensures.front
+      moved-read b.held.items _ _ b.start b.end c.in_ok-n.n (omega arith) c.make_room.ensures.moved c.in_ok-n.ensures.front
           ∙ ap (λ (u : Unread). u.bytes ++ slice_range c.read_at.new.held.items e (e + c.in_ok-n.n)) c.self.view_is,
       λ none. let zero : c.in_ok-n.n ≡ 0 = omega (arith, ltb-false, none) in
           let width : e + c.in_ok-n.n - e ≡ 0 = omega arith in

@@ -1,6 +1,5 @@
-use Rattle.std.proofs.Common.{◌≡◌, ◌∙◌, ◌++◌, length, refl, rules, sym}
+use Rattle.std.proofs.Common.{◌∙◌, ◌++◌, length, refl, sym}
 use Rattle.std.proofs.lemmas.Option.{slice_get_read}
-use Rattle.std.specs.Prelude.{Some, slice_get}
 use Rattle.walk.specs.Choosing.{choice_of}
 use Rattle.walk.specs.Newest.{dependencies_of, in_name_order}
 use Rattle.walk.proofs.Bests.{first_target, passed_here, passed_more}

@@ -11,8 +11,8 @@ loop-index-init c = record {
 
 pub returns-then-not-branch-clause-meets : goal.returns-then-not-branch-clause-meets
 returns-then-not-branch-clause-meets c =
-    meets_more c.args.registry.now.packages c.args.version.0 c.args.version.1 c.loop-index.index c.in_ok-target.target _ c.args.self.now c.loop-index.self c.ask.new.self c.narrow.new.self c.in_ok-target.ensures c.loop-index.invariant.meets
-    c.in_ok-ask.ensures.same.0 c.in_ok-ask.ensures.same.1 c.in_ok-ask.ensures.same.2 c.in_ok-narrow.ensures
+    meets_more c.args.registry.now.packages c.args.version.0 c.args.version.1 c.loop-index.index c.in_ok-target.target _ c.args.self.now c.loop-index.self c.ask.new.self c.narrow_unless.new.self c.in_ok-target.ensures c.loop-index.invariant.meets
+    c.in_ok-ask.ensures.same.0 c.in_ok-ask.ensures.same.1 c.in_ok-ask.ensures.same.2 c.in_ok-narrow_unless.ensures
 
 pub loop-index-preserved : goal.loop-index-preserved
 loop-index-preserved c =
@@ -20,10 +20,10 @@ loop-index-preserved c =
     let lines = needs_of packages c.args.version.0 c.args.version.1 in
     let d = c.in_ok-target.ensures in
     record {
-      meets = meets_more packages c.args.version.0 c.args.version.1 c.loop-index.index c.in_ok-target.target _ c.args.self.now c.loop-index.self c.ask.new.self c.narrow.new.self d c.loop-index.invariant.meets c.in_ok-ask.ensures.same.0
-          c.in_ok-ask.ensures.same.1 c.in_ok-ask.ensures.same.2 c.in_ok-narrow.ensures;
-      asks = asks_more packages lines c.loop-index.index c.in_ok-target.target (d.name, d.need) c.args.is_chosen c.args.self.now.asked.items c.loop-index.self.asked.items c.narrow.new.self.asked.items d.at d.number c.loop-index.invariant.asks
-          (rw c.in_ok-narrow.ensures.asked c.in_ok-ask.ensures.asks);
+      meets = meets_more packages c.args.version.0 c.args.version.1 c.loop-index.index c.in_ok-target.target _ c.args.self.now c.loop-index.self c.ask.new.self c.narrow_unless.new.self d c.loop-index.invariant.meets c.in_ok-ask.ensures.same.0
+          c.in_ok-ask.ensures.same.1 c.in_ok-ask.ensures.same.2 c.in_ok-narrow_unless.ensures;
+      asks = asks_more packages lines c.loop-index.index c.in_ok-target.target (d.name, d.need) c.args.is_chosen c.args.self.now.asked.items c.loop-index.self.asked.items c.narrow_unless.new.self.asked.items d.at d.number c.loop-index.invariant.asks
+          (rw c.in_ok-narrow_unless.ensures.asked c.in_ok-ask.ensures.asks);
     }
 
 pub returns-clause-asks : goal.returns-clause-asks

@@ -1,4 +1,4 @@
-use Rattle.std.proofs.Common.{◌≡◌, ◌∙◌, ap, refl, rules}
+use Rattle.std.proofs.Common.{◌∙◌, refl, rules}
 use Rattle.walk.specs.declared.best.Choosing.{Choosing}
 use Rattle.walk.proofs.Bests.{holds_popped, popped_needed}
 use Rattle.walk.proofs.best.Choosing.meet_alike.Goals as goal

@@ -1,0 +1,7 @@
+use Rattle.walk.proofs.Bests.{ask_only}
+use Rattle.walk.proofs.best.Choosing.meet_only.Goals as goal
+
+pub returns-clause-holds : goal.returns-clause-holds
+returns-clause-holds c = λ wanted h.
+    let packages = c.args.registry.now.packages in
+    c.in_ok-meet.ensures.meets.holds wanted (ask_only packages wanted c.args.self.now.found.entries c.args.pkg c.in-Some.ordinal (c.in-Some.ensures packages wanted h)) h
