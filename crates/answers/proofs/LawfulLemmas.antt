@@ -1,5 +1,5 @@
 -- Lawful replies to one line, and to lines one after another.
-use Rattle.std.proofs.Common.{◌≡◌, ◌⊎◌, Bool, ℕ, ◌<◌, ◌≤◌, ◌++◌, true, false, List, [], ◌∷◌, length, refl, sym, ap, subst, ◌∙◌, inl, inr, rules, Option, None, Some, Result, Ok, Err, MatchResult, nat_le}
+use Rattle.std.proofs.Common.{◌≡◌, ◌⊎◌, Bool, ℕ, ◌++◌, List, [], ◌∷◌, refl, sym, ap, subst, ◌∙◌, inl, inr, Option, None, Some, Result, Ok, Err, MatchResult}
 use Rattle.std.specs.Prelude.{IfErr, OnOk}
 use Rattle.versions.specs.Refusals.{Refuses}
 use Rattle.versions.specs.declared.refusal.Refusal.{Refusal}
@@ -19,7 +19,7 @@ use Rattle.wire.specs.Requests.{request_of}
 use Rattle.wire.specs.Shapes.{Request, check, command, listing, resolve}
 use Rattle.by_name.specs.NamedLines.{NamedLine}
 use Rattle.answers.specs.Answering.{LeadsTo}
-use Rattle.answers.specs.Lawful.{AreLawfulWithin, IsLawfulWithin, IsRefused, IsStopped, Learns, LearnsSome, LooksAndTells, MayAnswer, Ways, asked_within, bounded, bounded_if, item_of, reply_at}
+use Rattle.answers.specs.Lawful.{AreLawfulWithin, IsLawfulWithin, IsRefused, IsStopped, Learns, LearnsSome, LooksAndTells, MayAnswer, Ways, asked_within, bounded_if, item_of, reply_at}
 use Rattle.answers.specs.Outcomes.{MayTell, TellsFound, TellsListing, TellsVerdict}
 use Rattle.answers.specs.declared.answer.Answer.{Answer}
 use Rattle.answers.specs.declared.answer.Answer.TheVariants as answer

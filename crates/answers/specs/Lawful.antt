@@ -121,10 +121,6 @@ IsLawfulWithin settings w line old reply new = IsRefused w NoMemory old reply ne
 abbrev pub no_settings : Settings
 no_settings = record { budget = None; newest = false }
 
--- A line may be answered so where nothing is set.
-abbrev pub IsLawful : {S : Type 0} → Ways S → List ℕ → S → Reply → S → Type 0
-IsLawful w line old reply new = IsLawfulWithin no_settings w line old reply new
-
 -- ---- lines one after another
 
 -- The lines may be answered so, within such settings, one reply a line, each after what those before it left.
@@ -134,7 +130,3 @@ AreLawfulWithin {S} settings w (line ∷ lines) old (reply ∷ replies) new =
     (mid : S) × IsLawfulWithin settings w line old reply mid × AreLawfulWithin settings w lines mid replies new
 AreLawfulWithin {S} settings w [] old (reply ∷ replies) new = ⊥
 AreLawfulWithin {S} settings w (line ∷ lines) old [] new = ⊥
-
--- The same where nothing is set.
-abbrev pub AreLawful : {S : Type 0} → Ways S → List (List ℕ) → S → List Reply → S → Type 0
-AreLawful w lines old replies new = AreLawfulWithin no_settings w lines old replies new

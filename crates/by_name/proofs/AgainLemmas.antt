@@ -1,10 +1,10 @@
 -- What was numbered is named as it was.
-use Rattle.std.proofs.Common.{◌≡◌, ◌∙◌, ℕ, zero, suc, ◌+◌, ◌-◌, ◌≤◌, List, [], ◌∷◌, map, Bool, true, false, Option, None, Some, refl, sym, ap, subst, arith}
+use Rattle.std.proofs.Common.{◌≡◌, ◌∙◌, ℕ, suc, ◌+◌, List, [], ◌∷◌, Bool, true, false, Option, None, Some, refl, sym, ap, subst, arith}
 use Rattle.std.specs.Prelude.{option_map, unwrap_or, if◌then◌else◌}
 use Rattle.std.specs.Option.{option_and_then}
 use Rattle.std.specs.List.{slice_get}
-use Rattle.std.specs.Str.{bytes_eq}
 use Rattle.std.specs.Cmp.Lexicographic.{same_text}
+use Rattle.std.proofs.lemmas.Option.{same_Some}
 use Rattle.versions.specs.Words.{Text}
 use Rattle.terms.specs.declared.term.Term.{Term}
 use Rattle.registry.specs.Registry.{Package, Packages, is_named, number_from, number_of, package_at}
@@ -12,8 +12,8 @@ use Rattle.derivations.specs.Facts.{Terms}
 use Rattle.derivations.specs.Lines.{Cause, Line, Premise}
 use Rattle.derivations.specs.declared.facts.Cause.TheVariants as cause
 use Rattle.by_name.specs.Named.{IsNumbered, number_in, numbered_cause, numbered_line, numbered_lines, numbered_premise, numbered_terms}
-use Rattle.by_name.specs.Naming.{name_at, name_or_none, named_cause, named_line, named_lines, named_premise, named_terms}
-use Rattle.by_name.specs.NamedLines.{NamedCause, NamedLine, NamedPremise}
+use Rattle.by_name.specs.Naming.{name_at, name_or_none, named_cause, named_line, named_lines, named_terms}
+use Rattle.by_name.specs.NamedLines.{NamedCause, NamedLine}
 
 -- ---- names
 
@@ -22,12 +22,9 @@ record At (packages : Packages) (n : ℕ) (name : Text) (p : ℕ) : Type 0 where
   from : p ≡ n + place
   is : option_map (λ (pack : Package). pack.name) (slice_get packages place) ≡ Some name
 
-some_same : {A : Type 0} (a b : A) → Some a ≡ Some b → a ≡ b
-some_same a b same = cc
-
 found_by : (n : ℕ) (pack : Package) (rest : Packages) (name : Text) (p : ℕ) (b : Bool) → is_named name pack ≡ b → (number_from (suc n) rest name ≡ Some p → At rest (suc n) name p)
     → (if b then Some n else number_from (suc n) rest name) ≡ Some p → At (pack ∷ rest) n name p
-found_by n pack rest name p true same more at = record { place = 0; from = omega (arith, some_same n p at); is = ap Some (sym (same_text name pack.name (sym same))) }
+found_by n pack rest name p true same more at = record { place = 0; from = omega (arith, same_Some n p at); is = ap Some (sym (same_text name pack.name (sym same))) }
 found_by n pack rest name p false same more at = let later = more at in record { place = suc later.place; from = omega (arith, later.from); is = later.is }
 
 found_from : (n : ℕ) (packages : Packages) (name : Text) (p : ℕ) → number_from n packages name ≡ Some p → At packages n name p
@@ -70,7 +67,7 @@ terms_back packages (t ∷ rest) numbered is =
     (ap (λ (name : Option Text). (name, t.1) ∷ named_terms packages more.0) (whose_back packages t.0 one.0 one.1) ∙ ap (λ (ts : List (Option Text × Term)). t ∷ ts) (terms_back packages rest more.0 more.1))
 
 cause_back : (packages : Packages) (c : NamedCause) (numbered : Cause) → numbered_cause packages c ≡ Some numbered → named_cause packages numbered ≡ c
-cause_back packages (cause.Line n) numbered is = subst (λ (k : Cause). named_cause packages k ≡ cause.Line n) (some_same _ _ is) refl
+cause_back packages (cause.Line n) numbered is = subst (λ (k : Cause). named_cause packages k ≡ cause.Line n) (same_Some _ _ is) refl
 cause_back packages (cause.Premise premise) numbered is =
     let found = mapped_of _ (numbered_premise packages premise) numbered is in
     let one = first_of _ (number_of packages premise.package) found.0 found.1 in
@@ -78,12 +75,12 @@ cause_back packages (cause.Premise premise) numbered is =
     subst (λ (k : Cause). named_cause packages k ≡ cause.Premise premise) found.2
     (subst (λ (q : Premise). named_cause packages (cause.Premise q) ≡ cause.Premise premise) two.2
     (rw (package_back packages premise.package one.0 one.1, whose_back packages premise.target two.0 two.1) refl))
-cause_back packages (cause.Need i) numbered is = subst (λ (k : Cause). named_cause packages k ≡ cause.Need i) (some_same _ _ is) refl
+cause_back packages (cause.Need i) numbered is = subst (λ (k : Cause). named_cause packages k ≡ cause.Need i) (same_Some _ _ is) refl
 cause_back packages (cause.NotAllowed name versions) numbered is =
     let found = mapped_of _ (number_of packages name) numbered is in
     subst (λ (k : Cause). named_cause packages k ≡ cause.NotAllowed name versions) found.2
     (ap (λ (n : Text). cause.NotAllowed n versions) (package_back packages name found.0 found.1))
-cause_back packages cause.Root numbered is = subst (λ (k : Cause). named_cause packages k ≡ cause.Root) (some_same _ _ is) refl
+cause_back packages cause.Root numbered is = subst (λ (k : Cause). named_cause packages k ≡ cause.Root) (same_Some _ _ is) refl
 
 line_back : (packages : Packages) (line : NamedLine) (numbered : Line) → numbered_line packages line ≡ Some numbered → named_line packages numbered ≡ line
 line_back packages line numbered is =

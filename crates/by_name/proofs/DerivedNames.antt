@@ -1,8 +1,8 @@
 -- Every package of a derivation has a name.
-use Rattle.std.proofs.Common.{◌≡◌, ◌∙◌, ◌⊎◌, inl, inr, ℕ, zero, suc, ◌+◌, List, [], ◌∷◌, ◌++◌, refl, sym, subst, arith, rules, Bool, true, false, true≢false, ◌||◌, nat_eq, nat_lt}
+use Rattle.std.proofs.Common.{◌≡◌, ◌∙◌, ◌⊎◌, inl, inr, ℕ, zero, suc, ◌+◌, List, [], ◌∷◌, ◌++◌, refl, sym, subst, arith, rules, Bool, true, false, true≢false, nat_eq, nat_lt}
 use Rattle.std.specs.Prelude.{Option, Some, None, IsSome, Contains, slice_get}
 use Rattle.std.specs.Option.{option_and_then}
-use Rattle.std.proofs.lemmas.Bool.{cases_Bool, eqb-true}
+use Rattle.std.proofs.lemmas.Bool.{cases_Bool, eqb-true, or_cases}
 use Rattle.versions.specs.Words.{Text}
 use Rattle.terms.specs.Sets.{has}
 use Rattle.terms.specs.Incompats.{Follows, IsIncompat, OrderedFrom, has_term, joined, pair_of, true_at, unless_always}
@@ -25,10 +25,6 @@ Named packages terms = (p : ℕ) → has_term terms p ≡ true → HasName packa
 
 itself : (x : ℕ) → nat_eq x x ≡ true
 itself x = search rules
-
-either : (a b : Bool) → (a || b) ≡ true → (a ≡ true) ⊎ (b ≡ true)
-either true b e = inl refl
-either false b e = inr e
 
 -- a package that the rest has a term on
 has_term-later : (t : ℕ × Term) (rest : Terms) (p : ℕ) → has_term rest p ≡ true → has_term (t ∷ rest) p ≡ true
@@ -205,7 +201,7 @@ lines_named packages wanted earlier (line ∷ rest) all lawful derived =
     let one = named_given packages wanted earlier line.causes.0 own.one all own.gives_one in
     let two = named_given packages wanted earlier line.causes.1 own.two all own.gives_two in
     let conclusion = named_from packages line.conclusion own.one own.two line.pivot lawful.0 own.follows.follows one.0 two.0 in
-    let pivot : HasName packages line.pivot = elim (either (has_term own.one line.pivot) (has_term own.two line.pivot) own.follows.on_pivot) [
+    let pivot : HasName packages line.pivot = elim (or_cases (has_term own.one line.pivot) (has_term own.two line.pivot) own.follows.on_pivot) [
       | inl e ↦ one.0 line.pivot e
       | inr e ↦ two.0 line.pivot e
     ] in (

@@ -160,9 +160,6 @@ serve_shape = built_leaf (inherited (marked_built (with_leaf_noted program_app.t
 abbrev race_shape : Shape
 race_shape = built_leaf (inherited (marked_built (with_leaf_noted program_app.top)) race_app.top)
 
-subcommands : (built program_app).subs ≡ serve_shape ∷ race_shape ∷ []
-subcommands = refl
-
 abbrev is_worker_count : Text → Bool
 is_worker_count = accepts false (Unsigned 1 MOST_WORKERS)
 

@@ -1,7 +1,7 @@
 -- A derivation leaves no selection that meets the request.
-use Rattle.std.proofs.Common.{◌≡◌, ◌≢◌, ◌≤◌, ◌∙◌, ◌⊎◌, inl, inr, ℕ, zero, suc, List, [], ◌∷◌, ◌++◌, refl, sym, ap, subst, arith, Bool, true, false, not, ◌||◌, ◌&&◌, true≢false, rules, nat_eq, nat_lt, if◌then◌else◌}
+use Rattle.std.proofs.Common.{◌≡◌, ◌≢◌, ◌≤◌, ◌∙◌, ◌⊎◌, inl, inr, ℕ, zero, suc, List, [], ◌∷◌, ◌++◌, refl, sym, ap, subst, arith, true, false, true≢false, rules, nat_eq, nat_lt, if◌then◌else◌}
 use Rattle.std.specs.Prelude.{Option, Some, None, Contains, slice_get, IsSome}
-use Rattle.std.proofs.lemmas.Bool.{cases_Bool, eq-eqb, eqb-true, ne_eqb}
+use Rattle.std.proofs.lemmas.Bool.{cases_Bool, eq-eqb, eqb-true, ne_eqb, or_cases, and_parts, not-true}
 use Rattle.std.proofs.lemmas.Option.{get_or_from_slice_get, same_Some, slice_get_within}
 use Rattle.versions.specs.Words.{Text}
 use Rattle.terms.specs.Sets.{has}
@@ -24,23 +24,15 @@ Refutes s terms = AllTrue terms (with_root s) → ⊥
 
 -- ---- one step
 
-either_true : (a b : Bool) → (a || b) ≡ true → (a ≡ true) ⊎ (b ≡ true)
-either_true true b h = inl refl
-either_true false b h = inr h
-
-both_true : (a b : Bool) → (a && b) ≡ true → (a ≡ true) × (b ≡ true)
-both_true true b h = (refl, h)
-both_true false b h = absurd (true≢false (sym h))
-
 -- what follows from two incompatibilities that the choices refute is refuted
 pub Refutes-Follows : (s : Choices) (c i j : Terms) (pivot : ℕ) → Refutes s i → Refutes s j → Follows c i j pivot → Refutes s c
 Refutes-Follows s c i j pivot no_i no_j follows all =
     let r = with_root s in
     let at = λ (p : ℕ). sym (follows p (r p)) ∙ all p in
     let elsewhere : (p : ℕ) → nat_eq p pivot ≡ false → (true_at i p (r p) ≡ true) × (true_at j p (r p) ≡ true) =
-    λ p e. both_true (true_at i p (r p)) (true_at j p (r p)) (ap (λ b. joined b (true_at i p (r p)) (true_at j p (r p))) (sym e) ∙ at p) in
+    λ p e. and_parts (true_at i p (r p)) (true_at j p (r p)) (ap (λ b. joined b (true_at i p (r p)) (true_at j p (r p))) (sym e) ∙ at p) in
     let here : (true_at i pivot (r pivot) ≡ true) ⊎ (true_at j pivot (r pivot) ≡ true) =
-    either_true (true_at i pivot (r pivot)) (true_at j pivot (r pivot)) (ap (λ b. joined b (true_at i pivot (r pivot)) (true_at j pivot (r pivot))) (sym same) ∙ at pivot) in
+    or_cases (true_at i pivot (r pivot)) (true_at j pivot (r pivot)) (ap (λ b. joined b (true_at i pivot (r pivot)) (true_at j pivot (r pivot))) (sym same) ∙ at pivot) in
     elim here [
       | inl t ↦ no_i (λ p. elim (cases_Bool (nat_eq p pivot)) [
         | inl e ↦ subst (λ q. true_at i q (r q) ≡ true) (sym (eqb-true p pivot e)) t
@@ -90,10 +82,6 @@ two_terms-two p q t u choice apart =
 is_in-some : (set : List ℕ) (choice : Option ℕ) → is_in set choice ≡ true → (k : ℕ) × (choice ≡ Some k) × (has set k ≡ true)
 is_in-some set None h = never h
 is_in-some set (Some k) h = (k, refl, h)
-
-not-true : (b : Bool) → not b ≡ true → b ≡ false
-not-true true h = absurd (true≢false (sym h))
-not-true false h = refl
 
 -- where a dependency's terms are all true, a version of the set is chosen, and no version that is `within`
 dependency-all : (s : Choices) (p : ℕ) (versions : List ℕ) (q : ℕ) (within : List ℕ) → p ≢ q → AllTrue (dependency p versions q within) s

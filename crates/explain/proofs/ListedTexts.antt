@@ -1,8 +1,9 @@
 -- Texts one behind another, as they are put.
-use Rattle.std.proofs.Common.{◌≡◌, ◌∙◌, ℕ, zero, suc, ◌+◌, add-one, List, [], ◌∷◌, ◌++◌, take, map, Bool, true, false, ◌||◌, nat_eq, nat_lt, Some, None, Option, codes, decimal, length, ◌<◌, ◌≤◌, refl, sym, ap, arith, rules}
+use Rattle.std.proofs.Common.{◌≡◌, ◌∙◌, ℕ, zero, suc, ◌+◌, add-one, List, [], ◌∷◌, ◌++◌, take, map, Bool, true, false, ◌||◌, nat_eq, nat_lt, Some, None, Option, codes, decimal, refl, sym, ap, arith, rules}
 use Rattle.std.specs.List.{slice_get}
 use Rattle.std.specs.Option.{option_map}
 use Rattle.std.proofs.lemmas.List.{append-nil, append_assoc, map-append}
+use Rattle.std.proofs.lemmas.Bool.{or_right}
 use Rattle.versions.specs.Words.{Text}
 use Rattle.registry.specs.Registry.{Package, Packages, package_at, publication_at}
 use Rattle.registry.specs.Requests.{Wanted}
@@ -12,10 +13,6 @@ use Rattle.explain.specs.Explanations.{line_text, numbered_from}
 
 regroup : (a b c d : Text) → a ++ (b ++ (c ++ d)) ≡ (a ++ (b ++ c)) ++ d
 regroup a b c d = simp append_assoc
-
-or-true : (b : Bool) → (b || true) ≡ true
-or-true true = refl
-or-true false = refl
 
 -- one text more
 pub listed-next : {A : Type 0} (text : A → Text) (later : Bool) (xs : List A) (i : ℕ) (x : A) → slice_get xs i ≡ Some x
@@ -29,7 +26,7 @@ listed-next text later xs i x here = rw add-one (next text later xs i x here)
     next text false (y ∷ xs) zero x here = let same : y ≡ x = cc in rw (same, append-nil) refl
     next text later (y ∷ xs) (suc i) x here =
         let positive : nat_lt 0 (suc i) ≡ true = search rules in
-        rw (positive, or-true later)
+        rw (positive, or_right later true refl)
         (ap (λ l. separator later ++ (text y ++ l)) (next text true xs i x here) ∙ regroup (separator later) (text y) _ _)
 
 -- what stands before, with one text more behind it

@@ -52,12 +52,6 @@ level_at low i [] a h at = absurd (none-some a at)
 level_at low zero (x ∷ made) a h at = let same : x ≡ a = same_Some x a at in rw (← same) (omega (arith, h.0))
 level_at low (suc i) (x ∷ made) a h at = omega (arith, level_at (low + one_if (is_decision x)) i made a h.1 at)
 
-pub decisions-take : (m n : ℕ) (made : List Assignment) → m ≤ n → decisions (take m made) ≤ decisions (take n made)
-decisions-take zero n made le = omega arith
-decisions-take (suc m) n [] le = omega arith
-decisions-take (suc m) zero (a ∷ made) le = absurd (omega arith)
-decisions-take (suc m) (suc n) (a ∷ made) le = omega (arith, decisions-take m n made (omega arith))
-
 pub decisions-whole : (n : ℕ) (made : List Assignment) → decisions (take n made) ≤ decisions made
 decisions-whole zero made = omega arith
 decisions-whole (suc n) [] = omega arith

@@ -27,10 +27,6 @@ or_none : (x : Option ℕ) → option_or x None ≡ x
 or_none None = refl
 or_none (Some k) = refl
 
--- what one assignment decides of a package
-own : Assignment → ℕ → Option ℕ
-own a p = if nat_eq a.pkg p then decided_by a.why else None
-
 pub decided-append : (xs ys : List Assignment) (p : ℕ) → decided (xs ++ ys) p ≡ option_or (decided xs p) (decided ys p)
 decided-append [] ys p = refl
 decided-append (a ∷ xs) ys p = rw (decided-append xs ys p) (or_assoc (if nat_eq a.pkg p then decided_by a.why else None) (decided xs p) (decided ys p))

@@ -42,10 +42,6 @@ says-last (x ∷ made) p c = step (last_place made p) (says-last made p c)
       | inr e ↦ rw (e, h) refl
     ]
 
-or_none : (x : Option ℕ) → option_or x None ≡ x
-or_none None = refl
-or_none (Some k) = refl
-
 -- nor is anything decided
 pub decided-last : (made : List Assignment) (p : ℕ) → decided made p ≡ decided (take (through (last_place made p)) made) p
 decided-last [] p = refl

@@ -109,14 +109,6 @@ pub record IsReached (made : List Assignment) (terms : List (ℕ × Term)) (i co
   pub found : 0 < i → (entry : ℕ × Term) × (slice_get terms own ≡ Some entry) × (own < i)
       × IsLeast (λ k. Holds (take k made) entry.0 entry.1) count × IsLeast (λ k. SatisfiedBut (take k made) (take i terms) entry.0) others
 
-pub reached-none : (made : List Assignment) (terms : List (ℕ × Term)) → IsReached made terms 0 0 0 0
-reached-none made terms = record {
-  within = omega arith;
-  ordered = omega arith;
-  least = (λ p c said. refl, λ k lt h. omega (arith, lt));
-  found = λ lt. absurd (omega (arith, lt));
-}
-
 -- a term can be false, so that it takes an assignment
 some_needed : (made : List Assignment) (low i : ℕ) (terms : List (ℕ × Term)) (x : ℕ × Term) (n : ℕ) → OrderedFrom low terms → slice_get terms i ≡ Some x → IsLeast (λ k. Holds (take k made) x.0 x.1) n → 1 ≤ n
 some_needed made low i [] x n h e least = absurd (none-some x e)
@@ -308,6 +300,3 @@ module _ (made : List Assignment) (p : ℕ) (t : Term) (at : ℕ) (earlier : Opt
           true≢false (sym (h w.choice there) ∙ w.second_false),
     );
   })
-
-pub walk_out : (made : List Assignment) (p : ℕ) (t : Term) (place : Option ℕ) → place ≡ None → Holds (take (through place) made) p t → IsShortestOn made p t 0
-walk_out made p t place is h = record { within = omega arith; least = (subst (λ o. Holds (take (through o) made) p t) is h, λ k lt _. omega (arith, lt)) }

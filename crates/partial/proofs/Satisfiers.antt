@@ -1,6 +1,6 @@
 -- The satisfier and the previous level, from how far the assignments must go.
-use Rattle.std.proofs.Common.{◌≡◌, ◌<◌, ◌≤◌, ◌+◌, ◌-◌, ◌∙◌, ℕ, suc, refl, sym, ap, subst, arith, Bool, true, false, true≢false, not, ◌||◌, ◌&&◌, List, [], ◌∷◌, ◌++◌, length, take, get_or, max, inl, inr}
-use Rattle.std.proofs.lemmas.Bool.{cases_Bool, cases_lt, cases_eq}
+use Rattle.std.proofs.Common.{◌≡◌, ◌<◌, ◌≤◌, ◌+◌, ◌-◌, ◌∙◌, ℕ, suc, refl, sym, ap, subst, arith, true, not, ◌||◌, List, [], ◌∷◌, ◌++◌, length, take, get_or, max, inl, inr}
+use Rattle.std.proofs.lemmas.Bool.{cases_Bool, cases_lt, cases_eq, and_parts}
 use Rattle.std.proofs.lemmas.List.{append-nil, take-take, length-take-le}
 use Rattle.std.proofs.lemmas.Option.{get_or_from_slice_get}
 use Rattle.std.specs.Prelude.{Option, Some, slice_get}
@@ -50,10 +50,6 @@ module _ (made : List Assignment) (notes : List Note) (heads : ℕ → Option (O
 
     pub step-ends : Holds (take (through place) made) p t → Exception said t → IsShortestOn made p t (at + 1)
     step-ends holds w = walk_ends made p t at note.earlier inside before_is kept.0 said (λ c. is_said p c kept.1) w (rw is at holds)
-
-and_split : (u v : Bool) → (u && v) ≡ true → (u ≡ true) × (v ≡ true)
-and_split true v h = (refl, h)
-and_split false v h = absurd (true≢false (sym h))
 
 module _ (made : List Assignment) (notes : List Note) (heads : ℕ → Option (Option ℕ)) (m : IsNoted made notes heads)
     (terms : List (ℕ × Term)) (lawful : IsIncompat terms) (count own others index : ℕ) (r : IsReach made terms count own others) (is_index : index ≡ count - 1)
@@ -129,7 +125,7 @@ module _ (made : List Assignment) (notes : List Note) (heads : ℕ → Option (O
     both k but holds p c said = elim (cases_eq p x.0) [
       | inl same ↦
           let said' : says (take k made ++ a ∷ []) x.0 c ≡ true = subst (λ q. says (take k made ++ a ∷ []) q c ≡ true) same said in
-          let parts = and_split (says (take k made) x.0 c) (true_of a.term c) (sym (says-push_own (take k made) a x.0 c a_on) ∙ said') in
+          let parts = and_parts (says (take k made) x.0 c) (true_of a.term c) (sym (says-push_own (take k made) a x.0 c a_on) ∙ said') in
           ap (λ q. true_at terms q c) same ∙ at-own 0 own terms x c lawful x_at ∙ rest_there c (holds c parts.0) parts.1
       | inr apart ↦ but p c apart (sym (says-push_other (take k made) a p c (λ e. apart (sym e ∙ a_on))) ∙ said)
     ]

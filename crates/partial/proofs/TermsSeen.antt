@@ -1,7 +1,6 @@
 -- The terms of an incompatibility that a loop has seen.
 use Rattle.std.proofs.Common.{◌≡◌, ◌<◌, ◌≤◌, ◌+◌, ◌∙◌, ℕ, zero, suc, refl, sym, ap, arith, Bool, true, false, true≢false, List, [], ◌∷◌, length, take, get_or, inl, inr, nat_eq, add-one}
 use Rattle.std.proofs.lemmas.Bool.{cases_Bool, cases_eq, eq-eqb, ne_eqb}
-use Rattle.std.proofs.lemmas.List.{take_all}
 use Rattle.std.proofs.lemmas.Option.{slice_get_read, none-some, same_Some}
 use Rattle.std.specs.Prelude.{Option, None, Some, slice_get, is_some}
 use Rattle.terms.specs.Terms.{true_of, Implies, Excludes, Exception, Shared}
@@ -53,13 +52,6 @@ at-seen_false (suc i) (t ∷ rest) p c h = elim (cases_Bool (nat_eq t.0 p)) [
   | inl f ↦ rw f (rw f at h)
   | inr f ↦ rw f (at-seen_false i rest p c (rw f at h))
 ]
-
--- no terms are satisfied by no assignments
-pub not_by_none : (terms : List (ℕ × Term)) → IsIncompat terms → 0 < length terms → Satisfied [] terms → ⊥
-not_by_none [] h some sat = omega arith
-not_by_none (t ∷ rest) h some sat =
-    let yes : true_of t.1 h.1.0 ≡ true = rw (eq-eqb t.0 t.0 refl) at (sat t.0 h.1.0 refl) in
-    true≢false (sym yes ∙ h.1.1)
 
 -- how the terms that were seen stand to the assignments: which one is left out, if any
 abbrev pub Leaves : List Assignment → List (ℕ × Term) → Option ℕ → Type 0
@@ -159,6 +151,3 @@ module _ (made : List Assignment) (terms : List (ℕ × Term)) (lawful : IsIncom
       → Exception f x.1 × Shared f x.1 → IsNeither made terms
   seen_second None some h e e' w = absurd (true≢false (sym e ∙ e'))
   seen_second (Some q) some h e e' w = turn_second made terms lawful i x here f is_said q h w.0
-
-pub seen_all : (made : List Assignment) (terms : List (ℕ × Term)) (n : ℕ) (out : Option ℕ) → length terms ≤ n → Leaves made (take n terms) out → Leaves made terms out
-seen_all made terms n out le h = rw (← take_all n terms le) h

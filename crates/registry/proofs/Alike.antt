@@ -3,6 +3,7 @@ use Rattle.std.proofs.Common.{◌≡◌, ◌<◌, ◌+◌, ◌∙◌, inl, inr, 
 use Rattle.std.specs.Prelude.{◌↔◌, IsTrue, Option, None, Some, slice_get}
 use Rattle.std.proofs.lemmas.Bool.{cases_eq, cases_lt}
 use Rattle.std.proofs.lemmas.Option.{none-some, same_Some}
+use Rattle.std.proofs.lemmas.List.{length_push}
 use Rattle.releases.specs.declared.release.Release.{Release}
 use Rattle.versions.specs.Words.{Text}
 use Rattle.registry.specs.Publications.{publications_of, AreAlike, EndsWith, IsAlike}
@@ -30,10 +31,6 @@ get-past [] x y (suc i) lt e = none-some y e
 get-past (z ∷ zs) x y zero lt e = omega (arith, lt)
 get-past (z ∷ zs) x y (suc i) lt e = get-past zs x y i (omega (arith, lt)) e
 
-pub longer : {X : Type 0} (xs : List X) (x : X) → length (xs ++ x ∷ []) ≡ length xs + 1
-longer [] x = refl
-longer (y ∷ ys) x = let less = longer ys x in omega (arith, less)
-
 -- ---- the marks of publications with one more
 
 marked-alike : (marks : List Bool) (needs : List Needs) (mark : Bool) (next : Needs) → AreAlike marks needs → IsTrue mark ↔ EndsWith needs next
@@ -41,7 +38,7 @@ marked-alike : (marks : List Bool) (needs : List Needs) (mark : Bool) (next : Ne
 marked-alike marks needs mark next alike ends k marked = elim (cases_lt k (length needs)) [
   | inl lt ↦
       let old = (alike.1 k).0 (sym (get-front marks mark k (omega (arith, alike.0, lt))) ∙ marked) in (
-        omega (arith, longer needs next, lt),
+        omega (arith, length_push needs next, lt),
         old.1,
         old.2,
         get-front needs next k lt ∙ old.3 ∙ sym (get-front needs next old.1 (omega (arith, old.2, lt))),
@@ -50,7 +47,7 @@ marked-alike marks needs mark next alike ends k marked = elim (cases_lt k (lengt
     | inl same ↦
         let yes : IsTrue mark = same_Some mark true (sym (get-last marks mark k (omega (arith, alike.0, same))) ∙ marked) in
         let last = ends.0 yes in (
-          omega (arith, longer needs next, same),
+          omega (arith, length_push needs next, same),
           last.0,
           omega (arith, last.1, same),
           get-last needs next k same ∙ sym last.2 ∙ sym (get-front needs next last.0 (omega (arith, last.1))),
@@ -71,7 +68,7 @@ alike-marked marks needs mark next alike ends k at = elim (cases_lt k (length ne
         sym (get-front needs next k lt) ∙ at.3 ∙ get-front needs next at.1 (omega (arith, at.2, lt)),
       )
   | inr ge ↦
-      let same : k ≡ length needs = omega (arith, longer needs next, ge, at.0) in
+      let same : k ≡ length needs = omega (arith, length_push needs next, ge, at.0) in
       let below : at.1 < length needs = omega (arith, at.2, same) in
       let yes : IsTrue mark = ends.1 (
         at.1,
@@ -84,7 +81,7 @@ alike-marked marks needs mark next alike ends k at = elim (cases_lt k (length ne
 pub alike-next : (marks : List Bool) (needs : List Needs) (mark : Bool) (next : Needs) → AreAlike marks needs → IsTrue mark ↔ EndsWith needs next
     → AreAlike (marks ++ mark ∷ []) (needs ++ next ∷ [])
 alike-next marks needs mark next alike ends = (
-  longer marks mark ∙ ap (λ n. n + 1) alike.0 ∙ sym (longer needs next),
+  length_push marks mark ∙ ap (λ n. n + 1) alike.0 ∙ sym (length_push needs next),
   λ k. (marked-alike marks needs mark next alike ends k, alike-marked marks needs mark next alike ends k),
 )
 

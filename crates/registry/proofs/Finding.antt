@@ -4,12 +4,12 @@ use Rattle.std.specs.Prelude.{IfNone, IfSome, None, Option, Some, is_some, slice
 use Rattle.std.specs.Ordering.{is_eq, ordering_reverse}
 use Rattle.std.specs.declared.cmp.Ordering.{Ordering}
 use Rattle.std.specs.declared.cmp.Ordering.TheVariants.{Less, Equal, Greater}
+use Rattle.std.proofs.lemmas.Bool.{or_parts}
 use Rattle.versions.specs.Precedence.{EqualPrecedenceIsATie, EqualPrecedenceIsAnEquivalence, PrecedenceIsATotalPreorder}
 use Rattle.versions.specs.Words.{Text, precedence, same_precedence}
 use Rattle.registry.specs.Highest.{IsHighest}
 use Rattle.registry.specs.Lawful.{IsRegistry}
 use Rattle.registry.specs.Registry.{Packages, Publication, equals_at, has_version, package_at, publication_at, publication_equals, versions_or_none}
-use Rattle.registry.proofs.NeedLemmas.{both_false}
 use Rattle.registry.proofs.PackageLemmas.{publication_at-versions}
 use Rattle.registry.proofs.RegistryLaws.{distinct-precedence}
 
@@ -46,8 +46,8 @@ none-equals packages p version None e = λ k.
   where
     each : (xs : List Publication) (i : ℕ) → has_version xs version ≡ false → publication_equals (slice_get xs i) version ≡ false
     each [] i f = refl
-    each (x ∷ xs) zero f = (both_false (same_precedence version x.version) (has_version xs version) f).0
-    each (x ∷ xs) (suc i) f = each xs i (both_false (same_precedence version x.version) (has_version xs version) f).1
+    each (x ∷ xs) zero f = (or_parts (same_precedence version x.version) (has_version xs version) f).0
+    each (x ∷ xs) (suc i) f = each xs i (or_parts (same_precedence version x.version) (has_version xs version) f).1
 
 -- ---- the highest
 

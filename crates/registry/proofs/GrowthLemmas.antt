@@ -4,22 +4,19 @@ use Rattle.std.specs.Prelude.{Option, Some, None, position, slice_index}
 use Rattle.std.specs.Option.{option_map}
 use Rattle.std.specs.List.{list_any}
 use Rattle.std.specs.Str.{bytes_eq}
-use Rattle.std.proofs.lemmas.Bool.{cases_Bool}
+use Rattle.std.proofs.lemmas.Bool.{cases_Bool, or_parts}
 use Rattle.versions.specs.Words.{Text}
 use Rattle.registry.proofs.PackageLemmas.{versions_of-packages_of, versions_where, is_known-packages_in, is_known-packages_of, is_known-push, length-mapped, length-packages_of, number_of-packages_of}
 use Rattle.std.specs.Cmp.Lexicographic.{nat_list_eq_equiv}
 use Rattle.std.proofs.Math.Seq.{map-set_same}
 use Rattle.std.proofs.lemmas.List.{get_or-map, get_or-set_same}
 use Rattle.std.proofs.Common.{length-set}
+use Rattle.std.proofs.lemmas.Option.{same_Some}
 use Rattle.registry.specs.Registry.{Package, Packages, Publication, is_known, is_named, number_from, number_of, versions_of}
 use Rattle.registry.specs.Rooms.{unknown_names}
 use Rattle.registry.specs.Step.{with_listed, with_name, with_named, with_versions}
 use Rattle.registry.specs.Publications.{PublicationList, lists_of, packages_in, packages_of, rooms_of}
 use Rattle.registry.specs.Needs.{names_of}
-use Rattle.registry.proofs.NeedLemmas.{both_false}
-
-some-same : {A : Type 0} (x y : A) → Some x ≡ Some y → x ≡ y
-some-same x y e = cc e
 
 number_from-append : (k : ℕ) (packages more : Packages) (name : Text) (n : ℕ) → number_from k packages name ≡ Some n → number_from k (packages ++ more) name ≡ Some n
 number_from-append k [] more name n e = absurd (cc e)
@@ -44,7 +41,7 @@ number_of-with_listed packages (x ∷ rest) name n e = number_of-with_listed (wi
 number_from-above : (n : ℕ) (packages : Packages) (name : Text) (q : ℕ) → number_from n packages name ≡ Some q → n ≤ q
 number_from-above n [] name q e = absurd (cc e)
 number_from-above n (p ∷ rest) name q e = elim (cases_Bool (is_named name p)) [
-  | inl t ↦ let same : n ≡ q = some-same n q (rw t at e) in omega (arith, same)
+  | inl t ↦ let same : n ≡ q = same_Some n q (rw t at e) in omega (arith, same)
   | inr f ↦ let more = number_from-above (suc n) rest name q (rw f at e) in omega (arith, more)
 ]
 
@@ -64,7 +61,7 @@ change-at k (x ∷ names) (w ∷ lists) name zero v changed change e at by = eli
 ]
 change-at k (x ∷ names) (w ∷ lists) name (suc i) v changed change e at by = elim (cases_Bool (bytes_eq name x)) [
   | inl t ↦
-      let same : k ≡ k + suc i = some-same k (k + suc i) (rw t at e) in
+      let same : k ≡ k + suc i = same_Some k (k + suc i) (rw t at e) in
       absurd (omega (arith, same))
   | inr f ↦
       let place : k + suc i ≡ suc k + i = omega arith in
@@ -84,7 +81,7 @@ packages-changed names lists name i v changed change e at by =
 pub unchanged : (packages : Packages) (name : Text) (change : List Publication → List Publication) → is_known packages name ≡ false → with_versions name change packages ≡ packages
 unchanged [] name change e = refl
 unchanged (p ∷ rest) name change e =
-    let parts = both_false (is_named name p) (is_known rest name) e in
+    let parts = or_parts (is_named name p) (is_known rest name) e in
     rw (parts.0) (ap (λ (l : Packages). p ∷ l) (unchanged rest name change parts.1))
 
 -- ---- the names that are new
@@ -178,7 +175,7 @@ same_place None None e = refl
 same_place None (Some j) e = absurd (cc e)
 same_place (Some i) None e = absurd (cc e)
 same_place (Some i) (Some j) e =
-    let same = some-same (1 + i) (1 + j) e in
+    let same = same_Some (1 + i) (1 + j) e in
     let place : i ≡ j = omega (arith, same) in
     ap (λ k. Some k) place
 

@@ -7,6 +7,7 @@ use Rattle.std.specs.Cmp.Lexicographic.{nat_list_eq_equiv}
 use Rattle.std.proofs.lemmas.Bool.{cases_Bool}
 use Rattle.std.proofs.lemmas.List.Elements.{All-append, All-cons, All-head, All-nil, All-tail}
 use Rattle.std.proofs.lemmas.Map.Keys.{IsDistinct-push}
+use Rattle.std.proofs.lemmas.List.{map_push}
 use Rattle.versions.specs.NameLaws.{same_name}
 use Rattle.versions.specs.Words.{Text, same_precedence}
 use Rattle.versions.specs.declared.refusal.Refusal.{Refusal}
@@ -16,7 +17,6 @@ use Rattle.registry.specs.Needs.{has_name, names_of, repeats_name}
 use Rattle.registry.specs.Registry.{Package, Packages, Publication, has_version, is_known, is_named, versions_of}
 use Rattle.registry.specs.Step.{publish, publish_refusal, set_yanked, with_listed, with_name, with_named, with_versions}
 use Rattle.registry.proofs.GrowthLemmas.{is_known-grows}
-use Rattle.registry.proofs.PackageLemmas.{map-push}
 use Rattle.registry.specs.declared.registry.TheConstants.{NEED_LIMIT, PACKAGE_LIMIT, VERSION_LIMIT}
 
 abbrev names_in : Packages → List Text
@@ -85,7 +85,7 @@ distinct-name packages added distinct = elim (cases_Bool (is_known packages adde
   | inl t ↦ subst (λ (b : Bool). IsDistinct bytes_eq (names_in (if b then packages else packages ++ fresh added ∷ []))) (sym t) distinct
   | inr f ↦
       subst (λ (b : Bool). IsDistinct bytes_eq (names_in (if b then packages else packages ++ fresh added ∷ []))) (sym f)
-      (subst (λ (l : List Text). IsDistinct bytes_eq l) (sym (map-push (λ (p : Package). p.name) packages (fresh added)))
+      (subst (λ (l : List Text). IsDistinct bytes_eq l) (sym (map_push (λ (p : Package). p.name) packages (fresh added)))
       (IsDistinct-push nat_list_eq_equiv (names_in packages) added distinct (sym (known-names packages added) ∙ f)))
 ]
 
@@ -230,7 +230,7 @@ module _ (equal : EqualPrecedenceIsAnEquivalence) (packages : Packages) (name ve
       let own : name ≡ p.name = same_name name p.name named in
       record {
         few = omega (arith, length-append p.versions (publication ∷ []), ap length versions, accepted.room);
-        distinct = subst (λ (l : List Text). IsDistinct same_precedence l) (sym (map-push (λ (v : Publication). v.version) p.versions publication))
+        distinct = subst (λ (l : List Text). IsDistinct same_precedence l) (sym (map_push (λ (v : Publication). v.version) p.versions publication))
             (IsDistinct-push equal (versions_in p.versions) version h.distinct (listed p.versions ∙ ap (λ (l : List Publication). has_version l version) versions ∙ accepted.new));
         publications = All-append (IsPublication final p.name) p.versions (publication ∷ []) h.publications
             (All-cons (IsPublication final p.name) publication [] (record {

@@ -1,21 +1,18 @@
 -- Needs: where no name comes twice, and what holds of each.
-use Rattle.std.proofs.Common.{◌≡◌, ◌<◌, ◌∙◌, ℕ, zero, suc, List, [], ◌∷◌, length, get_or, refl, ap, subst, arith, Bool, true, false, true≢false, ◌||◌}
+use Rattle.std.proofs.Common.{◌≡◌, ◌<◌, ◌∙◌, ℕ, zero, suc, List, [], ◌∷◌, length, get_or, refl, ap, subst, arith, false, ◌||◌}
 use Rattle.std.specs.Prelude.{Contains}
 use Rattle.std.specs.List.{AllByRecursion, IsDistinct, list_any}
 use Rattle.std.specs.Str.{bytes_eq}
 use Rattle.std.proofs.lemmas.Map.Keys.{IsDistinct-head, IsDistinct-tail}
+use Rattle.std.proofs.lemmas.Bool.{or_parts}
 use Rattle.versions.specs.Words.{Text}
 use Rattle.registry.specs.Needs.{has_name, names_of, repeats, repeats_name}
-
-pub both_false : (a b : Bool) → (a || b) ≡ false → (a ≡ false) × (b ≡ false)
-both_false true b e = absurd (true≢false e)
-both_false false b e = (refl, e)
 
 -- ---- names that are distinct
 
 others-head : (names : List Text) (name : Text) → list_any (bytes_eq name) names ≡ false → AllByRecursion (λ y. bytes_eq name y ≡ false) names
 others-head [] name e = tt
-others-head (x ∷ rest) name e = let parts = both_false (bytes_eq name x) (list_any (bytes_eq name) rest) e in (parts.0, others-head rest name parts.1)
+others-head (x ∷ rest) name e = let parts = or_parts (bytes_eq name x) (list_any (bytes_eq name) rest) e in (parts.0, others-head rest name parts.1)
 
 head-others : (names : List Text) (name : Text) → AllByRecursion (λ y. bytes_eq name y ≡ false) names → list_any (bytes_eq name) names ≡ false
 head-others [] name h = refl
@@ -26,7 +23,7 @@ pub distinct-once : (names : List Text) → repeats names ≡ false → IsDistin
 unfolding IsDistinct
 distinct-once [] e = tt
 distinct-once (x ∷ rest) e =
-    let parts = both_false (list_any (bytes_eq x) rest) (repeats rest) e in
+    let parts = or_parts (list_any (bytes_eq x) rest) (repeats rest) e in
     (others-head rest x parts.0, distinct-once rest parts.1)
 
 pub once-distinct : (names : List Text) → IsDistinct bytes_eq names → repeats names ≡ false

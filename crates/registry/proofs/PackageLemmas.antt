@@ -4,15 +4,15 @@ use Rattle.std.specs.Prelude.{Option, Some, None, position, count_by, is_some, s
 use Rattle.std.specs.Option.{option_and_then, option_map}
 use Rattle.std.specs.List.{list_any}
 use Rattle.std.specs.Str.{bytes_eq}
-use Rattle.std.proofs.lemmas.Bool.{cases_Bool}
+use Rattle.std.proofs.lemmas.Bool.{cases_Bool, or_parts}
 use Rattle.versions.specs.Words.{Text}
 use Rattle.std.proofs.lemmas.List.Sums.{sum_by-cons}
 use Rattle.indexmap.specs.IndexSet.{insert_key}
 use Rattle.std.specs.Cmp.Lexicographic.{nat_list_eq_equiv}
+use Rattle.std.proofs.lemmas.List.{map_push}
 use Rattle.registry.specs.Needs.{has_name, names_of, repeats_name}
 use Rattle.registry.specs.Registry.{Package, Packages, Publication, is_known, is_named, number_from, number_of, is_published, package_at, publication_at, versions_of, versions_or_none}
 use Rattle.registry.specs.Step.{with_listed, with_name, with_named}
-use Rattle.registry.proofs.NeedLemmas.{both_false}
 use Rattle.registry.proofs.Positions.{position-here, position-later}
 use Rattle.registry.specs.Publications.{PublicationList, lists_of, packages_in, packages_of}
 
@@ -73,10 +73,6 @@ packages_of-push (x ∷ names) (v ∷ lists) name versions e =
     let less : length names ≡ length lists = omega (arith, e) in
     ap (λ (l : Packages). (record { name = x; versions = v }) ∷ l) (packages_of-push names lists name versions less)
 
-pub map-push : {A B : Type 0} (f : A → B) (xs : List A) (x : A) → map f (xs ++ x ∷ []) ≡ map f xs ++ f x ∷ []
-map-push f [] x = refl
-map-push f (y ∷ ys) x = ap (λ l. f y ∷ l) (map-push f ys x)
-
 -- a name that is new goes last, with no versions
 pub with_name-new : (names names' : List Text) (lists lists' : List PublicationList) (name : Text) (list : PublicationList)
     → length names ≡ length lists → list_any (bytes_eq name) names ≡ false → list.publications ≡ []
@@ -87,7 +83,7 @@ with_name-new names names' lists lists' name list paired new empty is_names is_l
     let known : is_known (packages_of names (lists_of lists)) name ≡ false = is_known-packages_of names (lists_of lists) name both ∙ new in
     let keys : names' ≡ names ++ name ∷ [] = is_names ∙ ap (λ b. if b then names else names ++ name ∷ []) new in
     let columns : lists_of lists' ≡ lists_of lists ++ [] ∷ [] =
-    ap lists_of is_lists ∙ map-push (λ (v : PublicationList). v.publications) lists list ∙ ap (λ (publications : List Publication). lists_of lists ++ publications ∷ []) empty in
+    ap lists_of is_lists ∙ map_push (λ (v : PublicationList). v.publications) lists list ∙ ap (λ (publications : List Publication). lists_of lists ++ publications ∷ []) empty in
     ap (λ ks. packages_of ks (lists_of lists')) keys ∙ ap (λ ls. packages_of (names ++ name ∷ []) ls) columns
     ∙ packages_of-push names (lists_of lists) name [] both
     ∙ sym (ap (λ b. if b then packages_of names (lists_of lists) else packages_of names (lists_of lists) ++ (record { name = name; versions = [] }) ∷ []) known)
@@ -150,7 +146,7 @@ new_count-cons packages d rest = sum_by-cons (λ (e : Text × Text). if not (is_
 pub new_count-other : (packages : Packages) (added : Text) (needs : List (Text × Text)) → has_name needs added ≡ false → new_count (with_name packages added) needs ≡ new_count packages needs
 new_count-other packages added [] e = refl
 new_count-other packages added (d ∷ rest) e =
-    let parts = both_false (bytes_eq added d.0) (has_name rest added) e in
+    let parts = or_parts (bytes_eq added d.0) (has_name rest added) e in
     new_count-cons (with_name packages added) d rest
     ∙ ap (λ (b : Bool). (if not b then 1 else 0) + new_count (with_name packages added) rest) (is_known-other packages added d.0 parts.0)
     ∙ ap (λ (n : ℕ). (if not (is_known packages d.0) then 1 else 0) + n) (new_count-other packages added rest parts.1)
@@ -171,7 +167,7 @@ one-more false = omega arith
 pub length-with_listed : (packages : Packages) (needs : List (Text × Text)) → repeats_name needs ≡ false → length (with_listed packages (names_of needs)) ≡ length packages + new_count packages needs
 length-with_listed packages [] e = omega arith
 length-with_listed packages (d ∷ rest) e =
-    let parts = both_false (has_name rest d.0) (repeats_name rest) e in
+    let parts = or_parts (has_name rest d.0) (repeats_name rest) e in
     let tail = length-with_listed (with_name packages d.0) rest parts.1 in
     let same = new_count-other packages d.0 rest parts.0 in
     let one = length-with_name packages d.0 in

@@ -1,7 +1,7 @@
 -- The publications of a package, by its releases and what each depends on.
 use Rattle.std.proofs.Common.{◌≡◌, ◌<◌, ◌∙◌, inl, inr, ℕ, zero, suc, List, [], ◌∷◌, ◌++◌, length, refl, sym, ap, arith, Bool, true, false, ◌||◌, get_or}
 use Rattle.std.specs.Prelude.{Option, Some, None, IfNone, IfOk, IfSome, Result, Ok, Err, slice_get, if◌then◌else◌}
-use Rattle.std.proofs.lemmas.Bool.{cases_Bool}
+use Rattle.std.proofs.lemmas.Bool.{cases_Bool, or_parts}
 use Rattle.std.proofs.lemmas.List.{length-map}
 use Rattle.versions.specs.Words.{Text, precedence, same_precedence}
 use Rattle.std.specs.declared.alloc.AllocError.{AllocError}
@@ -17,7 +17,6 @@ use Rattle.registry.specs.Highest.{IsHighest}
 use Rattle.registry.specs.Publications.{publications_of}
 use Rattle.registry.specs.Registry.{Publication, has_version, needs_or_none, publication_equals, publication_meets}
 use Rattle.registry.specs.Step.{set_yanked, yank_of}
-use Rattle.registry.proofs.NeedLemmas.{both_false}
 
 abbrev Needs : Type 0
 Needs = List (Text × Text)
@@ -78,7 +77,7 @@ pub yank_of-none : (releases : List Release) (needs : List Needs) (version : Tex
 yank_of-none [] needs version none = refl
 yank_of-none (r ∷ rs) [] version none = refl
 yank_of-none (r ∷ rs) (n ∷ ns) version none =
-    let parts = both_false (same_precedence version r.version) (released.has_version (released.versions_of rs) version) none in
+    let parts = or_parts (same_precedence version r.version) (released.has_version (released.versions_of rs) version) none in
     ap (λ b. if b then Some r.yanked else yank_of (publications_of rs ns) version) parts.0 ∙ yank_of-none rs ns version parts.1
 
 pub set_yanked-none : (releases : List Release) (needs : List Needs) (version : Text) (yanked : Bool) → released.has_version (released.versions_of releases) version ≡ false
@@ -86,7 +85,7 @@ pub set_yanked-none : (releases : List Release) (needs : List Needs) (version : 
 set_yanked-none [] needs version yanked none = refl
 set_yanked-none (r ∷ rs) [] version yanked none = refl
 set_yanked-none (r ∷ rs) (n ∷ ns) version yanked none =
-    let parts = both_false (same_precedence version r.version) (released.has_version (released.versions_of rs) version) none in
+    let parts = or_parts (same_precedence version r.version) (released.has_version (released.versions_of rs) version) none in
     let first : Publication = record { version = r.version; needs = n; yanked = r.yanked } in
     let changed : Publication = record { version = r.version; needs = n; yanked = yanked } in
     ap (λ b. if b then changed ∷ publications_of rs ns else first ∷ set_yanked version yanked (publications_of rs ns)) parts.0

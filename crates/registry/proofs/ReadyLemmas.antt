@@ -10,7 +10,7 @@ use Rattle.std.proofs.lemmas.Slice.Eq.{bytes_eq-Decides}
 use Rattle.std.proofs.Math.Seq.{drop-cons}
 use Rattle.std.proofs.lemmas.List.{append_assoc, take_more}
 use Rattle.std.proofs.lemmas.List.Folds.{list_any_at}
-use Rattle.std.proofs.lemmas.Option.{get_or_from_slice_get, slice_get_within}
+use Rattle.std.proofs.lemmas.Option.{get_or_from_slice_get, slice_get_within, same_Some}
 use Rattle.std.proofs.lemmas.List.Elements.{All-append, All-cons, All-nil}
 use Rattle.versions.specs.Words.{Text}
 use Rattle.registry.specs.Publications.{PublicationList}
@@ -73,10 +73,7 @@ pub ready-taken : (names : List Text) (names_room : ℕ) (lists : List Publicati
     → IsReadyIfAny names names_room lists lists_room o → o ≡ Some r → IsReady names names_room lists lists_room r
 ready-taken names names_room lists lists_room o r h e = subst (IsReadyIfAny names names_room lists lists_room) e h
 
-some-same : {A : Type 0} (x y : A) → Some x ≡ Some y → x ≡ y
-some-same x y e = cc e
-
 pub ready-for : (o : Option Ready) (r : Ready) (name : Text) (needs : List (Text × Text)) → publication_for o ≡ Some (name, needs) → o ≡ Some r → (r.name ≡ name) × (r.needs ≡ needs)
 ready-for o r name needs for_this e =
-    let same = some-same {A = Text × List (Text × Text)} (r.name, r.needs) (name, needs) (sym (ap publication_for e) ∙ for_this) in
+    let same = same_Some {A = Text × List (Text × Text)} (r.name, r.needs) (name, needs) (sym (ap publication_for e) ∙ for_this) in
     (ap (λ (p : Text × List (Text × Text)). p.0) same, ap (λ (p : Text × List (Text × Text)). p.1) same)

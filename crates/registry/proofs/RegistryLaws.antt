@@ -1,11 +1,11 @@
 -- What a caller may use of a registry that commands made: facts by number, ordinal and name.
-use Rattle.std.proofs.Common.{◌≡◌, ◌<◌, ◌≤◌, ◌∙◌, inl, inr, ℕ, zero, suc, ◌+◌, List, [], ◌∷◌, length, refl, sym, ap, subst, arith, true, false, true≢false, ◌&&◌, map, get_or, if◌then◌else◌, nat_lt, rules, Bool}
+use Rattle.std.proofs.Common.{◌≡◌, ◌<◌, ◌≤◌, ◌∙◌, inl, inr, ℕ, zero, suc, ◌+◌, List, [], ◌∷◌, length, refl, sym, ap, subst, arith, true, false, true≢false, map, get_or, if◌then◌else◌, nat_lt, rules, Bool}
 use Rattle.std.specs.Prelude.{All, Contains, Option, Some, None, is_some, slice_get}
 use Rattle.std.specs.Option.{option_and_then, option_map}
 use Rattle.std.specs.List.{AllByRecursion, IsDistinct, list_all}
 use Rattle.std.specs.Str.{bytes_eq}
 use Rattle.std.specs.Cmp.Lexicographic.{nat_list_eq_equiv}
-use Rattle.std.proofs.lemmas.Bool.{cases_Bool}
+use Rattle.std.proofs.lemmas.Bool.{cases_Bool, and_parts}
 use Rattle.std.proofs.lemmas.Option.{get_or_from_slice_get, none-some, same_Some, slice_get_within}
 use Rattle.std.proofs.lemmas.Map.Keys.{IsDistinct-head, IsDistinct-tail, apart_from_distinct}
 use Rattle.std.proofs.Math.ListN.{get_or-map}
@@ -107,14 +107,10 @@ publication-lawful packages p k v lawful e =
     let found = publication_at-package packages p k v e in
     (found.0, found.1, all-at (IsPublication packages found.0.name) found.0.versions k v (package-lawful packages p found.0 lawful found.1).publications found.2)
 
-both_true : (a b : Bool) → (a && b) ≡ true → (a ≡ true) × (b ≡ true)
-both_true true b e = (refl, e)
-both_true false b e = absurd (true≢false (sym e))
-
 list_all-at : {A : Type 0} (test : A → Bool) (xs : List A) (i : ℕ) (x d : A) → list_all test xs ≡ true → i < length xs → get_or xs i d ≡ x → test x ≡ true
 list_all-at test [] i x d all lt e = absurd (omega arith)
-list_all-at test (y ∷ ys) zero x d all lt e = ap test (sym e) ∙ (both_true (test y) (list_all test ys) all).0
-list_all-at test (y ∷ ys) (suc i) x d all lt e = list_all-at test ys i x d (both_true (test y) (list_all test ys) all).1 (omega arith) e
+list_all-at test (y ∷ ys) zero x d all lt e = ap test (sym e) ∙ (and_parts (test y) (list_all test ys) all).0
+list_all-at test (y ∷ ys) (suc i) x d all lt e = list_all-at test ys i x d (and_parts (test y) (list_all test ys) all).1 (omega arith) e
 
 -- each dependency's name has a number
 pub number_of-need : (packages : Packages) (p k : ℕ) (v : Publication) (d : Text × Text) → IsRegistry packages → publication_at packages p k ≡ Some v → Contains v.needs d

@@ -6,10 +6,11 @@ use Rattle.std.specs.List.{IsDistinct}
 use Rattle.std.specs.Map.{keys_of, lookup}
 use Rattle.std.specs.Option.{option_and_then, option_map}
 use Rattle.std.specs.Str.{bytes_eq}
-use Rattle.std.proofs.lemmas.Bool.{cases_Bool, le-ltb, lt-ltb}
+use Rattle.std.proofs.lemmas.Bool.{cases_Bool, le-ltb, lt-ltb, or_parts}
 use Rattle.std.proofs.lemmas.Map.{NonePasses}
 use Rattle.std.proofs.lemmas.Map.Entries.{none_past_head}
 use Rattle.std.proofs.lemmas.Map.Keys.{IsDistinct-tail}
+use Rattle.std.proofs.lemmas.Option.{slice_get_past}
 use Rattle.versions.specs.Words.{Text, meets, same_precedence}
 use Rattle.versions.specs.declared.refusal.Refusal.{Refusal}
 use Rattle.versions.specs.declared.refusal.Refusal.TheVariants as refusal
@@ -18,7 +19,7 @@ use Rattle.registry.specs.Preference.{admits, meets_needs}
 use Rattle.registry.specs.Registry.{Package, Packages, Publication, is_published, package_at, publication_at, versions_or_none}
 use Rattle.registry.specs.Requests.{Wanted, allows, allows_some, is_allowed, is_locked, locks, request_in, request_refusal, unless_refused}
 use Rattle.registry.specs.Step.{first_that_holds}
-use Rattle.registry.proofs.NeedLemmas.{both_false, distinct-once, repeats_name-names}
+use Rattle.registry.proofs.NeedLemmas.{distinct-once, repeats_name-names}
 use Rattle.registry.proofs.RegistryLaws.{publication_at-package}
 use Rattle.registry.specs.declared.registry.TheConstants.{NEED_LIMIT}
 use Rattle.registry.specs.declared.requests.TheConstants.{LOCK_LIMIT}
@@ -78,19 +79,11 @@ module _ (needs lock : List (Text × Text)) where
   pub request-made : request_refusal wanted ≡ None → request_in needs lock ≡ Ok wanted
   request-made e = ap (λ o. unless_refused o wanted) e
 
-  -- a request that is made has these needs and this lock
-  pub request-kept : (made : Wanted) → request_in needs lock ≡ Ok made → made ≡ wanted
-  request-kept made e = by (request_refusal wanted) e
-    where
-      by : (o : Option Refusal) → unless_refused o wanted ≡ Ok made → made ≡ wanted
-      by None is = cc is
-      by (Some r) is = absurd (cc is)
-
   -- a request names no package twice among its needs, nor among its lock's lines
   pub lawful-once : request_refusal wanted ≡ None → (repeats (keys_of needs) ≡ false) × (repeats (keys_of lock) ≡ false)
   lawful-once e = elim (cases_Bool (repeats (keys_of needs) || repeats (keys_of lock))) [
     | inl t ↦ absurd (cc (sym (refuses true many_lines t refl) ∙ e))
-    | inr f ↦ both_false (repeats (keys_of needs)) (repeats (keys_of lock)) f
+    | inr f ↦ or_parts (repeats (keys_of needs)) (repeats (keys_of lock)) f
   ]
 
 -- ---- what the line of a package says
@@ -214,11 +207,6 @@ published-numbered packages (suc n) k e = let within = by packages n e in omega 
     by (x ∷ rest) zero t = omega arith
     by (x ∷ rest) (suc i) t = let less = by rest i t in omega (arith, less)
 
-past-end : {A : Type 0} (xs : List A) (k : ℕ) → length xs ≤ k → slice_get xs k ≡ None
-past-end [] k le = refl
-past-end (x ∷ xs) zero le = absurd (omega arith)
-past-end (x ∷ xs) (suc k) le = past-end xs k (omega arith)
-
 -- an ordinal from the number of its package's versions on is not published
 pub unpublished-from : (packages : Packages) (p k : ℕ) → length (versions_or_none (package_at packages p)) ≤ k → publication_at packages p k ≡ None
 unfolding publication_at
@@ -226,4 +214,4 @@ unpublished-from packages p k le = by (package_at packages p) le
   where
     by : (o : Option Package) → length (versions_or_none o) ≤ k → option_and_then (λ (pack : Package). slice_get pack.versions k) o ≡ None
     by None h = refl
-    by (Some pack) h = past-end pack.versions k h
+    by (Some pack) h = slice_get_past pack.versions k h

@@ -4,6 +4,7 @@ use Rattle.std.specs.Prelude.{Some, None, Ok, Err, Contains}
 use Rattle.std.specs.List.{AllByRecursion}
 use Rattle.std.specs.Map.{lookup}
 use Rattle.std.proofs.lemmas.Bool.{cases_Bool, eqb-true}
+use Rattle.std.proofs.lemmas.Option.{same_Some}
 use Rattle.versions.specs.OnLiterals.{semver_on_literals}
 use Rattle.versions.specs.Words.{Text, meets, parts_of_text, precedence, same_precedence}
 use Rattle.versions.specs.declared.refusal.Refusal.TheVariants as refusal
@@ -118,16 +119,13 @@ held-locked = refl
 abbrev only : List (ℕ × ℕ) → Choices
 only chosen p = lookup (nat_eq p) chosen
 
-some-same : {A : Type 0} (x y : A) → Some x ≡ Some y → x ≡ y
-some-same x y e = cc e
-
 -- what holds of each that is written out holds of each choice
 each-choice : (P : ℕ → ℕ → Type 0) (chosen : List (ℕ × ℕ)) → AllByRecursion (λ (c : ℕ × ℕ). P c.0 c.1) chosen → (p k : ℕ) → only chosen p ≡ Some k → P p k
 each-choice P [] h p k e = absurd (cc e)
 each-choice P (c ∷ rest) h p k e = elim (cases_Bool (nat_eq p c.0)) [
   | inl t ↦
       let here : Some c.1 ≡ Some k = sym (ap (λ b. cond b (Some c.1) (only rest p)) t) ∙ e in
-      subst (λ q. P q k) (sym (eqb-true p c.0 t)) (subst (λ j. P c.0 j) (some-same c.1 k here) h.0)
+      subst (λ q. P q k) (sym (eqb-true p c.0 t)) (subst (λ j. P c.0 j) (same_Some c.1 k here) h.0)
   | inr f ↦ each-choice P rest h.1 p k (sym (ap (λ b. cond b (Some c.1) (only rest p)) f) ∙ e)
 ]
 
@@ -184,7 +182,7 @@ alone-fails : Meets cycle needs_a (only ((1, 0) ∷ [])) → ⊥
 unfolding cycle after number_of publication_at package_at
 alone-fails m =
     let b = m.closed 1 0 (codes "b") (codes "^1.0.0") refl (0, omega arith, refl) in
-    let two : 2 ≡ b.target = some-same 2 b.target b.numbered in
+    let two : 2 ≡ b.target = same_Some 2 b.target b.numbered in
     let chosen : None ≡ Some b.ordinal = ap (only ((1, 0) ∷ [])) two ∙ b.selected in
     absurd (cc chosen)
 
@@ -212,13 +210,13 @@ module _ (packages : Packages) (wanted : Wanted) (chosen : List (ℕ × ℕ)) wh
   }
     where
       by_name : (name : Text) (p : ℕ) → IsListed name → number_of packages name ≡ Some p → (k : ℕ) × (only chosen p ≡ Some k)
-      by_name name p l at = (l.ordinal, subst (λ q. only chosen q ≡ Some l.ordinal) (some-same l.place p (sym l.numbered ∙ at)) l.selected)
+      by_name name p l at = (l.ordinal, subst (λ q. only chosen q ≡ Some l.ordinal) (same_Some l.place p (sym l.numbered ∙ at)) l.selected)
 
       next : (from k to : ℕ) (name need : Text) → (j : ℕ) × (only chosen from ≡ Some j) → preferred packages wanted from ≡ Some k
           → Contains (needs_of packages from k) (name, need) → number_of packages name ≡ Some to → (j : ℕ) × (only chosen to ≡ Some j)
       next from k to name need h e among at =
           let own = each-choice IsBest chosen right from h.0 h.1 in
-          let same : k ≡ h.0 = some-same k h.0 (sym e ∙ own.best) in
+          let same : k ≡ h.0 = same_Some k h.0 (sym e ∙ own.best) in
           let there : Contains {X = Text × Text} (needs_of packages from h.0) (name, need) = subst (λ j. Contains {X = Text × Text} (needs_of packages from j) (name, need)) same among in
           by_name name to (each-need (λ n _. IsListed n) (needs_of packages from h.0) own.listed name need there) at
 
@@ -284,7 +282,7 @@ withdrawn-number = refl
 none-meets : (s : Choices) → Meets withdrawn unlocked s → ⊥
 none-meets s m =
     let a = m.needs (codes "a") (codes "^1") (0, omega arith, refl) in
-    let one : a.target ≡ 1 = some-same a.target 1 (sym a.numbered ∙ withdrawn-number) in
+    let one : a.target ≡ 1 = same_Some a.target 1 (sym a.numbered ∙ withdrawn-number) in
     let allowed : is_allowed withdrawn unlocked 1 a.ordinal ≡ true = sym (ap (λ p. is_allowed withdrawn unlocked p a.ordinal) one) ∙ m.allowed a.target a.ordinal a.selected in
     true≢false (sym allowed ∙ denied a.ordinal)
 
@@ -359,8 +357,8 @@ newer-fails : Meets branch needs_foo (only newer) → ⊥
 unfolding branch after publication_at package_at
 newer-fails m =
     let foo = m.closed 2 0 (codes "foo") (codes "^1.0.0") refl (0, omega arith, refl) in
-    let one : foo.target ≡ 1 = some-same foo.target 1 (sym foo.numbered ∙ foo-number) in
-    let zeroth : foo.ordinal ≡ 0 = some-same foo.ordinal 0 (sym foo.selected ∙ ap (only newer) one) in
+    let one : foo.target ≡ 1 = same_Some foo.target 1 (sym foo.numbered ∙ foo-number) in
+    let zeroth : foo.ordinal ≡ 0 = same_Some foo.ordinal 0 (sym foo.selected ∙ ap (only newer) one) in
     let meeting : meets_at branch 1 0 (codes "^1.0.0") ≡ true =
     sym (ap (λ p. meets_at branch p foo.ordinal (codes "^1.0.0")) one ∙ ap (λ k. meets_at branch 1 k (codes "^1.0.0")) zeroth) ∙ foo.meeting in
     true≢false (sym meeting ∙ newer-unmet)
@@ -393,10 +391,10 @@ abandoned-fails m =
   where
     first : (p : ℕ) (name need : Text) → Contains needs_foo.needs (name, need) → number_of branch name ≡ Some p → p ≡ 1
     first p name need among at =
-        some-same p 1 (sym at ∙ sym (ap (number_of branch) (the-need name need (codes "foo") (codes ">=1.0.0") among)) ∙ foo-number)
+        same_Some p 1 (sym at ∙ sym (ap (number_of branch) (the-need name need (codes "foo") (codes ">=1.0.0") among)) ∙ foo-number)
 
     next : (from k to : ℕ) (name need : Text) → from ≡ 1 → only abandoned from ≡ Some k → Contains (needs_of branch from k) (name, need) → number_of branch name ≡ Some to → to ≡ 1
     next from k to name need one e among at =
-        let k_one : k ≡ 1 = some-same k 1 (sym e ∙ ap (only abandoned) one) in
+        let k_one : k ≡ 1 = same_Some k 1 (sym e ∙ ap (only abandoned) one) in
         let none : needs_of branch from k ≡ [] = ap (λ p. needs_of branch p k) one ∙ ap (λ j. needs_of branch 1 j) k_one ∙ old-needs in
         absurd (no-need name need (subst (λ (l : List (Text × Text)). Contains {X = Text × Text} l (name, need)) none among))

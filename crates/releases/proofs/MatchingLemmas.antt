@@ -2,7 +2,7 @@
 use Rattle.std.proofs.Common.{◌≡◌, ◌∙◌, ◌<◌, ◌≤◌, ◌+◌, ◌++◌, ◌∷◌, [], ℕ, List, length, get_or, set, arith, ap, subst, sym, inl, inr, true, false, ◌||◌, ◌&&◌, ◌≢◌, length-append, get_or-set_same, get_or-set_other}
 use Rattle.std.specs.Prelude.{nat_eq, nat_lt, min, slice_get, Some}
 use Rattle.std.specs.Str.{bytes_eq}
-use Rattle.std.proofs.lemmas.Bool.{cases_lt}
+use Rattle.std.proofs.lemmas.Bool.{cases_lt, ne_eqb, lt-ltb, le-ltb}
 use Rattle.std.proofs.lemmas.Option.{get_or_from_slice_get, slice_get-get_or, slice_get_past, slice_get_within}
 use Rattle.std.proofs.lemmas.List.Folds.{list_any_at}
 use Rattle.std.proofs.lemmas.List.{get_or-map, get_or_append_left, get_or_default, length-map, length-set}
@@ -21,26 +21,17 @@ use Rattle.releases.specs.Releases.{is_named, meets_at, meets_some, versions_of}
 itself : (k : ℕ) → nat_eq k k ≡ true
 itself k = grind arith
 
-apart : (n k : ℕ) → (n ≡ k → ⊥) → nat_eq n k ≡ false
-apart n k h = grind arith
-
-under : (k n : ℕ) → k < n → nat_lt k n ≡ true
-under k n h = grind arith
-
-past : (k n : ℕ) → n ≤ k → nat_lt k n ≡ false
-past k n h = grind arith
-
 -- what one version more meets
 pub meets_at-push : (versions : List Text) (version need : Text) (k : ℕ) → meets_at (versions ++ version ∷ []) need k ≡ (meets_at versions need k || (nat_eq (length versions) k && meets need version))
 meets_at-push versions version need k = elim (cases_lt k (length versions)) [
   | inl older ↦
       ap (meets_some need) (slice_get-get_or (versions ++ version ∷ []) k [] (omega (arith, length-append versions (version ∷ [])))
       ∙ ap (λ (t : Text). Some t) (get_or_append_left versions (version ∷ []) [] k older) ∙ sym (slice_get-get_or versions k [] older))
-      ∙ sym (ap (λ b. meets_at versions need k || (b && meets need version)) (apart (length versions) k (λ e. absurd (omega arith))) ∙ or-false (meets_at versions need k))
+      ∙ sym (ap (λ b. meets_at versions need k || (b && meets need version)) (ne_eqb (length versions) k (λ e. absurd (omega arith))) ∙ or-false (meets_at versions need k))
   | inr from ↦ elim (cases_lt (length versions) k) [
     | inl over ↦
         ap (meets_some need) (slice_get_past (versions ++ version ∷ []) k (omega (arith, length-append versions (version ∷ []))))
-        ∙ sym (ap (λ b. meets_at versions need k || (b && meets need version)) (apart (length versions) k (λ e. absurd (omega arith)))
+        ∙ sym (ap (λ b. meets_at versions need k || (b && meets need version)) (ne_eqb (length versions) k (λ e. absurd (omega arith)))
         ∙ or-false (meets_at versions need k) ∙ ap (meets_some need) (slice_get_past versions k from))
     | inr to ↦
         let is : k ≡ length versions = omega arith in
@@ -58,9 +49,6 @@ meets_at-push versions version need k = elim (cases_lt k (length versions)) [
 abbrev pub IsMatchingBelow : List Text → Text → ℕ → List ℕ → Type 0
 IsMatchingBelow versions need n set = (k : ℕ) → has set k ≡ (nat_lt k n && meets_at versions need k)
 
-pub matching-begin : (versions : List Text) (need : Text) → IsMatchingBelow versions need 0 []
-matching-begin versions need k = sym (ap (λ b. b && meets_at versions need k) (past k 0 (omega arith)))
-
 -- the version that was read
 pub meets_at-read : (releases : List Release) (need : Text) (n : ℕ) (d : Release) → n < length releases → meets_at (versions_of releases) need n ≡ meets need (get_or releases n d).version
 meets_at-read releases need n d lt =
@@ -72,36 +60,36 @@ module _ (versions : List Text) (need : Text) (n : ℕ) (was : List ℕ) (m : Is
   pub matching-in : (now : List ℕ) → meets_at versions need n ≡ true → ((k : ℕ) → has now k ≡ (has was k || nat_eq n k)) → IsMatchingBelow versions need (n + 1) now
   matching-in now met grown k = grown k ∙ elim (cases_lt k n) [
     | inl less ↦
-        ap (λ b. has was k || b) (apart n k (λ e. absurd (omega arith))) ∙ or-false (has was k) ∙ m k
-        ∙ ap (λ b. b && meets_at versions need k) (under k n less ∙ sym (under k (n + 1) (omega arith)))
+        ap (λ b. has was k || b) (ne_eqb n k (λ e. absurd (omega arith))) ∙ or-false (has was k) ∙ m k
+        ∙ ap (λ b. b && meets_at versions need k) (lt-ltb k n less ∙ sym (lt-ltb k (n + 1) (omega arith)))
     | inr from ↦ elim (cases_lt n k) [
       | inl over ↦
-          ap (λ b. has was k || b) (apart n k (λ e. absurd (omega arith))) ∙ or-false (has was k) ∙ m k
-          ∙ ap (λ b. b && meets_at versions need k) (past k n from ∙ sym (past k (n + 1) (omega arith)))
+          ap (λ b. has was k || b) (ne_eqb n k (λ e. absurd (omega arith))) ∙ or-false (has was k) ∙ m k
+          ∙ ap (λ b. b && meets_at versions need k) (le-ltb k n from ∙ sym (le-ltb k (n + 1) (omega arith)))
       | inr to ↦
           let is : n ≡ k = omega arith in
           ap (λ b. has was k || b) (ap (λ x. nat_eq x k) is ∙ itself k) ∙ or-true (has was k)
-          ∙ sym (ap (λ b. b && meets_at versions need k) (under k (n + 1) (omega arith)) ∙ ap (meets_at versions need) (sym is) ∙ met)
+          ∙ sym (ap (λ b. b && meets_at versions need k) (lt-ltb k (n + 1) (omega arith)) ∙ ap (meets_at versions need) (sym is) ∙ met)
     ]
   ]
 
   -- the version with the next ordinal does not meet it
   pub matching-out : meets_at versions need n ≡ false → IsMatchingBelow versions need (n + 1) was
   matching-out unmet k = m k ∙ elim (cases_lt k n) [
-    | inl less ↦ ap (λ b. b && meets_at versions need k) (under k n less ∙ sym (under k (n + 1) (omega arith)))
+    | inl less ↦ ap (λ b. b && meets_at versions need k) (lt-ltb k n less ∙ sym (lt-ltb k (n + 1) (omega arith)))
     | inr from ↦ elim (cases_lt n k) [
-      | inl over ↦ ap (λ b. b && meets_at versions need k) (past k n from ∙ sym (past k (n + 1) (omega arith)))
+      | inl over ↦ ap (λ b. b && meets_at versions need k) (le-ltb k n from ∙ sym (le-ltb k (n + 1) (omega arith)))
       | inr to ↦
           let is : n ≡ k = omega arith in
-          ap (λ b. b && meets_at versions need k) (past k n from)
-          ∙ sym (ap (λ b. b && meets_at versions need k) (under k (n + 1) (omega arith)) ∙ ap (meets_at versions need) (sym is) ∙ unmet)
+          ap (λ b. b && meets_at versions need k) (le-ltb k n from)
+          ∙ sym (ap (λ b. b && meets_at versions need k) (lt-ltb k (n + 1) (omega arith)) ∙ ap (meets_at versions need) (sym is) ∙ unmet)
     ]
   ]
 
 pub matching-end : (versions : List Text) (need : Text) (n : ℕ) (set : List ℕ) → length versions ≤ n → IsMatchingBelow versions need n set → IsMatching versions need set
 matching-end versions need n set le m k = m k ∙ elim (cases_lt k n) [
-  | inl less ↦ ap (λ b. b && meets_at versions need k) (under k n less)
-  | inr from ↦ ap (λ b. b && meets_at versions need k) (past k n from) ∙ sym (ap (meets_some need) (slice_get_past versions k (omega arith)))
+  | inl less ↦ ap (λ b. b && meets_at versions need k) (lt-ltb k n less)
+  | inr from ↦ ap (λ b. b && meets_at versions need k) (le-ltb k n from) ∙ sym (ap (meets_some need) (slice_get_past versions k (omega arith)))
 ]
 
 -- ---- a version is published
@@ -112,22 +100,6 @@ pub record IsKeepingUp (versions : List Text) (version : Text) (needs : List Tex
   pub done : (j : ℕ) (need : Text) (set : Growing) → j < i → j < length sets → IsMatching (versions ++ version ∷ []) (get_or needs j need) (get_or sets j set).ordinals
   pub left : (j : ℕ) (need : Text) (set : Growing) → i ≤ j → j < length sets → IsMatching versions (get_or needs j need) (get_or sets j set).ordinals
   pub room : (j : ℕ) (set : Growing) → i ≤ j → j < length sets → 0 < (get_or sets j set).room
-
-pub keeping_up-begin : (versions : List Text) (version : Text) (needs : List Text) (sets : List Growing) → AreMatching versions needs sets
-    → ((j : ℕ) (set : Growing) → j < length sets → 0 < (get_or sets j set).room) → IsKeepingUp versions version needs sets 0
-keeping_up-begin versions version needs sets m room = record {
-  paired = m.paired;
-  done = λ j need set lt. absurd (omega arith);
-  left = λ j need set le lt. m.exact j need set lt;
-  room = λ j set le lt. room j set lt;
-}
-
-pub keeping_up-end : (versions : List Text) (version : Text) (needs : List Text) (sets : List Growing) (i : ℕ) → length sets ≤ i → IsKeepingUp versions version needs sets i
-    → AreMatching (versions ++ version ∷ []) needs sets
-keeping_up-end versions version needs sets i le m = record {
-  paired = m.paired;
-  exact = λ j need set lt. m.done j need set (omega (arith, lt)) lt;
-}
 
 module _ (versions : List Text) (version : Text) (needs : List Text) (sets : List Growing) (i : ℕ) (m : IsKeepingUp versions version needs sets i) (lt : i < length sets) where
   other : (now : Growing) (sets' : List Growing) → sets' ≡ set sets i now → (j : ℕ) (d : Growing) → j ≢ i → get_or sets' j d ≡ get_or sets j d
@@ -224,17 +196,17 @@ AreMatching-next versions needs need sets sets' m next =
             exact = λ i n s lt.
                 let P : List Growing → Type 0 = λ l. IsMatching versions (get_or (needs ++ need ∷ []) i n) (get_or l i s).ordinals in
                 subst P (sym kept.1) (pairs-push (λ (t : Text) (g : Growing). IsMatching versions t g.ordinals) needs sets need kept.0 whole
-                (λ j d e under. m.exact j d e (omega (arith, under, whole))) kept.2 i n s (omega (arith, lt, one, more, whole)));
+                (λ j d e lt-ltb. m.exact j d e (omega (arith, lt-ltb, whole))) kept.2 i n s (omega (arith, lt, one, more, whole)));
           }
       | inr late ↦
           let same = next.later late in
           record {
             paired = omega (arith, one, ap length same, m.paired, late);
             exact = λ i n s lt.
-                let under : i < length sets = omega (arith, lt, ap length same) in
+                let lt-ltb : i < length sets = omega (arith, lt, ap length same) in
                 let P : List Growing → Type 0 = λ l. IsMatching versions (get_or (needs ++ need ∷ []) i n) (get_or l i s).ordinals in
                 let Q : Text → Type 0 = λ t. IsMatching versions t (get_or sets i s).ordinals in
-                subst P (sym same) (subst Q (sym (get_or_append_left needs (need ∷ []) n i (omega (arith, under, m.paired)))) (m.exact i n s under));
+                subst P (sym same) (subst Q (sym (get_or_append_left needs (need ∷ []) n i (omega (arith, lt-ltb, m.paired)))) (m.exact i n s lt-ltb));
           }
     ]
 

@@ -3,21 +3,15 @@ use Rattle.std.proofs.Common.{◌≡◌, ◌∙◌, ◌<◌, ◌≤◌, ◌+◌,
 use Rattle.std.specs.Prelude.{nat_eq, is_ok, IsOk, Result, Ok, Err, if◌then◌else◌}
 use Rattle.std.specs.List.{insert}
 use Rattle.std.specs.declared.cmp.Ordering.TheVariants.{Less}
-use Rattle.std.proofs.lemmas.Bool.{cases_lt}
+use Rattle.std.proofs.lemmas.Bool.{cases_lt, or_right, or_left}
 use Rattle.std.proofs.lemmas.List.{get_or_append_left}
 use Rattle.std.proofs.lemmas.List.Edits.{length-insert, get_or-insert_below, get_or-insert_at, get_or-insert_above}
-use Rattle.std.proofs.lemmas.List.Folds.{list_any-append, list_any_at}
+use Rattle.std.proofs.lemmas.List.Folds.{list_any-append}
 use Rattle.std.proofs.Math.Seq.{get_or-append_seam}
 use Rattle.terms.specs.Sets.{has}
-use Rattle.versions.specs.Words.{Text, precedence, same_precedence}
-use Rattle.releases.specs.Releases.{has_version, version_at}
+use Rattle.versions.specs.Words.{Text, precedence}
+use Rattle.releases.specs.Releases.{version_at}
 use Rattle.releases.specs.Rising.{IsGap, IsRising, risen}
-
--- a version that stands at a place is published
-pub placed-published : (versions : List Text) (rising : List ℕ) (version : Text) (place : ℕ) → IsRising versions rising → place < length rising
-    → same_precedence version (risen versions rising place) ≡ true → has_version versions version ≡ true
-placed-published versions rising version place r lt e =
-    list_any_at (same_precedence version) versions (get_or rising place 0) [] (r.within place lt) e
 
 shifted-or : (a b c : Bool) → (a || (b || c)) ≡ (b || (a || c))
 shifted-or true true c = refl
@@ -33,14 +27,6 @@ has-insert xs i y k =
 
 itself : (k : ℕ) → nat_eq k k ≡ true
 itself k = grind arith
-
-or-right : (a b : Bool) → b ≡ true → (a || b) ≡ true
-or-right true b e = refl
-or-right false b e = e
-
-or-left : (a b : Bool) → a ≡ true → (a || b) ≡ true
-or-left true b e = refl
-or-left false b e = absurd (cc e)
 
 module _ (versions : List Text) (rising : List ℕ) (version : Text) (place : ℕ) (r : IsRising versions rising) (gap : IsGap versions rising version place) where
   older : (k : ℕ) → k < length versions → version_at (versions ++ version ∷ []) k ≡ version_at versions k
@@ -115,8 +101,8 @@ module _ (versions : List Text) (rising : List ℕ) (version : Text) (place : �
 
   every : (k : ℕ) → k < length versions + 1 → has (insert rising place (length versions)) k ≡ true
   every k lt = has-insert rising place (length versions) k ∙ elim (cases_lt k (length versions)) [
-    | inl old ↦ or-right (nat_eq (length versions) k) (has rising k) (r.every k old)
-    | inr new ↦ let is : length versions ≡ k = omega arith in or-left (nat_eq (length versions) k) (has rising k) (ap (λ n. nat_eq n k) is ∙ itself k)
+    | inl old ↦ or_right (nat_eq (length versions) k) (has rising k) (r.every k old)
+    | inr new ↦ let is : length versions ≡ k = omega arith in or_left (nat_eq (length versions) k) (has rising k) (ap (λ n. nat_eq n k) is ∙ itself k)
   ]
 
   raised-insert : IsRising (versions ++ version ∷ []) (insert rising place (length versions))

@@ -60,14 +60,6 @@ searching-down ordered versions rising version low high middle r m le lt e = rec
   ];
 }
 
-pub searching-end : (versions : List Text) (rising : List ℕ) (version : Text) (low high : ℕ) → IsSearching versions rising version low high
-    → high ≤ low → IsGap versions rising version low
-searching-end versions rising version low high m le = record {
-  within = omega (arith, m.within, m.ordered);
-  above = m.above;
-  below = λ i h g. m.below i (omega (arith, m.ordered)) g;
-}
-
 -- a tie with the version that stands at a place
 pub tied-place : PrecedenceIsATotalPreorder → EqualPrecedenceIsATie → (a b : Text) → precedence a b ≡ Equal → same_precedence b a ≡ true
 tied-place ordered tie a b e = tie b a ∙ ap is_eq (ordered.antisymm b a ∙ ap ordering_reverse e)

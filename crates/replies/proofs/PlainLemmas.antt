@@ -1,12 +1,13 @@
 -- Texts that JSON writes as they are, between quotes: names, and versions.
-use Rattle.std.proofs.Common.{◌≡◌, ◌≢◌, ◌⊎◌, inl, inr, ℕ, ◌+◌, ◌%◌, ◌≤◌, ◌<◌, ◌^◌, List, [], ◌∷◌, ◌++◌, length, Bool, true, false, ◌&&◌, ◌||◌, not, ◌==◌, nat_le, nat_lt, decimal, Result, Ok, Err, is_ok, refl, ap, subst, arith, rules}
+use Rattle.std.proofs.Common.{◌≡◌, ◌≢◌, ℕ, ◌+◌, ◌%◌, ◌≤◌, ◌<◌, ◌^◌, List, [], ◌∷◌, length, Bool, true, false, ◌&&◌, not, ◌==◌, nat_le, nat_lt, decimal, Result, Ok, Err, is_ok, refl, subst, arith, rules}
 use Rattle.std.specs.List.{join_with_byte, list_all}
 use Rattle.std.proofs.lemmas.Bool.Decides.{nat_tests}
 use Rattle.std.proofs.lemmas.Fmt.{decimal_by_steps}
 use Rattle.std.proofs.lemmas.List.Folds.{list_all-append}
 use Rattle.std.proofs.lemmas.List.Splits.{join_with_byte-slice_split}
 use Rattle.std.specs.Str.{IsUtf8}
-use Rattle.json.specs.Print.{escape, escape_byte, quoted}
+use Rattle.std.proofs.lemmas.Bool.{and_parts}
+use Rattle.json.specs.Print.{escape, escape_byte}
 use Rattle.json.proofs.Printed.Utf8.{IsUtf8-are_ascii, are_ascii}
 use Rattle.semver.proofs.Grammar.{version_parts-sound}
 use Rattle.semver.specs.Grammar.{IsValid, is_build, is_build_identifier, is_identifier_byte, is_pre_identifier, is_pre_release}
@@ -33,22 +34,17 @@ escape_byte-plain b plain =
     let nine : (b == 9) ≡ false = grind (arith, nat_tests) in
     rw (quote, slash, low, eight, twelve, ten, thirteen, nine) refl
 
-pub both : (a b : Bool) → (a && b) ≡ true → (a ≡ true) × (b ≡ true)
-both true true e = (refl, refl)
-both true false e = absurd (cc)
-both false b e = absurd (cc)
-
 -- a plain text needs no escapes
 pub escape-plain : (text : List ℕ) → list_all is_plain text ≡ true → escape text ≡ text
 escape-plain [] plain = refl
 escape-plain (b ∷ text) plain =
-    let parts = both (is_plain b) (list_all is_plain text) plain in
+    let parts = and_parts (is_plain b) (list_all is_plain text) plain in
     rw (escape_byte-plain b parts.0, escape-plain text parts.1) refl
 
 plain_ascii : (text : List ℕ) → list_all is_plain text ≡ true → are_ascii text ≡ true
 plain_ascii [] plain = refl
 plain_ascii (b ∷ text) plain =
-    let parts = both (is_plain b) (list_all is_plain text) plain in
+    let parts = and_parts (is_plain b) (list_all is_plain text) plain in
     let small : nat_lt b 128 ≡ true = grind (arith, nat_tests) in
     rw (small, plain_ascii text parts.1) refl
 
@@ -56,15 +52,11 @@ plain_ascii (b ∷ text) plain =
 pub utf8-plain : (text : List ℕ) → list_all is_plain text ≡ true → IsUtf8 text
 utf8-plain text plain = IsUtf8-are_ascii text (plain_ascii text plain)
 
--- a plain text in quotes
-pub quoted-plain : (text : List ℕ) → list_all is_plain text ≡ true → quoted text ≡ 34 ∷ (text ++ 34 ∷ [])
-quoted-plain text plain = ap (λ (l : List ℕ). 34 ∷ (l ++ 34 ∷ [])) (escape-plain text plain)
-
 -- what holds of each element where a stronger test does
 pub all_weaker : {A : Type 0} (strong weak : A → Bool) → ((x : A) → strong x ≡ true → weak x ≡ true) → (xs : List A) → list_all strong xs ≡ true → list_all weak xs ≡ true
 all_weaker strong weak step [] all = refl
 all_weaker strong weak step (x ∷ xs) all =
-    let parts = both (strong x) (list_all strong xs) all in
+    let parts = and_parts (strong x) (list_all strong xs) all in
     rw (step x parts.0, all_weaker strong weak step xs parts.1) refl
 
 plain_from : (b : ℕ) → 32 ≤ b → b ≤ 126 → b ≢ 34 → b ≢ 92 → is_plain b ≡ true
@@ -75,18 +67,6 @@ plain_from b low high quote slash =
     let another : (b == 92) ≡ false = search rules in
     rw (floor, roof, other, another) refl
 
--- a byte within one of these ranges
-within : (low high b : ℕ) → (nat_le low b && nat_le b high) ≡ true → (low ≤ b) × (b ≤ high)
-within low high b e =
-    let parts = both (nat_le low b) (nat_le b high) e in
-    let up : low ≤ b = search (rules, parts.0) in
-    let down : b ≤ high = search (rules, parts.1) in
-    (up, down)
-
-either : (a b : Bool) → (a || b) ≡ true → (a ≡ true) ⊎ (b ≡ true)
-either true b e = inl refl
-either false b e = inr e
-
 -- ---- names
 
 name_byte-plain : (b : ℕ) → is_name_byte b ≡ true → is_plain b ≡ true
@@ -94,7 +74,7 @@ name_byte-plain b named = grind (arith, nat_tests)
 
 pub name-plain : (text : Text) → is_name text ≡ true → list_all is_plain text ≡ true
 name-plain text named =
-    let bytes = both _ (list_all is_name_byte text) named in
+    let bytes = and_parts _ (list_all is_name_byte text) named in
     all_weaker is_name_byte is_plain name_byte-plain text bytes.1
 
 -- ---- versions
@@ -111,9 +91,9 @@ decimal-plain n fits = decimal_by_steps (λ _ digits. list_all is_plain digits �
 
 joined-plain : (parts : List Text) → list_all (list_all is_plain) parts ≡ true → list_all is_plain (join_with_byte 46 parts) ≡ true
 joined-plain [] all = refl
-joined-plain (x ∷ []) all = (both (list_all is_plain x) true all).0
+joined-plain (x ∷ []) all = (and_parts (list_all is_plain x) true all).0
 joined-plain (x ∷ y ∷ parts) all =
-    let split = both (list_all is_plain x) (list_all (list_all is_plain) (y ∷ parts)) all in
+    let split = and_parts (list_all is_plain x) (list_all (list_all is_plain) (y ∷ parts)) all in
     rw (list_all-append, split.0, joined-plain (y ∷ parts) split.1) refl
 
 -- dotted parts that are plain make a plain text
@@ -121,10 +101,10 @@ pub dotted-plain : (text : Text) → list_all (list_all is_plain) (parts text) �
 dotted-plain text all = subst (λ (t : Text). list_all is_plain t ≡ true) (join_with_byte-slice_split 46 text) (joined-plain (parts text) all)
 
 pub build_identifier-plain : (part : Text) → is_build_identifier part ≡ true → list_all is_plain part ≡ true
-build_identifier-plain part is = all_weaker is_identifier_byte is_plain identifier_byte-plain part (both _ (list_all is_identifier_byte part) is).1
+build_identifier-plain part is = all_weaker is_identifier_byte is_plain identifier_byte-plain part (and_parts _ (list_all is_identifier_byte part) is).1
 
 pre_identifier-plain : (part : Text) → is_pre_identifier part ≡ true → list_all is_plain part ≡ true
-pre_identifier-plain part is = build_identifier-plain part (both (is_build_identifier part) _ is).0
+pre_identifier-plain part is = build_identifier-plain part (and_parts (is_build_identifier part) _ is).0
 
 pre_release-plain : (text : Text) → is_pre_release text ≡ true → list_all is_plain text ≡ true
 pre_release-plain [] is = refl
@@ -150,6 +130,6 @@ read_of (Err f) e = absurd (cc)
 
 pub version-plain : (text : Text) → is_version text ≡ true → list_all is_plain text ≡ true
 version-plain text valid =
-    let read = read_of (version_parts text) (both (nat_le (length text) 256) (is_ok (version_parts text)) valid).1 in
+    let read = read_of (version_parts text) (and_parts (nat_le (length text) 256) (is_ok (version_parts text)) valid).1 in
     let sound = version_parts-sound text read.0 read.1 in
     subst (λ (t : Text). list_all is_plain t ≡ true) sound.0 (parts_text-plain read.0 sound.1)

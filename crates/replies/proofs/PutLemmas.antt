@@ -1,10 +1,9 @@
 -- Texts that are put one behind another.
-use Rattle.std.proofs.Common.{◌≡◌, ℕ, ◌+◌, ◌<◌, ◌≤◌, List, [], ◌∷◌, ◌++◌, map, take, drop, flat_map, get_or, length, nat_lt, false, Option, Some, Result, Ok, Err, arith, length-append, sym, ap, subst, ◌∙◌}
+use Rattle.std.proofs.Common.{◌≡◌, ℕ, ◌+◌, ◌≤◌, List, ◌++◌, map, take, length, nat_lt, false, Option, Some, Result, Ok, Err, arith, length-append, sym, ap, subst, ◌∙◌}
 use Rattle.std.specs.List.{slice_get}
-use Rattle.std.proofs.lemmas.List.{append_assoc, append-nil, take-append-drop, take_more}
-use Rattle.std.proofs.lemmas.List.Concat.{flat_map-append}
+use Rattle.std.proofs.lemmas.List.{append_assoc}
 use Rattle.std.specs.Io.KnownBytes.{Appends}
-use Rattle.std.proofs.KnownBytes.{Appends-nil, Appends-trans}
+use Rattle.std.proofs.KnownBytes.{Appends-trans}
 use Rattle.lines.specs.Texts.{IsBeginning, Puts, outbox_room}
 use Rattle.serde_json.specs.Data.{Data}
 use Rattle.serde_json.specs.Written.{comma_if, compact_text}
@@ -29,9 +28,6 @@ pub record Fails (old new : Option (List ℕ)) (before text : List ℕ) : Type 0
   pub written : List ℕ
   pub appends : Appends old new written
   pub front : IsBeginning written (before ++ text)
-
-pub nothing_put : (old : Option (List ℕ)) (before : List ℕ) → Put old old before before []
-nothing_put old before = record { written = []; appends = Appends-nil old; all = sym (append-nil before) }
 
 -- one put after another
 pub put_then : {a b c : Option (List ℕ)} {x y z first second : List ℕ} → Put a b x y first → Put b c y z second → Put a c x z (first ++ second)
@@ -172,21 +168,3 @@ module _ {A : Type 0} (json : A → Data) (xs : List A) (i : ℕ) (x : A) (here 
       ∙ ap (λ (l : List ℕ). p ++ l) (sym (joined-next json false xs i x here))
 
 -- ---- lines one after another
-
-module _ {A : Type 0} (line : A → List ℕ) (xs : List A) (i : ℕ) (x : A) (within : i < length xs) (here : x ≡ get_or xs i x) where
-  lines-more : flat_map line (take (i + 1) xs) ≡ flat_map line (take i xs) ++ line x
-  lines-more = ap (flat_map line) (take_more xs i x within ∙ ap (λ (y : A). take i xs ++ y ∷ []) (sym here))
-      ∙ flat_map-append line (take i xs) (x ∷ []) ∙ ap (λ (l : List ℕ). flat_map line (take i xs) ++ l) (append-nil (line x))
-
-  lines-split : flat_map line (take (i + 1) xs) ++ flat_map line (drop (i + 1) xs) ≡ flat_map line xs
-  lines-split = sym (ap (flat_map line) (sym (take-append-drop (i + 1) xs)) ∙ flat_map-append line (take (i + 1) xs) (drop (i + 1) xs))
-
-  -- one line more
-  pub line_put : {a b c : Option (List ℕ)} {p q r : List ℕ} → Put a b p q (flat_map line (take i xs)) → Put b c q r (line x) → Put a c p r (flat_map line (take (i + 1) xs))
-  line_put {a = a} {c = c} {p = p} {r = r} before put = subst (λ (text : List ℕ). Put a c p r text) (sym lines-more) (put_then before put)
-
-  -- one that fails, whatever was to follow
-  pub line_fails : {a b c : Option (List ℕ)} {p q : List ℕ} → Put a b p q (flat_map line (take i xs)) → Fails b c q (line x) → Fails a c p (flat_map line xs)
-  line_fails {a = a} {c = c} {p = p} before failed =
-      let up_to = subst (λ (text : List ℕ). Fails a c p text) (sym lines-more) (put_then_fails before failed) in
-      subst (λ (text : List ℕ). Fails a c p text) lines-split (fails_before up_to (flat_map line (drop (i + 1) xs)))

@@ -3,6 +3,7 @@ use Rattle.std.proofs.Common.{◌≡◌, ℕ, zero, suc, ◌+◌, add-one, List,
 use Rattle.std.specs.List.{list_all, slice_get}
 use Rattle.std.proofs.lemmas.List.{append-nil, append_assoc}
 use Rattle.std.proofs.lemmas.Simd.{map-map}
+use Rattle.std.proofs.lemmas.Bool.{or_right}
 use Rattle.serde_json.specs.Data.{Data, array}
 use Rattle.serde_json.specs.View.{items_of}
 use Rattle.serde_json.specs.Written.{comma_if, compact_text, items_text}
@@ -164,10 +165,6 @@ selected_text pairs (Some spot) revision = simp (append_assoc, items_text-joined
 regroup : (a b c d : List ℕ) → a ++ (b ++ (c ++ d)) ≡ (a ++ (b ++ c)) ++ d
 regroup a b c d = simp append_assoc
 
-or-true : (b : Bool) → (b || true) ≡ true
-or-true true = refl
-or-true false = refl
-
 -- one value more
 pub joined-next : {A : Type 0} (json : A → Data) (later : Bool) (xs : List A) (i : ℕ) (x : A) → slice_get xs i ≡ Some x
     → joined_after later (map json (take (i + 1) xs)) ≡ joined_after later (map json (take i xs)) ++ (comma_if (later || nat_lt 0 i) ++ compact_text (json x))
@@ -180,7 +177,7 @@ joined-next json later xs i x here = rw add-one (next json later xs i x here)
     next json false (y ∷ xs) zero x here = let same : y ≡ x = cc in rw (same, append-nil) refl
     next json later (y ∷ xs) (suc i) x here =
         let positive : nat_lt 0 (suc i) ≡ true = search rules in
-        rw (positive, or-true later)
+        rw (positive, or_right later true refl)
         (ap (λ l. comma_if later ++ (compact_text (json y) ++ l)) (next json true xs i x here) ∙ regroup (comma_if later) (compact_text (json y)) _ _)
 
 -- the values up to one of them stand at the front

@@ -1,27 +1,21 @@
 -- The best version that is left of a package: the lock's, else the highest.
-use Rattle.std.proofs.Common.{◌≡◌, ◌∙◌, ◌⊎◌, ◌&&◌, ℕ, refl, sym, ap, inl, inr, Bool, true, false, true≢false, List}
+use Rattle.std.proofs.Common.{◌≡◌, ◌∙◌, ◌&&◌, ℕ, refl, sym, ap, inl, inr, false, true≢false, List}
 use Rattle.std.proofs.lemmas.Option.{none-some, same_Some}
 use Rattle.std.specs.Prelude.{None, Option, Some, slice_get}
 use Rattle.std.specs.Option.{option_and_then}
 use Rattle.std.specs.Ordering.{ordering_reverse}
-use Rattle.std.specs.declared.cmp.Ordering.{Ordering}
-use Rattle.std.specs.declared.cmp.Ordering.TheVariants.{Less, Equal, Greater}
+use Rattle.std.specs.declared.cmp.Ordering.TheVariants.{Less}
 use Rattle.terms.specs.Sets.{has}
-use Rattle.terms.specs.Terms.{true_of}
 use Rattle.terms.specs.declared.term.Term.{Term}
 use Rattle.terms.specs.declared.term.Term.TheVariants.{In}
 use Rattle.versions.specs.Precedence.{PrecedenceIsATotalPreorder}
 use Rattle.versions.specs.Words.{Text, precedence}
-use Rattle.partial.specs.declared.assignment.Assignment.{Assignment}
-use Rattle.partial.specs.Assignments.{says}
 use Rattle.registry.specs.Highest.{IsHighest}
 use Rattle.registry.specs.Laws.{PublishedBelow}
 use Rattle.registry.specs.Registry.{Package, Packages, Publication, package_at, publication_at, versions_or_none}
 use Rattle.registry.specs.Requests.{is_allowed}
-use Rattle.walk.specs.Newest.{IsAhead}
 use Rattle.walk.specs.PlainlyNewest.{AheadIsLockedOrHigher}
 use Rattle.solver.specs.declared.task.Task.{Task}
-use Rattle.solver.specs.Deciding.{IsBestLeft}
 use Rattle.solver.specs.Picking.{IsBestOf, IsBestWithin, IsLockedWithin, NoneLockedWithin, is_choosable}
 use Rattle.solver.proofs.Decisions.{highest_is_in, highest_is_within}
 
@@ -81,15 +75,3 @@ module _ (law : AheadIsLockedOrHigher) (task : Task) (p : ℕ) (said : Term) (k 
       | inr above ↦ h.fails j a.one a.other a.first a.second above.1
     ];
   }
-
-either_false : (a b : Bool) → (a && b) ≡ false → (b ≡ false) ⊎ (a ≡ false)
-either_false true b e = inl e
-either_false false b e = inr refl
-
--- what the assignments say of the package together is the term
-pub best_left : (task : Task) (made : List Assignment) (p : ℕ) (said : Term) (k : ℕ) → ((choice : Option ℕ) → true_of said choice ≡ says made p choice) → IsBestOf task p said k
-    → IsBestLeft task.registry.now.packages task.request.now made p k
-best_left task made p said k same b j a = elim (either_false (true_of said (Some j)) (is_allowed task.registry.now.packages task.request.now p j) (b.best j a)) [
-  | inl barred ↦ inl barred
-  | inr out ↦ inr (sym (same (Some j)) ∙ out)
-]

@@ -2,7 +2,7 @@
 use Rattle.std.proofs.Common.{◌≡◌, ◌<◌, ◌∙◌, ℕ, List, [], ◌∷◌, ◌++◌, refl, sym, ap, subst, true, false, true≢false, ◌&&◌, inl, inr, length, get_or, Bool}
 use Rattle.std.proofs.lemmas.Bool.{cases_eq, cases_lt, and_parts, eq-eqb, ne_eqb}
 use Rattle.std.proofs.lemmas.Option.{get_or_from_slice_get, none-some, same_Some}
-use Rattle.std.specs.Prelude.{Option, None, Some, IfNone, IfSome, Contains, slice_get}
+use Rattle.std.specs.Prelude.{Option, None, Some, IfNone, Contains, slice_get}
 use Rattle.terms.specs.Sets.{has}
 use Rattle.terms.specs.Terms.{is_in, true_of}
 use Rattle.terms.specs.Incompats.{true_at}
@@ -34,10 +34,6 @@ use Rattle.solver.proofs.Publishing.{count}
 pub IfNone-then : {X P Q : Type 0} (o : Option X) → IfNone o P → (P → Q) → IfNone o Q
 IfNone-then None h f = f h
 IfNone-then (Some x) h f = tt
-
-pub IfSome-then : {X : Type 0} {P Q : X → Type 0} (o : Option X) → IfSome o P → ((x : X) → P x → Q x) → IfSome o Q
-IfSome-then None h f = tt
-IfSome-then (Some x) h f = f x h
 
 -- the highest of the versions to choose from is one
 pub highest_is_within : PublishedBelow → (task : Task) (p : ℕ) (said : Term) (k : ℕ) → IsHighest (λ j b. is_choosable task p said j ≡ b) (versions_or_none (package_at task.registry.now.packages p)) k → IsWithin task p said k

@@ -1,6 +1,6 @@
 -- What going back leads to.
-use Rattle.std.proofs.Common.{◌≡◌, ◌<◌, ◌∙◌, ℕ, refl, sym, ap, subst, List, length, get_or, Bool}
-use Rattle.std.proofs.lemmas.Option.{slice_get_read, get_or_from_slice_get}
+use Rattle.std.proofs.Common.{◌≡◌, ◌<◌, ◌∙◌, ℕ, sym, ap, subst, List, get_or, Bool}
+use Rattle.std.proofs.lemmas.Option.{get_or_from_slice_get}
 use Rattle.std.specs.Prelude.{Some, slice_get}
 use Rattle.partial.specs.declared.assignment.Assignment.{Assignment}
 use Rattle.partial.specs.Assignments.{upto, IsPartial}
@@ -12,10 +12,6 @@ use Rattle.derivations.specs.declared.known.CausedIncompatibility.{CausedIncompa
 use Rattle.solver.specs.Lines.{AtLine}
 use Rattle.solver.specs.Searching.{IsSearch}
 use Rattle.solver.proofs.Kept.{IsSearch-upto}
-
--- the line at a place, as it was read
-pub place : (known : List CausedIncompatibility) (at : ℕ) (x : CausedIncompatibility) → at < length known → x ≡ get_or known at x → slice_get known at ≡ Some x
-place known at x lt read = slice_get_read known (length known) at x refl lt read
 
 module _ (old now : List Assignment) (known : List CausedIncompatibility) (at level : ℕ) (back : AtLine known at (λ l. LeavesAlmost old l.conclusion level))
     (x : CausedIncompatibility) (read : x ≡ get_or known at x) (is_now : now ≡ upto level old) where

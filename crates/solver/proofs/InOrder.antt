@@ -1,20 +1,19 @@
 -- What decisions say of other selections, and that those in the order of the walk, each for the best version that is left, make the newest selection.
-use Rattle.std.proofs.Common.{◌≡◌, ◌∙◌, ◌≤◌, ◌⊎◌, arith, ℕ, zero, suc, List, [], ◌∷◌, ◌++◌, take, refl, sym, ap, subst, true, false, true≢false, ◌&&◌, not, nat_eq, if◌then◌else◌, Bool, inl, inr, cond, rules}
-use Rattle.std.proofs.lemmas.Bool.{and_parts, cases_Bool, eq-eqb, eqb-true}
+use Rattle.std.proofs.Common.{◌≡◌, ◌∙◌, ◌≤◌, arith, ℕ, zero, suc, List, [], ◌∷◌, ◌++◌, take, refl, sym, ap, subst, true, false, true≢false, not, nat_eq, if◌then◌else◌, Bool, inl, inr}
+use Rattle.std.proofs.lemmas.Bool.{and_parts, cases_Bool, eq-eqb, eqb-true, and_from}
 use Rattle.std.proofs.lemmas.Option.{none-some, same_Some}
 use Rattle.std.specs.Prelude.{IsSome, None, Option, Some, is_some, slice_get}
 use Rattle.std.specs.Option.{option_or}
 use Rattle.terms.specs.Terms.{is_in, true_of}
 use Rattle.terms.specs.Incompats.{true_at}
-use Rattle.terms.specs.declared.term.Term.{Term}
 use Rattle.terms.specs.declared.term.Term.TheVariants.{In}
 use Rattle.partial.specs.declared.assignment.Assignment.{Assignment}
 use Rattle.partial.specs.declared.assignment.Why.{Why}
 use Rattle.partial.specs.declared.assignment.Why.TheVariants.{Decided, Derived}
-use Rattle.partial.specs.Assignments.{AreAssignments, DecidedOnce, IsExact, IsPartial, decided, decided_by, is_decided, is_decision, says}
+use Rattle.partial.specs.Assignments.{AreAssignments, DecidedOnce, IsExact, IsPartial, decided, decided_by, is_decided, says}
 use Rattle.versions.specs.Words.{Text}
 use Rattle.registry.specs.Registry.{Packages, needs_of, number_of, package_at}
-use Rattle.registry.specs.Requests.{Wanted, is_allowed}
+use Rattle.registry.specs.Requests.{Wanted}
 use Rattle.registry.specs.Selections.{Choices, Meets, with_root}
 use Rattle.derivations.specs.Facts.{AllTrue}
 use Rattle.derivations.specs.Laws.{KeptLinesHold}
@@ -39,20 +38,16 @@ Obeys known t = (k : ℕ) (line : CausedIncompatibility) → slice_get known k �
 abbrev Shares : Choices → List Assignment → ℕ → Type 0
 Shares t made i = (j : ℕ) (a : Assignment) (ordinal : ℕ) → slice_get (take i made) j ≡ Some a → a.why ≡ Decided ordinal → true_of a.term (with_root t a.pkg) ≡ true
 
-and_true : (a b : Bool) → a ≡ true → b ≡ true → (a && b) ≡ true
-and_true true b h g = g
-and_true false b h g = absurd (true≢false (sym h))
-
 -- what one more assignment says, where it is true of the package's choice
 says_more : (made : List Assignment) (a : Assignment) (pkg : ℕ) (choice : Option ℕ) → says made pkg choice ≡ true → (nat_eq a.pkg pkg ≡ true → true_of a.term choice ≡ true)
     → says (made ++ a ∷ []) pkg choice ≡ true
 says_more [] a pkg choice h g = elim (cases_Bool (nat_eq a.pkg pkg)) [
-  | inl t ↦ rw t (and_true (true_of a.term choice) true (g t) refl)
+  | inl t ↦ rw t (and_from (true_of a.term choice) true (g t) refl)
   | inr f ↦ rw f refl
 ]
 says_more (b ∷ made) a pkg choice h g =
     let parts = and_parts (if nat_eq b.pkg pkg then true_of b.term choice else true) (says made pkg choice) h in
-    and_true (if nat_eq b.pkg pkg then true_of b.term choice else true) (says (made ++ a ∷ []) pkg choice) parts.0 (says_more made a pkg choice parts.1 g)
+    and_from (if nat_eq b.pkg pkg then true_of b.term choice else true) (says (made ++ a ∷ []) pkg choice) parts.0 (says_more made a pkg choice parts.1 g)
 
 take_next : (xs : List Assignment) (i : ℕ) (x : Assignment) → slice_get xs i ≡ Some x → take (suc i) xs ≡ take i xs ++ x ∷ []
 take_next [] i x at = absurd (none-some x at)

@@ -23,3 +23,4 @@ pub mod InOrder
 pub mod Restarting
 pub mod Newest
 pub mod OneList
+pub mod Ruling

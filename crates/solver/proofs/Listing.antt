@@ -1,19 +1,15 @@
 -- Selections as they are told.
-use Rattle.std.proofs.Common.{◌≡◌, ◌<◌, ◌+◌, ◌∙◌, ℕ, zero, suc, List, [], ◌∷◌, ◌++◌, length, take, map, refl, sym, ap, arith, true, nat_eq, get_or}
+use Rattle.std.proofs.Common.{◌≡◌, ◌<◌, ◌+◌, ◌∙◌, ℕ, zero, suc, List, [], ◌∷◌, ◌++◌, length, take, map, refl, ap, arith, true, nat_eq, get_or}
 use Rattle.std.proofs.lemmas.Cmp.{nat_eq_equiv}
 use Rattle.std.proofs.lemmas.List.{map-append}
 use Rattle.std.proofs.lemmas.Map.Entries.{lookup_from_place}
-use Rattle.std.proofs.lemmas.Option.{none-some, same_Some}
 use Rattle.std.specs.List.{IsDistinct}
 use Rattle.std.specs.Map.{keys_of}
-use Rattle.std.specs.Option.{option_map}
-use Rattle.std.specs.Prelude.{Option, None, Some, slice_get}
-use Rattle.versions.specs.Words.{Text}
-use Rattle.registry.specs.Registry.{Package, Packages, Publication, is_published, package_at, publication_at}
+use Rattle.std.specs.Prelude.{Some, slice_get}
+use Rattle.registry.specs.Registry.{Packages, is_published}
 use Rattle.registry.specs.Selections.{IsSelection}
 use Rattle.walk.specs.Choosing.{choice_of}
-use Rattle.walk.specs.Names.{name_of, name_or_none}
-use Rattle.solver.specs.Outcomes.{told, version_or_none}
+use Rattle.solver.specs.Outcomes.{told}
 use Rattle.solver.proofs.Lists.{next}
 
 -- ---- lists
@@ -34,14 +30,3 @@ get_there (x ∷ xs) zero d lt = refl
 get_there (x ∷ xs) (suc i) d lt = get_there xs i d (omega (arith, lt))
 
 -- ---- entries
-
-name_is : (o : Option Package) (name : Text) → option_map (λ (p : Package). p.name) o ≡ Some name → name ≡ name_or_none o
-name_is None name e = absurd (none-some name e)
-name_is (Some pack) name e = sym (same_Some pack.name name e)
-
--- a name and a version's text are what is told
-pub told_is : (packages : Packages) (e : ℕ × ℕ) (name : Text) (v : Publication) → option_map (λ (p : Package). p.name) (package_at packages e.0) ≡ Some name → publication_at packages e.0 e.1 ≡ Some v
-    → (name, v.version) ≡ told packages e
-told_is packages e name v named at =
-    ap (λ (n : Text). (n, v.version)) (name_is (package_at packages e.0) name named)
-    ∙ ap (λ (o : Option Publication). (name_of packages e.0, version_or_none o)) (sym at)

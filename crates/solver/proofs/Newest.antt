@@ -1,8 +1,7 @@
 -- The lock of a request whose newest selection is asked for.
-use Rattle.std.proofs.Common.{◌≡◌, ◌∙◌, ◌||◌, sym, refl, Bool, true, false, true≢false, List, [], ◌∷◌, length, nat_lt, ℕ}
+use Rattle.std.proofs.Common.{◌≡◌, ◌||◌, sym, refl, Bool, true, false, [], ◌∷◌, length, nat_lt}
 use Rattle.std.proofs.lemmas.Option.{none-some}
-use Rattle.std.specs.Prelude.{None, Some}
-use Rattle.versions.specs.declared.refusal.Refusal.{Refusal}
+use Rattle.std.specs.Prelude.{None}
 use Rattle.versions.specs.declared.refusal.Refusal.TheVariants.{RepeatedDependency, TooManyDependencies}
 use Rattle.registry.specs.Needs.{repeats_name}
 use Rattle.registry.specs.Requests.{Wanted, request_refusal}

@@ -1,5 +1,5 @@
 -- The versions of a package that have a dependency, found one at a time.
-use Rattle.std.proofs.Common.{Bool, ◌≡◌, ◌↔◌, ◌<◌, ◌≤◌, ◌+◌, ◌∙◌, inl, inr, ℕ, List, [], length, sym, ap, subst, arith, true≢false, nat_eq}
+use Rattle.std.proofs.Common.{Bool, ◌≡◌, ◌↔◌, ◌<◌, ◌≤◌, ◌+◌, ◌∙◌, inl, inr, ℕ, List, [], length, sym, subst, arith, nat_eq}
 use Rattle.std.proofs.lemmas.Bool.{cases_eq, cases_lt, eqb-true, eq-eqb, or_cases, or_left, or_right}
 use Rattle.std.specs.Prelude.{Option, Contains, IsTrue}
 use Rattle.versions.specs.Words.{Text}
@@ -14,12 +14,6 @@ count packages p = length (versions_or_none (package_at packages p))
 -- the set has, of the ordinals below n, those whose versions have the dependency
 abbrev pub HaveBelow : Packages → ℕ → Text × Text → List ℕ → ℕ → Type 0
 HaveBelow packages p entry set n = (k : ℕ) → IsTrue (has set k) ↔ ((k < n) × Contains (needs_of packages p k) entry)
-
-pub have_none : (packages : Packages) (p : ℕ) (entry : Text × Text) (set : List ℕ) → set ≡ [] → HaveBelow packages p entry set 0
-have_none packages p entry set e k = (
-  λ h. absurd (true≢false (sym h ∙ ap (λ xs. has xs k) e)),
-  λ h. absurd (omega (arith, h.0)),
-)
 
 -- one version more, which has it or not
 pub have_more : (packages : Packages) (p : ℕ) (entry : Text × Text) (old new : List ℕ) (n : ℕ) → HaveBelow packages p entry old n → AddsOrdinal old new n → Contains (needs_of packages p n) entry

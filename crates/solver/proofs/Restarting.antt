@@ -1,5 +1,5 @@
 -- A search that begins again over the lines that it knows: what stands at the root's level serves in any order.
-use Rattle.std.proofs.Common.{◌≡◌, ◌<◌, ◌≤◌, ◌∙◌, ℕ, zero, suc, Bool, List, [], ◌∷◌, refl, sym, ap, subst, arith, true, false, true≢false, ◌&&◌, take, inl, inr, nat_eq, nat_le, if◌then◌else◌}
+use Rattle.std.proofs.Common.{◌≡◌, ◌<◌, ◌≤◌, ◌∙◌, ℕ, zero, suc, Bool, List, [], ◌∷◌, refl, sym, ap, subst, arith, true, false, take, inl, inr, nat_eq, nat_le, if◌then◌else◌}
 use Rattle.std.proofs.lemmas.Bool.{and_parts, cases_Bool, cases_eq, cases_lt, eq-eqb, leb-true}
 use Rattle.std.proofs.lemmas.Option.{none-some, same_Some}
 use Rattle.std.specs.Prelude.{Option, None, Some, is_some, slice_get}
@@ -7,11 +7,10 @@ use Rattle.terms.specs.Terms.{true_of}
 use Rattle.partial.specs.declared.assignment.Assignment.{Assignment}
 use Rattle.partial.specs.declared.assignment.Why.{Why}
 use Rattle.partial.specs.declared.assignment.Why.TheVariants.{Decided, Derived}
-use Rattle.partial.specs.Assignments.{AreAssignments, IsExact, IsPartial, decided_by, decisions, is_decision, one_if, says, upto}
+use Rattle.partial.specs.Assignments.{IsPartial, decided_by, is_decision, one_if, says, upto}
 use Rattle.registry.specs.Registry.{Packages}
 use Rattle.registry.specs.Requests.{Wanted}
 use Rattle.derivations.specs.declared.known.CausedIncompatibility.{CausedIncompatibility}
-use Rattle.solver.specs.Deciding.{IsPlaced}
 use Rattle.solver.specs.Searching.{BeginsWithRoot, IsCausedBy, IsSearch}
 use Rattle.solver.proofs.Beginning.{root_placed}
 use Rattle.solver.proofs.InOrder.{exact_at}

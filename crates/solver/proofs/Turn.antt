@@ -25,12 +25,6 @@ module _ {in_order : Bool} (packages : Packages) (wanted : Wanted) (made : List 
   pub at_within : at < length known
   at_within = slice_get_within known at m.here.0 m.here.1
 
-  -- the root's fact has a term on the root
-  pub root_second : AtLine known 0 (λ line. has_term line.conclusion 0 ≡ true)
-  root_second =
-      let root = m.search.lines.root in
-      (root.0, root.1, ap (λ terms. has_term terms 0) root.2)
-
   module _ (line : CausedIncompatibility) (read : line ≡ get_or known at line) where
     same_line : m.here.0 ≡ line
     same_line = sym (get_or_from_slice_get known at m.here.0 line m.here.1) ∙ sym read
@@ -54,9 +48,6 @@ module _ {in_order : Bool} (packages : Packages) (wanted : Wanted) (made : List 
     module _ (index level : ℕ) (found : IsSatisfier made line.conclusion index level) where
       pub satisfier_at : (a : Assignment) → a ≡ get_or made index a → slice_get made index ≡ Some a
       satisfier_at a is = found.at ∙ ap Some (sym (get_or_from_slice_get made index found.satisfier a found.at) ∙ sym is)
-
-      pub satisfier_within : index < length made
-      satisfier_within = slice_get_within made index found.satisfier found.at
 
       pub back : (a : Assignment) (lower : ℕ) → a ≡ get_or made index a → CanGoBack made line.conclusion index level → level ≤ lower → lower < a.level → AtLine known at (λ l. LeavesAlmost made l.conclusion lower)
       back a lower is can from lt = (line, here_line, can a (satisfier_at a is) lower from lt)

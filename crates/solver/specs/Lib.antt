@@ -9,3 +9,5 @@ pub mod Reusing
 pub mod Outcomes
 pub mod Laws
 pub mod Finding
+pub mod Showing
+pub mod Ruling

@@ -118,9 +118,6 @@ unfolding publication_at
 publication_in packages q k o e = ap (λ (u : Option Package). option_and_then (λ (pack : Package). slice_get pack.versions k) u) e
 
 module _ (name : Text) (change : List Publication → List Publication) (Fresh : List Publication → ℕ → Type 0) (gentle : IsGentle change Fresh) (packages : Packages) where
-  changed : Packages
-  changed = with_versions name change packages
-
   needs_same : (q k : ℕ) (d : Text × Text) → package_at (with_versions name change packages) q ≡ package_at packages q
       → Contains (needs_of packages q k) d → Contains (needs_of (with_versions name change packages) q k) d
   needs_same q k d e h =

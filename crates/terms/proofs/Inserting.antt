@@ -4,7 +4,7 @@ use Rattle.std.specs.Prelude.{bit_or, slice_get, slice_index_or, slice_set, Some
 use Rattle.std.specs.List.{insert, refill}
 use Rattle.std.specs.List.Sorted.{IsBinarySearchResult, IsSearchInRange}
 use Rattle.std.specs.Ordering.{nat_cmp, ordering_index}
-use Rattle.std.proofs.lemmas.Bool.{cases_Bool, eqb-true}
+use Rattle.std.proofs.lemmas.Bool.{cases_Bool, eqb-true, ne_eqb}
 use Rattle.std.proofs.lemmas.Bool.Decides.{nat_tests}
 use Rattle.std.proofs.lemmas.Nat.{le_or_l, or_comm, or_lt, pow_below, pow_pos}
 use Rattle.std.proofs.lemmas.Nat.Bits.{bit_at-zero}
@@ -15,7 +15,7 @@ use Rattle.smallvec.specs.SmallVec.{SmallVec, small_vec_len}
 use Rattle.smallvec.proofs.SmallVecLemmas.{items-with_items}
 use Rattle.terms.specs.Sets.{has}
 use Rattle.terms.specs.Words.{AreWords, IsPlace, NumbersBelow, WordsFrom, bits_of, has_bit, is_bit, ordinals_of}
-use Rattle.terms.proofs.Ascending.{differ, nat_eq-itself}
+use Rattle.terms.proofs.Ascending.{nat_eq-itself}
 use Rattle.terms.proofs.MergedWords.{kept_ordinals}
 use Rattle.terms.proofs.WordBits.{is_bit-pow}
 use Rattle.terms.proofs.WordLists.{NumbersBelow-push, WordsFrom-between, WordsFrom-parts, bits_of-absent, bits_of-between-other, bits_of-between-same, has-ordinals_of}
@@ -28,7 +28,7 @@ use Rattle.std.specs.declared.cmp.Ordering.TheVariants as cmp
 bits_of-gap : (n : ℕ) (front back : List Word) → NumbersBelow n front → WordsFrom (suc n) back → bits_of (front ++ back) n ≡ 0
 bits_of-gap n [] back below above = bits_of-absent (suc n) n back above (omega arith)
 bits_of-gap n (w ∷ rest) back below above =
-    let apart : nat_eq w.number n ≡ false = differ w.number n (λ e. omega (arith, e, below.0)) in
+    let apart : nat_eq w.number n ≡ false = ne_eqb w.number n (λ e. omega (arith, e, below.0)) in
     rw apart (bits_of-gap n rest back below.1 above)
 
 pub split-at : (ws : List Word) (i : ℕ) (w : Word) → slice_get ws i ≡ Some w → ws ≡ take i ws ++ w ∷ drop (suc i) ws
@@ -154,7 +154,7 @@ places k j e = elim (cases_Bool (nat_eq k j)) [
   | inl same ↦ let equal : k ≡ j = eqb-true k j same in ap (λ x. nat_eq (x % 64) (j % 64)) equal ∙ nat_eq-itself (j % 64) ∙ sym same
   | inr other ↦
       let apart : k % 64 ≡ j % 64 → ⊥ = λ h. let equal : k ≡ j = omega (arith, e, h) in true≢false (sym (nat_eq-itself j) ∙ ap (λ x. nat_eq x j) (sym equal) ∙ other) in
-      differ (k % 64) (j % 64) apart ∙ sym other
+      ne_eqb (k % 64) (j % 64) apart ∙ sym other
 ]
 
 has_bit-word_of : (k : ℕ) (word : Word) → IsWordOf k word → (j : ℕ) → has_bit (word ∷ []) j ≡ nat_eq k j
@@ -164,7 +164,7 @@ has_bit-word_of k word m j = elim (cases_Bool (nat_eq word.number (j / 64))) [
       ap (λ b. is_bit (if b then word.bits else 0) (j % 64)) e ∙ ap (λ n. is_bit n (j % 64)) m.bits ∙ is_bit-pow (k % 64) (j % 64) ∙ places k j (sym m.number ∙ same)
   | inr e ↦
       let apart : k ≡ j → ⊥ = λ h. true≢false (sym (nat_eq-itself (j / 64)) ∙ ap (λ x. nat_eq (x / 64) (j / 64)) (sym h) ∙ ap (λ n. nat_eq n (j / 64)) (sym m.number) ∙ e) in
-      ap (λ b. is_bit (if b then word.bits else 0) (j % 64)) e ∙ ap (λ n. nat_eq n 1) (bit_at-zero (j % 64)) ∙ sym (differ k j apart)
+      ap (λ b. is_bit (if b then word.bits else 0) (j % 64)) e ∙ ap (λ n. nat_eq n 1) (bit_at-zero (j % 64)) ∙ sym (ne_eqb k j apart)
 ]
 
 or-none : (n : ℕ) → bit_or n 0 ≡ n

@@ -1,8 +1,8 @@
 -- Two incompatibilities are resolved: what is kept so far, and what is left of each.
 use Rattle.std.proofs.Common.{◌≡◌, ◌<◌, ◌≤◌, ◌+◌, ◌∙◌, inl, inr, ℕ, suc, List, [], ◌∷◌, ◌++◌, length, refl, sym, ap, subst, arith, Bool, true, false, ◌&&◌, true≢false, nat_eq, min, if◌then◌else◌}
 use Rattle.std.specs.Prelude.{Option, Some, None, IfSome}
-use Rattle.std.proofs.lemmas.Bool.{cases_Bool, eqb-true}
-use Rattle.terms.proofs.Ascending.{nat_eq-itself, differ, either_min}
+use Rattle.std.proofs.lemmas.Bool.{cases_Bool, eqb-true, ne_eqb}
+use Rattle.terms.proofs.Ascending.{nat_eq-itself, either_min}
 use Rattle.terms.specs.Incompats.{AreTerms, Follows, IsIncompat, OrderedFrom, joined, true_at}
 use Rattle.terms.specs.Terms.{true_of, CanBeFalse, IsTerm}
 use Rattle.terms.specs.Fronts.{least_package, front_term, behind_package, true_where}
@@ -16,13 +16,13 @@ AllBefore low (t ∷ rest) = (t.0 < low) × AllBefore low rest
 pub true_at-absent : (low pkg : ℕ) (terms : List (ℕ × Term)) (choice : Option ℕ) → OrderedFrom low terms → pkg < low → true_at terms pkg choice ≡ true
 true_at-absent low pkg [] choice h lt = refl
 true_at-absent low pkg (t ∷ rest) choice h lt =
-    let apart : nat_eq t.0 pkg ≡ false = differ t.0 pkg (λ e. omega (arith, e, h.0)) in
+    let apart : nat_eq t.0 pkg ≡ false = ne_eqb t.0 pkg (λ e. omega (arith, e, h.0)) in
     rw apart (true_at-absent (suc t.0) pkg rest choice h.2 (omega (arith, h.0)))
 
 true_at-past : (low pkg : ℕ) (terms : List (ℕ × Term)) (choice : Option ℕ) → AllBefore low terms → low ≤ pkg → true_at terms pkg choice ≡ true
 true_at-past low pkg [] choice h le = refl
 true_at-past low pkg (t ∷ rest) choice h le =
-    let apart : nat_eq t.0 pkg ≡ false = differ t.0 pkg (λ e. omega (arith, e, h.0)) in
+    let apart : nat_eq t.0 pkg ≡ false = ne_eqb t.0 pkg (λ e. omega (arith, e, h.0)) in
     rw apart (true_at-past low pkg rest choice h.1 le)
 
 -- a term that is pushed on another package
@@ -36,7 +36,7 @@ true_at-push-same : (low pkg : ℕ) (term : Term) (terms : List (ℕ × Term)) (
     → true_at (terms ++ (pkg, term) ∷ []) pkg choice ≡ true_of term choice
 true_at-push-same low pkg term [] choice h le = rw (nat_eq-itself pkg) refl
 true_at-push-same low pkg term (t ∷ rest) choice h le =
-    let apart : nat_eq t.0 pkg ≡ false = differ t.0 pkg (λ e. omega (arith, e, h.0)) in
+    let apart : nat_eq t.0 pkg ≡ false = ne_eqb t.0 pkg (λ e. omega (arith, e, h.0)) in
     rw apart (true_at-push-same low pkg term rest choice h.1 le)
 
 OrderedFrom-push : (low top pkg : ℕ) (term : Term) (terms : List (ℕ × Term)) → OrderedFrom low terms → AllBefore top terms → top ≤ pkg → low ≤ pkg → CanBeFalse term

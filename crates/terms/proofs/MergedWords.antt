@@ -1,15 +1,15 @@
 -- Two sets are merged word by word: what is kept so far, and what is left of each.
-use Rattle.std.proofs.Common.{◌≡◌, ◌<◌, ◌≤◌, ◌+◌, ◌*◌, ◌/◌, ◌%◌, ◌^◌, ◌∙◌, inl, inr, ℕ, zero, suc, List, [], ◌∷◌, ◌++◌, length, refl, sym, ap, subst, arith, Bool, true, false, ◌||◌, ◌&&◌, true≢false, nat_eq, min, if◌then◌else◌}
+use Rattle.std.proofs.Common.{◌≡◌, ◌<◌, ◌≤◌, ◌+◌, ◌*◌, ◌/◌, ◌%◌, ◌^◌, ◌∙◌, inl, inr, ℕ, zero, suc, List, [], ◌∷◌, length, refl, sym, ap, subst, arith, Bool, true, false, ◌||◌, ◌&&◌, true≢false, nat_eq, min, if◌then◌else◌}
 use Rattle.std.specs.Prelude.{count_ones}
 use Rattle.std.specs.Int.{bit_not, trailing_zeros, w64}
 use Rattle.std.specs.Int.Bits.{and_zero_l, and_zero_r}
-use Rattle.std.proofs.lemmas.Bool.{cases_Bool, eqb-true}
+use Rattle.std.proofs.lemmas.Bool.{cases_Bool, eqb-true, ne_eqb}
 use Rattle.std.proofs.lemmas.List.{append-nil}
 use Rattle.terms.specs.Merges.{IsOnlyWord, behind, front_bits, is_over, keeps, kept_bits, least_number, pushed}
 use Rattle.terms.specs.Sets.{has, IsAscending}
 use Rattle.terms.specs.Words.{AreWords, NumbersBelow, WordsFrom, bits_of, has_bit, is_bit, ordinals_of}
 use lib.Count.{ones}
-use Rattle.terms.proofs.Ascending.{differ, either_min, nat_eq-itself}
+use Rattle.terms.proofs.Ascending.{nat_eq-itself}
 use Rattle.terms.proofs.SameSets.{same_members}
 use Rattle.terms.proofs.WordBits.{kept_bits-below, kept_bits-keeps, kept_bits-none, lowest_bit}
 use Rattle.terms.proofs.WordLists.{IsAscending-ordinals_of, NumbersBelow-more, NumbersBelow-push, WordsFrom-between, bits_of-absent, bits_of-below, bits_of-between-other, bits_of-between-same, bits_of-past, has-ordinals_of, has_bit-at, length-ordinals_of-bound, length-ordinals_of-push}
@@ -154,24 +154,6 @@ module _ (r : Rule) (first second kept left right : List Word) (m : IsMerging r 
         ];
       }
 
-shorter : (k : ℕ) (ws : List Word) → length (behind ws k) ≤ length ws
-shorter k [] = omega arith
-shorter k (w ∷ rest) = elim (cases_Bool (nat_eq w.number k)) [ inl e ↦ rw e (omega arith) | inr e ↦ rw e (omega arith) ]
-
-shorter-head : (k : ℕ) (w : Word) (rest : List Word) → w.number ≡ k → length (behind (w ∷ rest) k) < length (w ∷ rest)
-shorter-head k w rest same = let e : nat_eq w.number k ≡ true = ap (λ y. nat_eq y k) same ∙ nat_eq-itself k in rw e (omega arith)
-
--- a turn takes a word away
-pub falls : (left right : List Word) → 0 < length left + length right
-    → length (behind left (least_number left right)) + length (behind right (least_number left right)) < length left + length right
-falls [] [] some = absurd (omega arith)
-falls [] (b ∷ others) some = let less = shorter-head b.number b others refl in omega (arith, less)
-falls (a ∷ rest) [] some = let less = shorter-head a.number a rest refl in omega (arith, less)
-falls (a ∷ rest) (b ∷ others) some = elim (either_min a.number b.number) [
-  | inl e ↦ omega (arith, shorter-head (min a.number b.number) a rest e, shorter (min a.number b.number) (b ∷ others))
-  | inr e ↦ omega (arith, shorter (min a.number b.number) (a ∷ rest), shorter-head (min a.number b.number) b others e)
-]
-
 -- what the calls of one turn answer
 pub said : (r : Rule) (left right : List Word) (number on_left on_right bits : ℕ) → number ≡ least_number left right → on_left ≡ front_bits left number → on_right ≡ front_bits right number → bits ≡ kept_bits r on_left on_right
     → bits ≡ kept_bits r (front_bits left (least_number left right)) (front_bits right (least_number left right))
@@ -192,7 +174,7 @@ module _ (r : Rule) (first second kept left right : List Word) (m : IsMerging r 
 -- ---- at the end
 
 not_nil : (w : Word) (rest : List Word) → nat_eq (length (w ∷ rest)) 0 ≡ false
-not_nil w rest = differ (length (w ∷ rest)) 0 (λ e. omega (arith, e))
+not_nil w rest = ne_eqb (length (w ∷ rest)) 0 (λ e. omega (arith, e))
 
 either-false : (a b : Bool) → a ≡ false → b ≡ false → (a || b) ≡ true → ⊥
 either-false a b e f h = true≢false (sym h ∙ ap (λ x. x || b) e ∙ f)
@@ -270,9 +252,6 @@ module _ (r : Rule) (first second left right : List Word) (f : AreWords first) (
     let lt = least-small m.low left right some m.on_left m.on_right in omega (arith, lt, is_least),
     let lt = kept_bits-below r (bits_of first number) (bits_of second number) (bits_of-below 0 number first f) (bits_of-below 0 number second s) in omega (arith, whole, lt),
   )
-
-  pub first-fits : number * 64 + trailing_zeros w64 bits < 2 ^ 32
-  first-fits = let b = lowest_bit bits (omega (arith, h)) small.1 in omega (arith, small.0, b.0)
 
   pub first-kept : keeps r (has (ordinals_of first) (number * 64 + trailing_zeros w64 bits)) (has (ordinals_of second) (number * 64 + trailing_zeros w64 bits)) ≡ true
   first-kept =
@@ -378,17 +357,11 @@ module _ (r : Rule) (first second : List Word) (word : Word) (f : AreWords first
   only-merging kept is_kept =
       turn r first second [] first second (begin r first second f s) some word.number w.0 w.1 word.bits kept [] [] is_least on_left on_right w.4 none_left none_right is_kept
 
-  pub only-words : (kept : List Word) → kept ≡ pushed [] word.number word.bits → AreWords kept
-  only-words kept is_kept = let m = only-merging kept is_kept in m.words
-
   pub only-kept : (kept : List Word) → kept ≡ pushed [] word.number word.bits → (k : ℕ) → has (ordinals_of kept) k ≡ keeps r (has (ordinals_of first) k) (has (ordinals_of second) k)
   only-kept kept is_kept = merged r first second kept [] [] f s (only-merging kept is_kept) (over-nil r)
 
   pub only-none : word.bits ≡ 0 → (k : ℕ) → keeps r (has (ordinals_of first) k) (has (ordinals_of second) k) ≡ false
   only-none e = none-kept r first second [] [] f s (only-merging [] (sym (pushed-zero [] word.number word.bits e))) (over-nil r)
-
-  pub only-fits : (word.bits ≡ 0 → ⊥) → word.number * 64 + trailing_zeros w64 word.bits < 2 ^ 32
-  only-fits = first-fits r first second first second f s (begin r first second f s) some word.number w.0 w.1 word.bits is_least on_left on_right w.4
 
   pub only-first : (word.bits ≡ 0 → ⊥) → keeps r (has (ordinals_of first) (word.number * 64 + trailing_zeros w64 word.bits)) (has (ordinals_of second) (word.number * 64 + trailing_zeros w64 word.bits)) ≡ true
   only-first = first-kept r first second first second f s (begin r first second f s) some word.number w.0 w.1 word.bits is_least on_left on_right w.4

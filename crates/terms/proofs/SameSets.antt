@@ -1,9 +1,9 @@
 -- Ascending lists with the same members are equal, and so are terms that are true of the same choices.
 use Rattle.std.proofs.Common.{◌≡◌, ◌<◌, ◌≤◌, ◌∙◌, inl, inr, ℕ, suc, List, [], ◌∷◌, refl, sym, ap, subst, arith, Bool, true, false, not, ◌&&◌, true≢false, rules, nat_eq, nat_lt}
 use Rattle.std.specs.Prelude.{Option, Some, None, count_by, filter, length}
-use Rattle.std.proofs.lemmas.Bool.{cases_Bool, eqb-true}
+use Rattle.std.proofs.lemmas.Bool.{cases_Bool, eqb-true, ne_eqb}
 use Rattle.std.proofs.lemmas.List.Sums.{length-filter}
-use Rattle.terms.proofs.Ascending.{absent, differ, from_lower, nat_eq-itself}
+use Rattle.terms.proofs.Ascending.{absent, from_lower, nat_eq-itself}
 use Rattle.terms.specs.Merges.{IsWithinFirst, keeps}
 use Rattle.terms.specs.Sets.{AscendingFrom, IsAscending, has}
 use Rattle.terms.specs.Terms.{true_of, IsTerm}
@@ -16,7 +16,7 @@ pub has-first : (x : ℕ) (xs : List ℕ) → has (x ∷ xs) x ≡ true
 has-first x xs = rw (nat_eq-itself x) refl
 
 has-later : (x k : ℕ) (xs : List ℕ) → x < k → has (x ∷ xs) k ≡ has xs k
-has-later x k xs lt = let apart : nat_eq x k ≡ false = differ x k (λ e. omega (arith, e)) in rw apart refl
+has-later x k xs lt = let apart : nat_eq x k ≡ false = ne_eqb x k (λ e. omega (arith, e)) in rw apart refl
 
 -- ascending lists with the same members are the same
 pub same_members : (low : ℕ) (a b : List ℕ) → AscendingFrom low a → AscendingFrom low b → ((k : ℕ) → has a k ≡ has b k) → a ≡ b

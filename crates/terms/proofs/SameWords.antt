@@ -3,17 +3,16 @@ use Rattle.std.proofs.Common.{◌≡◌, ◌<◌, ◌≤◌, ◌+◌, ◌*◌, �
 use Rattle.std.specs.Prelude.{◌↔◌, IsTrue}
 use Rattle.std.specs.Bool.{Decides}
 use Rattle.std.specs.Cmp.Lexicographic.{pointwise}
-use Rattle.std.proofs.lemmas.Bool.{cases_Bool}
+use Rattle.std.proofs.lemmas.Bool.{cases_Bool, ne_eqb}
 use Rattle.std.proofs.lemmas.Slice.Eq.{slice_eq-Decides}
 use Rattle.terms.specs.Sets.{has}
 use Rattle.terms.specs.Words.{AreWords, WordsFrom, bits_of, ordinals_of}
-use Rattle.terms.proofs.Ascending.{differ}
 use Rattle.terms.proofs.WordBits.{same_bits}
 use Rattle.terms.proofs.WordLists.{bits_of-absent, bits_of-below, bits_of-first, has-ordinals_of, has_bit-at}
 use Rattle.terms.specs.declared.words.Word.{Word}
 
 bits_of-later : (w : Word) (rest : List Word) (n : ℕ) → w.number < n → bits_of (w ∷ rest) n ≡ bits_of rest n
-bits_of-later w rest n lt = let apart : nat_eq w.number n ≡ false = differ w.number n (λ e. omega (arith, e)) in rw apart refl
+bits_of-later w rest n lt = let apart : nat_eq w.number n ≡ false = ne_eqb w.number n (λ e. omega (arith, e)) in rw apart refl
 
 same_by_bits : (low : ℕ) (a b : List Word) → WordsFrom low a → WordsFrom low b → ((n : ℕ) → bits_of a n ≡ bits_of b n) → a ≡ b
 same_by_bits low [] [] f g h = refl

@@ -26,9 +26,6 @@ pub record IsJudging (terms rest : List (ℕ × Term)) (low : ℕ) : Type 0 wher
   pub exactly : IsIncompat terms ↔ OrderedFrom low rest
   pub ascending : AreTerms rest → AreTerms terms
 
-pub judging-begin : (terms : List (ℕ × Term)) → IsJudging terms terms 0
-judging-begin terms = record { exactly = (λ h. h, λ h. h); ascending = λ h. h }
-
 -- ---- terms without those that always hold
 
 unless_always-none : (pkg : ℕ) (term : Term) → (CanBeFalse term → ⊥) → unless_always pkg term ≡ []

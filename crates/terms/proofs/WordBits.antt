@@ -2,7 +2,7 @@
 use Rattle.std.proofs.Common.{◌≡◌, ◌≢◌, ◌<◌, ◌≤◌, ◌+◌, ◌-◌, ◌*◌, ◌/◌, ◌%◌, ◌^◌, ◌∙◌, ◌⊎◌, inl, inr, ℕ, zero, suc, List, [], ◌∷◌, length, refl, add-zero, sym, ap, subst, arith, Bool, true, false, not, ◌||◌, ◌&&◌, true≢false, nat_eq, min, max}
 use Rattle.std.specs.Prelude.{bit_and, count_ones}
 use Rattle.std.specs.Int.{bit_at, bit_not, w64, trailing_zeros}
-use Rattle.std.proofs.lemmas.Bool.{cases_Bool, eqb-true}
+use Rattle.std.proofs.lemmas.Bool.{cases_Bool, eqb-true, ne_eqb}
 use Rattle.std.proofs.lemmas.Nat.{and_block, and_le_l, or_lt}
 use Rattle.std.proofs.lemmas.Nat.Bits.{bit_at_lowest, bit_at-suc, bit_at-lt, bit_at_and, bit_at_or, bit_at_not, bit_at-pow_other, bit_at-pow_same, bit_at-trailing_zeros, bit_at-zero, same_from_bits, same_from_bits_below}
 use Rattle.std.proofs.Math.Nat.{pow-suc}
@@ -10,7 +10,7 @@ use lib.Count.{ones, ones_step}
 use Rattle.terms.specs.Merges.{keeps, kept_bits}
 use Rattle.terms.specs.Sets.{has, AscendingFrom}
 use Rattle.terms.specs.Words.{is_bit, before_if, bits_from}
-use Rattle.terms.proofs.Ascending.{EndsBelow, absent, differ, from_lower, nat_eq-itself}
+use Rattle.terms.proofs.Ascending.{EndsBelow, absent, from_lower, nat_eq-itself}
 use Rattle.terms.specs.declared.merging.Rule.{Rule}
 use Rattle.terms.specs.declared.merging.Rule.TheVariants as rule
 
@@ -52,7 +52,7 @@ has-bits_from (suc count) base bits zero k lt e =
     subst (λ j. has (before_if (nat_eq (bits % 2) 1) base (bits_from count (suc base) (bits / 2))) j ≡ is_bit bits 0) same
     (has-before_if-same (nat_eq (bits % 2) 1) base (bits_from count (suc base) (bits / 2)) gone ∙ ap (λ n. nat_eq n 1) (sym (bit_at_lowest bits)))
 has-bits_from (suc count) base bits (suc i) k lt e =
-    let apart : nat_eq base k ≡ false = differ base k (λ h. omega (arith, h, e)) in
+    let apart : nat_eq base k ≡ false = ne_eqb base k (λ h. omega (arith, h, e)) in
     has-before_if-other (nat_eq (bits % 2) 1) base k (bits_from count (suc base) (bits / 2)) apart
     ∙ has-bits_from count (suc base) (bits / 2) i k (omega arith) (omega (arith, e))
     ∙ ap (λ n. nat_eq n 1) (sym (bit_at-suc bits i))

@@ -2,14 +2,14 @@
 use Rattle.std.proofs.Common.{◌≡◌, ◌<◌, ◌≤◌, ◌+◌, ◌*◌, ◌/◌, ◌%◌, ◌^◌, ◌∙◌, inl, inr, ℕ, zero, suc, List, [], ◌∷◌, ◌++◌, drop, get_or, length, length-append, append_assoc, add-zero, refl, sym, ap, subst, arith, true, false, ◌||◌, true≢false, rules, nat_eq, nat_lt, if◌then◌else◌}
 use Rattle.std.specs.Prelude.{◌↔◌, IsTrue, count_ones}
 use Rattle.std.specs.Int.{trailing_zeros, w64}
-use Rattle.std.proofs.lemmas.Bool.{cases_Bool, eqb-true}
+use Rattle.std.proofs.lemmas.Bool.{cases_Bool, eqb-true, ne_eqb}
 use Rattle.std.proofs.lemmas.List.{drop_more}
 use Rattle.std.proofs.lemmas.List.Folds.{list_any-append}
 use Rattle.std.proofs.lemmas.Nat.{ones-le}
 use Rattle.std.proofs.lemmas.Nat.Bits.{bit_at-zero}
 use Rattle.terms.specs.Sets.{has, AscendingFrom, IsAscending}
 use Rattle.terms.specs.Words.{AreWords, NumbersBelow, WordsFrom, bits_from, bits_of, has_bit, is_bit, ordinals_of}
-use Rattle.terms.proofs.Ascending.{AscendingFrom-append, absent, absent-past, differ, from_lower, nat_eq-itself, or-false}
+use Rattle.terms.proofs.Ascending.{AscendingFrom-append, absent, absent-past, from_lower, nat_eq-itself, or-false}
 use Rattle.terms.proofs.WordBits.{bits_from-ascending, bits_from-ends, has-bits_from, length-bits_from, lowest_bit}
 use Rattle.terms.specs.declared.words.Word.{Word}
 
@@ -103,13 +103,13 @@ bits_of-below low n (w ∷ rest) h = elim (cases_Bool (nat_eq w.number n)) [
 pub bits_of-absent : (low n : ℕ) (ws : List Word) → WordsFrom low ws → n < low → bits_of ws n ≡ 0
 bits_of-absent low n [] h lt = refl
 bits_of-absent low n (w ∷ rest) h lt =
-    let apart : nat_eq w.number n ≡ false = differ w.number n (λ e. omega (arith, e, h.0)) in
+    let apart : nat_eq w.number n ≡ false = ne_eqb w.number n (λ e. omega (arith, e, h.0)) in
     rw apart (bits_of-absent (suc w.number) n rest h.4 (omega (arith, h.0)))
 
 pub bits_of-past : (top n : ℕ) (ws : List Word) → NumbersBelow top ws → top ≤ n → bits_of ws n ≡ 0
 bits_of-past top n [] h le = refl
 bits_of-past top n (w ∷ rest) h le =
-    let apart : nat_eq w.number n ≡ false = differ w.number n (λ e. omega (arith, e, h.0)) in
+    let apart : nat_eq w.number n ≡ false = ne_eqb w.number n (λ e. omega (arith, e, h.0)) in
     rw apart (bits_of-past top n rest h.1 le)
 
 pub NumbersBelow-more : (low high : ℕ) (ws : List Word) → NumbersBelow low ws → low ≤ high → NumbersBelow high ws
@@ -134,7 +134,7 @@ WordsFrom-parts low (w ∷ rest) back x h =
 pub bits_of-between-same : (front back : List Word) (x : Word) → NumbersBelow x.number front → bits_of (front ++ x ∷ back) x.number ≡ x.bits
 bits_of-between-same [] back x below = rw (nat_eq-itself x.number) refl
 bits_of-between-same (w ∷ rest) back x below =
-    let apart : nat_eq w.number x.number ≡ false = differ w.number x.number (λ e. omega (arith, e, below.0)) in
+    let apart : nat_eq w.number x.number ≡ false = ne_eqb w.number x.number (λ e. omega (arith, e, below.0)) in
     rw apart (bits_of-between-same rest back x below.1)
 
 pub bits_of-between-other : (n : ℕ) (front back : List Word) (x : Word) → nat_eq x.number n ≡ false → bits_of (front ++ x ∷ back) n ≡ bits_of (front ++ back) n

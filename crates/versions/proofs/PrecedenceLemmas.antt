@@ -1,9 +1,8 @@
 -- Precedence of texts: a total preorder, and what was read gives the same.
-use Rattle.std.proofs.Common.{◌≡◌, ◌∙◌, refl, ap, true}
+use Rattle.std.proofs.Common.{◌≡◌, refl}
 use Rattle.std.specs.Prelude.{Ok}
-use Rattle.std.specs.Cmp.{IsEquivalence, IsTotalOrder, Equal-is, eq_by_cmp_equiv, nat_cmp_total, on_total, then_total, tied_itself}
+use Rattle.std.specs.Cmp.{IsEquivalence, IsTotalOrder, eq_by_cmp_equiv, nat_cmp_total, on_total, then_total}
 use Rattle.std.specs.Ordering.{is_eq}
-use Rattle.std.specs.declared.cmp.Ordering.TheVariants.{Equal}
 use Rattle.semver.specs.Eval.{precedence_cmp}
 use Rattle.semver.specs.Identifiers.{parts_of}
 use Rattle.semver.specs.OrderLaws.{pre_total}
@@ -26,34 +25,12 @@ pub precedence_total : IsTotalOrder precedence
 unfolding precedence
 precedence_total = on_total parts_of_text parts_total
 
--- a text has the precedence of itself
-pub precedence-itself : (a : Text) → precedence a a ≡ Equal
-precedence-itself = tied_itself precedence_total
-
 -- equal precedence is a tie of the order
 pub same_precedence-tie : (a b : Text) → same_precedence a b ≡ is_eq (precedence a b)
 unfolding same_precedence
 same_precedence-tie a b = refl
 
--- two texts have equal precedence exactly where the order answers `Equal`
-pub same_precedence-Equal : (a b : Text) → same_precedence a b ≡ true → precedence a b ≡ Equal
-unfolding same_precedence
-same_precedence-Equal a b e = (Equal-is (precedence a b)).0 e
-
-pub Equal-same_precedence : (a b : Text) → precedence a b ≡ Equal → same_precedence a b ≡ true
-unfolding same_precedence
-Equal-same_precedence a b e = ap is_eq e
-
 -- equal precedence is reflexive and symmetric, and texts of equal precedence share it with the same texts
 pub same_precedence_equiv : IsEquivalence same_precedence
 unfolding same_precedence
 same_precedence_equiv = eq_by_cmp_equiv precedence_total
-
-pub same_precedence-itself : (a : Text) → same_precedence a a ≡ true
-same_precedence-itself = same_precedence_equiv.refl
-
-pub same_precedence-symm : (a b : Text) → same_precedence a b ≡ same_precedence b a
-same_precedence-symm = same_precedence_equiv.symm
-
-pub same_precedence-trans : (a b c : Text) → same_precedence a b ≡ true → same_precedence b c ≡ true → same_precedence a c ≡ true
-same_precedence-trans a b c p q = same_precedence_equiv.congr a b c p ∙ q

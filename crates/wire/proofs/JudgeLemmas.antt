@@ -4,6 +4,7 @@ use Rattle.std.specs.List.{flat_map, list_all, slice_get}
 use Rattle.std.proofs.lemmas.List.Concat.{flat_map-append}
 use Rattle.wire.proofs.ItemLemmas.{take_one_more}
 use Rattle.std.proofs.lemmas.List.Folds.{list_all-append}
+use Rattle.std.proofs.lemmas.Bool.{and_right}
 use Rattle.versions.specs.Refusals.{Refuses}
 use Rattle.versions.specs.Words.{Text, is_name, is_requirement, is_version}
 use Rattle.versions.specs.declared.refusal.Refusal.{Refusal}
@@ -17,10 +18,6 @@ use Rattle.wire.specs.NamedShapes.{premise_requirements, requirement_of}
 use Rattle.wire.specs.Shapes.{Request, check, resolve}
 use Rattle.by_name.specs.NamedLines.{NamedCause, NamedLine}
 
--- lack of memory is no answer
-pub refuses_memory : {Y : Type 0} (e : Refusal) (said : Result Y Refusal) → e ≡ NoMemory → Refuses e said
-refuses_memory e said is = rw is tt
-
 -- where a test decides what was read, its refusal is the one that is said
 pub refuses_by : {X Y : Type 0} (b : Bool) (x : X) (bad e : Refusal) (said : Result Y Refusal) → Refuses e (if b then Ok x else Err bad)
     → (b ≡ false → Refuses bad said) → Refuses e said
@@ -33,17 +30,12 @@ pub given_by : {X : Type 0} (b : Bool) (x y : X) (bad : Refusal) → (if b then 
 given_by true x y bad is = (refl, cc)
 given_by false x y bad is = absurd (cc)
 
--- a test and one that fails
-pub never : (b : Bool) → (b && false) ≡ false
-never true = refl
-never false = refl
-
 module _ {A B : Type 0} (part : A → B) (test : B → Bool) where
   -- the test fails of all where it fails at one place
   pub fails_at : (xs : List A) (i : ℕ) (x : A) → slice_get xs i ≡ Some x → test (part x) ≡ false → list_all test (map part xs) ≡ false
   fails_at [] i x here bad = absurd (cc)
   fails_at (y ∷ xs) zero x here bad = let same : y ≡ x = cc in rw (same, bad) refl
-  fails_at (y ∷ xs) (suc i) x here bad = rw (fails_at xs i x here bad) (never (test (part y)))
+  fails_at (y ∷ xs) (suc i) x here bad = rw (fails_at xs i x here bad) (and_right (test (part y)) false refl)
 
   next_suc : (xs : List A) (i : ℕ) (x : A) → slice_get xs i ≡ Some x → map part (take (suc i) xs) ≡ map part (take i xs) ++ part x ∷ []
   next_suc [] i x here = absurd (cc)
@@ -64,7 +56,7 @@ module _ {A B : Type 0} (parts : A → List B) (test : B → Bool) where
   pub fails_within : (xs : List A) (i : ℕ) (x : A) → slice_get xs i ≡ Some x → list_all test (parts x) ≡ false → list_all test (flat_map parts xs) ≡ false
   fails_within [] i x here bad = absurd (cc)
   fails_within (y ∷ xs) zero x here bad = let same : y ≡ x = cc in rw (same, list_all-append, bad) refl
-  fails_within (y ∷ xs) (suc i) x here bad = rw (list_all-append, fails_within xs i x here bad) (never (list_all test (parts y)))
+  fails_within (y ∷ xs) (suc i) x here bad = rw (list_all-append, fails_within xs i x here bad) (and_right (list_all test (parts y)) false refl)
 
   pub holds_within : (xs : List A) (i : ℕ) (x : A) → slice_get xs i ≡ Some x → list_all test (flat_map parts (take i xs)) ≡ true → list_all test (parts x) ≡ true
       → list_all test (flat_map parts (take (i + 1) xs)) ≡ true
@@ -169,7 +161,7 @@ misnamed_needs needs lock bad = rw (list_all-append, bad) refl
 
 -- a bad name among the lock lines
 pub misnamed_lock : (needs lock : List (Text × Text)) → list_all is_name (names_of lock) ≡ false → list_all is_name (names_of needs ++ names_of lock) ≡ false
-misnamed_lock needs lock bad = rw (list_all-append, bad) (never (list_all is_name (names_of needs)))
+misnamed_lock needs lock bad = rw (list_all-append, bad) (and_right (list_all is_name (names_of needs)) false refl)
 
 -- what a request is refused for, the line that asks it is
 refuses_line : (ask : Wanted → Request) (wanted : Wanted) (refusal : Option Refusal) (e : Refusal) → Refuses e (kept.unless_refused refusal wanted) → Refuses e (unless_refused refusal (ask wanted))
@@ -239,7 +231,7 @@ unrequired_needs needs lines bad = rw (list_all-append, bad) refl
 -- a bad requirement among the premises
 pub unrequired_lines : (needs : List (Text × Text)) (lines : List NamedLine) → list_all is_requirement (premise_requirements lines) ≡ false
     → list_all is_requirement (requirements_of needs ++ premise_requirements lines) ≡ false
-unrequired_lines needs lines bad = rw (list_all-append, bad) (never (list_all is_requirement (requirements_of needs)))
+unrequired_lines needs lines bad = rw (list_all-append, bad) (and_right (list_all is_requirement (requirements_of needs)) false refl)
 
 -- a bad requirement of the first of two causes
 pub unrequired_one : (one two : NamedCause) → list_all is_requirement (requirement_of one) ≡ false → list_all is_requirement (requirement_of one ++ requirement_of two) ≡ false
@@ -247,7 +239,7 @@ unrequired_one one two bad = rw (list_all-append, bad) refl
 
 -- a bad requirement of the second
 pub unrequired_two : (one two : NamedCause) → list_all is_requirement (requirement_of two) ≡ false → list_all is_requirement (requirement_of one ++ requirement_of two) ≡ false
-unrequired_two one two bad = rw (list_all-append, bad) (never (list_all is_requirement (requirement_of one)))
+unrequired_two one two bad = rw (list_all-append, bad) (and_right (list_all is_requirement (requirement_of one)) false refl)
 
 -- the requirements of both
 pub good_causes : (one two : NamedCause) → list_all is_requirement (requirement_of one) ≡ true → list_all is_requirement (requirement_of two) ≡ true

@@ -1,4 +1,4 @@
-use Rattle.std.proofs.Common.{◌≡◌, ◌∙◌, ◌⊎◌, inl, inr, Bool, codes, subst, sym, ◌≤◌, ℕ, List, Option, Some, None, Result, Ok, Err, IfOk, IsErrOf, arith, refl}
+use Rattle.std.proofs.Common.{◌≡◌, ◌∙◌, ◌⊎◌, inl, Bool, codes, subst, sym, ◌≤◌, ℕ, List, Option, Some, None, Result, Ok, Err, IfOk, IsErrOf, arith, refl}
 use Rattle.std.specs.Str.Parse.{ExplainsUnsignedError, HasUnsignedDigitsIfOk, ParsesUnsigned}
 use Rattle.std.specs.declared.num.ParseIntError.{ParseIntError}
 use Rattle.clap.specs.Words.{ReadsOne, Row, Text, found_of, first_of, one_of, rows_of}

@@ -1,5 +1,5 @@
-use Rattle.std.proofs.Common.{List, ◌≡◌, ◌+◌, ◌-◌, ◌<◌, ◌≤◌, inl, inr, ◌∙◌, ap, arith, get_or, length, subst, sym}
-use Rattle.std.proofs.lemmas.Bool.{cases_lt, ne_eqb}
+use Rattle.std.proofs.Common.{List, ◌≡◌, ◌+◌, ◌-◌, ◌<◌, ◌≤◌, ◌∙◌, ap, arith, get_or, length, subst, sym}
+use Rattle.std.proofs.lemmas.Bool.{ne_eqb}
 use Rattle.std.specs.Prelude.{All, IfSome, sum_by}
 use Rattle.extraction.specs.Cutting.{ShowsLine}
 use Rattle.extraction.specs.Offering.{ShowsOne}

@@ -10,6 +10,9 @@ loop-step-init c made search = search
 pub loop-step-preserved : goal.loop-step-preserved
 loop-step-preserved c made search = c.in_ok-at.ensures made (c.loop-step.invariant made search)
 
+pub returns-then-count-room : goal.returns-then-count-room
+returns-then-count-room c made search = c.in_ok-at.ensures made (c.loop-step.invariant made search)
+
 pub returns : goal.returns
 returns c = c.loop-step.invariant
 

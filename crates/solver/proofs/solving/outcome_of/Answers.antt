@@ -23,7 +23,7 @@ returns-in_ok-pairs-in-Selected-clause-answers c s finds =
 pub returns-in_ok-derivation-in-Refused-clause-lawful : goal.returns-in_ok-derivation-in-Refused-clause-lawful
 returns-in_ok-derivation-in-Refused-clause-lawful c =
     let found = rw c.in-Refused.is at c.requires in
-    (c.if-not-explain.false, c.in_ok-derivation-in-Refused.ensures.derived c.args.task.now.registry.now.packages c.args.task.now.request.now found.0.lawful, found.1)
+    (c.if-not-task.false, c.in_ok-derivation-in-Refused.ensures.derived c.args.task.now.registry.now.packages c.args.task.now.request.now found.0.lawful, found.1)
 
 pub returns-in_ok-pairs-in-Selected-clause-newest : goal.returns-in_ok-pairs-in-Selected-clause-newest
 returns-in_ok-pairs-in-Selected-clause-newest c asked =

@@ -1,4 +1,3 @@
-use Rattle.std.proofs.lemmas.Result.{IfOk-from_err}
 use Rattle.solver.proofs.Restarting.{restart_search}
 use Rattle.solver.proofs.starting.restart.Goals as goal
 

@@ -1,4 +1,3 @@
-use Rattle.std.proofs.Common.{sym}
 use Rattle.partial.specs.Assignments.{decided}
 use Rattle.registry.specs.Registry.{needs_of}
 use Rattle.solver.proofs.InOrder.{asked_turn, asked_unmet}

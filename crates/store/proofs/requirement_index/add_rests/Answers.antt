@@ -1,4 +1,4 @@
-use Rattle.std.proofs.Common.{◌-◌, List, ap, arith, drop, inl, inr, length, subst, sym, take}
+use Rattle.std.proofs.Common.{◌-◌, List, drop, inl, inr, length, subst, sym, take}
 use Rattle.store.specs.RequirementIndex.{Rests}
 use Rattle.derivations.specs.Lines.{Line}
 use Rattle.store.proofs.Behind.{behind_first, none_behind}

@@ -1,8 +1,9 @@
 use Rattle.std.proofs.Common.{◌∙◌, ◌++◌, ◌∷◌, [], ap, arith, false, length, subst, sym}
+use Rattle.std.proofs.lemmas.List.{length_push}
 use Rattle.releases.specs.declared.release.Release.{Release}
 use Rattle.registry.specs.Publications.{PublicationList, any_yanked, publications_of, AreAlike}
 use Rattle.registry.specs.Registry.{Publication, has_version}
-use Rattle.registry.proofs.Alike.{alike-next, longer}
+use Rattle.registry.proofs.Alike.{alike-next}
 use Rattle.registry.proofs.PublicationLemmas.{has_version-releases, length-publications_of, publications_of-push}
 use Rattle.registry.proofs.Yanks.{yanked-more}
 use Rattle.registry.proofs.publications.Publications.push.Goals as goal
@@ -27,7 +28,7 @@ invariant_of-self c =
     let added : Release = record { version = c.args.version; yanked = false } in
     let more = ap length items in
     let released = ap length c.push-2.ensures.releases in (
-      omega (arith, more, released, longer old.needs.items c.args.needs, longer old.releases.releases added, c.self.invariant.0),
+      omega (arith, more, released, length_push old.needs.items c.args.needs, length_push old.releases.releases added, c.self.invariant.0),
       subst (λ m. AreAlike m c.push-3.new.self.items) (sym marks)
           (subst (AreAlike (old.repeats.items ++ c.end_with.result ∷ [])) (sym items) (alike-next old.repeats.items old.needs.items c.end_with.result c.args.needs c.self.invariant.1 ends)),
       c.self.invariant.2 ∙ sym (ap any_yanked c.push-2.ensures.releases ∙ yanked-more old.releases.releases c.args.version),
