@@ -21,7 +21,7 @@ ACROSS, DOWN = 162, 84
 # a line that passes a row takes less room there than a box
 PASSING = 100
 MARGIN = 24
-SWEEPS, STARTS = 8, 60
+SWEEPS, STARTS = 8, 400
 
 
 def stands_on():

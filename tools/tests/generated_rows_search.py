@@ -141,9 +141,13 @@ def _pigeons(count):
             yield f"pigeon{pigeon}", f"{hole}.0.0", f"hole{hole} ={pigeon}.0.0"
 
 
+def pigeons(count):
+    """The rows that publish so many pigeons and one hole less, and the needs on all pigeons."""
+    return _published(*_pigeons(count)), [[f"pigeon{pigeon}", "*"] for pigeon in range(count)]
+
+
 @rows_of("high")
 def a_line_that_is_cited_again_counts_once():
-    rows = _published(*_pigeons(8))
-    needs = [[f"pigeon{pigeon}", "*"] for pigeon in range(8)]
+    rows, needs = pigeons(8)
     rows.append({"of": "solver", "call": "solve", "needs": needs, "lock": [], "by": _beyond_the_most, "gives": [True, False]})
     yield f"What takes more than {MOST} lines as they are cited, and no more where each counts once, is offered", rows

@@ -60,12 +60,13 @@ def said_to(client, lines):
 
 def busy_behind(client, line):
     """How long a program is busy once its reply to a line is on its way: it is put behind a listing for which the pipe has no
-    room, and so it waits with both until they are read."""
-    client.stdin.write(f"{LIST}\n{line}\n".encode())
+    room, and so it waits with both until they are read. A request comes behind it: one that waits alone is searched for once what
+    is before it was written."""
+    client.stdin.write(f"{LIST}\n{line}\n{resolve()}\n".encode())
     while waiting(client.stdout) < PAGE:
         time.sleep(0.001)
     time.sleep(0.01)
-    before, replies = busy(client), read_lines(client, 2)
+    before, replies = busy(client), read_lines(client, 3)
     # a line more is answered once the program is through
     said_to(client, [""])
     return busy(client) - before, replies.decode().splitlines()[1]

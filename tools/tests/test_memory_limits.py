@@ -22,6 +22,8 @@ LIMIT, MOST_OF_A_RACE, MOST_OF_A_FILE = 16_000, 8_000, 128
 PIPE = 4_096  # bytes
 # More conflicts than that memory has room for, and fewer than twice as much has.
 CONFLICTS = 16_000
+# Decisions of a newest selection, and the kilobytes of all memory in which it is found.
+LADDERS = (1_000, 32_000), (2_000, 64_000)
 
 
 def holes():
@@ -30,6 +32,21 @@ def holes():
     lines = [publish(f"hole-{hole}", f"{pigeon}.0.0") for hole in range(PIGEONS - 1) for pigeon in range(PIGEONS)]
     return lines + [publish(f"pigeon-{pigeon}", f"{hole}.0.0", [f"hole-{hole} ={pigeon}.0.0"])
                     for pigeon in range(PIGEONS) for hole in range(PIGEONS - 1)]
+
+
+def ladder(rungs):
+    """A registry in which each rung is a decision, from which the version of its step follows, with that of the step before. So what
+    rules out a better version of a step depends on all decisions before. That `x` 2.0.0 can't be selected shows only in a search."""
+    yield from (publish("x", "1.0.0"), publish("x", "2.0.0", ["d *"]), publish("y", "1.0.0", ["c =2.0.0"]), publish("c", "1.0.0"), publish("c", "2.0.0"))
+    yield from (publish("d", "1.0.0", ["c =1.0.0"]), publish("d", "2.0.0", ["c =1.0.0", "e *"]), publish("e", "1.0.0"))
+    for rung in range(rungs):
+        last = rung + 1 == rungs
+        more = [] if last else [f"rung-{rung + 1:04} *"]
+        yield publish(f"rung-{rung:04}", "1.0.0", more)
+        yield publish(f"rung-{rung:04}", "2.0.0", [*more, f"step-{rung:04} >=1.1.0"])
+        yield publish(f"step-{rung:04}", "1.0.0")
+        yield publish(f"step-{rung:04}", "1.1.0", [] if last else [f"step-{rung + 1:04} <1.2.0"])
+        yield publish(f"step-{rung:04}", "1.2.0")
 
 
 def within(kilobytes):
@@ -98,6 +115,19 @@ class Searches(unittest.TestCase):
         for limit, name in ((LIMIT, b"NoMemory"), (2 * LIMIT, b"BudgetSpent")):
             done = run(["serve", "--workers", "1"], "".join(line + "\n" for line in [*published, asked]).encode(), preexec_fn=within(limit))
             self.assertIn(b'"name":"' + name + b'"', done.stdout.split(b"\n")[-2])
+
+
+class Ladders(unittest.TestCase):
+    """The newest selection depends on many decisions: memory does not grow with the square of their number."""
+
+    def test_a_request_of_many_decisions(self):
+        asked = resolve("x *", "y *", "rung-0000 *", "step-0000 =1.1.0")
+        for rungs, limit in LADDERS:
+            with self.subTest(rungs=rungs):
+                replies = run(["serve", "--workers", "1"], "".join(line + "\n" for line in [*ladder(rungs), asked]).encode(),
+                              preexec_fn=within(limit)).stdout.split(b"\n")
+                made = [[f"{name}-{rung:04}", version] for name, version in (("rung", "2.0.0"), ("step", "1.1.0")) for rung in range(rungs)]
+                self.assertEqual(json.loads(replies[-2])["selected"], [["c", "2.0.0"], *made, ["x", "1.0.0"], ["y", "1.0.0"]])
 
 
 class Peaks(unittest.TestCase):

@@ -1,5 +1,5 @@
-"""An oracle that loses, or lies about a selection, a refusal or the newest selection, changes no answer: rows whose answers have
-other sources are asked again with each of these."""
+"""An oracle that loses, or lies about a selection, a refusal, the newest selection or what shows that it is the newest, changes no
+answer: rows whose answers have other sources are asked again with each of these."""
 import json
 import random
 import unittest
@@ -10,7 +10,7 @@ from generated_rows import row
 from plain_newest import Published
 from small_registries import Maker
 
-ORACLES = "lost", "selection", "refusal", "newest"
+ORACLES = "lost", "selection", "refusal", "newest", "ruling", "first"
 SEEDS = range(120)
 
 

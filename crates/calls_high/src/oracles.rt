@@ -21,6 +21,10 @@ pub enum Lie {
     Refusal,
     /// Why no other selection is newer: by steps on other packages.
     Newest,
+    /// Why no other selection is newer: by other lines for each package.
+    Ruling,
+    /// Which selection is the newest: the one that was found first.
+    First,
 }
 
 /// What the oracle of a row says wrongly, as `"oracle":"lost"`.
@@ -30,6 +34,8 @@ pub fn lie_at(row: &Value) -> Result<Lie, Unread> {
         "selection" => Ok(Lie::Selection),
         "refusal" => Ok(Lie::Refusal),
         "newest" => Ok(Lie::Newest),
+        "ruling" => Ok(Lie::Ruling),
+        "first" => Ok(Lie::First),
         _ => Err(Unread::Row),
     }
 }
@@ -40,6 +46,8 @@ pub struct Liar<'a> {
     alloc: Global,
     engine: Engine<'a>,
     lie: Lie,
+    /// What the selection has that was found first.
+    first: Vec<(Pkg, u32)>,
 }
 
 /// The same packages in other versions.
@@ -63,12 +71,31 @@ fn on_other_packages(trace: Trace) -> Trace {
     changed
 }
 
+/// The same packages, each ruled out by the line behind its own.
+fn by_other_lines(trace: Trace) -> Trace {
+    let mut changed = trace;
+    for named in changed.ruling.iter_mut() {
+        named.1 = named.1.wrapping_add(1);
+    }
+    changed
+}
+
+/// The versions of a selection.
+fn listed(alloc: Global, decided: &IndexMap<Pkg, u32>) -> Result<Vec<(Pkg, u32)>, Stop> {
+    let mut list = Vec::with_capacity(alloc, decided.len())?;
+    for (pkg, ordinal) in decided.iter() {
+        list.push((*pkg, *ordinal))?;
+    }
+    Ok(list)
+}
+
 impl<'a> Liar<'a> {
     pub fn new(question: Question<'a>, store: &'a Store, lie: Lie) -> Liar<'a> {
         Liar {
             alloc: question.alloc,
             engine: Engine::new(&question, store, None),
             lie,
+            first: Vec::new(question.alloc),
         }
     }
 
@@ -84,7 +111,11 @@ impl<'a> Liar<'a> {
                 Ok(Found::Selected(others, trace))
             }
             Lie::Refusal => Ok(Found::Refused(self.engine.search_newest()?)),
-            Lie::Lost | Lie::Newest => Ok(Found::Selected(decided, trace)),
+            Lie::First => {
+                self.first = listed(self.alloc, &decided)?;
+                Ok(Found::Selected(decided, trace))
+            }
+            Lie::Lost | Lie::Newest | Lie::Ruling => Ok(Found::Selected(decided, trace)),
         }
     }
 
@@ -93,7 +124,23 @@ impl<'a> Liar<'a> {
         match self.lie {
             Lie::Selection => Found::Selected(IndexMap::new(self.alloc), trace),
             Lie::Refusal => Found::Refused(on_other_packages(trace)),
-            Lie::Lost | Lie::Newest => Found::Refused(trace),
+            Lie::Lost | Lie::Newest | Lie::Ruling | Lie::First => Found::Refused(trace),
+        }
+    }
+
+    /// What is said in place of the newest selection, and of why no other one is newer.
+    fn changed_newest(&self, trace: Trace) -> Result<Trace, Stop> {
+        match self.lie {
+            Lie::Ruling => Ok(by_other_lines(trace)),
+            Lie::First => {
+                let mut changed = trace;
+                changed.selected.clear();
+                for chosen in self.first.as_slice() {
+                    changed.selected.push(*chosen)?;
+                }
+                Ok(changed)
+            }
+            Lie::Lost | Lie::Selection | Lie::Refusal | Lie::Newest => Ok(on_other_packages(trace)),
         }
     }
 }
@@ -110,7 +157,8 @@ impl Oracle for Liar<'_> {
     }
 
     fn search_newest(&mut self) -> Result<Trace, Stop> {
-        Ok(on_other_packages(self.engine.search_newest()?))
+        let trace = self.engine.search_newest()?;
+        self.changed_newest(trace)
     }
 
     fn conflicts(&self) -> u32 {

@@ -133,7 +133,7 @@ fn told(
     }
 }
 
-/// The selection, or whether the derivation is one, and whether all that is offered stands.
+/// The selection, or null, or whether the derivation is one, and whether all that is offered stands.
 fn judged(
     alloc: Global,
     registry: &Registry,
@@ -143,7 +143,7 @@ fn judged(
     let stand = all_stand(registry, offered(outcome));
     match outcome {
         Outcome::Selection(list, _) => judged_told(alloc, "{\"selected\":", list, stand),
-        Outcome::NoSelection(_) => Err(Unread::Row),
+        Outcome::NoSelection(_) => judged_told(alloc, "{\"selected\":", &CallResult::None, stand),
         Outcome::Refused(derivation, _) => {
             let derived = check(alloc, registry, request, derivation)?;
             judged_told(alloc, "{\"derived\":", &derived, stand)

@@ -19,6 +19,8 @@ pub(crate) enum Found {
     Selected(Vec<(Pkg, u32)>, Vec<Learnt>),
     /// The lines of a search, and the place of one without terms.
     Refused(Vec<CausedIncompatibility>, usize, Vec<Learnt>),
+    /// That no selection meets the request, and it is not asked why.
+    Unexplained(Vec<Learnt>),
 }
 
 /// What a search found that ended so, with what it offers of the lines at these places and of a refusal.

@@ -10,6 +10,7 @@
 //! | `greedy.rt` | what a greedy search finds, validated by the walk | | `IsAnswer` |
 //! | `oracle.rt` | who is asked for the answer of a hard request | | none |
 //! | `validating.rt` | what an oracle says, checked by the walk or a replay | | `IsValidated` |
+//! | `by_chains.rt` | the newest selection, as lines of a trace show it | | `IsAnswer` |
 //! | `over_trace.rt` | the newest selection, searched for over the lines of a trace | | `IsFound` |
 //! | `replaying.rt` | the trace of a refusal, derived again line by line | | `Refuses` |
 //! | `starting.rt` | the root, and the needs of the request | The Algorithm | `Searches` |
@@ -31,6 +32,7 @@
 #![tactic(auto)]
 
 mod acting;
+mod by_chains;
 mod conflict;
 mod deciding;
 mod dependents;
@@ -49,6 +51,7 @@ mod propagating;
 mod replaying;
 mod reusing;
 mod search;
+mod showing;
 mod solving;
 mod starting;
 mod store_lookups;

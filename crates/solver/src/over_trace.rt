@@ -101,7 +101,7 @@ fn enter_trace(
     ensures ends { IfOk result (λ end. MatchOption end (Searches task.now search.new) (Refuses task.now search.new.known.items)) }
     ensures only { IfErr result (MayRefuse task.now.budget) }
 {
-    let mut places = Places::new(task.alloc);
+    let mut places = Places::of_selection(task.alloc, trace);
     // What a record that says nothing leaves out is searched for.
     let _last = push_records(task, &mut search.known, &mut places, trace)?;
     note_all(task, &search.known, worklist, &places)?;

@@ -27,6 +27,22 @@ use registry::ordinals_are_below_the_count;
 use std::alloc::{AllocError, Global};
 use terms::{Pkg, Relation, VSet, relation};
 
+/// By how many of its first steps what may be learnt of a trace follows. All offers together have no more lines.
+const LEARNT_STEPS: u32 = 1024;
+
+/// What is derived from the trace of a selection has at most so many terms together, and so many more for each of its
+/// steps. Each incompatibility can name each package that was decided before: without a limit their memory would grow
+/// with the square of their number.
+const MOST_TERMS: usize = 65_536;
+
+const MOST_TERMS_A_STEP: usize = 64;
+
+/// How many terms what is derived from the trace of a selection may have together.
+pub(crate) fn terms_room(trace: &Trace) -> usize {
+    let more = trace.steps.len().saturating_mul(MOST_TERMS_A_STEP);
+    MOST_TERMS.saturating_add(more)
+}
+
 /// Lines that show that no selection meets a request.
 #[derive(Drop)]
 pub(crate) struct Replayed {
@@ -44,17 +60,25 @@ pub(crate) struct Places {
     pub of_records: Vec<usize>,
     /// Those of the lines that conflicts led to.
     pub learnt: Vec<usize>,
+    /// How many terms the lines may have together that are still to be derived by steps.
+    room: usize,
     sharing: Sharing,
 }
 
 impl Places {
-    /// None yet.
-    pub fn new(alloc: Global) -> Places {
+    /// None yet, for lines that have at most so many terms together.
+    fn with_room(alloc: Global, room: usize) -> Places {
         Places {
             of_records: Vec::new(alloc),
             learnt: Vec::new(alloc),
+            room,
             sharing: Sharing::new(alloc),
         }
+    }
+
+    /// None yet, of a trace of a selection. Where its lines would take too much memory, another search goes on.
+    pub fn of_selection(alloc: Global, trace: &Trace) -> Places {
+        Places::with_room(alloc, terms_room(trace))
     }
 }
 
@@ -81,8 +105,8 @@ fn is_within(known: &[CausedIncompatibility], at: usize, of: usize, pkg: Pkg) ->
     }
 }
 
-/// Resolves the line at a place with another one on a package, where both have a term on it, and answers the
-/// place of what follows.
+/// Resolves the line at a place with another one on a package, and answers the place of what follows: of one of the two
+/// where that has no term on the package.
 fn resolve_on(
     task: &Task<'_>,
     known: &mut Vec<CausedIncompatibility>,
@@ -95,8 +119,9 @@ fn resolve_on(
     if !has_term_at(known, at, on) {
         return Ok(at);
     }
+    // What would follow has its terms too, so it says no more.
     if !has_term_at(known, with, on) {
-        return Ok(at);
+        return Ok(with);
     }
     // What follows would say less than one of the two: it has the other terms of both, and no more on this package.
     if is_within(known, with, at, on) {
@@ -127,11 +152,21 @@ fn take_step(
     }
 }
 
-/// Derives what follows by some steps from the line of a record, if that was derived. Answers its place.
+/// How many terms the line at a place has; none if there is no line.
+fn terms_count(known: &[CausedIncompatibility], at: usize) -> usize {
+    match known.get(at) {
+        None => 0,
+        Some(line) => line.conclusion.terms().len(),
+    }
+}
+
+/// Derives what follows by some steps from the line of a record, if that was derived and there is room for the terms of
+/// what follows. Answers its place, and lessens the room.
 fn follow(
     task: &Task<'_>,
     known: &mut Vec<CausedIncompatibility>,
     places: &[usize],
+    room: &mut usize,
     from: u32,
     steps: &[Step],
 ) -> Result<Option<usize>, AllocError>
@@ -143,6 +178,11 @@ fn follow(
     let mut at = first;
     for step in steps {
         at = take_step(task, known, places, at, step)?;
+        let count = terms_count(known, at);
+        if count > *room {
+            return Ok(None);
+        }
+        *room -= count;
     }
     Ok(Some(at))
 }
@@ -242,11 +282,36 @@ fn push_follows(
     let Some(steps) = steps else {
         return Ok(None);
     };
-    let place = follow(task, known, &places.of_records, from, steps)?;
+    let mut room = places.room;
+    let place = follow(task, known, &places.of_records, &mut room, from, steps)?;
+    places.room = room;
     if let Some(at) = place {
         places.learnt.push(at)?;
     }
     Ok(place)
+}
+
+/// Puts the fact that a record names behind the lines, if it names one, and answers its place.
+pub(crate) fn push_fact_of(
+    task: &Task<'_>,
+    known: &mut Vec<CausedIncompatibility>,
+    sharing: &mut Sharing,
+    record: Record,
+) -> Result<Option<usize>, AllocError>
+    requires { StoreStands task.now }
+    ensures { OnOk result (Extends task.now known.old.items known.new.items) }
+{
+    match record {
+        Record::Need(index) => push_need_at(task, known, index),
+        Record::Dependency {
+            pkg,
+            ordinal,
+            index,
+        } => push_dependency_at(task, known, sharing, pkg, ordinal, index),
+        Record::NotAllowed(pkg) => push_barred_of(task, known, pkg),
+        Record::Member(place) => push_member_at(task, known, place),
+        Record::Follows { .. } => Ok(None),
+    }
 }
 
 /// Derives what a record says, and answers the place of its line, if it says something.
@@ -260,20 +325,34 @@ fn push_record(
     requires { StoreStands task.now }
     ensures { OnOk result (Extends task.now known.old.items known.new.items) }
 {
-    match record {
-        Record::Need(index) => push_need_at(task, known, index),
-        Record::Dependency {
-            pkg,
-            ordinal,
-            index,
-        } => push_dependency_at(task, known, &mut places.sharing, pkg, ordinal, index),
-        Record::NotAllowed(pkg) => push_barred_of(task, known, pkg),
-        Record::Member(place) => push_member_at(task, known, place),
-        Record::Follows { from, first, end } => {
-            let steps = trace.steps.as_slice().get(first as usize..end as usize);
-            push_follows(task, known, places, from, steps)
-        }
+    if let Record::Follows { from, first, end } = record {
+        let steps = trace.steps.as_slice().get(first as usize..end as usize);
+        return push_follows(task, known, places, from, steps);
     }
+    push_fact_of(task, known, &mut places.sharing, record)
+}
+
+/// Derives what some records of a trace say, one after the other, and answers the place of the last one's line,
+/// if each says something.
+fn push_some(
+    task: &Task<'_>,
+    known: &mut Vec<CausedIncompatibility>,
+    places: &mut Places,
+    trace: &Trace,
+    records: &[Record],
+) -> Result<Option<usize>, AllocError>
+    requires { StoreStands task.now }
+    ensures { OnOk result (Extends task.now known.old.items known.new.items) }
+{
+    let mut last = None;
+    for record in records {
+        last = push_record(task, known, places, trace, *record)?;
+        let Some(at) = last else {
+            return Ok(None);
+        };
+        places.of_records.push(at)?;
+    }
+    Ok(last)
 }
 
 /// Derives what the records of a trace say, one after the other, and answers the place of the last one's line,
@@ -287,15 +366,7 @@ pub(crate) fn push_records(
     requires { StoreStands task.now }
     ensures { OnOk result (Extends task.now known.old.items known.new.items) }
 {
-    let mut last = None;
-    for record in trace.records.as_slice() {
-        last = push_record(task, known, places, trace, *record)?;
-        let Some(at) = last else {
-            return Ok(None);
-        };
-        places.of_records.push(at)?;
-    }
-    Ok(last)
+    push_some(task, known, places, trace, &trace.records)
 }
 
 // ---- the trace
@@ -336,7 +407,7 @@ pub(crate) fn replay(task: &Task<'_>, trace: &Trace) -> Result<Option<Replayed>,
     requires { StoreStands task.now }
     ensures { IfOk result (λ found. IfSome found (λ replayed. Refuses task.now replayed.known.items replayed.end)) }
 {
-    let mut places = Places::new(task.alloc);
+    let mut places = Places::with_room(task.alloc, usize::MAX);
     let mut search = begin(task, trace.records.len())?;
     let end = replay_in(task, &mut search, &mut places, trace);
     let Search { partial, known, .. } = search;
@@ -344,6 +415,7 @@ pub(crate) fn replay(task: &Task<'_>, trace: &Trace) -> Result<Option<Replayed>,
         of_records,
         learnt,
         sharing,
+        ..
     } = places;
     drop(partial);
     drop(of_records);
@@ -363,19 +435,58 @@ pub(crate) struct ReplayedLearnt {
     pub learnt: Vec<usize>,
 }
 
+/// Whether a trace has few steps.
+pub(crate) fn is_short(trace: &Trace) -> bool {
+    trace.steps.len() <= LEARNT_STEPS as usize
+}
+
+/// The records of a trace before one that follows by later steps than the first ones.
+fn first_records(trace: &Trace) -> &[Record] {
+    let records = trace.records.as_slice();
+    for at in 0..records.len() {
+        if let Record::Follows { end, .. } = records[at] {
+            if end > LEARNT_STEPS {
+                return &records[..at];
+            }
+        }
+    }
+    records
+}
+
 /// Derives again what a trace says.
 pub(crate) fn replay_learnt(task: &Task<'_>, trace: &Trace) -> Result<ReplayedLearnt, AllocError>
     requires { StoreStands task.now }
     ensures { IfOk result (λ replayed. AreLines task.now.registry.now.packages task.now.request.now replayed.known.items) }
 {
-    let mut places = Places::new(task.alloc);
-    let mut search = begin(task, trace.records.len())?;
-    let said = push_records(task, &mut search.known, &mut places, trace);
+    replay_some(task, trace, &trace.records)
+}
+
+/// Derives again what the first records of a trace say.
+pub(crate) fn replay_first(task: &Task<'_>, trace: &Trace) -> Result<ReplayedLearnt, AllocError>
+    requires { StoreStands task.now }
+    ensures { IfOk result (λ replayed. AreLines task.now.registry.now.packages task.now.request.now replayed.known.items) }
+{
+    replay_some(task, trace, first_records(trace))
+}
+
+/// Derives again what some records of a trace say.
+fn replay_some(
+    task: &Task<'_>,
+    trace: &Trace,
+    records: &[Record],
+) -> Result<ReplayedLearnt, AllocError>
+    requires { StoreStands task.now }
+    ensures { IfOk result (λ replayed. AreLines task.now.registry.now.packages task.now.request.now replayed.known.items) }
+{
+    let mut places = Places::of_selection(task.alloc, trace);
+    let mut search = begin(task, records.len())?;
+    let said = push_some(task, &mut search.known, &mut places, trace, records);
     let Search { partial, known, .. } = search;
     let Places {
         of_records,
         learnt,
         sharing,
+        ..
     } = places;
     drop(partial);
     drop(of_records);

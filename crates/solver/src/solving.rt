@@ -1,6 +1,6 @@
 //! What a request is answered.
 
-ghost use Rattle.std.specs.Prelude.{◌≡◌, map, nat_eq, true, All, IfErr, IfOk, Some};
+ghost use Rattle.std.specs.Prelude.{◌≡◌, false, map, nat_eq, true, All, IfErr, IfOk, Some};
 ghost use Rattle.std.specs.List.{IsDistinct};
 ghost use Rattle.std.specs.Map.{keys_of};
 ghost use Rattle.derivations.specs.Learning.{AllStand};
@@ -100,16 +100,15 @@ fn tell(
     Ok(named_all(alloc, registry, &list)?)
 }
 
-/// Goes on with a search that has started, in any order or in that of the walk. Where a selection is found in any
-/// order that can't be seen to be the newest, which is asked for, the search begins again, in the order of the
-/// walk and over the lines that it knows: most of what rules better versions out was learnt already.
+/// Goes on with a search that has started in any order. Where it finds a selection that can't be seen to be the
+/// newest, which is asked for, the search begins again, in the order of the walk and over the lines that it knows:
+/// most of what rules better versions out was learnt already.
 fn search_on(
     task: &Task<'_>,
-    in_order: bool,
     search: &mut Search,
     worklist: &mut Worklist,
 ) -> Result<Ended, Refusal>
-    requires search { IsSearch in_order task.now.registry.now.packages task.now.request.now search.old.partial search.old.known.items }
+    requires search { IsSearch false task.now.registry.now.packages task.now.request.now search.old.partial search.old.known.items }
     requires stored { StoreStands task.now }
     ensures ends { IfOk result (EndsBy task.now search.new.known.items) }
     ensures only { IfErr result (MayRefuse task.now.budget) }
@@ -120,14 +119,12 @@ fn search_on(
         request: task.request,
         store: task.store,
         budget: task.budget,
-        newest: in_order,
+        newest: false,
+        explain: task.explain,
     };
     match run(&first, search, worklist)? {
         Ended::Refused(end) => Ok(Ended::Refused(end)),
         Ended::Selected(list) => {
-            if in_order {
-                return Ok(Ended::Selected(list));
-            }
             if suffices(task, &list)? {
                 return Ok(Ended::Selected(list));
             }
@@ -138,11 +135,10 @@ fn search_on(
     }
 }
 
-/// Searches for an answer from the start on, in any order first or in that of the walk at once, with backjumps
-/// and with room for so many packages. Its conflicts are counted on from so many.
+/// Searches for an answer from the start on, in any order first, with backjumps and with room for so many packages.
+/// Its conflicts are counted on from so many.
 fn search_from(
     task: &Task<'_>,
-    in_order: bool,
     worklist: &mut Worklist,
     room: usize,
     conflicts: u32,
@@ -157,11 +153,12 @@ fn search_from(
         request: task.request,
         store: task.store,
         budget: task.budget,
-        newest: in_order,
+        newest: false,
+        explain: task.explain,
     };
     let mut search = start(&first, worklist, room)?;
     search.conflicts = conflicts;
-    match search_on(task, in_order, &mut search, worklist) {
+    match search_on(task, &mut search, worklist) {
         Ok(ended) => {
             let Search { partial, known, .. } = search;
             drop(partial);
@@ -175,43 +172,46 @@ fn search_from(
 }
 
 /// As [`search_from`]. What conflicts led to is offered to be learnt, in whichever order it was met.
-fn search_fully(
-    task: &Task<'_>,
-    in_order: bool,
-    room: usize,
-    conflicts: u32,
-) -> Result<Found, Refusal>
+fn search_fully(task: &Task<'_>, room: usize, conflicts: u32) -> Result<Found, Refusal>
     requires { StoreStands task.now }
     ensures found { IfOk result (IsFound task.now) }
     ensures only { IfErr result (MayRefuse task.now.budget) }
 {
     let mut worklist = Worklist::new(task.alloc, room)?;
-    let found = search_from(task, in_order, &mut worklist, room, conflicts);
+    let found = search_from(task, &mut worklist, room, conflicts);
     // By a call, so that what dropping it does stands in no proof here.
     drop(worklist);
     found
 }
 
-/// Finds what answers a task for which nothing is found without a conflict: what is right of what an oracle says,
-/// else by the full search, with room for so many packages, which counts on from the oracle's conflicts.
-fn search_hard<O: Oracle>(task: &Task<'_>, oracle: &mut O, room: usize) -> Result<Found, Refusal>
-    requires { StoreStands task.now }
-    ensures found { IfOk result (IsFound task.now) }
-    ensures only { IfErr result (MayRefuse task.now.budget) }
-{
-    match validate(task, oracle)? {
-        Some(found) => Ok(found),
-        None => Ok(search_fully(task, false, room, oracle.conflicts())?),
-    }
-}
-
-/// Finds what answers a task by a search: by the one that does not jump back, which minds an obstacle, else by
-/// the one that does. Where that finds no selection that is seen to be the newest, and this is asked for, no
-/// conflict was met, and so nothing is known that a search in the order of the walk could begin with.
-fn search_in_turn<O: Oracle>(
+/// Finds any selection for a task: by the search that does not jump back, which minds an obstacle, if that finds
+/// one; else what is right of what an oracle says; else by the full search, which counts on from the oracle's conflicts.
+fn search_for_any<O: Oracle>(
     task: &Task<'_>,
     oracle: &mut O,
     obstacle: Option<Obstacle>,
+) -> Result<Found, Refusal>
+    requires stored { StoreStands task.now }
+    requires any { task.now.newest ≡ false }
+    ensures found { IfOk result (IsFound task.now) }
+    ensures only { IfErr result (MayRefuse task.now.budget) }
+{
+    let (found, room) = search_greedily(task, obstacle)?;
+    if let Some(list) = found {
+        return Ok(Found::Selected(list, Vec::new(task.alloc)));
+    }
+    match validate(task, oracle)? {
+        Some(found) => Ok(found),
+        None => Ok(search_fully(task, room, oracle.conflicts())?),
+    }
+}
+
+/// Finds the newest selection for a task, if there is a selection, without an oracle: by the search that does not jump
+/// back, if that finds one that is seen to be the newest; else by the full search, which counts on from so many conflicts.
+fn search_alone(
+    task: &Task<'_>,
+    obstacle: Option<Obstacle>,
+    conflicts: u32,
 ) -> Result<Found, Refusal>
     requires { StoreStands task.now }
     ensures found { IfOk result (IsFound task.now) }
@@ -224,21 +224,19 @@ fn search_in_turn<O: Oracle>(
         store: task.store,
         budget: task.budget,
         newest: false,
+        explain: task.explain,
     };
     let (found, room) = search_greedily(&any, obstacle)?;
-    match found {
-        None => Ok(search_hard(task, oracle, room)?),
-        Some(list) => {
-            if suffices(task, &list)? {
-                return Ok(Found::Selected(list, Vec::new(task.alloc)));
-            }
-            Ok(search_fully(task, true, list.len(), 0)?)
+    if let Some(list) = found {
+        if suffices(task, &list)? {
+            return Ok(Found::Selected(list, Vec::new(task.alloc)));
         }
     }
+    Ok(search_fully(task, room, conflicts)?)
 }
 
 /// Finds what answers a task that the preferred selection doesn't: the newest selection, where that is asked for
-/// and it is chosen without going back; else by searches.
+/// and it is chosen without going back; else by searches, for the newest one first by what an oracle says.
 fn search_for<O: Oracle>(
     task: &Task<'_>,
     oracle: &mut O,
@@ -248,12 +246,16 @@ fn search_for<O: Oracle>(
     ensures found { IfOk result (IsFound task.now) }
     ensures only { IfErr result (MayRefuse task.now.budget) }
 {
-    if task.newest {
-        if let Some(list) = choose_newest(task.alloc, task.registry, task.request)? {
-            return Ok(Found::Selected(list, Vec::new(task.alloc)));
-        }
+    if !task.newest {
+        return Ok(search_for_any(task, oracle, obstacle)?);
     }
-    Ok(search_in_turn(task, oracle, obstacle)?)
+    if let Some(list) = choose_newest(task.alloc, task.registry, task.request)? {
+        return Ok(Found::Selected(list, Vec::new(task.alloc)));
+    }
+    match validate(task, oracle)? {
+        Some(found) => Ok(found),
+        None => Ok(search_alone(task, obstacle, oracle.conflicts())?),
+    }
 }
 
 /// Finds what answers a task: the preferred selection where it serves, else by a search.
@@ -279,9 +281,9 @@ fn find<O: Oracle>(task: &Task<'_>, oracle: &mut O) -> Result<Found, Refusal>
 
 /// What is answered of what was found. Where it isn't asked why no selection meets the request, no derivation is
 /// cut from the lines that the search kept: that there is one is known of them.
-fn outcome_of(task: &Task<'_>, found: Found, explain: bool) -> Result<Outcome, Refusal>
+fn outcome_of(task: &Task<'_>, found: Found) -> Result<Outcome, Refusal>
     requires { IsFound task.now found }
-    ensures lawful { IfOk result (IsLawful task.now.registry.now.packages task.now.request.now explain) }
+    ensures lawful { IfOk result (IsLawful task.now.registry.now.packages task.now.request.now task.now.explain) }
     ensures answers { (s : Choices) → Finds s found → IfOk result (Answers task.now.registry.now.packages s) }
     ensures newest { task.now.newest ≡ true → IfOk result (SelectsNewest task.now.registry.now.packages task.now.request.now) }
     ensures only { IfErr result (λ e. e ≡ Refusal.NoMemory) }
@@ -293,12 +295,13 @@ fn outcome_of(task: &Task<'_>, found: Found, explain: bool) -> Result<Outcome, R
             Ok(Outcome::Selection(pairs, offered))
         }
         Found::Refused(known, end, offered) => {
-            if !explain {
+            if !task.explain {
                 return Ok(Outcome::NoSelection(offered));
             }
             let derivation = extract_derivation(task.alloc, known, end)?;
             Ok(Outcome::Refused(derivation, offered))
         }
+        Found::Unexplained(offered) => Ok(Outcome::NoSelection(offered)),
     }
 }
 
@@ -369,9 +372,10 @@ pub fn solve_by<O: Oracle>(
         store,
         budget: options.budget,
         newest: options.newest,
+        explain: options.explain,
     };
     let found = find(&task, oracle)?;
-    outcome_of(&task, found, options.explain)
+    outcome_of(&task, found)
 }
 
 /// As [`solve_with`], without a budget; a refusal comes with its derivation.

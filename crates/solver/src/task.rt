@@ -15,6 +15,7 @@ pub(crate) struct Task<'a> {
     pub store: &'a Store,
     pub budget: Option<u32>,
     pub newest: bool,
+    pub explain: bool,
 }
 
 impl<'a> Task<'a> {

@@ -1,18 +1,24 @@
 //! What an oracle says, checked: a selection by the walk, a refusal by a replay of its trace.
 
-ghost use Rattle.std.specs.Prelude.{IfErr, IfOk, IfSome};
+ghost use Rattle.std.specs.Prelude.{All, IfErr, IfOk, IfSome};
+ghost use Rattle.derivations.specs.Learning.{AllStand};
 ghost use Rattle.solver.specs.Answering.{IsAnswer};
 ghost use Rattle.solver.specs.Finding.{IsFirstAnswer, IsFound, IsValidated};
 ghost use Rattle.solver.specs.Reusing.{StoreStands};
 ghost use Rattle.solver.specs.Searching.{MayRefuse};
 
+use crate::by_chains::newest_by_chains;
 use crate::found::{Found, found_of, suffices};
 use crate::greedy::selection_of;
+use crate::offering::offered_of;
 use crate::oracle::Oracle;
 use crate::over_trace::search_over;
-use crate::replaying::{replay, replay_learnt};
+use crate::replaying::{is_short, replay, replay_first, replay_learnt};
+use crate::showing::is_shown;
 use crate::task::Task;
 use crate::turns::Ended;
+use chains::Stop as Unshown;
+use derivations::Learnt;
 use engine::{Found as Claim, Stop, Trace};
 use indexmap::IndexMap;
 use std::alloc::AllocError;
@@ -30,12 +36,12 @@ fn stopped(task: &Task<'_>, stop: Stop) -> Result<Option<Found>, Refusal>
             None => Ok(None),
             Some(_) => Err(Refusal::BudgetSpent),
         },
-        Stop::TooWide | Stop::Lost => Ok(None),
+        Stop::Lost => Ok(None),
     }
 }
 
 /// The selection that these decisions make, if they do.
-fn selection_by(
+pub(crate) fn selection_by(
     task: &Task<'_>,
     decided: &IndexMap<Pkg, u32>,
 ) -> Result<Option<Vec<(Pkg, u32)>>, AllocError>
@@ -48,31 +54,12 @@ fn selection_by(
         store: task.store,
         budget: task.budget,
         newest: false,
+        explain: task.explain,
     };
     selection_of(&any, decided)
 }
 
-/// The newest selection, where one was found that is not seen to be it: the oracle searches on for it, and the
-/// search that is proved goes over the lines of its trace.
-fn find_newest<O: Oracle>(
-    task: &Task<'_>,
-    oracle: &mut O,
-    room: usize,
-) -> Result<Option<Found>, Refusal>
-    requires { StoreStands task.now }
-    ensures found { IfOk result (IsValidated task.now) }
-    ensures only { IfErr result (MayRefuse task.now.budget) }
-{
-    match oracle.search_newest() {
-        Ok(trace) => {
-            let found = search_over(task, &trace, room, oracle.conflicts())?;
-            Ok(Some(found))
-        }
-        Err(stop) => stopped(task, stop),
-    }
-}
-
-/// A selection that is an answer, with what may be learnt of a trace; nothing for want of memory.
+/// A selection that is an answer, with what may be learnt of a trace; nothing for lack of memory.
 fn found_with(task: &Task<'_>, list: Vec<(Pkg, u32)>, trace: &Trace) -> Found
     requires stored { StoreStands task.now }
     requires answer { IsAnswer task.now list.items }
@@ -84,6 +71,34 @@ fn found_with(task: &Task<'_>, list: Vec<(Pkg, u32)>, trace: &Trace) -> Found
             found_of(task, ended, replayed.known, &replayed.learnt)
         }
         Err(_) => Found::Selected(list, Vec::new(task.alloc)),
+    }
+}
+
+/// The newest selection, where one was found that is not seen to be it, with what may be learnt of the trace of that:
+/// the oracle searches on, and if its trace does not show that what it found is the newest, the search that is proved
+/// goes over the trace's lines. Nothing, if the trace can't be followed, or says too much to be kept.
+fn find_newest<O: Oracle>(
+    task: &Task<'_>,
+    oracle: &mut O,
+    room: usize,
+    learnt: &Trace,
+) -> Result<Option<Found>, Refusal>
+    requires { StoreStands task.now }
+    ensures found { IfOk result (IsValidated task.now) }
+    ensures only { IfErr result (MayRefuse task.now.budget) }
+{
+    match oracle.search_newest() {
+        Err(stop) => stopped(task, stop),
+        Ok(trace) => match newest_by_chains(task, &trace) {
+            Ok(Some(list)) => Ok(Some(found_with(task, list, learnt))),
+            Ok(None) => {
+                let conflicts = oracle.conflicts();
+                Ok(Some(search_over(task, &trace, room, conflicts)?))
+            }
+            // It would take as much memory to search over it.
+            Err(Unshown::Unknown) => Ok(None),
+            Err(Unshown::NoMemory) => Err(Refusal::NoMemory),
+        },
     }
 }
 
@@ -104,21 +119,48 @@ fn validate_selection<O: Oracle>(
     if suffices(task, &list)? {
         return Ok(Some(found_with(task, list, trace)));
     }
-    find_newest(task, oracle, list.len())
+    find_newest(task, oracle, list.len(), trace)
 }
 
-/// The refusal that a trace shows, if it does.
+/// What may be learnt of a trace by its first records; nothing for lack of memory.
+fn offered_first(task: &Task<'_>, trace: &Trace) -> Vec<Learnt>
+    requires { StoreStands task.now }
+    ensures { All (AllStand task.now.registry.now.packages) result.items }
+{
+    match replay_first(task, trace) {
+        Ok(replayed) => offered_of(task, &replayed.known, &replayed.learnt, None),
+        Err(_) => Vec::new(task.alloc),
+    }
+}
+
+/// The refusal that a trace shows by lines, if it does. Where it has many steps, its first records are what is
+/// offered of, as where no lines are made.
+fn refusal_by_chains(task: &Task<'_>, trace: &Trace) -> Result<Option<Found>, AllocError>
+    requires { StoreStands task.now }
+    ensures { IfOk result (IsValidated task.now) }
+{
+    let Some(replayed) = replay(task, trace)? else {
+        return Ok(None);
+    };
+    if is_short(trace) {
+        let ended = Ended::Refused(replayed.end);
+        return Ok(Some(found_of(task, ended, replayed.known, &replayed.learnt)));
+    }
+    let offered = offered_first(task, trace);
+    Ok(Some(Found::Refused(replayed.known, replayed.end, offered)))
+}
+
+/// The refusal that a trace shows, if it does: by chains, where it has many steps and is not asked to be explained.
 fn validate_refusal(task: &Task<'_>, trace: &Trace) -> Result<Option<Found>, AllocError>
     requires { StoreStands task.now }
     ensures { IfOk result (IsValidated task.now) }
 {
-    match replay(task, trace)? {
-        None => Ok(None),
-        Some(replayed) => {
-            let ended = Ended::Refused(replayed.end);
-            Ok(Some(found_of(task, ended, replayed.known, &replayed.learnt)))
+    if !task.explain && !is_short(trace) {
+        if is_shown(task, trace)? {
+            return Ok(Some(Found::Unexplained(offered_first(task, trace))));
         }
     }
+    refusal_by_chains(task, trace)
 }
 
 /// What is right of what an oracle says, if anything is.

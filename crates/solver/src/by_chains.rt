@@ -1,0 +1,147 @@
+//! A selection that chains show to be the newest: for each better version something is shown whose terms it satisfies,
+//! with the versions before.
+
+ghost use Rattle.std.specs.Prelude.{◌≡◌, true, IfOk, IfSome};
+ghost use Rattle.walk.specs.PlainlyNewest.{IsNewestIfMet};
+ghost use Rattle.solver.specs.Answering.{IsAnswer};
+ghost use Rattle.solver.specs.Reusing.{StoreStands};
+ghost use Rattle.solver.specs.Ruling.{HasWith, IsRuledOut, RulesOut};
+
+use crate::replaying::terms_room;
+use crate::showing::{Showing, show_records};
+use crate::starting::begin;
+use crate::task::Task;
+use crate::validating::selection_by;
+use chains::{Conclusion, Place, Stop, shown_holds, terms_at};
+use derivations::{CausedIncompatibility, ROOT};
+use engine::Trace;
+use indexmap::IndexMap;
+use std::alloc::AllocError;
+use terms::{Pkg, Term};
+use walk::{Evidence, is_newest_by};
+
+/// What is shown of a trace, and what of that is named for packages, of which it rules versions out.
+#[derive(Clone, Copy)]
+struct NamedShown<'a> {
+    known: &'a [CausedIncompatibility],
+    made: &'a [Conclusion],
+    /// By record of the trace, where it is shown.
+    places: &'a [Place],
+    /// Packages with the records that are named for them, in order of packages.
+    named: &'a [(Pkg, u32)],
+}
+
+/// What a package has with a version behind others: the root its own, else this version, or one of the others.
+fn chosen_with(before: &IndexMap<Pkg, u32>, pkg: Pkg, ordinal: u32, on: Pkg) -> Option<u32>
+    ensures { IfSome result (HasWith before.now.entries pkg ordinal on) }
+{
+    if on == ROOT {
+        return Some(0);
+    }
+    if on == pkg {
+        return Some(ordinal);
+    }
+    before.get(&on).copied()
+}
+
+/// Whether all terms are true with a version behind others, so that no selection has them together.
+fn are_all_true(terms: &[(Pkg, Term)], before: &IndexMap<Pkg, u32>, pkg: Pkg, ordinal: u32) -> bool
+    ensures { result ≡ true → RulesOut terms.now before.now.entries pkg ordinal }
+{
+    for (on, term) in terms {
+        match chosen_with(before, pkg, ordinal, *on) {
+            None => return false,
+            Some(chosen) => {
+                if !term.allows(chosen) {
+                    return false;
+                }
+            }
+        }
+    }
+    true
+}
+
+/// Whether what a record says, if it is shown, rules a version out.
+fn is_ruled_out_by(
+    shown: &NamedShown<'_>,
+    record: u32,
+    before: &IndexMap<Pkg, u32>,
+    pkg: Pkg,
+    ordinal: u32,
+) -> bool
+    ensures { result ≡ true → IsRuledOut shown.now.known.now shown.now.made.now before.now.entries pkg ordinal }
+{
+    let Some(place) = shown.places.get(record as usize).copied() else {
+        return false;
+    };
+    match terms_at(shown.known, shown.made, place) {
+        None => false,
+        Some(terms) => are_all_true(terms, before, pkg, ordinal),
+    }
+}
+
+impl Evidence for NamedShown<'_> {
+    ghost shows = { λ shown before p j. IsRuledOut shown.known.now shown.made.now before p j };
+
+    /// The cost grows with the logarithm of the number of records that are named, and with those that are named for the package.
+    fn rules_out(&self, before: &IndexMap<Pkg, u32>, pkg: Pkg, ordinal: u32) -> bool {
+        let first = self.named.partition_point(|named| named.0 < pkg);
+        for i in first..self.named.len() {
+            let (named, record) = self.named[i];
+            if named != pkg {
+                return false;
+            }
+            if is_ruled_out_by(self, record, before, pkg, ordinal) {
+                return true;
+            }
+        }
+        false
+    }
+}
+
+/// What a trace selects.
+fn selected_by(task: &Task<'_>, trace: &Trace) -> Result<IndexMap<Pkg, u32>, AllocError> {
+    let mut selected = IndexMap::with_capacity(task.alloc, trace.selected.len())?;
+    for (pkg, ordinal) in trace.selected.as_slice() {
+        selected.insert(*pkg, *ordinal)?;
+    }
+    Ok(selected)
+}
+
+/// Whether chains show by a trace that a selection is the newest.
+fn is_shown_newest(task: &Task<'_>, trace: &Trace, list: &[(Pkg, u32)]) -> Result<bool, Stop>
+    requires { StoreStands task.now }
+    ensures { IfOk result (λ yes. yes ≡ true → IsNewestIfMet task.now.registry.now.packages task.now.request.now list.now) }
+{
+    shown_holds();
+    let mut showing = Showing::new(task, terms_room(trace))?;
+    let mut search = begin(task, 8)?;
+    let _last = show_records(task, &mut search, &mut showing, trace)?;
+    let shown = NamedShown {
+        known: &search.known,
+        made: &showing.conclusions,
+        places: &showing.places,
+        named: &trace.ruling,
+    };
+    Ok(is_newest_by(task.alloc, task.registry, task.request, list, &shown)?)
+}
+
+/// The selection of a trace, if it is one and chains show by the trace that it is the newest. An error is
+/// [`Stop::Unknown`] where chains do not come to the trace's end, or have no room for what it says.
+pub(crate) fn newest_by_chains(
+    task: &Task<'_>,
+    trace: &Trace,
+) -> Result<Option<Vec<(Pkg, u32)>>, Stop>
+    requires { StoreStands task.now }
+    ensures { IfOk result (λ found. IfSome found (λ list. IsAnswer task.now list.items)) }
+{
+    let selected = selected_by(task, trace)?;
+    let Some(list) = selection_by(task, &selected)? else {
+        return Ok(None);
+    };
+    if is_shown_newest(task, trace, &list)? {
+        Ok(Some(list))
+    } else {
+        Ok(None)
+    }
+}

@@ -1,0 +1,105 @@
+"""A refusal that nobody asks to explain: it comes where one that is explained does, and offers the same to be learnt, whatever oracle is
+asked. Where the search is long no line is made for each of its steps, which shows in how often memory is asked for."""
+import json
+import os
+import random
+import sys
+import unittest
+
+import row_tables
+from generated_rows import row
+from generated_rows_requests import asked
+from generated_rows_search import pigeons
+from preloaded import REFUSE_MEMORY, built, each_refused
+from program import TOP
+from small_registries import Maker
+
+sys.path.append(os.path.join(TOP, "bench"))
+import workloads
+
+HOLES = 7
+LIARS = "lost", "selection", "refusal", "newest"
+SEEDS = range(150)
+
+
+def published(lines):
+    """Rows that make the registry of these lines."""
+    return [asked(line, '{"ok":true,"revision":%d}' % number) for number, line in enumerate(lines, 1)]
+
+
+def solving(request, **more):
+    return row("solver", "solve_with", needs=request["needs"], lock=request.get("lock", []), **more)
+
+
+def of_pigeons():
+    """Pigeons in one hole less, which is refused after some hundred conflicts."""
+    rows, needs = pigeons(HOLES + 1)
+    return rows, [{"needs": needs}]
+
+
+def long_searches():
+    """Registries, each with requests of which most are refused after many conflicts."""
+    yield of_pigeons()
+    for made in (workloads.sat(30), workloads.sat(40, 2, 4), workloads.towers(6)):
+        lines, requests = made
+        yield published(lines), [json.loads(line) for line in requests[:10]]
+
+
+def small_ones():
+    for seed in SEEDS:
+        made = Maker(random.Random(seed))
+        commands = made.commands()
+        rows = [row("registry", it["op"], **{name: value for name, value in it.items() if name != "op"}) for it in commands]
+        yield rows, [made.request() for _ in range(4)]
+
+
+def answered(rows, calls):
+    """What these calls are answered behind these rows."""
+    lines = [row_tables.BEGIN, *(json.dumps({name: value for name, value in it.items() if name != "gives"}) for it in [*rows, *calls])]
+    return row_tables.answers(row_tables.probe("high"), lines)[1 + len(rows):]
+
+
+class Unexplained(unittest.TestCase):
+    def alike(self, registries):
+        """Asks each request both ways; answers how many are refused, and how many of these offer something."""
+        refused = offering = 0
+        for rows, requests in registries:
+            calls = [solving(request, explain=explain, newest=newest) for request in requests for newest in (False, True) for explain in (True, False)]
+            told = answered(rows, calls)
+            for explained, plain, call in zip(told[::2], told[1::2], calls[::2]):
+                if "derivation" in explained:
+                    self.assertEqual(plain, {"selected": None, "offered": explained["offered"]}, call)
+                    refused, offering = refused + 1, offering + bool(plain["offered"])
+                else:
+                    self.assertEqual(plain, explained, call)
+        return refused, offering
+
+    def test_long_searches(self):
+        refused, offering = self.alike(long_searches())
+        self.assertGreater(refused, 16)
+        self.assertGreater(offering, 8)
+
+    def test_small_registries(self):
+        refused, offering = self.alike(small_ones())
+        self.assertGreater(refused, 100)
+        self.assertGreater(offering, 20)
+
+    def test_no_oracle_changes_it(self):
+        # there is a pigeon more than there are holes
+        rows, (request,) = of_pigeons()
+        calls = [row("solver", "solve_by", needs=request["needs"], lock=[], oracle=oracle, explain=False) for oracle in LIARS]
+        self.assertEqual(answered(rows, calls), [{"selected": None, "offers_stand": True}] * len(LIARS))
+
+    def test_no_line_is_made_for_each_step(self):
+        library = built(type(self), REFUSE_MEMORY)
+        rows, (request,) = of_pigeons()
+        asks = []
+        for explain in (True, False):
+            given = [row_tables.BEGIN, *map(json.dumps, [*rows, solving(request, explain=explain)])]
+            (run,) = each_refused(library, row_tables.probe("high"), "".join(line + "\n" for line in given).encode(), range(1))
+            asks.append(run.requests)
+        self.assertLess(asks[1], asks[0] * 2 / 3, asks)
+
+
+if __name__ == "__main__":
+    unittest.main()
