@@ -245,7 +245,8 @@ fn chosen_newest(
     request: &Request,
 ) -> Result<CallResult, Unread> {
     match choose_newest(alloc, registry, request)? {
-        Some(mut list) => {
+        Some(choice) => {
+            let mut list = choice.list;
             sort_by_name(registry, &mut list);
             selected(alloc, registry, &list)
         }

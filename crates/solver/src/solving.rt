@@ -21,7 +21,7 @@ use crate::search::Search;
 use crate::starting::{restart, start};
 use crate::task::Task;
 use crate::turns::{Ended, run};
-use crate::validating::validate;
+use crate::validating::{validate, validate_choice};
 use crate::worklist::Worklist;
 use derivations::{Derivation, Learnt, kept_lines_refute};
 use extraction::extract_derivation;
@@ -249,8 +249,11 @@ fn search_for<O: Oracle>(
     if !task.newest {
         return Ok(search_for_any(task, oracle, obstacle)?);
     }
-    if let Some(list) = choose_newest(task.alloc, task.registry, task.request)? {
-        return Ok(Found::Selected(list, Vec::new(task.alloc)));
+    if let Some(choice) = choose_newest(task.alloc, task.registry, task.request)? {
+        return match validate_choice(task, oracle, choice)? {
+            Some(found) => Ok(found),
+            None => Ok(search_alone(task, obstacle, oracle.conflicts())?),
+        };
     }
     match validate(task, oracle)? {
         Some(found) => Ok(found),

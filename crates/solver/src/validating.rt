@@ -24,6 +24,7 @@ use indexmap::IndexMap;
 use std::alloc::AllocError;
 use terms::Pkg;
 use versions::Refusal;
+use walk::NewestChoice;
 
 /// What a search that stopped so leaves: the request is refused, or nothing was found.
 fn stopped(task: &Task<'_>, stop: Stop) -> Result<Option<Found>, Refusal>
@@ -172,6 +173,29 @@ pub(crate) fn validate<O: Oracle>(task: &Task<'_>, oracle: &mut O) -> Result<Opt
     match oracle.search() {
         Ok(Claim::Selected(decided, trace)) => validate_selection(task, oracle, &decided, &trace),
         Ok(Claim::Refused(trace)) => Ok(validate_refusal(task, &trace)?),
+        Err(stop) => stopped(task, stop),
+    }
+}
+
+/// The newest selection, where it was chosen without a search. Where choices were taken back for it, the oracle is asked all the same:
+/// it counts the conflicts, and what it learns of them may be learnt. Nothing is answered where it doesn't find a selection.
+pub(crate) fn validate_choice<O: Oracle>(
+    task: &Task<'_>,
+    oracle: &mut O,
+    choice: NewestChoice,
+) -> Result<Option<Found>, Refusal>
+    requires stored { StoreStands task.now }
+    requires answer { IsAnswer task.now choice.list.items }
+    ensures found { IfOk result (IsValidated task.now) }
+    ensures only { IfErr result (MayRefuse task.now.budget) }
+{
+    let NewestChoice { list, ruled_out } = choice;
+    if ruled_out == 0 {
+        return Ok(Some(Found::Selected(list, Vec::new(task.alloc))));
+    }
+    match oracle.search() {
+        Ok(Claim::Selected(_, trace)) => Ok(Some(found_with(task, list, &trace))),
+        Ok(Claim::Refused(_)) => Ok(None),
         Err(stop) => stopped(task, stop),
     }
 }

@@ -1,15 +1,15 @@
 -- Choosing the best versions in the order of the walk: what is kept of packages, and what is asked.
-use Rattle.std.proofs.Common.{◌≡◌, ◌<◌, ◌≤◌, ◌+◌, ◌∙◌, ◌⊎◌, ℕ, zero, suc, refl, sym, ap, subst, arith, Bool, true, false, true≢false, ◌&&◌, ◌||◌, if◌then◌else◌, List, [], ◌∷◌, ◌++◌, length, take, drop, map, get_or, inl, inr, nat_eq}
+use Rattle.std.proofs.Common.{◌≡◌, ◌<◌, ◌≤◌, ◌+◌, ◌∙◌, ◌⊎◌, ℕ, zero, suc, refl, sym, ap, subst, arith, Bool, true, false, true≢false, not, ◌&&◌, ◌||◌, if◌then◌else◌, List, [], ◌∷◌, ◌++◌, length, take, drop, map, get_or, inl, inr, nat_eq}
 use Rattle.std.proofs.lemmas.Bool.{cases_Bool, cases_eq, eq-eqb, eqb-true, and_from}
 use Rattle.std.proofs.Math.Seq.{take-append_seam}
 use Rattle.std.proofs.lemmas.Option.{none-some, same_Some, slice_get_within, get_or_from_slice_get}
 use Rattle.std.proofs.lemmas.List.{append_assoc, append-nil, take_all, take-append-le, map-append}
-use Rattle.std.specs.Prelude.{None, Option, Some, Contains, is_some, slice_get, slice_set}
+use Rattle.std.specs.Prelude.{None, Option, Some, Contains, is_some, slice_get}
 use Rattle.versions.specs.Words.{Text, precedence}
 use Rattle.terms.specs.Sets.{has}
 use Rattle.terms.specs.Terms.{true_of}
 use Rattle.terms.specs.declared.term.Term.{Term}
-use Rattle.terms.specs.declared.term.Term.TheVariants.{In}
+use Rattle.terms.specs.declared.term.Term.TheVariants.{In, NotIn}
 use Rattle.std.specs.declared.cmp.Ordering.TheVariants.{Less}
 use Rattle.registry.specs.Dependencies.{IsDependency}
 use Rattle.registry.specs.Highest.{IsHighest}
@@ -17,7 +17,7 @@ use Rattle.std.specs.Option.{option_and_then}
 use Rattle.registry.specs.Registry.{Package, Packages, Publication, is_published, meets_at, needs_of, number_of, package_at, publication_at, versions_or_none}
 use Rattle.registry.specs.Requests.{Wanted}
 use Rattle.registry.specs.Selections.{Choices, Meets}
-use Rattle.walk.specs.Best.{AreAlike, AreBest, ArePassed, AreTargets, AskAlike, AsksOf, AsksOne, Holds, IsBest, IsChoosing, IsOf, IsOut, MeetsOf, Narrows, OfEach}
+use Rattle.walk.specs.Best.{AreAlike, AreBest, ArePassed, AreTargets, AskAlike, AsksOf, AsksOne, Holds, IsBest, IsChoosing, IsGrown, IsOf, IsOut, MeetsOf, Narrows, OfEach, Pushes}
 use Rattle.walk.specs.Choosing.{Follows, choice_of}
 use Rattle.walk.specs.PlainlyNewest.{IsLocked, NoneLocked}
 use Rattle.walk.specs.Newest.{IsAhead, IsNewest, dependencies_of, first_new, in_name_order, new_or_later, next_package}
@@ -25,7 +25,7 @@ use Rattle.walk.specs.declared.best.Choosing.{Choosing}
 use Rattle.walk.specs.declared.best.Needed.{Needed}
 use Rattle.walk.proofs.Better.{ahead_cases}
 use Rattle.walk.proofs.Listings.{pushed_at}
-use Rattle.walk.proofs.Lists.{choice-left, choice-push_here, get-contains}
+use Rattle.walk.proofs.Lists.{choice-left, choice-push_cases, choice-push_here, get-contains}
 use Rattle.walk.proofs.NewestLaws.{is_new}
 use Rattle.walk.proofs.OneListing.{list-selects}
 use Rattle.walk.proofs.Orders.{get-some}
@@ -95,84 +95,88 @@ module _ (packages : Packages) (wanted : Wanted) where
       let same : met.target ≡ target = same_Some met.target target (sym met.numbered ∙ numbered) in
       (met.ordinal, ap t (sym same) ∙ met.selected, members met.ordinal ∙ ap (λ q. meets_at packages q met.ordinal need) (sym same) ∙ met.meeting)
 
-is_of-true : (set : List ℕ) (choice : Option ℕ) → IsOf set choice → true_of (In set) choice ≡ true
+pub is_of-true : (set : List ℕ) (choice : Option ℕ) → IsOf set choice → true_of (In set) choice ≡ true
 is_of-true set choice h = ap (λ c. true_of (In set) c) h.1 ∙ h.2
 
 -- ---- what is left of a package
 
-pub narrows_same : (set : List ℕ) (p : ℕ) (c : Choosing) → Narrows set p c c
-narrows_same set p c = record { found = refl; asked = refl; holds = λ packages wanted each h. h }
+pub narrows_same : (term : Term) (p : ℕ) (c : Choosing) → Narrows term p c c
+narrows_same term p c = record { found = refl; asked = refl; needed = ([], sym (append-nil c.needed.items)); holds = λ packages wanted each h. h }
 
-pub narrows_added : (set : List ℕ) (p : ℕ) (old new : Choosing) → new.found ≡ old.found → new.asked ≡ old.asked → new.needed.items ≡ old.needed.items ++ record { pkg = p; left = In set } ∷ [] → new.fresh.items ≡ old.fresh.items ++ p ∷ []
-    → Narrows set p old new
-narrows_added set p old new found asked needed fresh = record {
-  found = found;
-  asked = ap (λ v. v.items) asked;
+-- where one thing is added, that follows from the term
+pub narrows_pushed : (term left : Term) (p : ℕ) (old new : Choosing) → Pushes left p old new
+    → ((packages : Packages) (wanted : Wanted) → OfEach packages wanted old.found.entries (λ t. true_of term (t p) ≡ true) → Holds packages wanted old → OfEach packages wanted old.found.entries (λ t. true_of left (t p) ≡ true)) → Narrows term p old new
+narrows_pushed term left p old new push gives = record {
+  found = push.found;
+  asked = ap (λ v. v.items) push.asked;
+  needed = (push.entry ∷ [], push.needed);
   holds = λ packages wanted each h. record {
     left = λ i e at.
-        subst (λ m. OfEach packages wanted m.entries (λ t. true_of e.left (t e.pkg) ≡ true)) (sym found)
-        (elim (get-cases old.needed.items (record { pkg = p; left = In set }) i e (ap (λ xs. slice_get xs i) (sym needed) ∙ at)) [
+        subst (λ m. OfEach packages wanted m.entries (λ t. true_of e.left (t e.pkg) ≡ true)) (sym push.found)
+        (elim (get-cases old.needed.items push.entry i e (ap (λ xs. slice_get xs i) (sym push.needed) ∙ at)) [
           | inl before ↦ h.left i e before
-          | inr last ↦ λ t meets has. subst (λ (x : Needed). true_of x.left (t x.pkg) ≡ true) last (is_of-true set (t p) (each t meets has))
+          | inr last ↦ λ t meets has.
+              subst (λ (x : Needed). true_of x.left (t x.pkg) ≡ true) last (ap (λ l. true_of l (t push.entry.pkg)) push.is ∙ ap (λ q. true_of left (t q)) push.of ∙ gives packages wanted each h t meets has)
         ]);
-    fresh = λ i q at.
-        subst (λ m. OfEach packages wanted m.entries (λ t. (k : ℕ) × (t q ≡ Some k))) (sym found)
-        (elim (get-cases old.fresh.items p i q (ap (λ xs. slice_get xs i) (sym fresh) ∙ at)) [
-          | inl before ↦ h.fresh i q before
-          | inr last ↦ λ t meets has. let one = each t meets has in (one.0, ap t (sym last) ∙ one.1)
-        ]);
+    fresh = λ i q at. subst (λ m. OfEach packages wanted m.entries (λ t. (k : ℕ) × (t q ≡ Some k))) (sym push.found) (h.fresh i q (ap (λ v. slice_get v.items i) (sym push.fresh) ∙ at));
   };
 }
 
 -- where a package is looked at once more
-pub narrows_again : (set : List ℕ) (p : ℕ) (old new : Choosing) → new.found ≡ old.found → new.asked ≡ old.asked → new.needed ≡ old.needed → new.fresh.items ≡ old.fresh.items ++ p ∷ [] → Narrows set p old new
+some_true : (set : List ℕ) (choice : Option ℕ) → true_of (In set) choice ≡ true → (k : ℕ) × (choice ≡ Some k)
+some_true set None h = absurd (true≢false (sym h))
+some_true set (Some k) h = (k, refl)
+
+pub narrows_again : (set : List ℕ) (p : ℕ) (old new : Choosing) → new.found ≡ old.found → new.asked ≡ old.asked → new.needed ≡ old.needed → new.fresh.items ≡ old.fresh.items ++ p ∷ [] → Narrows (In set) p old new
 narrows_again set p old new found asked needed fresh = record {
   found = found;
   asked = ap (λ v. v.items) asked;
+  needed = ([], ap (λ v. v.items) needed ∙ sym (append-nil old.needed.items));
   holds = λ packages wanted each h. record {
     left = λ i e at. subst (λ m. OfEach packages wanted m.entries (λ t. true_of e.left (t e.pkg) ≡ true)) (sym found) (h.left i e (ap (λ v. slice_get v.items i) (sym needed) ∙ at));
     fresh = λ i q at.
         subst (λ m. OfEach packages wanted m.entries (λ t. (k : ℕ) × (t q ≡ Some k))) (sym found)
         (elim (get-cases old.fresh.items p i q (ap (λ xs. slice_get xs i) (sym fresh) ∙ at)) [
           | inl before ↦ h.fresh i q before
-          | inr last ↦ λ t meets has. let one = each t meets has in (one.0, ap t (sym last) ∙ one.1)
+          | inr last ↦ λ t meets has. let one = some_true set (t p) (each t meets has) in (one.0, ap t (sym last) ∙ one.1)
         ]);
   };
 }
 
 -- one after the other
-pub narrows_both : (set : List ℕ) (p : ℕ) (old mid new : Choosing) → Narrows set p old mid → Narrows set p mid new → Narrows set p old new
-narrows_both set p old mid new one two = record {
+pub narrows_both : (term : Term) (p : ℕ) (old mid new : Choosing) → Narrows term p old mid → Narrows term p mid new → Narrows term p old new
+narrows_both term p old mid new one two = record {
   found = two.found ∙ one.found;
   asked = two.asked ∙ one.asked;
-  holds = λ packages wanted each h. two.holds packages wanted (subst (λ m. OfEach packages wanted m.entries (λ t. IsOf set (t p))) (sym one.found) each) (one.holds packages wanted each h);
+  needed = (one.needed.0 ++ two.needed.0, two.needed.1 ∙ ap (λ xs. xs ++ two.needed.0) one.needed.1 ∙ append_assoc old.needed.items one.needed.0 two.needed.0);
+  holds = λ packages wanted each h. two.holds packages wanted (subst (λ m. OfEach packages wanted m.entries (λ t. true_of term (t p) ≡ true)) (sym one.found) each) (one.holds packages wanted each h);
 }
 
-set-cases : {A : Type 0} (xs : List A) (i : ℕ) (x : A) (j : ℕ) (y : A) → slice_get (slice_set xs i x) j ≡ Some y → (x ≡ y) ⊎ (slice_get xs j ≡ Some y)
-set-cases [] i x j y h = inr h
-set-cases (z ∷ xs) zero x zero y h = inl (same_Some x y h)
-set-cases (z ∷ xs) zero x (suc j) y h = inr h
-set-cases (z ∷ xs) (suc i) x zero y h = inr h
-set-cases (z ∷ xs) (suc i) x (suc j) y h = set-cases xs i x j y h
+-- where those of before are left of which the term is true
+pub narrows_less : (term both : Term) (p place : ℕ) (e : Needed) (old new : Choosing) → slice_get old.needed.items place ≡ Some e → e.pkg ≡ p → ((c : Option ℕ) → true_of both c ≡ (true_of e.left c && true_of term c)) → Pushes both p old new → Narrows term p old new
+narrows_less term both p place e old new at own exact push = narrows_pushed term both p old new push (λ packages wanted each h t meets has.
+    exact (t p) ∙ and_from (true_of e.left (t p)) (true_of term (t p)) (ap (λ q. true_of e.left (t q)) (sym own) ∙ h.left place e at t meets has) (each t meets has))
 
-pub narrows_less : (set : List ℕ) (p place : ℕ) (both : Term) (e : Needed) (old new : Choosing) → slice_get old.needed.items place ≡ Some e → e.pkg ≡ p → ((c : Option ℕ) → true_of both c ≡ (true_of e.left c && true_of (In set) c))
-    → new.found ≡ old.found → new.asked ≡ old.asked → new.fresh ≡ old.fresh → new.needed.items ≡ slice_set old.needed.items place (record { pkg = p; left = both }) → Narrows set p old new
-narrows_less set p place both e old new at own exact found asked fresh needed = record {
-  found = found;
-  asked = ap (λ v. v.items) asked;
-  holds = λ packages wanted each h. record {
-    left = λ i f here.
-        subst (λ m. OfEach packages wanted m.entries (λ t. true_of f.left (t f.pkg) ≡ true)) (sym found)
-        (elim (set-cases old.needed.items place (record { pkg = p; left = both }) i f (ap (λ xs. slice_get xs i) (sym needed) ∙ here)) [
-          | inl this ↦ λ t meets has.
-              subst (λ (x : Needed). true_of x.left (t x.pkg) ≡ true) this
-              (exact (t p) ∙ and_from (true_of e.left (t p)) (true_of (In set) (t p)) (ap (λ q. true_of e.left (t q)) (sym own) ∙ h.left place e at t meets has) (is_of-true set (t p) (each t meets has)))
-          | inr other ↦ h.left i f other
-        ]);
-    fresh = λ i q here.
-        subst (λ m. OfEach packages wanted m.entries (λ t. (k : ℕ) × (t q ≡ Some k))) (sym found) (h.fresh i q (ap (λ v. slice_get v.items i) (sym fresh) ∙ here));
-  };
+-- ---- what is added
+
+pub grown_of : (old new : Choosing) → new.asked ≡ old.asked → new.needed ≡ old.needed → IsGrown old new
+grown_of old new asked needed = record {
+  asked = ([], ap (λ v. v.items) asked ∙ sym (append-nil old.asked.items));
+  needed = ([], ap (λ v. v.items) needed ∙ sym (append-nil old.needed.items));
 }
+
+pub grown_both : (old mid new : Choosing) → IsGrown old mid → IsGrown mid new → IsGrown old new
+grown_both old mid new one two = record {
+  asked = (one.asked.0 ++ two.asked.0, two.asked.1 ∙ ap (λ xs. xs ++ two.asked.0) one.asked.1 ∙ append_assoc old.asked.items one.asked.0 two.asked.0);
+  needed = (one.needed.0 ++ two.needed.0, two.needed.1 ∙ ap (λ xs. xs ++ two.needed.0) one.needed.1 ∙ append_assoc old.needed.items one.needed.0 two.needed.0);
+}
+
+pub grown_narrows : (term : Term) (p : ℕ) (old new : Choosing) → Narrows term p old new → IsGrown old new
+grown_narrows term p old new n = record { asked = ([], n.asked ∙ sym (append-nil old.asked.items)); needed = n.needed }
+
+pub grown_asked : (p : ℕ) (asks : Bool) (old new : Choosing) → AsksOne p asks old.asked.items new.asked.items → new.needed ≡ old.needed → IsGrown old new
+grown_asked p true old new asks needed = record { asked = (p ∷ [], asks); needed = ([], ap (λ v. v.items) needed ∙ sym (append-nil old.needed.items)) }
+grown_asked p false old new asks needed = record { asked = ([], asks ∙ sym (append-nil old.asked.items)); needed = ([], ap (λ v. v.items) needed ∙ sym (append-nil old.needed.items)) }
 
 -- ---- lines that are met
 
@@ -195,14 +199,16 @@ asks_all packages lines index is_chosen old new all h = subst (λ (ls : List (Te
 
 -- one more line of what each selection depends on
 pub meets_more : (packages : Packages) (p k index target : ℕ) (ordinals : List ℕ) (old mid asked new : Choosing) → IsDependency packages p k index target ordinals → MeetsOf packages p k old mid
-    → asked.found ≡ mid.found → asked.needed ≡ mid.needed → asked.fresh ≡ mid.fresh → Narrows ordinals target asked new → MeetsOf packages p k old new
+    → asked.found ≡ mid.found → asked.needed ≡ mid.needed → asked.fresh ≡ mid.fresh → Narrows (In ordinals) target asked new → MeetsOf packages p k old new
 meets_more packages p k index target ordinals old mid asked new d before found needed fresh narrows = record {
   found = narrows.found ∙ found ∙ before.found;
   holds = λ wanted asks h.
       let here = before.holds wanted asks h in
       let there = holds_more packages wanted mid asked [] (ap (λ m. m.entries) found ∙ sym (append-nil mid.found.entries)) needed fresh here in
       let same : asked.found.entries ≡ old.found.entries = ap (λ m. m.entries) (found ∙ before.found) in
-      narrows.holds packages wanted (subst (λ (xs : List (ℕ × ℕ)). OfEach packages wanted xs (λ t. IsOf ordinals (t target))) (sym same) (dependency_of packages wanted old.found.entries p k index target ordinals asks d)) there;
+      narrows.holds packages wanted
+      (subst (λ (xs : List (ℕ × ℕ)). OfEach packages wanted xs (λ t. true_of (In ordinals) (t target) ≡ true)) (sym same)
+      (λ t meets has. is_of-true ordinals (t target) (dependency_of packages wanted old.found.entries p k index target ordinals asks d t meets has))) there;
 }
 
 pub meets_none : (packages : Packages) (p k : ℕ) (c : Choosing) → MeetsOf packages p k c c
@@ -340,10 +346,6 @@ best_push packages wanted found p k h next best = record {
   ];
 }
 
--- what was chosen of a package is what each selection depends on that has it
-pub ask_own : (packages : Packages) (wanted : Wanted) (found : List (ℕ × ℕ)) (p k : ℕ) → choice_of found p ≡ None → AskAlike packages wanted (found ++ (p, k) ∷ []) p k
-ask_own packages wanted found p k none t meets has = (k, has p k (choice-push_here found p k none), refl)
-
 -- ---- the selection
 
 -- a list in the order of the walk, each the best, selects the newest selection, if a selection that meets the request follows it
@@ -384,27 +386,71 @@ ask_only packages wanted found p k each t meets has = (k, each t meets has, refl
 
 -- ---- a choice
 
-module _ (packages : Packages) (wanted : Wanted) (old mid met new : Choosing) (p k : ℕ) (h : IsChoosing packages wanted old) (none : choice_of old.found.entries p ≡ None) (grown : mid.found.entries ≡ old.found.entries ++ (p, k) ∷ [])
-    (meets : MeetsOf packages p k mid met) (found : new.found ≡ met.found) where
-  pub chosen_found : new.found.entries ≡ old.found.entries ++ (p, k) ∷ []
-  chosen_found = ap (λ m. m.entries) (found ∙ meets.found) ∙ grown
+-- a version that was chosen
+pub chosen_choosing : (packages : Packages) (wanted : Wanted) (old new : Choosing) (p k : ℕ) → IsChoosing packages wanted old → next_package packages wanted.needs old.found.entries ≡ Some p → IsBest packages wanted old.found.entries p k
+    → new.found.entries ≡ old.found.entries ++ (p, k) ∷ [] → AsksOf packages (needs_of packages p k) true old.asked.items new.asked.items → Holds packages wanted new → IsChoosing packages wanted new
+chosen_choosing packages wanted old new p k h next best found asks holds = record {
+  best = subst (λ (xs : List (ℕ × ℕ)). AreBest packages wanted xs) (sym found) (best_push packages wanted old.found.entries p k h.best next best);
+  targets =
+      let lines : in_name_order wanted.needs ++ dependencies_of packages new.found.entries ≡ (in_name_order wanted.needs ++ dependencies_of packages old.found.entries) ++ needs_of packages p k =
+      ap (λ (xs : List (ℕ × ℕ)). in_name_order wanted.needs ++ dependencies_of packages xs) found ∙ ap (λ l. in_name_order wanted.needs ++ l) (dependencies_more packages old.found.entries p k)
+      ∙ sym (append_assoc (in_name_order wanted.needs) (dependencies_of packages old.found.entries) (needs_of packages p k)) in
+      subst (λ (ls : List (Text × Text)). AreTargets packages ls new.asked.items) (sym lines)
+      (targets_both packages (in_name_order wanted.needs ++ dependencies_of packages old.found.entries) (needs_of packages p k) old.asked.items asks.0 new.asked.items h.targets asks.2 asks.1);
+  holds = holds;
+}
 
-  module _ (asked : mid.asked ≡ old.asked) (asks : AsksOf packages (needs_of packages p k) true mid.asked.items met.asked.items) (same : new.asked.items ≡ met.asked.items) where
-    pub chosen_asked : (more : List ℕ) × (new.asked.items ≡ old.asked.items ++ more)
-    chosen_asked = (asks.0, same ∙ asks.1 ∙ ap (λ v. v.items ++ asks.0) asked)
+-- what holds once a version is chosen, is the only one of its package, and what it depends on is met
+pub chosen_holds : (packages : Packages) (wanted : Wanted) (old mid kept met : Choosing) (p k : ℕ) → choice_of old.found.entries p ≡ None → mid.found.entries ≡ old.found.entries ++ (p, k) ∷ [] → mid.needed ≡ old.needed → mid.fresh ≡ old.fresh
+    → Narrows (In (k ∷ [])) p mid kept → MeetsOf packages p k kept met → Holds packages wanted old → Holds packages wanted met
+chosen_holds packages wanted old mid kept met p k none found needed fresh keeps meets h =
+    let own : OfEach packages wanted mid.found.entries (λ t. t p ≡ Some k) =
+    subst (λ (xs : List (ℕ × ℕ)). OfEach packages wanted xs (λ t. t p ≡ Some k)) (sym found) (λ t meeting has. has p k (choice-push_here old.found.entries p k none)) in
+    let here = keeps.holds packages wanted (λ t meeting has. ap (true_of (In (k ∷ []))) (own t meeting has) ∙ ap (λ (b : Bool). b || false) (eq-eqb k k refl)) (holds_more packages wanted old mid ((p, k) ∷ []) found needed fresh h) in
+    meets.holds wanted (ask_only packages wanted kept.found.entries p k (subst (λ m. OfEach packages wanted m.entries (λ t. t p ≡ Some k)) (sym keeps.found) own)) here
 
-    pub chosen_choosing : mid.needed ≡ old.needed → mid.fresh ≡ old.fresh → next_package packages wanted.needs old.found.entries ≡ Some p → IsBest packages wanted old.found.entries p k → (Holds packages wanted met → Holds packages wanted new)
-        → IsChoosing packages wanted new
-    chosen_choosing needed fresh next best keeps = record {
-      best = subst (λ (xs : List (ℕ × ℕ)). AreBest packages wanted xs) (sym chosen_found) (best_push packages wanted old.found.entries p k h.best next best);
-      targets =
-          let lines : in_name_order wanted.needs ++ dependencies_of packages new.found.entries ≡ (in_name_order wanted.needs ++ dependencies_of packages old.found.entries) ++ needs_of packages p k =
-          ap (λ (xs : List (ℕ × ℕ)). in_name_order wanted.needs ++ dependencies_of packages xs) chosen_found ∙ ap (λ l. in_name_order wanted.needs ++ l) (dependencies_more packages old.found.entries p k)
-          ∙ sym (append_assoc (in_name_order wanted.needs) (dependencies_of packages old.found.entries) (needs_of packages p k)) in
-          subst (λ (ls : List (Text × Text)). AreTargets packages ls new.asked.items) (sym lines)
-          (targets_both packages (in_name_order wanted.needs ++ dependencies_of packages old.found.entries) (needs_of packages p k) old.asked.items asks.0 new.asked.items h.targets asks.2 (same ∙ asks.1 ∙ ap (λ v. v.items ++ asks.0) asked));
-      holds = keeps (meets.holds wanted (subst (λ (xs : List (ℕ × ℕ)). AskAlike packages wanted xs p k) (sym grown) (ask_own packages wanted old.found.entries p k none)) (holds_more packages wanted old mid ((p, k) ∷ []) grown needed fresh h.holds));
-    }
+pub asks_between : (packages : Packages) (lines : List (Text × Text)) (old mid met new : List ℕ) → AsksOf packages lines true mid met → mid ≡ old → new ≡ met → AsksOf packages lines true old new
+asks_between packages lines old mid met new asks first last = (asks.0, last ∙ asks.1 ∙ ap (λ xs. xs ++ asks.0) first, asks.2)
+
+-- ---- what is taken back
+
+pub taken_same : {A : Type 0} (xs more ys : List A) (n : ℕ) → ys ≡ xs ++ more → n ≡ length xs → take n ys ≡ xs
+taken_same xs more ys n is count = ap (λ m. take m ys) count ∙ ap (take (length xs)) is ∙ take-append_seam xs more
+
+pub holds_taken : (packages : Packages) (wanted : Wanted) (old new : Choosing) → new.found.entries ≡ old.found.entries → new.needed.items ≡ old.needed.items → new.fresh.items ≡ [] → Holds packages wanted old → Holds packages wanted new
+holds_taken packages wanted old new found needed fresh h = record {
+  left = λ i e at.
+      subst (λ (xs : List (ℕ × ℕ)). OfEach packages wanted xs (λ t. true_of e.left (t e.pkg) ≡ true)) (sym found) (h.left i e (ap (λ xs. slice_get xs i) (sym needed) ∙ at));
+  fresh = λ i q at. absurd (none-some q (sym (ap (λ (xs : List ℕ). slice_get xs i) fresh) ∙ at));
+}
+
+-- a package of which nothing is left
+pub none_left : (packages : Packages) (wanted : Wanted) (c : Choosing) (at : ℕ) (e : Needed) → slice_get c.needed.items at ≡ Some e → ((choice : Option ℕ) → true_of e.left choice ≡ true → ⊥) → Holds packages wanted c → OfEach packages wanted c.found.entries (λ t. ⊥)
+none_left packages wanted c at e here none h t meets has = none (t e.pkg) (h.left at e here t meets has)
+
+-- where no selection has a version beside those before, it is out
+pub out_tried : (packages : Packages) (wanted : Wanted) (found tried : List (ℕ × ℕ)) (p k : ℕ) → tried ≡ found ++ (p, k) ∷ [] → OfEach packages wanted tried (λ t. ⊥) → IsOut packages wanted found p k
+out_tried packages wanted found tried p k is none t meets has there = none t meets (λ q j e. elim (choice-push_cases found p k q j (ap (λ (xs : List (ℕ × ℕ)). choice_of xs q) (sym is) ∙ e)) [
+  | inl before ↦ has q j before
+  | inr last ↦ ap t (sym last.0) ∙ there ∙ ap Some last.1
+])
+
+-- of what is not this version it is true that it is another
+pub other_true : (k : ℕ) (choice : Option ℕ) → (choice ≡ Some k → ⊥) → true_of (NotIn (k ∷ [])) choice ≡ true
+other_true k None out = refl
+other_true k (Some j) out = elim (cases_Bool (nat_eq k j)) [
+  | inl same ↦ absurd (out (ap Some (sym (eqb-true k j same))))
+  | inr apart ↦ ap (λ (b : Bool). not (b || false)) apart
+]
+
+pub choosing_same : (packages : Packages) (wanted : Wanted) (old new : Choosing) → new.found.entries ≡ old.found.entries → new.asked.items ≡ old.asked.items → IsChoosing packages wanted old → Holds packages wanted new → IsChoosing packages wanted new
+choosing_same packages wanted old new found asked h holds = record {
+  best = subst (λ (xs : List (ℕ × ℕ)). AreBest packages wanted xs) (sym found) h.best;
+  targets =
+      subst (λ (xs : List (ℕ × ℕ)). AreTargets packages (in_name_order wanted.needs ++ dependencies_of packages xs) new.asked.items) (sym found)
+      (subst (λ (ys : List ℕ). AreTargets packages (in_name_order wanted.needs ++ dependencies_of packages old.found.entries) ys) (sym asked) h.targets);
+  holds = holds;
+}
 
 pub choosing_first : (packages : Packages) (wanted : Wanted) (start met new : Choosing) → start.found.entries ≡ [] → met.found ≡ start.found → new.found ≡ met.found → AreTargets packages (in_name_order wanted.needs) met.asked.items → new.asked.items ≡ met.asked.items
     → Holds packages wanted new → IsChoosing packages wanted new

@@ -11,6 +11,8 @@ use Rattle.walk.specs.Choosing.{choice_of}
 use Rattle.walk.specs.Newest.{Has, IsAhead, dependencies_of, in_name_order, next_package}
 use Rattle.walk.specs.declared.best.Choosing.{Choosing}
 use Rattle.walk.specs.declared.best.Needed.{Needed}
+use Rattle.walk.specs.declared.best.Tried.{Tried}
+use Rattle.walk.specs.declared.best.Tried.TheVariants as tried
 
 -- so it is of each selection that meets the request and has these versions
 abbrev pub OfEach : Packages → Wanted → List (ℕ × ℕ) → (Choices → Type 0) → Type 0
@@ -50,11 +52,27 @@ pub record Holds (packages : Packages) (wanted : Wanted) (c : Choosing) : Type 0
   pub left : AreLeft packages wanted c.found.entries c.needed.items
   pub fresh : AreNeeded packages wanted c.found.entries c.fresh.items
 
--- nothing is chosen or asked, and what holds goes on to hold, where each selection has a version of the set
-pub record Narrows (set : List ℕ) (p : ℕ) (old new : Choosing) : Type 0 where
+-- what is asked and what is left is added to
+pub record IsGrown (old new : Choosing) : Type 0 where
+  pub asked : (more : List ℕ) × (new.asked.items ≡ old.asked.items ++ more)
+  pub needed : (more : List Needed) × (new.needed.items ≡ old.needed.items ++ more)
+
+-- one thing is added: what is left of a package
+pub record Pushes (left : Term) (p : ℕ) (old new : Choosing) : Type 0 where
+  pub entry : Needed
+  pub of : entry.pkg ≡ p
+  pub is : entry.left ≡ left
+  pub found : new.found ≡ old.found
+  pub asked : new.asked ≡ old.asked
+  pub needed : new.needed.items ≡ old.needed.items ++ entry ∷ []
+  pub fresh : new.fresh ≡ old.fresh
+
+-- nothing is chosen or asked, and what holds goes on to hold, where the term is true of each selection
+pub record Narrows (term : Term) (p : ℕ) (old new : Choosing) : Type 0 where
   pub found : new.found ≡ old.found
   pub asked : new.asked.items ≡ old.asked.items
-  pub holds : (packages : Packages) (wanted : Wanted) → OfEach packages wanted old.found.entries (λ t. IsOf set (t p)) → Holds packages wanted old → Holds packages wanted new
+  pub needed : (more : List Needed) × (new.needed.items ≡ old.needed.items ++ more)
+  pub holds : (packages : Packages) (wanted : Wanted) → OfEach packages wanted old.found.entries (λ t. true_of term (t p) ≡ true) → Holds packages wanted old → Holds packages wanted new
 
 -- each of these selections has a version of the package that depends on what this one does
 abbrev pub AskAlike : Packages → Wanted → List (ℕ × ℕ) → ℕ → ℕ → Type 0
@@ -96,3 +114,9 @@ pub record IsChoosing (packages : Packages) (wanted : Wanted) (c : Choosing) : T
   pub best : AreBest packages wanted c.found.entries
   pub targets : AreTargets packages (in_name_order wanted.needs ++ dependencies_of packages c.found.entries) c.asked.items
   pub holds : Holds packages wanted c
+
+-- what came of a version that was tried: it is chosen; or it is ruled out, and nothing else is chosen or asked
+abbrev pub ComesTo : Packages → Wanted → ℕ × ℕ → Choosing → Choosing → Tried → Type 0
+ComesTo packages wanted version old new tried.Chosen = IsChoosing packages wanted new × (new.found.entries ≡ old.found.entries ++ version ∷ []) × ((more : List ℕ) × (new.asked.items ≡ old.asked.items ++ more))
+ComesTo packages wanted version old new tried.RuledOut = IsChoosing packages wanted new × (new.found.entries ≡ old.found.entries) × (new.asked.items ≡ old.asked.items)
+ComesTo packages wanted version old new tried.Unknown = Unit {0}

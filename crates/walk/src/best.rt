@@ -5,8 +5,11 @@
 // versions takes versions away, and so does what all versions of a needed package depend on, or the only one that
 // is left. Each package in turn takes the best version that is left. So no selection that has those before has a
 // better one, whatever comes of the packages behind.
+//
+// A version is taken on trial: where it leaves a package none, no selection has it with those before, so it is taken
+// back and ruled out, and the next best one is tried.
 
-ghost use Rattle.std.specs.Prelude.{◌≡◌, ◌<◌, ◌+◌, ◌++◌, ℕ, true, length, nat_eq, slice_get, List, [], ◌∷◌, None, Some, IfOk, IfSome, OnOk};
+ghost use Rattle.std.specs.Prelude.{◌≡◌, ◌<◌, ◌+◌, ◌++◌, ℕ, true, length, nat_eq, slice_get, take, List, [], ◌∷◌, None, Option, Some, IfOk, IfSome, OnOk};
 ghost use Rattle.std.specs.Bool.{OnFalse};
 ghost use Rattle.std.specs.List.{IsDistinct};
 ghost use Rattle.std.specs.Map.{keys_of};
@@ -16,7 +19,7 @@ ghost use Rattle.terms.specs.Terms.{true_of};
 ghost use Rattle.terms.specs.declared.term.Term.TheVariants.{In};
 ghost use Rattle.registry.specs.Registry.{Packages, is_published, needs_of};
 ghost use Rattle.registry.specs.Requests.{Wanted};
-ghost use Rattle.walk.specs.Best.{AreAlike, AreBest, ArePassed, AreTargets, AsksFor, AsksNeed, AsksOne, Holds, IsBest, IsChoosing, IsOut, MeetsOf, Narrows, OfEach};
+ghost use Rattle.walk.specs.Best.{AreAlike, AreBest, ArePassed, AreTargets, AsksFor, AsksNeed, AsksOne, ComesTo, Holds, IsBest, IsChoosing, IsGrown, IsOut, MeetsOf, Narrows, OfEach, Pushes};
 ghost use Rattle.walk.specs.declared.best.Needed.{Needed};
 ghost use Rattle.walk.specs.Choosing.{choice_of};
 ghost use Rattle.walk.specs.Newest.{in_name_order, next_package, IsNewest};
@@ -32,12 +35,47 @@ use std::alloc::{AllocError, Global};
 use terms::{Term, VSet};
 use versions::precedence_is_a_total_preorder;
 
+/// Versions are tried as long as what was taken back is at most so many times what is kept ..
+const TAKEN_SHARE: usize = 8;
+
+/// .. and so much more.
+const TAKEN_ROOM: usize = 64;
+
 /// A package that is needed.
 #[derive(Drop)]
 struct Needed {
     pkg: Pkg,
     /// The versions of it that are left.
     left: Term,
+    /// The number of the package before. Nothing rests on it.
+    before: usize,
+}
+
+/// How much was kept before a version was tried.
+#[derive(Clone, Copy)]
+struct Kept {
+    found: usize,
+    asked: usize,
+    needed: usize,
+}
+
+/// The newest selection, as it was chosen.
+#[derive(Drop)]
+pub struct NewestChoice {
+    /// Packages with the ordinals of their versions.
+    pub list: Vec<(Pkg, u32)>,
+    /// How many versions were ruled out for it, since they left a package none. Nothing rests on it.
+    pub ruled_out: usize,
+}
+
+/// What came of a version that was tried.
+#[derive(Clone, Copy)]
+enum Tried {
+    Chosen,
+    /// No selection has it with those before.
+    RuledOut,
+    /// It can't be said.
+    Unknown,
 }
 
 /// What is chosen, and what is left.
@@ -47,13 +85,16 @@ struct Choosing {
     found: IndexMap<Pkg, u32>,
     /// The packages that lines name: the needs by name, and what each chosen version depends on.
     asked: Vec<Pkg>,
-    /// What is left of packages that are needed.
+    /// What is left of packages that are needed. Of those that name one package the last counts.
     needed: Vec<Needed>,
     /// By number of the package, one more than its index among those, or 0. Nothing rests on it.
     numbers: Vec<usize>,
     /// Packages that are needed, and not looked at yet for what all their versions depend on, or the only one that is
     /// left.
     fresh: Vec<Pkg>,
+    /// How much of what is left was taken back, and by how many versions. Nothing rests on them.
+    taken: usize,
+    ruled_out: usize,
 }
 
 /// Chooses what was chosen.
@@ -78,8 +119,10 @@ fn has_all(matching: &Matching<'_>, left: &Term) -> bool {
     }
 }
 
-/// Whether some versions are left. Nothing rests on it.
-fn is_some(left: &Term) -> bool {
+/// Whether some versions are left.
+fn is_some(left: &Term) -> bool
+    ensures { OnFalse result ((choice : Option ℕ) → true_of left.now choice ≡ true → ⊥) }
+{
     match left {
         Term::In(versions) => !versions.is_empty(),
         Term::NotIn(_) => true,
@@ -146,6 +189,8 @@ impl Choosing {
             needed: Vec::with_capacity(alloc, WALK_ROOM)?,
             numbers: Vec::with_capacity(alloc, WALK_ROOM)?,
             fresh: Vec::with_capacity(alloc, WALK_ROOM)?,
+            taken: 0,
+            ruled_out: 0,
         })
     }
 
@@ -158,6 +203,14 @@ impl Choosing {
             Some(index)
         } else {
             None
+        }
+    }
+
+    /// The number of a package: one more than the index of what is left of it, or 0.
+    fn number_of(&self, pkg: Pkg) -> usize {
+        match self.numbers.as_slice().get(pkg as usize) {
+            None => 0,
+            Some(number) => *number,
         }
     }
 
@@ -174,40 +227,48 @@ impl Choosing {
         Ok(())
     }
 
-    /// Begins to keep what is left of a package: the versions of a set.
-    fn add_needed(&mut self, pkg: Pkg, set: VSet) -> Result<(), AllocError>
-        ensures { OnOk result (Narrows set pkg self.old self.new) }
+    /// Keeps what is left of a package.
+    fn push_left(&mut self, pkg: Pkg, left: Term) -> Result<(), AllocError>
+        ensures { OnOk result (Pushes left pkg self.old self.new) }
     {
-        let left = Term::In(set);
-        self.needed.push(Needed { pkg, left })?;
+        let before = self.number_of(pkg);
+        self.needed.push(Needed { pkg, left, before })?;
         let number = self.needed.len();
         self.note_place(pkg, number)?;
+        Ok(())
+    }
+
+    /// Begins to keep what is left of a package: the versions of a set.
+    fn add_needed(&mut self, pkg: Pkg, set: VSet) -> Result<(), AllocError>
+        ensures { OnOk result (Narrows (In set) pkg self.old self.new) }
+    {
+        self.push_left(pkg, Term::In(set))?;
         self.fresh.push(pkg)?;
         Ok(())
     }
 
-    /// Leaves of a package, at the index of what is left of it, only versions of a set. Answers whether some are left,
-    /// and whether one is.
+    /// Leaves of a package, at the index of what is left of it, only versions of which a term is true. Answers
+    /// whether some are left, and whether one is.
     fn lessen(
         &mut self,
         alloc: Global,
         pkg: Pkg,
         place: usize,
-        set: VSet,
+        term: &Term,
     ) -> Result<(bool, bool), AllocError>
         requires { (e : Needed) × (slice_get self.old.needed.items place ≡ Some e) × (e.pkg ≡ pkg) }
-        ensures { OnOk result (Narrows set pkg self.old self.new) }
+        ensures { OnOk result (Narrows term.now pkg self.old self.new) }
     {
-        let both = self.needed[place].left.and(alloc, &Term::In(set))?;
+        let both = self.needed[place].left.and(alloc, term)?;
         let some = is_some(&both);
         let one = only_of(&both).is_some();
-        self.needed[place] = Needed { pkg, left: both };
+        self.push_left(pkg, both)?;
         Ok((some, one))
     }
 
     /// Has a package looked at once more, where that is wanted.
     fn look_again(&mut self, is_wanted: bool, pkg: Pkg) -> Result<(), AllocError>
-        ensures { OnOk result ((set : List ℕ) → Narrows set pkg self.old self.new) }
+        ensures { OnOk result ((set : List ℕ) → Narrows (In set) pkg self.old self.new) }
     {
         if !is_wanted {
             return Ok(());
@@ -216,19 +277,15 @@ impl Choosing {
         Ok(())
     }
 
-    /// Leaves of a package only versions of a matching set. Answers no where none is left, or another one is
-    /// chosen; nothing rests on the answer.
+    /// Leaves of a package only versions of a matching set. Answers no where none is left; nothing rests on the answer.
     fn narrow(
         &mut self,
         alloc: Global,
         pkg: Pkg,
         matching: &Matching<'_>,
     ) -> Result<bool, AllocError>
-        ensures { OnOk result (Narrows (ordinals_of matching.now) pkg self.old self.new) }
+        ensures { OnOk result (Narrows (In (ordinals_of matching.now)) pkg self.old self.new) }
     {
-        if let Some(chosen) = self.found.get(&pkg).copied() {
-            return Ok(matching.has(chosen));
-        }
         match self.place_of(pkg) {
             None => {
                 let set = matching.set(alloc)?;
@@ -241,7 +298,7 @@ impl Choosing {
                     return Ok(true);
                 }
                 let set = matching.set(alloc)?;
-                let (some, one) = self.lessen(alloc, pkg, place, set)?;
+                let (some, one) = self.lessen(alloc, pkg, place, &Term::In(set))?;
                 self.look_again(one, pkg)?;
                 Ok(some)
             }
@@ -256,7 +313,7 @@ impl Choosing {
         pkg: Pkg,
         matching: &Matching<'_>,
     ) -> Result<bool, AllocError>
-        ensures { OnOk result (Narrows (ordinals_of matching.now) pkg self.old self.new) }
+        ensures { OnOk result (Narrows (In (ordinals_of matching.now)) pkg self.old self.new) }
     {
         if is_met {
             return Ok(true);
@@ -283,13 +340,12 @@ impl Choosing {
         registry: &Registry,
         version: (Pkg, u32),
         is_chosen: bool,
+        is_met: bool,
     ) -> Result<bool, AllocError>
         ensures meets { OnOk result (MeetsOf registry.now.packages version.0 version.1 self.old self.new) }
         ensures asks { IfOk result (λ whole. whole ≡ true → AsksFor registry.now.packages version.0 version.1 is_chosen self.old.asked.items self.new.asked.items) }
+        ensures grown { OnOk result (IsGrown self.old self.new) }
     {
-        // It is met already where a package was looked at with this outcome.
-        let is_met = is_chosen
-            && (self.only(version.0).is_some() || are_alike(registry, version.0));
         let count = needs_count(registry, version);
         for index in 0..count {
             let (target, matching) = registry.dependency(version.0, version.1, index)?;
@@ -318,12 +374,13 @@ impl Choosing {
     ) -> Result<bool, AllocError>
         ensures found { OnOk result (self.new.found ≡ self.old.found) }
         ensures asked { IfOk result (λ whole. whole ≡ true → self.new.asked.items ≡ self.old.asked.items) }
+        ensures grown { OnOk result (IsGrown self.old self.new) }
         ensures holds { OnOk result ((wanted : Wanted) → Holds registry.now.packages wanted self.old → Holds registry.now.packages wanted self.new) }
     {
         let Some(ordinal) = self.only(pkg) else {
             return Ok(true);
         };
-        Ok(self.meet(alloc, registry, (pkg, ordinal), false)?)
+        Ok(self.meet(alloc, registry, (pkg, ordinal), false, false)?)
     }
 
     /// Meets what all versions of a package depend on, if that is the same, or what the only one that is left does.
@@ -335,18 +392,20 @@ impl Choosing {
     ) -> Result<bool, AllocError>
         ensures found { OnOk result (self.new.found ≡ self.old.found) }
         ensures asked { IfOk result (λ whole. whole ≡ true → self.new.asked.items ≡ self.old.asked.items) }
+        ensures grown { OnOk result (IsGrown self.old self.new) }
         ensures holds { OnOk result ((wanted : Wanted) → OfEach registry.now.packages wanted self.old.found.entries (λ t. (k : ℕ) × (t pkg ≡ Some k)) → Holds registry.now.packages wanted self.old → Holds registry.now.packages wanted self.new) }
     {
         if !are_alike(registry, pkg) {
             return Ok(self.meet_only(alloc, registry, pkg)?);
         }
-        Ok(self.meet(alloc, registry, (pkg, 0), false)?)
+        Ok(self.meet(alloc, registry, (pkg, 0), false, false)?)
     }
 
     /// Meets what all versions of packages depend on that are newly needed.
     fn meet_alike(&mut self, alloc: Global, registry: &Registry) -> Result<bool, AllocError>
         ensures found { OnOk result (self.new.found ≡ self.old.found) }
         ensures asked { IfOk result (λ whole. whole ≡ true → self.new.asked.items ≡ self.old.asked.items) }
+        ensures grown { OnOk result (IsGrown self.old self.new) }
         ensures holds { OnOk result ((wanted : Wanted) → Holds registry.now.packages wanted self.old → Holds registry.now.packages wanted self.new) }
     {
         // Each package is new once at most, and once comes to its only version.
@@ -496,8 +555,167 @@ impl Choosing {
         self.best_of(registry, request, &self.needed[place].left, pkg)
     }
 
-    /// Chooses the best version that is left of the package that comes next, and meets what it depends on. Answers no
-    /// where none is left.
+    /// Leaves of a package the version that is chosen, unless it was the only one.
+    fn keep_only(
+        &mut self,
+        alloc: Global,
+        version: (Pkg, u32),
+        is_only: bool,
+    ) -> Result<(), AllocError>
+        ensures { OnOk result (Narrows (In (version.1 ∷ [])) version.0 self.old self.new) }
+    {
+        if is_only {
+            return Ok(());
+        }
+        let set = VSet::single(alloc, version.1)?;
+        self.push_left(version.0, Term::In(set))?;
+        Ok(())
+    }
+
+    /// How much is kept.
+    fn kept(&self) -> Kept
+        ensures found { result.found ≡ length self.now.found.entries }
+        ensures asked { result.asked ≡ length self.now.asked.items }
+        ensures needed { result.needed ≡ length self.now.needed.items }
+    {
+        Kept {
+            found: self.found.len(),
+            asked: self.asked.len(),
+            needed: self.needed.len(),
+        }
+    }
+
+    /// Chooses a version, and meets what it depends on. Answers no where a package has no version left then.
+    fn choose_version(
+        &mut self,
+        alloc: Global,
+        registry: &Registry,
+        version: (Pkg, u32),
+    ) -> Result<bool, AllocError>
+        requires new { choice_of self.old.found.entries version.0 ≡ None }
+        ensures found { OnOk result (self.new.found.entries ≡ self.old.found.entries ++ (version.0, version.1) ∷ []) }
+        ensures asks { IfOk result (λ whole. whole ≡ true → AsksFor registry.now.packages version.0 version.1 true self.old.asked.items self.new.asked.items) }
+        ensures grown { OnOk result (IsGrown self.old self.new) }
+        ensures holds { OnOk result ((wanted : Wanted) → Holds registry.now.packages wanted self.old → Holds registry.now.packages wanted self.new) }
+    {
+        // Where a package was looked at with this outcome, it is met already.
+        let is_only = self.only(version.0).is_some();
+        let is_met = is_only || are_alike(registry, version.0);
+        self.found.insert(version.0, version.1)?;
+        self.keep_only(alloc, version, is_only)?;
+        if !self.meet(alloc, registry, version, true, is_met)? {
+            return Ok(false);
+        }
+        Ok(self.meet_alike(alloc, registry)?)
+    }
+
+    /// Whether it was seen last that a package has no version left.
+    fn is_at_end(&self) -> bool
+        ensures { result ≡ true → (packages : Packages) (wanted : Wanted) → Holds packages wanted self.now → OfEach packages wanted self.now.found.entries (λ t. ⊥) }
+    {
+        let count = self.needed.len();
+        if count == 0 {
+            return false;
+        }
+        !is_some(&self.needed[count - 1].left)
+    }
+
+    /// Gives the packages from an index on the numbers back that they had before.
+    fn number_again(&mut self, count: usize)
+        ensures { (self.new.found ≡ self.old.found) × (self.new.asked ≡ self.old.asked) × (self.new.needed ≡ self.old.needed) × (self.new.fresh ≡ self.old.fresh) }
+    {
+        for at in (count..self.needed.len()).rev() {
+            let pkg = self.needed[at].pkg;
+            let before = self.needed[at].before;
+            if let Some(own) = self.numbers.as_mut_slice().get_mut(pkg as usize) {
+                *own = before;
+            }
+        }
+    }
+
+    /// Takes back what was kept since.
+    fn take_back(&mut self, kept: Kept)
+        ensures found { self.new.found.entries ≡ take kept.found self.old.found.entries }
+        ensures asked { self.new.asked.items ≡ take kept.asked self.old.asked.items }
+        ensures needed { self.new.needed.items ≡ take kept.needed self.old.needed.items }
+        ensures fresh { self.new.fresh.items ≡ [] }
+    {
+        self.number_again(kept.needed);
+        self.taken = self
+            .taken
+            .saturating_add(self.needed.len().saturating_sub(kept.needed));
+        self.ruled_out = self.ruled_out.saturating_add(1);
+        self.needed.truncate(kept.needed);
+        self.asked.truncate(kept.asked);
+        self.found.truncate(kept.found);
+        self.fresh.clear();
+    }
+
+    /// Leaves all versions of a package but one. Answers no where none is left of a package then, or what is left of it
+    /// is not known.
+    fn rule_out(
+        &mut self,
+        alloc: Global,
+        registry: &Registry,
+        version: (Pkg, u32),
+    ) -> Result<bool, AllocError>
+        ensures found { OnOk result (self.new.found ≡ self.old.found) }
+        ensures asked { IfOk result (λ whole. whole ≡ true → self.new.asked.items ≡ self.old.asked.items) }
+        ensures holds { OnOk result ((wanted : Wanted) → IsOut registry.now.packages wanted self.old.found.entries version.0 version.1 → Holds registry.now.packages wanted self.old → Holds registry.now.packages wanted self.new) }
+    {
+        let Some(place) = self.place_of(version.0) else {
+            return Ok(false);
+        };
+        let set = VSet::single(alloc, version.1)?;
+        let (some, _) = self.lessen(alloc, version.0, place, &Term::NotIn(set))?;
+        if !some {
+            return Ok(false);
+        }
+        if !self.meet_only(alloc, registry, version.0)? {
+            return Ok(false);
+        }
+        Ok(self.meet_alike(alloc, registry)?)
+    }
+
+    /// Whether too much was taken back to go on so: a search is faster then.
+    fn is_spent(&self) -> bool {
+        self.taken / TAKEN_SHARE > self.needed.len() + TAKEN_ROOM
+    }
+
+    /// Chooses the best version that is left of the package that comes next, and meets what it depends on; or takes
+    /// that back and rules it out, where it leaves a package none.
+    fn try_version(
+        &mut self,
+        alloc: Global,
+        registry: &Registry,
+        request: &Request,
+        version: (Pkg, u32),
+    ) -> Result<Tried, AllocError>
+        requires choosing { IsChoosing registry.now.packages request.now self.old }
+        requires next { next_package registry.now.packages request.now.needs self.old.found.entries ≡ Some version.0 }
+        requires new { choice_of self.old.found.entries version.0 ≡ None }
+        requires best { IsBest registry.now.packages request.now self.old.found.entries version.0 version.1 }
+        ensures { IfOk result (ComesTo registry.now.packages request.now version self.old self.new) }
+    {
+        let kept = self.kept();
+        if self.choose_version(alloc, registry, version)? {
+            return Ok(Tried::Chosen);
+        }
+        if self.is_spent() {
+            return Ok(Tried::Unknown);
+        }
+        if !self.is_at_end() {
+            return Ok(Tried::Unknown);
+        }
+        self.take_back(kept);
+        if !self.rule_out(alloc, registry, version)? {
+            return Ok(Tried::Unknown);
+        }
+        Ok(Tried::RuledOut)
+    }
+
+    /// Chooses the best version that may be had of the package that comes next, and meets what it depends on. Answers
+    /// no where none is left.
     fn choose(
         &mut self,
         alloc: Global,
@@ -512,14 +730,17 @@ impl Choosing {
         ensures grown { IfOk result (λ whole. whole ≡ true → (k : ℕ) × (self.new.found.entries ≡ self.old.found.entries ++ (pkg, k) ∷ [])) }
         ensures asked { IfOk result (λ whole. whole ≡ true → (more : List ℕ) × (self.new.asked.items ≡ self.old.asked.items ++ more)) }
     {
-        let Some(ordinal) = self.best(registry, request, pkg) else {
-            return Ok(false);
-        };
-        self.found.insert(pkg, ordinal)?;
-        if !self.meet(alloc, registry, (pkg, ordinal), true)? {
-            return Ok(false);
+        for _ in 0..registry.version_count(pkg) {
+            let Some(ordinal) = self.best(registry, request, pkg) else {
+                return Ok(false);
+            };
+            match self.try_version(alloc, registry, request, (pkg, ordinal))? {
+                Tried::Chosen => return Ok(true),
+                Tried::RuledOut => {}
+                Tried::Unknown => return Ok(false),
+            }
         }
-        Ok(self.meet_alike(alloc, registry)?)
+        Ok(false)
     }
 
     /// Chooses the package that is asked for at a place, unless it is chosen. Answers no where it has no version left.
@@ -586,23 +807,28 @@ fn choose_from_needs(
     Ok(choosing.choose_all(alloc, registry, request)?)
 }
 
-/// The newest selection, where each package can be decided in its turn without going back: for the best version
-/// that is left by what holds then. Where it answers none, a search is needed; there may be a selection all the
-/// same.
+/// The newest selection, where each package can be decided in its turn: for the best version that is left by what
+/// holds then, and leaves each package one. Where it answers none, a search is needed; there may be a selection all
+/// the same.
 ///
 /// The cost is linear in the dependencies of what is chosen, and of packages whose versions all depend on the same or of
-/// which one is left, each with a look at the versions that are left.
+/// which one is left, each with a look at the versions that are left. What is tried in vain costs at most some eight
+/// times as much.
 pub fn choose_newest(
     alloc: Global,
     registry: &Registry,
     request: &Request,
-) -> Result<Option<Vec<(Pkg, u32)>>, AllocError>
-    ensures newest { IfOk result (λ chosen. IfSome chosen (λ list. IsNewest registry.now.packages request.now (choice_of list.items))) }
-    ensures once { IfOk result (λ chosen. IfSome chosen (λ list. IsDistinct nat_eq (keys_of list.items))) }
+) -> Result<Option<NewestChoice>, AllocError>
+    ensures newest { IfOk result (λ chosen. IfSome chosen (λ choice. IsNewest registry.now.packages request.now (choice_of choice.list.items))) }
+    ensures once { IfOk result (λ chosen. IfSome chosen (λ choice. IsDistinct nat_eq (keys_of choice.list.items))) }
 {
     let mut choosing = Choosing::new(alloc)?;
     let whole = choose_from_needs(alloc, registry, request, &mut choosing);
-    let Choosing { found, .. } = choosing;
+    let Choosing {
+        found,
+        ruled_out,
+        ..
+    } = choosing;
     if !whole? {
         drop(found);
         return Ok(None);
@@ -610,7 +836,7 @@ pub fn choose_newest(
     let reached = reach(alloc, registry, request, &Chosen { found: &found });
     drop(found);
     match reached? {
-        Reached::Selection(list) => Ok(Some(list)),
+        Reached::Selection(list) => Ok(Some(NewestChoice { list, ruled_out })),
         Reached::Unmet(_, _) | Reached::NotAllowed(_, _) => Ok(None),
     }
 }

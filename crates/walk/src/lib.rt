@@ -18,7 +18,7 @@ mod preferred;
 mod reached;
 mod walking;
 
-pub use best::choose_newest;
+pub use best::{NewestChoice, choose_newest};
 pub use chooser::Chooser;
 pub use evidence::Evidence;
 pub use laws::{

@@ -1,8 +1,14 @@
-use Rattle.std.proofs.Common.{rules}
-use Rattle.walk.proofs.Bests.{narrows_added}
+use Rattle.std.proofs.Common.{refl}
+use Rattle.terms.specs.declared.term.Term.TheVariants.{In}
+use Rattle.walk.specs.declared.best.Choosing.{Choosing}
+use Rattle.walk.proofs.Bests.{narrows_again, narrows_both, narrows_pushed}
 use Rattle.walk.proofs.best.Choosing.add_needed.Goals as goal
 
 pub returns : goal.returns
 returns c =
-    narrows_added c.args.set c.args.pkg c.args.self.now (record { found = c.note_place.new.self.found; asked = c.note_place.new.self.asked; needed = c.note_place.new.self.needed; numbers = c.note_place.new.self.numbers; fresh = c.push-2.new.self })
-    c.in_ok-note_place.ensures.0 c.in_ok-note_place.ensures.1 (search rules) (search rules)
+    let set = c.args.set in
+    let pkg = c.args.pkg in
+    let old = c.args.self.now in
+    let mid = c.push_left.new.self in
+    let new : Choosing = record { found = mid.found; asked = mid.asked; needed = mid.needed; numbers = mid.numbers; fresh = c.push.new.self; taken = mid.taken; ruled_out = mid.ruled_out } in
+    narrows_both (In set) pkg old mid new (narrows_pushed (In set) (In set) pkg old mid c.in_ok-push_left.ensures (λ packages wanted each h. each)) (narrows_again set pkg mid new refl refl refl c.in_ok-push.ensures.items)

@@ -3,7 +3,7 @@ use Rattle.std.proofs.lemmas.List.{append-nil}
 use Rattle.std.proofs.lemmas.Option.{slice_get_read}
 use Rattle.std.specs.Prelude.{Some, slice_get}
 use Rattle.versions.specs.Words.{Text}
-use Rattle.walk.proofs.Bests.{holds_more, need_of}
+use Rattle.walk.proofs.Bests.{holds_more, is_of-true, need_of}
 use Rattle.walk.proofs.Lists.{get-contains}
 use Rattle.walk.proofs.best.Choosing.meet_need.Goals as goal
 
@@ -29,5 +29,6 @@ returns-clause-holds c =
     let line = c.index-needs-index.result in
     let at = read c.needs.result.now wanted.needs c.args.index line c.needs.ensures.needs c.requires.within c.index-needs-index.is in
     c.in_ok-narrow.ensures.holds packages wanted
-    (need_of packages wanted c.ask.new.self.found.entries line.0 line.1 c.in-Some.target _ (get-contains wanted.needs c.args.index line at) (sym c.number.ensures ∙ c.in-Some.is) c.in_ok-matching.ensures)
+    (λ u meets has. is_of-true _ (u c.in-Some.target)
+    (need_of packages wanted c.ask.new.self.found.entries line.0 line.1 c.in-Some.target _ (get-contains wanted.needs c.args.index line at) (sym c.number.ensures ∙ c.in-Some.is) c.in_ok-matching.ensures u meets has))
     (holds_more packages wanted c.args.self.now c.ask.new.self [] (ap (λ m. m.entries) c.in_ok-ask.ensures.same.0 ∙ sym (append-nil c.args.self.now.found.entries)) c.in_ok-ask.ensures.same.1 c.in_ok-ask.ensures.same.2 c.requires.holds)

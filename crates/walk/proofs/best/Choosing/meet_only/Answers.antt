@@ -1,5 +1,9 @@
-use Rattle.walk.proofs.Bests.{ask_only}
+use Rattle.std.proofs.Common.{refl}
+use Rattle.walk.proofs.Bests.{ask_only, grown_of}
 use Rattle.walk.proofs.best.Choosing.meet_only.Goals as goal
+
+pub returns-in_default-clause-grown : goal.returns-in_default-clause-grown
+returns-in_default-clause-grown c = grown_of c.args.self.now c.args.self.now refl refl
 
 pub returns-clause-holds : goal.returns-clause-holds
 returns-clause-holds c = λ wanted h.
