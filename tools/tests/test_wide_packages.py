@@ -66,6 +66,14 @@ class WidePackages(unittest.TestCase):
         held = [name for name, _ in reply["selected"] if name.startswith("hole")]
         self.assertEqual((len(held), len(set(held))), (3, 3))
 
+    def test_an_old_version_beside_pigeons(self):
+        lines = [publish("wide", f"1.{minor}.0") for minor in range(MANY)] + [publish("pinning", "1.0.0", ["wide =1.3.0"])]
+        asked = json.loads(wants((1, 3, 4)))
+        asked["needs"] += [["pinning", "*"], ["wide", "^1.0.0"]]
+        selected = dict(json.loads(serve([*pigeons(4, 3), *lines, json.dumps(asked)])[-1])["selected"])
+        self.assertEqual(selected["wide"], "1.3.0")
+        self.assertEqual(len([name for name in selected if name.startswith("hole")]), 3)
+
     def test_a_hole_too_few(self):
         reply = json.loads(serve([*pigeons(4, 3), wants(range(1, 5))])[-1])
         self.assertIs(reply.get("refused"), True)

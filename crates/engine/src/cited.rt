@@ -9,6 +9,7 @@ use std::alloc::{AllocError, Global};
 
 /// By how many steps what is told of what was learnt follows at most, all of it together: more is not offered to be
 /// learnt.
+/// Half and twice of it were measured: docs/BENCHMARKS.md, Constants.
 const LEARNT_STEPS: u32 = 1024;
 
 /// What is cited by a refusal, directly or not.

@@ -6,6 +6,7 @@ use heuristics::{Question, locked_version};
 use terms::{Pkg, VSet};
 
 /// How many versions have a choice each at most. Two choices stand for the other allowed ones.
+/// Half and twice of it were measured: docs/BENCHMARKS.md, Constants.
 const MOST_SINGLE: usize = 60;
 
 /// The allowed versions of a package that has many versions.
@@ -48,7 +49,7 @@ fn best_marked(question: &Question<'_>, pkg: Pkg, marks: &[bool]) -> Option<u32>
 
 /// Takes the best of the versions that are marked, until there are so many. For each that is taken it costs a look at
 /// each version of the package at most.
-fn take_best(
+pub(crate) fn take_best(
     question: &Question<'_>,
     pkg: Pkg,
     marks: &mut [bool],
@@ -73,26 +74,42 @@ fn locked_ordinal(question: &Question<'_>, pkg: Pkg) -> Option<u32> {
 
 impl Classes {
     /// Of a package that was reached by a requirement that these versions meet. The version that the lock names has a
-    /// choice of its own, then the best of those that meet the requirement, then the best of the others.
-    pub fn new(question: &Question<'_>, pkg: Pkg, meeting: &VSet) -> Result<Classes, Stop> {
+    /// choice of its own, then those that an earlier search came to, then the best of those that meet the requirement, then
+    /// the best of the others.
+    pub fn new(
+        question: &Question<'_>,
+        pkg: Pkg,
+        meeting: &VSet,
+        refined: &[(Pkg, u32)],
+    ) -> Result<Classes, Stop> {
         let mut classes = Classes {
             meeting: mark_allowed(question, pkg, meeting, true)?,
             rest: mark_allowed(question, pkg, meeting, false)?,
             single: Vec::with_capacity(question.alloc, MOST_SINGLE)?,
         };
-        classes.take_locked(question, pkg)?;
+        if let Some(ordinal) = locked_ordinal(question, pkg) {
+            classes.take(ordinal)?;
+        }
+        classes.take_refined(pkg, refined)?;
         let single = &mut classes.single;
         take_best(question, pkg, &mut classes.meeting, single, MOST_SINGLE)?;
         take_best(question, pkg, &mut classes.rest, single, MOST_SINGLE)?;
         Ok(classes)
     }
 
-    /// Gives the version that the lock names a choice of its own.
-    fn take_locked(&mut self, question: &Question<'_>, pkg: Pkg) -> Result<(), Stop> {
-        let Some(ordinal) = locked_ordinal(question, pkg) else {
-            return Ok(());
-        };
-        if !self.is_single(ordinal) {
+    /// Gives those versions of a package a choice of their own that earlier searches came to, the last ones first.
+    fn take_refined(&mut self, pkg: Pkg, refined: &[(Pkg, u32)]) -> Result<(), Stop> {
+        for (of, ordinal) in refined.iter().rev() {
+            if *of == pkg {
+                self.take(*ordinal)?;
+            }
+        }
+        Ok(())
+    }
+
+    /// Gives a version a choice of its own, if it is allowed and there is room for one.
+    fn take(&mut self, ordinal: u32) -> Result<(), Stop> {
+        if !self.is_single(ordinal) && self.single.len() < MOST_SINGLE {
             *at_mut(&mut self.meeting, ordinal)? = false;
             *at_mut(&mut self.rest, ordinal)? = false;
             self.single.push(ordinal)?;

@@ -11,6 +11,7 @@ use crate::view::View;
 use crate::wide::Wide;
 use heuristics::Question;
 use store::Store;
+use terms::Pkg;
 
 /// For so many conflicts the dependencies of a version become incompatibilities when it is about to be
 /// decided, as in doc/solver.md. Few requests meet more, and those that do are hard. With 4 in place of 2
@@ -18,6 +19,7 @@ use store::Store;
 const FIRST_CONFLICTS: u32 = 2;
 
 /// After so many assignments a conflict is taken for the last one of those.
+/// Half and twice of it were measured: docs/BENCHMARKS.md, Constants.
 const FIRST_ASSIGNMENTS: u64 = 4096;
 
 /// More turns than any search makes.
@@ -56,7 +58,7 @@ struct Late {
 pub struct Engine<'a> {
     pub(crate) question: Question<'a>,
     pub(crate) store: &'a Store,
-    budget: Option<u32>,
+    pub(crate) budget: Option<u32>,
     pub(crate) view: View,
     pub(crate) trail: Trail,
     pub(crate) incompats: Incompats,
@@ -69,6 +71,10 @@ pub struct Engine<'a> {
     pub(crate) numbers: Vec<Option<u32>>,
     /// By index of the package, what its choices stand for if it has many versions, up to the last that has.
     pub(crate) wides: Vec<Option<Wide>>,
+    /// Versions that have a choice of their own beside the best, since an earlier search came to them.
+    pub(crate) refined: Vec<(Pkg, u32)>,
+    /// How often the search began again for those.
+    pub(crate) again: u32,
     /// How many packages were asked for in the store, and how many members were looked at.
     pub(crate) asked: u32,
     pub(crate) looks: u32,
@@ -107,6 +113,8 @@ impl<'a> Engine<'a> {
             phase: Phase::Lazy,
             numbers: Vec::new(alloc),
             wides: Vec::new(alloc),
+            refined: Vec::new(alloc),
+            again: 0,
             asked: 0,
             looks: 0,
             named: Vec::new(alloc),

@@ -48,7 +48,7 @@ impl Engine<'_> {
             return Ok((all, self.allowed_choices(pkg, all)));
         }
         let meeting = versions_meeting(&self.question, pkg, by)?;
-        let made = Wide::new(&self.question, pkg, &meeting);
+        let made = Wide::new(&self.question, pkg, &meeting, &self.refined);
         drop(meeting);
         let wide = made?;
         let choices = (wide.all(), wide.left());

@@ -14,6 +14,7 @@ mod meeting;
 mod members;
 mod order;
 mod origins;
+mod refining;
 mod ruling;
 mod stop;
 mod trace;

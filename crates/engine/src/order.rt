@@ -17,7 +17,8 @@ use terms::Pkg;
 /// How much the first conflict adds to an activity.
 const FIRST_STEP: u64 = 1 << 10;
 
-/// A conflict adds more than the one before, by one part in this.
+/// A conflict adds more than the one before, by one part in this: a power of two near the 19 that MiniSat's decay of
+/// 0.95 comes to.
 const GROWTH: u64 = 16;
 
 /// Where a conflict would add more, all activities are divided.

@@ -55,14 +55,14 @@ impl<'a> Engine<'a> {
 
     /// Searches for a selection, whichever is found first.
     pub fn search(&mut self) -> Result<Found, Stop> {
-        let verdict = self.run_first()?;
+        let verdict = self.run_refined()?;
         self.found(verdict)
     }
 
     /// Once a selection was found, searches on for the newest one, over what was learnt, and answers the trace
     /// of what rules better versions out than those it has.
     pub fn search_newest(&mut self) -> Result<Trace, Stop> {
-        match self.run_in_order()? {
+        match self.run_in_order_refined()? {
             Verdict::Selected => trace_of_selection(self),
             Verdict::Refused(_) | Verdict::Unnumbered(_) => Err(Stop::Lost),
         }

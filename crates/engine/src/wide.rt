@@ -4,8 +4,7 @@
 // requirement by which the package was reached, one for those that don't, and one for those that are not allowed. Such
 // a choice is taken for a version that depends on nothing, and that meets what any of its versions meets. So each
 // incompatibility says no more than the registry does, and so does what follows from them. Where a selection has such
-// a choice, nothing was found, and another search answers: Clarke et al., "Counterexample-guided abstraction
-// refinement", 2000, would refine the choice.
+// a choice, the best versions that fit get a choice each, and the search begins again (`refining.rt`).
 //
 // Without this, no search by this engine is made for such packages. Random formulas of 80 variables whose packages
 // have 100 versions each take a quarter of the time with it.
@@ -54,9 +53,15 @@ fn all_barred(alloc: Global, count: u32) -> Result<Vec<u32>, AllocError> {
 }
 
 impl Wide {
-    /// Of a package that was reached by a requirement that these versions meet.
-    pub fn new(question: &Question<'_>, pkg: Pkg, meeting: &VSet) -> Result<Wide, Stop> {
-        let classes = Classes::new(question, pkg, meeting)?;
+    /// Of a package that was reached by a requirement that these versions meet, and of which some have a choice of their
+    /// own beside the best.
+    pub fn new(
+        question: &Question<'_>,
+        pkg: Pkg,
+        meeting: &VSet,
+        refined: &[(Pkg, u32)],
+    ) -> Result<Wide, Stop> {
+        let classes = Classes::new(question, pkg, meeting, refined)?;
         let mut wide = Wide {
             choices: all_barred(question.alloc, question.registry.version_count(pkg))?,
             best: classes.best(question, pkg)?,
@@ -127,6 +132,15 @@ impl Wide {
     /// Whether a choice stands for one version.
     pub fn is_single(&self, choice: u32) -> bool {
         self.single.has(choice)
+    }
+
+    /// By ordinal, whether a choice stands for the version.
+    pub fn standing_for(&self, alloc: Global, choice: u32) -> Result<Vec<bool>, AllocError> {
+        let mut marks = Vec::with_capacity(alloc, self.choices.len())?;
+        for own in self.choices.as_slice() {
+            marks.push(*own == choice)?;
+        }
+        Ok(marks)
     }
 
     /// The version that a choice stands for; Lost, if it stands for several.
