@@ -2,12 +2,10 @@
 
 use crate::inactive::Inactive;
 use crate::late::Late;
-use crate::left::Left;
 use crate::lines::SearchLines;
 use crate::occurrences::Occurrences;
 use crate::question::{PACKAGES_ROOM, Question};
 use crate::queue::Queue;
-use crate::watches::{Situation, Watches};
 use partial::Partial;
 use std::alloc::{AllocError, Global};
 use terms::{Incompat, Pkg};
@@ -16,10 +14,6 @@ use terms::{Incompat, Pkg};
 #[derive(Drop)]
 pub struct Agenda {
     occurrences: Occurrences,
-    /// What is left of packages, where lines are watched.
-    left: Left,
-    /// The lines of three terms or more that conflicts led to.
-    watches: Watches,
     /// The lines that are looked at now.
     pub ripe: Vec<usize>,
     /// The lines by which something was derived since a package was last looked at.
@@ -37,8 +31,6 @@ impl Agenda {
     pub fn new(alloc: Global, room: usize) -> Result<Agenda, AllocError> {
         Ok(Agenda {
             occurrences: Occurrences::new(alloc, room)?,
-            left: Left::new(alloc),
-            watches: Watches::new(alloc),
             ripe: Vec::with_capacity(alloc, PACKAGES_ROOM)?,
             used: Vec::with_capacity(alloc, PACKAGES_ROOM)?,
             queue: Queue::new(alloc, room)?,
@@ -92,22 +84,6 @@ impl Agenda {
         self.occurrences.enters_alike(question, pkg)
     }
 
-    /// Notes the line at a place, which concludes this and which a conflict led to: a long one is watched,
-    /// a short one noted with each package that it names.
-    pub fn learn(
-        &mut self,
-        alloc: Global,
-        partial: &Partial,
-        conclusion: &Incompat,
-        at: usize,
-    ) -> Result<(), AllocError> {
-        let terms = conclusion.terms();
-        if terms.len() <= 2 {
-            return self.occurrences.note(alloc, conclusion, at);
-        }
-        self.watches.note(alloc, partial, terms, at)
-    }
-
     /// Looks at a package of which something was settled: puts it into the queue, if it is to be
     /// decided, and gathers the lines from which something may follow now.
     pub fn look<L: SearchLines>(
@@ -125,33 +101,8 @@ impl Agenda {
         if let Some(said) = partial.said(pkg) {
             self.occurrences
                 .gather(partial, pkg, said, &mut self.spent, &mut self.ripe)?;
-            self.gather_watched(question.alloc, partial, lines, pkg)?;
         }
         self.late.hand_out(&mut self.ripe, partial.level())
-    }
-
-    /// Gathers the lines from which something may follow, of those that are watched from a package.
-    fn gather_watched<L: SearchLines>(
-        &mut self,
-        alloc: Global,
-        partial: &Partial,
-        lines: &L,
-        pkg: Pkg,
-    ) -> Result<(), AllocError> {
-        if !self.watches.has(pkg) {
-            return Ok(());
-        }
-        self.left.follow(partial)?;
-        let now = Situation {
-            alloc,
-            partial,
-            left: &self.left,
-            lines,
-        };
-        self.watches.gather(&now, pkg, &mut self.ripe)?;
-        // All are used newest first, wherever they stood.
-        self.ripe.sort_unstable();
-        Ok(())
     }
 
     /// Puts the lines by that were used at this level.
@@ -170,32 +121,6 @@ impl Agenda {
         self.queue.next(question, &mut self.occurrences, partial)
     }
 
-    /// Notes that lines were resolved on a package in a conflict.
-    pub fn resolve_on(
-        &mut self,
-        question: &Question<'_>,
-        partial: &Partial,
-        pkg: Pkg,
-    ) -> Result<(), AllocError> {
-        self.queue
-            .warm(question, &mut self.occurrences, partial, pkg)
-    }
-
-    /// Notes that the search jumped back by a line that concludes this: its packages had to do with the
-    /// conflict.
-    fn end_conflict(
-        &mut self,
-        question: &Question<'_>,
-        partial: &Partial,
-        conclusion: &Incompat,
-    ) -> Result<(), AllocError> {
-        for entry in conclusion.terms() {
-            self.resolve_on(question, partial, entry.0)?;
-        }
-        self.queue.count_conflict();
-        Ok(())
-    }
-
     /// Takes back what was noted above the level to which the search has gone back.
     pub fn go_back(
         &mut self,
@@ -203,7 +128,6 @@ impl Agenda {
         partial: &Partial,
     ) -> Result<(), AllocError> {
         let level = partial.level();
-        self.left.back_to(level);
         self.queue
             .backjump(question, &mut self.occurrences, partial)?;
         self.used.clear();
@@ -219,7 +143,6 @@ impl Agenda {
         conclusion: &Incompat,
         at: usize,
     ) -> Result<(), AllocError> {
-        self.end_conflict(question, partial, conclusion)?;
         self.go_back(question, partial)?;
         let level = partial.level();
         self.spent.add(at, level)?;

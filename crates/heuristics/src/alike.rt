@@ -6,6 +6,7 @@ use terms::Pkg;
 
 /// From how many versions on the dependencies of a package are put among the lines before one is
 /// decided. Packages with fewer are decided early, since those with the fewest versions come first.
+/// Half and twice of it were measured: docs/BENCHMARKS.md, Constants.
 const SEVERAL: usize = 4;
 
 /// Whether all versions of a package depend on the same. It costs a look at each of them at most.

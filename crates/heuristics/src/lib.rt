@@ -10,15 +10,12 @@
 //! | `lines.rt` | what the lines of a search conclude | |
 //! | `agenda.rt` | which lines are looked at, and which package is decided | Unit Propagation, Decision Making |
 //! | `occurrences.rt` | occurrence lists: the lines that name a package | Unit Propagation |
-//! | `watches.rt` | learnt lines of three terms or more, each looked at from two packages | Unit Propagation |
-//! | `left.rt` | what is left of packages, a word each | Unit Propagation |
 //! | `late.rt` | lines that derived later than they could have | Unit Propagation |
 //! | `package_state.rt` | what is kept of a package that lines name | Unit Propagation, Decision Making |
 //! | `numbers.rt` | the index at which a list has what is known of a package | |
 //! | `inactive.rt` | the lines that are not looked at until the search jumps back | Unit Propagation |
 //! | `queue.rt` | the packages that are to be decided | Decision Making |
 //! | `order.rt` | the order of decisions | Decision Making |
-//! | `activity.rt` | how much packages had to do with the last conflicts | Decision Making |
 //! | `covered.rt` | which dependencies are among the lines | Decision Making |
 //! | `alike.rt` | packages whose versions all depend on the same | Decision Making |
 //! | `sharing.rt` | where versions of a package may have the same dependency | Decision Making |
@@ -26,14 +23,12 @@
 //! | `obstacle.rt` | what stands in the way of the preferred selection | |
 #![tactic(auto)]
 
-mod activity;
 mod agenda;
 mod alike;
 mod covered;
 mod greedy;
 mod inactive;
 mod late;
-mod left;
 mod lines;
 mod numbers;
 mod obstacle;
@@ -43,7 +38,6 @@ mod package_state;
 mod question;
 mod queue;
 mod sharing;
-mod watches;
 
 pub use agenda::Agenda;
 pub use greedy::{Attempt, decide_greedily};

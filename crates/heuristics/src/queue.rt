@@ -2,7 +2,6 @@
 
 ghost use Rattle.std.specs.Prelude.{◌≡◌};
 
-use crate::activity::{Activity, count_at};
 use crate::occurrences::Occurrences;
 use crate::order::Order;
 use crate::question::Question;
@@ -10,23 +9,21 @@ use partial::Partial;
 use std::alloc::{AllocError, Global};
 use terms::{Pkg, Term};
 
-/// Higher than any rank.
+/// More than any number of versions.
 const NONE: u64 = u64::MAX;
 
 /// Undecided packages with a positive term, in the order in which they are decided.
 #[derive(Drop)]
 pub(crate) struct Queue {
-    /// Ranks with their packages. Each package that is to be decided has an entry whose count is not
+    /// Numbers of versions with their packages. Each package that is to be decided has an entry whose count is not
     /// above its own; one that is out of date is put right when it comes out.
     order: Order,
     /// The packages that came out, in order.
     decided: Vec<Pkg>,
     /// The package that came out last, until it is known to be decided.
     last: Option<Pkg>,
-    /// By number of the package: the lowest rank that is known among its entries, `NONE` where it has none.
+    /// By number of the package: the lowest count that is known among its entries, `NONE` where it has none.
     held: Vec<u64>,
-    /// Which of several packages with equally few versions is decided first.
-    activity: Activity,
 }
 
 /// What is said of a package that is selected and has no decision.
@@ -42,13 +39,13 @@ fn undecided(partial: &Partial, pkg: Pkg) -> Option<&Term> {
     }
 }
 
-/// Notes the lowest rank of a package among the entries.
-fn hold(held: &mut Vec<u64>, pkg: Pkg, rank: u64) -> Result<(), AllocError> {
+/// Notes the lowest count of a package among the entries.
+fn hold(held: &mut Vec<u64>, pkg: Pkg, count: u64) -> Result<(), AllocError> {
     for _ in held.len()..pkg as usize + 1 {
         held.push(NONE)?;
     }
     if let Some(own) = held.as_mut_slice().get_mut(pkg as usize) {
-        *own = rank;
+        *own = count;
     }
     Ok(())
 }
@@ -61,11 +58,10 @@ impl Queue {
             decided: Vec::with_capacity(alloc, room)?,
             last: None,
             held: Vec::new(alloc),
-            activity: Activity::new(alloc),
         })
     }
 
-    /// The lowest rank that is known among the entries of a package.
+    /// The lowest count that is known among the entries of a package.
     #[inline(always)]
     fn held_of(&self, pkg: Pkg) -> u64 {
         self.held
@@ -79,12 +75,12 @@ impl Queue {
     fn put(&mut self, pkg: Pkg, count: usize) -> Result<(), AllocError>
         ensures { self.new.decided.items ≡ self.old.decided.items }
     {
-        let rank = self.activity.rank(pkg, count);
-        if self.held_of(pkg) <= rank {
+        let count = count as u64;
+        if self.held_of(pkg) <= count {
             return Ok(());
         }
-        self.order.add(rank, pkg)?;
-        hold(&mut self.held, pkg, rank)
+        self.order.add(count, pkg)?;
+        hold(&mut self.held, pkg, count)
     }
 
     /// Puts a package into the queue, if it is to be decided.
@@ -102,23 +98,6 @@ impl Queue {
             self.put(pkg, count)?;
         }
         Ok(())
-    }
-
-    /// Heats a package that has to do with a conflict.
-    pub fn warm(
-        &mut self,
-        question: &Question<'_>,
-        occurrences: &mut Occurrences,
-        partial: &Partial,
-        pkg: Pkg,
-    ) -> Result<(), AllocError> {
-        self.activity.add(pkg)?;
-        self.offer(question, occurrences, partial, pkg)
-    }
-
-    /// Notes a conflict more.
-    pub fn count_conflict(&mut self) {
-        self.activity.count_conflict();
     }
 
     /// Puts back into the queue what was decided and is not any more, after the search jumped back.
@@ -139,8 +118,7 @@ impl Queue {
     }
 
     /// The package that comes first in the queue and is to be decided: the one with the fewest versions
-    /// to choose from, of several the most active, where activity counts, and the one with the lowest number. It
-    /// leaves the queue, unless it is not decided then.
+    /// to choose from, of several the one with the lowest number. It leaves the queue, unless it is not decided then.
     pub fn next(
         &mut self,
         question: &Question<'_>,
@@ -160,7 +138,7 @@ impl Queue {
             }
             if let Some(said) = undecided(partial, pkg) {
                 let count = occurrences.count(question, pkg, said)?;
-                if count as u64 == count_at(offered) {
+                if count as u64 == offered {
                     self.decided.push(pkg)?;
                     self.last = Some(pkg);
                     return Ok(Some(pkg));

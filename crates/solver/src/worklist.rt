@@ -8,7 +8,7 @@ ghost use Rattle.std.specs.Prelude.{◌≡◌};
 use crate::acting::Acted;
 use crate::store_lookups::StoreLookups;
 use crate::task::Task;
-use derivations::{CausedIncompatibility, Reason};
+use derivations::CausedIncompatibility;
 use heuristics::{Agenda, Sharing};
 use partial::Partial;
 use std::alloc::{AllocError, Global};
@@ -122,29 +122,10 @@ impl Worklist {
                 self.changed.clear();
                 self.changed.push(pkg)?;
                 if let Some(line) = known.get(at) {
-                    self.jump_back(task, partial, known, &line.conclusion, before, at)?;
+                    self.jump_back(task, partial, &line.conclusion, before, at)?;
                 }
             }
             Acted::Refused(_) | Acted::Neither => {}
-        }
-        Ok(())
-    }
-
-    /// Notes on which packages the lines were resolved that are behind so many.
-    fn note_pivots(
-        &mut self,
-        task: &Task<'_>,
-        partial: &Partial,
-        known: &[CausedIncompatibility],
-        before: usize,
-    ) -> Result<(), AllocError> {
-        for line in known.iter().skip(before) {
-            match line.reason {
-                Reason::Fact(_) => {}
-                Reason::Resolved(_, _, pivot) => {
-                    self.agenda.resolve_on(&task.question(), partial, pivot)?;
-                }
-            }
         }
         Ok(())
     }
@@ -155,17 +136,15 @@ impl Worklist {
         &mut self,
         task: &Task<'_>,
         partial: &Partial,
-        known: &[CausedIncompatibility],
         conclusion: &Incompat,
         before: usize,
         at: usize,
     ) -> Result<(), AllocError> {
-        self.note_pivots(task, partial, known, before)?;
         self.agenda
             .backjump(&task.question(), partial, conclusion, at)?;
         if at >= before && self.asked.is_behind(at) {
             self.learnt.push(at)?;
-            self.agenda.learn(task.alloc, partial, conclusion, at)?;
+            self.agenda.note(task.alloc, conclusion, at)?;
         }
         Ok(())
     }
