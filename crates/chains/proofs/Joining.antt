@@ -7,11 +7,11 @@ use Rattle.std.proofs.lemmas.Option.{none-some, same_Some}
 use Rattle.std.specs.Prelude.{Option, None, Some, slice_get, slice_set}
 use Rattle.terms.specs.Fronts.{true_where}
 use Rattle.terms.specs.Incompats.{Follows, OrderedFrom, has_term, term_on, true_at}
-use Rattle.terms.specs.Terms.{true_of}
+use Rattle.terms.specs.Terms.{CanBeFalse, true_of}
 use Rattle.terms.specs.declared.term.Term.{Term}
-use Rattle.terms.specs.declared.term.Term.TheVariants.{NotIn}
+use Rattle.terms.specs.declared.term.Term.TheVariants.{In, NotIn}
 use Rattle.derivations.specs.Facts.{Terms}
-use Rattle.chains.specs.Tables.{AreAnded, AreOnce, ArePlaced, Concludes, IsAnded, IsOred, SaysSame}
+use Rattle.chains.specs.Tables.{AreAnded, AreOnce, ArePlaced, Concludes, IsAnded, IsOred, SaysNothing, SaysSame, SaysSomething, is_always, without_always}
 
 -- ---- numbers and tests
 
@@ -214,6 +214,44 @@ true_at-there (t ∷ rest) zero pkg term choice once at =
     subst (λ (u : ℕ × Term). true_at (u ∷ rest) pkg choice ≡ true_of term choice) (sym (same_Some t (pkg, term) at)) (rw (eq-eqb pkg pkg refl) refl)
 true_at-there (t ∷ rest) (suc i) pkg term choice once at = rw (apart t rest i pkg term once.0 at) (true_at-there rest i pkg term choice once.1 at)
 
+-- ---- what is said of a package
+
+-- a term that is not always true can be false
+can_be_false : (term : Term) → is_always term ≡ false → CanBeFalse term
+can_be_false (In set) h = (None, refl)
+can_be_false (NotIn []) h = absurd (true≢false h)
+can_be_false (NotIn (k ∷ rest)) h = (Some k, rw (eq-eqb k k refl) refl)
+
+-- and one that is holds of each choice
+always_holds : (term : Term) → is_always term ≡ true → (choice : Option ℕ) → true_of term choice ≡ true
+always_holds (In set) h choice = absurd (true≢false (sym h))
+always_holds (NotIn []) h choice = all-outside-none choice
+always_holds (NotIn (k ∷ rest)) h choice = absurd (true≢false (sym h))
+
+no_always : (term : Term) → CanBeFalse term → is_always term ≡ false
+no_always term h = elim (cases_Bool (is_always term)) [
+  | inl e ↦ absurd (true≢false (sym (always_holds term e h.0) ∙ h.1))
+  | inr e ↦ e
+]
+
+-- an incompatibility has no term that always holds
+pub without_always-ordered : (low : ℕ) (terms : Terms) → OrderedFrom low terms → without_always terms ≡ terms
+without_always-ordered low [] h = refl
+without_always-ordered low (t ∷ rest) h = rw (no_always t.1 h.1) (ap (λ (left : Terms). t ∷ left) (without_always-ordered (suc t.0) rest h.2))
+
+-- nothing is said where there is no term, or one that always holds
+pub says-nothing-none : (terms : Terms) (pkg : ℕ) → has_term terms pkg ≡ false → SaysNothing terms pkg
+says-nothing-none terms pkg none choice = true_at-none terms pkg choice none
+
+pub says-nothing-always : (terms : Terms) (pkg place : ℕ) (term : Term) → AreOnce terms → slice_get terms place ≡ Some (pkg, term) → is_always term ≡ true → SaysNothing terms pkg
+says-nothing-always terms pkg place term once at always choice = true_at-there terms place pkg term choice once at ∙ always_holds term always choice
+
+-- something is said where there is another term
+pub says-something : (terms : Terms) (pkg place : ℕ) (term : Term) → AreOnce terms → slice_get terms place ≡ Some (pkg, term) → is_always term ≡ false → SaysSomething terms pkg
+says-something terms pkg place term once at some =
+    let false_there = can_be_false term some in
+    (false_there.0, true_at-there terms place pkg term false_there.0 once at ∙ false_there.1)
+
 -- ---- both, and one of both
 
 pub and-push : (terms : Terms) (pkg : ℕ) (term : Term) → has_term terms pkg ≡ false → IsAnded terms (terms ++ (pkg, term) ∷ []) pkg term
@@ -356,20 +394,27 @@ true_at-skip (t ∷ kept) rest x p choice once always = ap (λ b. if nat_eq t.0 
 
 -- what is kept, with what is left, is what the table says
 pub record IsKeeping (table kept rest : Terms) : Type 0 where
+  pub exact : kept ++ without_always rest ≡ without_always table
   pub same : SaysSame (kept ++ rest) table
   pub once : AreOnce (kept ++ rest)
   pub none : table ≡ [] → kept ++ rest ≡ []
 
 pub keeping-begin : (n : ℕ) (places : List ℕ) (table : Terms) → ArePlaced n places table → IsKeeping table [] table
-keeping-begin n places table h = record { same = λ p choice. refl; once = once-placed n places table h; none = λ e. e }
+keeping-begin n places table h = record { exact = refl; same = λ p choice. refl; once = once-placed n places table h; none = λ e. e }
 
-pub keeping-kept : (table kept rest : Terms) (x : ℕ × Term) → IsKeeping table kept (x ∷ rest) → IsKeeping table (kept ++ x ∷ []) rest
-keeping-kept table kept rest x h =
+pub keeping-kept : (table kept rest : Terms) (x : ℕ × Term) → is_always x.1 ≡ false → IsKeeping table kept (x ∷ rest) → IsKeeping table (kept ++ x ∷ []) rest
+keeping-kept table kept rest x some h =
     let e : (kept ++ x ∷ []) ++ rest ≡ kept ++ x ∷ rest = append_assoc kept (x ∷ []) rest in
-    record { same = λ p choice. rw e (h.same p choice); once = rw e h.once; none = λ n. e ∙ h.none n }
+    record {
+      exact = append_assoc kept (x ∷ []) (without_always rest) ∙ rw some at h.exact;
+      same = λ p choice. rw e (h.same p choice);
+      once = rw e h.once;
+      none = λ n. e ∙ h.none n;
+    }
 
-pub keeping-left : (table kept rest : Terms) (x : ℕ × Term) → ((choice : Option ℕ) → true_of x.1 choice ≡ true) → IsKeeping table kept (x ∷ rest) → IsKeeping table kept rest
-keeping-left table kept rest x always h = record {
+pub keeping-left : (table kept rest : Terms) (x : ℕ × Term) → is_always x.1 ≡ true → ((choice : Option ℕ) → true_of x.1 choice ≡ true) → IsKeeping table kept (x ∷ rest) → IsKeeping table kept rest
+keeping-left table kept rest x left_out always h = record {
+  exact = rw left_out at h.exact;
   same = λ p choice. true_at-skip kept rest x p choice h.once always ∙ h.same p choice;
   once = once-skip kept rest x h.once;
   none = λ n. absurd (not-nil kept rest x (h.none n));
@@ -382,4 +427,4 @@ keeping-left table kept rest x always h = record {
 pub keeping-end : (table kept : Terms) → IsKeeping table kept [] → Concludes table kept
 keeping-end table kept h =
     let e : kept ++ [] ≡ kept = append-nil kept in
-    record { same = λ p choice. rw e at (h.same p choice); once = rw e at h.once; none = λ n. sym e ∙ h.none n }
+    record { exact = sym e ∙ h.exact; same = λ p choice. rw e at (h.same p choice); once = rw e at h.once; none = λ n. sym e ∙ h.none n }

@@ -155,8 +155,8 @@ same-shown packages wanted (t ∷ rest) other shown same none =
 
 pub shown-step : (packages : Packages) (wanted : Wanted) (old new cause : Terms) (pivot : ℕ) → IsShown packages wanted old → IsShown packages wanted cause → IsStep old new cause pivot → IsShown packages wanted new
 shown-step packages wanted old new cause pivot shown by step = elim step [
-  | inl e ↦ subst (IsShown packages wanted) (sym e) shown
-  | inr h ↦ resolved new old cause pivot shown by (ap (λ b. b || has_term cause pivot) h.0) h.1
+  | inl h ↦ subst (IsShown packages wanted) (sym h.1) shown
+  | inr h ↦ resolved new old cause pivot shown by (ap (λ b. b || has_term cause pivot) h.0) h.2
 ]
 
 pub shown-concluded : (packages : Packages) (wanted : Wanted) (table terms : Terms) → IsShown packages wanted table → Concludes table terms → IsShown packages wanted terms

@@ -2,3 +2,4 @@
 pub mod Shown
 pub mod Laws
 pub mod Tables
+pub mod Places

@@ -1,9 +1,10 @@
 -- What a table of terms by package does.
-use Rattle.std.specs.Prelude.{◌≡◌, ◌&&◌, ◌||◌, ◌⊎◌, ℕ, suc, true, false, List, [], ◌∷◌, Option, Some, nat_eq, slice_get, if◌then◌else◌}
+use Rattle.std.specs.Prelude.{◌≡◌, ◌&&◌, ◌||◌, ◌⊎◌, ℕ, suc, Bool, true, false, List, [], ◌∷◌, Option, Some, nat_eq, slice_get, if◌then◌else◌}
 use Rattle.terms.specs.Fronts.{true_where}
 use Rattle.terms.specs.Incompats.{Follows, has_term, true_at}
 use Rattle.terms.specs.Terms.{true_of}
 use Rattle.terms.specs.declared.term.Term.{Term}
+use Rattle.terms.specs.declared.term.Term.TheVariants.{In, NotIn}
 use Rattle.derivations.specs.Facts.{Terms}
 
 -- at most one term a package
@@ -36,12 +37,32 @@ IsOred old new pkg other = (p : ℕ) (choice : Option ℕ) → true_at new p cho
 abbrev pub AreAnded : Terms → Terms → Terms → ℕ → Type 0
 AreAnded old new cause pivot = (p : ℕ) (choice : Option ℕ) → true_at new p choice ≡ (if nat_eq p pivot then true_at old p choice else true_at old p choice && true_at cause p choice)
 
--- nothing was done, or the new terms follow from the old ones and the cause on the pivot, on which the old ones have a term
-abbrev pub IsStep : Terms → Terms → Terms → ℕ → Type 0
-IsStep old new cause pivot = (new ≡ old) ⊎ ((has_term old pivot ≡ true) × Follows new old cause pivot)
+-- nothing is said of the package: every choice of it makes the terms true
+abbrev pub SaysNothing : Terms → ℕ → Type 0
+SaysNothing terms pkg = (choice : Option ℕ) → true_at terms pkg choice ≡ true
 
--- the terms are those of the table, without some that always hold
+-- something is said of the package: some choice of it makes the terms false
+abbrev pub SaysSomething : Terms → ℕ → Type 0
+SaysSomething terms pkg = (choice : Option ℕ) × (true_at terms pkg choice ≡ false)
+
+-- nothing is said of the pivot, and nothing was done; or something is, and the new terms follow from the old ones and the cause on the pivot, on which the old ones have a term
+abbrev pub IsStep : Terms → Terms → Terms → ℕ → Type 0
+IsStep old new cause pivot = (SaysNothing old pivot × (new ≡ old)) ⊎ ((has_term old pivot ≡ true) × SaysSomething old pivot × Follows new old cause pivot)
+
+-- whether the term is true of every choice
+abbrev pub is_always : Term → Bool
+is_always (In set) = false
+is_always (NotIn []) = true
+is_always (NotIn (k ∷ rest)) = false
+
+-- the terms without those that always hold, in the same order
+abbrev pub without_always : Terms → Terms
+without_always [] = []
+without_always (t ∷ rest) = if is_always t.1 then without_always rest else t ∷ without_always rest
+
+-- the terms are those of the table without those that always hold, and so say the same
 pub record Concludes (table terms : Terms) : Type 0 where
+  pub exact : terms ≡ without_always table
   pub same : SaysSame terms table
   pub once : AreOnce terms
   pub none : table ≡ [] → terms ≡ []

@@ -1,11 +1,14 @@
 //! What follows from lines and from what earlier chains concluded.
 
-ghost use Rattle.std.specs.Prelude.{◌≡◌, [], true, IfOk, IfSome, OnOk};
+ghost use Rattle.std.specs.Prelude.{◌≡◌, [], true, IfOk, IfSome, IsSomeAnd, OnOk};
+ghost use Rattle.std.specs.Option.{option_copied};
 ghost use Rattle.registry.specs.Registry.{Packages};
 ghost use Rattle.registry.specs.Requests.{Wanted};
+ghost use Rattle.derivations.specs.Derivations.{last_conclusion};
 ghost use Rattle.derivations.specs.Learning.{AllStand};
+ghost use Rattle.chains.specs.Places.{terms_at};
 ghost use Rattle.chains.specs.Shown.{AreShown, IsShown};
-ghost use Rattle.chains.specs.Tables.{AreOnce};
+ghost use Rattle.chains.specs.Tables.{AreOnce, Concludes, IsStep};
 
 use crate::table::{Conclusion, Stop, Table};
 use derivations::{CausedIncompatibility, Learnt};
@@ -27,6 +30,7 @@ pub fn terms_at<'a>(
     made: &'a [Conclusion],
     place: Place,
 ) -> Option<&'a [(Pkg, Term)]>
+    ensures exact { option_copied result ≡ terms_at known.now made.now place }
     ensures once { IfSome result (λ terms. AreOnce terms.now) }
     ensures shown { (packages : Packages) (wanted : Wanted) → AreShown packages wanted known.now made.now → IfSome result (λ terms. IsShown packages wanted terms.now) }
 {
@@ -52,13 +56,16 @@ pub struct Chain {
 impl Chain {
     /// A chain in which nothing is shown yet, for packages below this number, of which the root is one. It takes eight
     /// bytes for each.
-    pub fn new(alloc: Global, packages: usize) -> Result<Chain, AllocError> {
+    pub fn new(alloc: Global, packages: usize) -> Result<Chain, AllocError>
+        ensures { IfOk result (λ chain. chain.table ≡ []) }
+    {
         Ok(Chain {
             table: Table::new(alloc, packages)?,
         })
     }
 
-    /// Begins anew with what is shown at a place.
+    /// Begins anew with what is shown at a place. An error is [`Stop::Unknown`] where it is none, or has a package that
+    /// the table has no place for.
     pub fn start(
         &mut self,
         alloc: Global,
@@ -66,7 +73,9 @@ impl Chain {
         made: &[Conclusion],
         from: Place,
     ) -> Result<(), Stop>
-        ensures { (packages : Packages) (wanted : Wanted) → AreShown packages wanted known.now made.now → OnOk result (IsShown packages wanted self.new.table) }
+        ensures exact { OnOk result (terms_at known.now made.now from ≡ Some self.new.table) }
+        ensures unknown { terms_at known.now made.now from ≡ None → result ≡ Err Stop.Unknown }
+        ensures shown { (packages : Packages) (wanted : Wanted) → AreShown packages wanted known.now made.now → OnOk result (IsShown packages wanted self.new.table) }
     {
         match terms_at(known, made, from) {
             None => Err(Stop::Unknown),
@@ -75,7 +84,7 @@ impl Chain {
     }
 
     /// Resolves what follows so far with what is shown at a place, on a pivot (doc/solver.md, "Conflict Resolution"),
-    /// unless nothing is said of the pivot. Where this fails, the chain is to begin anew.
+    /// unless nothing is said of the pivot. Errors are those of [`Chain::start`]. After one, the chain is to begin anew.
     pub fn resolve(
         &mut self,
         alloc: Global,
@@ -84,7 +93,9 @@ impl Chain {
         with: Place,
         pivot: Pkg,
     ) -> Result<(), Stop>
-        ensures { (packages : Packages) (wanted : Wanted) → AreShown packages wanted known.now made.now → IsShown packages wanted self.old.table → OnOk result (IsShown packages wanted self.new.table) }
+        ensures unknown { terms_at known.now made.now with ≡ None → result ≡ Err Stop.Unknown }
+        ensures step { OnOk result (IsSomeAnd (terms_at known.now made.now with) (λ cause. IsStep self.old.table self.new.table cause pivot)) }
+        ensures shown { (packages : Packages) (wanted : Wanted) → AreShown packages wanted known.now made.now → IsShown packages wanted self.old.table → OnOk result (IsShown packages wanted self.new.table) }
     {
         match terms_at(known, made, with) {
             None => Err(Stop::Unknown),
@@ -93,9 +104,10 @@ impl Chain {
     }
 
     /// What a member of a store says, which is shown where the member stands: no line of it is made. The chain is to
-    /// begin anew then.
+    /// begin anew then. Errors are those of [`Chain::start`].
     pub fn conclude_member(&mut self, alloc: Global, member: &Learnt) -> Result<Conclusion, Stop>
-        ensures { (packages : Packages) (wanted : Wanted) → AllStand packages member.now → IfOk result (IsShown packages wanted) }
+        ensures same { IfOk result (λ terms. last_conclusion member.now ≡ Some terms) }
+        ensures shown { (packages : Packages) (wanted : Wanted) → AllStand packages member.now → IfOk result (IsShown packages wanted) }
     {
         let _lines = member.lines();
         let said = member.conclusion();
@@ -103,9 +115,10 @@ impl Chain {
         Ok(self.conclusion(alloc)?)
     }
 
-    /// What follows.
+    /// What follows, without terms that always hold.
     pub fn conclusion(&self, alloc: Global) -> Result<Conclusion, AllocError>
-        ensures { (packages : Packages) (wanted : Wanted) → IsShown packages wanted self.now.table → IfOk result (IsShown packages wanted) }
+        ensures concludes { IfOk result (Concludes self.now.table) }
+        ensures shown { (packages : Packages) (wanted : Wanted) → IsShown packages wanted self.now.table → IfOk result (IsShown packages wanted) }
     {
         self.table.conclusion(alloc)
     }

@@ -5,7 +5,8 @@ ghost use Rattle.std.specs.Option.{option_copied};
 ghost use Rattle.terms.specs.Fronts.{true_where};
 ghost use Rattle.terms.specs.Terms.{true_of};
 ghost use Rattle.terms.specs.Incompats.{has_term, term_on};
-ghost use Rattle.chains.specs.Tables.{AreAnded, AreOnce, ArePlaced, Concludes, IsAnded, IsAt, IsOred, IsStep};
+ghost use Rattle.chains.specs.declared.table.Stop.TheVariants.{NoMemory};
+ghost use Rattle.chains.specs.Tables.{AreAnded, AreOnce, ArePlaced, Concludes, IsAnded, IsAt, IsOred, IsStep, SaysNothing, SaysSomething, is_always};
 
 use std::alloc::{AllocError, AllocFailed, Global};
 use std::marker::Model;
@@ -20,12 +21,16 @@ pub enum Stop {
 }
 
 impl From<AllocError> for Stop {
+    ghost from_gives = { λ _ stop. stop ≡ NoMemory };
+
     fn from(_error: AllocError) -> Stop {
         Stop::NoMemory
     }
 }
 
 impl<T: Drop> From<AllocFailed<T>> for Stop {
+    ghost from_gives = { λ _ stop. stop ≡ NoMemory };
+
     fn from(_error: AllocFailed<T>) -> Stop {
         Stop::NoMemory
     }
@@ -54,7 +59,8 @@ impl Model for Table {
 
 /// Whether the term is true of every choice.
 fn is_always(term: &Term) -> bool
-    ensures { result ≡ true → (choice : Option ℕ) → true_of term.now choice ≡ true }
+    ensures exact { result ≡ is_always term.now }
+    ensures holds { result ≡ true → (choice : Option ℕ) → true_of term.now choice ≡ true }
 {
     match term {
         Term::In(_) => false,
@@ -192,7 +198,9 @@ impl Table {
     /// where there is no other. Answers whether it did.
     fn or(&mut self, alloc: Global, pkg: Pkg, other: Option<&Term>) -> Result<bool, AllocError>
         ensures joined { IfOk result (λ done. done ≡ true → (has_term self.old pkg ≡ true) × IsOred self.old self.new pkg (option_copied other.entry)) }
+        ensures said { IfOk result (λ done. done ≡ true → SaysSomething self.old pkg) }
         ensures unchanged { IfOk result (λ done. done ≡ false → self.new ≡ self.old) }
+        ensures unsaid { IfOk result (λ done. done ≡ false → SaysNothing self.old pkg) }
     {
         let Some(place) = place_of(&self.terms, &self.places, pkg) else {
             return Ok(false);

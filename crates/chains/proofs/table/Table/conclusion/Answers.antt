@@ -1,4 +1,4 @@
-use Rattle.std.proofs.Common.{◌∙◌, ◌+◌, [], ◌∷◌, ◌++◌, ap, drop, sym, subst}
+use Rattle.std.proofs.Common.{Bool, ◌∙◌, ◌+◌, [], ◌∷◌, ◌++◌, ap, drop, sym, subst}
 use Rattle.terms.specs.declared.term.Term.{Term}
 use Rattle.derivations.specs.Facts.{Terms}
 use Rattle.chains.specs.Tables.{ArePlaced, Concludes}
@@ -22,8 +22,8 @@ loop-pkg-preserved c =
     elim c.if-not-is_always.branch [
       | then-not-is_always+in_ok-copy+in_ok-push w ↦
           let same = w.in_ok-push.ensures.items ∙ ap (λ (term : Term). kept ++ (item.0, term) ∷ []) w.in_ok-copy.ensures.same in
-          rw w.kept-is (subst (λ (made : Terms). IsKeeping table made rest) (sym same) (keeping-kept table kept rest item before))
-      | else-not-is_always w ↦ rw w.kept-is (keeping-left table kept rest item (c.is_always.ensures w.if-not-is_always.false) before)
+          rw w.kept-is (subst (λ (made : Terms). IsKeeping table made rest) (sym {A = Terms} same) (keeping-kept table kept rest item (sym {A = Bool} c.is_always.ensures.exact ∙ w.if-not-is_always.true) before))
+      | else-not-is_always w ↦ rw w.kept-is (keeping-left table kept rest item (sym {A = Bool} c.is_always.ensures.exact ∙ w.if-not-is_always.false) (c.is_always.ensures.holds w.if-not-is_always.false) before)
     ]
 
 pub invariant_of-result : goal.invariant_of-result

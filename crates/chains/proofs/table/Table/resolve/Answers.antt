@@ -10,4 +10,4 @@ returns-in_ok-and_others c =
     let old = c.args.self.now in
     let h = c.in_ok-or.ensures.joined c.if-branch.true in
     let either = subst (λ (term : Option Term). IsOred old c.or.new.self c.args.pivot term) c.term_on.ensures h.1 in
-    inr (h.0, follows-joined old c.or.new.self c.and_others.new.self c.args.cause.now c.args.pivot either c.in_ok-and_others.ensures)
+    inr (h.0, c.in_ok-or.ensures.said c.if-branch.true, follows-joined old c.or.new.self c.and_others.new.self c.args.cause.now c.args.pivot either c.in_ok-and_others.ensures)
