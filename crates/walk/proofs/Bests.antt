@@ -21,8 +21,8 @@ use Rattle.walk.specs.Best.{AreAlike, AreBest, ArePassed, AreTargets, AskAlike, 
 use Rattle.walk.specs.Choosing.{Follows, choice_of}
 use Rattle.walk.specs.PlainlyNewest.{IsLocked, NoneLocked}
 use Rattle.walk.specs.Newest.{IsAhead, IsNewest, dependencies_of, first_new, in_name_order, new_or_later, next_package}
-use Rattle.walk.specs.declared.best.Choosing.{Choosing}
-use Rattle.walk.specs.declared.best.Needed.{Needed}
+use Rattle.walk.specs.declared.choosing.Choosing.{Choosing}
+use Rattle.walk.specs.declared.choosing.Needed.{Needed}
 use Rattle.walk.proofs.Better.{ahead_cases}
 use Rattle.walk.proofs.Listings.{pushed_at}
 use Rattle.walk.proofs.Lists.{choice-left, choice-push_cases, choice-push_here, get-contains}

@@ -9,10 +9,10 @@ use Rattle.registry.specs.Requests.{Wanted}
 use Rattle.registry.specs.Selections.{Choices, Meets}
 use Rattle.walk.specs.Choosing.{choice_of}
 use Rattle.walk.specs.Newest.{Has, IsAhead, dependencies_of, in_name_order, next_package}
-use Rattle.walk.specs.declared.best.Choosing.{Choosing}
-use Rattle.walk.specs.declared.best.Needed.{Needed}
-use Rattle.walk.specs.declared.best.Tried.{Tried}
-use Rattle.walk.specs.declared.best.Tried.TheVariants as tried
+use Rattle.walk.specs.declared.choosing.Choosing.{Choosing}
+use Rattle.walk.specs.declared.choosing.Needed.{Needed}
+use Rattle.walk.specs.declared.trial.Tried.{Tried}
+use Rattle.walk.specs.declared.trial.Tried.TheVariants as tried
 
 -- so it is of each selection that meets the request and has these versions
 abbrev pub OfEach : Packages → Wanted → List (ℕ × ℕ) → (Choices → Type 0) → Type 0

@@ -8,17 +8,21 @@
 
 mod best;
 mod chooser;
+mod choosing;
 mod evidence;
 mod laws;
 mod listing;
+mod meeting;
 mod names;
 mod newest;
+mod newest_choice;
 mod order;
 mod preferred;
 mod reached;
+mod trial;
+mod versions_left;
 mod walking;
 
-pub use best::{NewestChoice, choose_newest};
 pub use chooser::Chooser;
 pub use evidence::Evidence;
 pub use laws::{
@@ -29,6 +33,7 @@ pub use laws::{
 pub use listing::{NextPackage, WalkListing, list_in_order};
 pub use names::sort_by_name;
 pub use newest::{is_newest_by, is_plainly_newest};
+pub use newest_choice::{NewestChoice, choose_newest};
 pub use order::Order;
 pub use preferred::{Preferred, locked_ordinal, preferred_version, reach_preferred};
 pub use reached::{Asker, Reached};

@@ -17,6 +17,7 @@ use versions::Need;
 
 /// For how many packages room is made before a walk, so that a short one need not move them again and
 /// again.
+/// Half and twice of it were measured: docs/BENCHMARKS.md, Constants.
 pub(crate) const WALK_ROOM: usize = 128;
 
 /// Whether a version of a package is published and meets a requirement.

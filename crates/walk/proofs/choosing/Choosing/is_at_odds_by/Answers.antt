@@ -1,0 +1,20 @@
+use Rattle.std.proofs.Common.{rules, arith}
+use Rattle.std.proofs.lemmas.Option.{slice_get_within}
+use Rattle.walk.proofs.Bests.{left_read, odds_chosen, odds_left}
+use Rattle.walk.proofs.choosing.Choosing.is_at_odds_by.Goals as goal
+
+pub returns-in-Some : goal.returns-in-Some
+returns-in-Some c = λ odds.
+    odds_chosen c.args.registry.now.packages c.args.request.now c.args.self.now.found.entries c.args.version.0 c.args.version.1 c.args.index c.in-Ok.target c.in-Some.chosen _ c.in-Ok.ensures (search rules) (search rules)
+
+pub index-requires : goal.index-requires
+index-requires c =
+    let here = c.in-Some-place_of.ensures in
+    let within = slice_get_within c.args.self.now.needed.items c.in-Some-place_of.place here.0 here.1 in
+    omega (arith, within, c.args.self.now.needed.ok.0)
+
+pub returns : goal.returns
+returns c = λ apart.
+    let here = c.in-Some-place_of.ensures in
+    odds_left c.args.registry.now.packages c.args.request.now c.args.self.now.found.entries c.args.version.0 c.args.version.1 c.args.index c.in-Ok.target _ c.index.result.now.left c.in-Ok.ensures
+    (left_read c.args.registry.now.packages c.args.request.now c.args.self.now c.in-Some-place_of.place c.in-Ok.target here.0 c.index.result.now c.requires.holds here.1 here.2 c.index.ensures) (c.is_apart.ensures apart)

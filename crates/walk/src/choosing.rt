@@ -1,0 +1,216 @@
+//! What is chosen, and what is left of packages.
+//
+// Of each package that is needed it is kept which of its versions are left: each selection that meets the
+// request and has the versions that are chosen has one of these.
+
+ghost use Rattle.std.specs.Prelude.{◌≡◌, ℕ, slice_get, List, [], ◌∷◌, Some, IfOk, IfSome, OnOk};
+ghost use Rattle.releases.specs.Matching.{ordinals_of};
+ghost use Rattle.terms.specs.declared.term.Term.TheVariants.{In};
+ghost use Rattle.registry.specs.Registry.{Packages};
+ghost use Rattle.registry.specs.Requests.{Wanted};
+ghost use Rattle.walk.specs.Best.{Holds, Narrows, OfEach, Pushes};
+ghost use Rattle.walk.specs.declared.choosing.Needed.{Needed};
+
+use crate::versions_left::{has_all, is_some, only_of};
+use crate::walking::WALK_ROOM;
+use indexmap::IndexMap;
+use registry::{Matching, Pkg};
+use std::alloc::{AllocError, Global};
+use terms::{Term, VSet};
+
+/// A package that is needed.
+#[derive(Drop)]
+pub(crate) struct Needed {
+    pub(crate) pkg: Pkg,
+    /// The versions of it that are left.
+    pub(crate) left: Term,
+    /// The number of the package before. Nothing rests on it.
+    pub(crate) before: usize,
+}
+
+/// What is chosen, and what is left.
+#[derive(Drop)]
+pub(crate) struct Choosing {
+    /// The chosen versions, in the order of the walk.
+    pub(crate) found: IndexMap<Pkg, u32>,
+    /// The packages that lines name: the needs by name, and what each chosen version depends on.
+    pub(crate) asked: Vec<Pkg>,
+    /// What is left of packages that are needed. Of those that name one package the last counts.
+    pub(crate) needed: Vec<Needed>,
+    /// By number of the package, one more than its index among those, or 0. Nothing rests on it.
+    pub(crate) numbers: Vec<usize>,
+    /// Packages that are needed, and not looked at yet for what all their versions depend on, or the only one that is
+    /// left.
+    pub(crate) fresh: Vec<Pkg>,
+    /// How much of what is left was taken back, and by how many versions. Nothing rests on them.
+    pub(crate) taken: usize,
+    pub(crate) ruled_out: usize,
+}
+
+impl Choosing {
+    pub(crate) fn new(alloc: Global) -> Result<Choosing, AllocError>
+        ensures { IfOk result (λ c. (c.found.entries ≡ []) × (c.asked.items ≡ []) × (c.needed.items ≡ []) × (c.fresh.items ≡ [])) }
+    {
+        Ok(Choosing {
+            found: IndexMap::with_capacity(alloc, WALK_ROOM)?,
+            asked: Vec::with_capacity(alloc, WALK_ROOM)?,
+            needed: Vec::with_capacity(alloc, WALK_ROOM)?,
+            numbers: Vec::with_capacity(alloc, WALK_ROOM)?,
+            fresh: Vec::with_capacity(alloc, WALK_ROOM)?,
+            taken: 0,
+            ruled_out: 0,
+        })
+    }
+
+    /// The index of what is left of a package, if it is known to be needed.
+    pub(crate) fn place_of(&self, pkg: Pkg) -> Option<usize>
+        ensures { IfSome result (λ place. (e : Needed) × (slice_get self.now.needed.items place ≡ Some e) × (e.pkg ≡ pkg)) }
+    {
+        let index = self.numbers.as_slice().get(pkg as usize)?.checked_sub(1)?;
+        if index < self.needed.len() && self.needed[index].pkg == pkg {
+            Some(index)
+        } else {
+            None
+        }
+    }
+
+    /// The number of a package: one more than the index of what is left of it, or 0.
+    fn number_of(&self, pkg: Pkg) -> usize {
+        match self.numbers.as_slice().get(pkg as usize) {
+            None => 0,
+            Some(number) => *number,
+        }
+    }
+
+    /// Notes at which index it stands what is left of a package.
+    fn note_place(&mut self, pkg: Pkg, number: usize) -> Result<(), AllocError>
+        ensures { OnOk result ((self.new.found ≡ self.old.found) × (self.new.asked ≡ self.old.asked) × (self.new.needed ≡ self.old.needed) × (self.new.fresh ≡ self.old.fresh)) }
+    {
+        for _ in self.numbers.len()..pkg as usize + 1 {
+            self.numbers.push(0)?;
+        }
+        if let Some(own) = self.numbers.as_mut_slice().get_mut(pkg as usize) {
+            *own = number;
+        }
+        Ok(())
+    }
+
+    /// Keeps what is left of a package.
+    fn push_left(&mut self, pkg: Pkg, left: Term) -> Result<(), AllocError>
+        ensures { OnOk result (Pushes left pkg self.old self.new) }
+    {
+        let before = self.number_of(pkg);
+        self.needed.push(Needed { pkg, left, before })?;
+        let number = self.needed.len();
+        self.note_place(pkg, number)?;
+        Ok(())
+    }
+
+    /// Begins to keep what is left of a package: the versions of a set.
+    fn add_needed(&mut self, pkg: Pkg, set: VSet) -> Result<(), AllocError>
+        ensures { OnOk result (Narrows (In set) pkg self.old self.new) }
+    {
+        self.push_left(pkg, Term::In(set))?;
+        self.fresh.push(pkg)?;
+        Ok(())
+    }
+
+    /// Leaves of a package, at the index of what is left of it, only versions of which a term is true. Answers
+    /// whether some are left, and whether one is.
+    pub(crate) fn lessen(
+        &mut self,
+        alloc: Global,
+        pkg: Pkg,
+        place: usize,
+        term: &Term,
+    ) -> Result<(bool, bool), AllocError>
+        requires { (e : Needed) × (slice_get self.old.needed.items place ≡ Some e) × (e.pkg ≡ pkg) }
+        ensures { OnOk result (Narrows term.now pkg self.old self.new) }
+    {
+        let both = self.needed[place].left.and(alloc, term)?;
+        let some = is_some(&both);
+        let one = only_of(&both).is_some();
+        self.push_left(pkg, both)?;
+        Ok((some, one))
+    }
+
+    /// Has a package looked at once more, where that is wanted.
+    fn look_again(&mut self, is_wanted: bool, pkg: Pkg) -> Result<(), AllocError>
+        ensures { OnOk result ((set : List ℕ) → Narrows (In set) pkg self.old self.new) }
+    {
+        if !is_wanted {
+            return Ok(());
+        }
+        self.fresh.push(pkg)?;
+        Ok(())
+    }
+
+    /// Leaves of a package only versions of a matching set. Answers no where none is left; nothing rests on the answer.
+    pub(crate) fn narrow(
+        &mut self,
+        alloc: Global,
+        pkg: Pkg,
+        matching: &Matching<'_>,
+    ) -> Result<bool, AllocError>
+        ensures { OnOk result (Narrows (In (ordinals_of matching.now)) pkg self.old self.new) }
+    {
+        match self.place_of(pkg) {
+            None => {
+                let set = matching.set(alloc)?;
+                let some = !set.is_empty();
+                self.add_needed(pkg, set)?;
+                Ok(some)
+            }
+            Some(place) => {
+                if has_all(matching, &self.needed[place].left) {
+                    return Ok(true);
+                }
+                let set = matching.set(alloc)?;
+                let (some, one) = self.lessen(alloc, pkg, place, &Term::In(set))?;
+                self.look_again(one, pkg)?;
+                Ok(some)
+            }
+        }
+    }
+
+    /// As [`Choosing::narrow`], unless it was done before.
+    pub(crate) fn narrow_unless(
+        &mut self,
+        is_met: bool,
+        alloc: Global,
+        pkg: Pkg,
+        matching: &Matching<'_>,
+    ) -> Result<bool, AllocError>
+        ensures { OnOk result (Narrows (In (ordinals_of matching.now)) pkg self.old self.new) }
+    {
+        if is_met {
+            return Ok(true);
+        }
+        self.narrow(alloc, pkg, matching)
+    }
+
+    /// The only version that is left of a package, if one is.
+    pub(crate) fn only(&self, pkg: Pkg) -> Option<u32>
+        ensures { IfSome result (λ k. (packages : Packages) (wanted : Wanted) → Holds packages wanted self.now → OfEach packages wanted self.now.found.entries (λ t. t pkg ≡ Some k)) }
+    {
+        let place = self.place_of(pkg)?;
+        only_of(&self.needed[place].left)
+    }
+
+    /// Leaves of a package the version that is chosen, unless it was the only one.
+    pub(crate) fn keep_only(
+        &mut self,
+        alloc: Global,
+        version: (Pkg, u32),
+        is_only: bool,
+    ) -> Result<(), AllocError>
+        ensures { OnOk result (Narrows (In (version.1 ∷ [])) version.0 self.old self.new) }
+    {
+        if is_only {
+            return Ok(());
+        }
+        let set = VSet::single(alloc, version.1)?;
+        self.push_left(version.0, Term::In(set))?;
+        Ok(())
+    }
+}

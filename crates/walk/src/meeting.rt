@@ -1,0 +1,169 @@
+//! Meeting needs and dependencies, before a package has its turn.
+//
+// What is asked by the request and by chosen versions takes versions away, and so does what all versions of a needed
+// package depend on, or the only one that is left.
+
+ghost use Rattle.std.specs.Prelude.{◌≡◌, ◌<◌, ℕ, true, length, [], Some, IfOk, OnOk};
+ghost use Rattle.registry.specs.Requests.{Wanted};
+ghost use Rattle.walk.specs.Best.{AreAlike, AreTargets, AsksFor, AsksNeed, AsksOne, Holds, IsGrown, MeetsOf, OfEach};
+ghost use Rattle.walk.specs.Newest.{in_name_order};
+
+use crate::choosing::Choosing;
+use crate::listing::{needs_count, places_in_order};
+use registry::{Pkg, Registry, Request};
+use std::alloc::{AllocError, Global};
+
+/// Whether all versions of a package depend on the same.
+pub(crate) fn are_alike(registry: &Registry, pkg: Pkg) -> bool
+    ensures { result ≡ true → AreAlike registry.now.packages pkg }
+{
+    let repeats = registry.repeats(pkg);
+    for at in 1..repeats.len() {
+        if !repeats[at] {
+            return false;
+        }
+    }
+    true
+}
+
+impl Choosing {
+    /// Asks for a package, where that is wanted.
+    fn ask(&mut self, is_wanted: bool, pkg: Pkg) -> Result<(), AllocError>
+        ensures same { OnOk result ((self.new.found ≡ self.old.found) × (self.new.needed ≡ self.old.needed) × (self.new.fresh ≡ self.old.fresh)) }
+        ensures asks { OnOk result (AsksOne pkg is_wanted self.old.asked.items self.new.asked.items) }
+    {
+        if is_wanted {
+            self.asked.push(pkg)?;
+        }
+        Ok(())
+    }
+
+    /// Meets what a version depends on. Its packages are asked for where it is chosen. Answers no where a package
+    /// has no version left.
+    pub(crate) fn meet(
+        &mut self,
+        alloc: Global,
+        registry: &Registry,
+        version: (Pkg, u32),
+        is_chosen: bool,
+        is_met: bool,
+    ) -> Result<bool, AllocError>
+        ensures meets { OnOk result (MeetsOf registry.now.packages version.0 version.1 self.old self.new) }
+        ensures asks { IfOk result (λ whole. whole ≡ true → AsksFor registry.now.packages version.0 version.1 is_chosen self.old.asked.items self.new.asked.items) }
+        ensures grown { OnOk result (IsGrown self.old self.new) }
+    {
+        let count = needs_count(registry, version);
+        for index in 0..count {
+            let (target, matching) = registry.dependency(version.0, version.1, index)?;
+            self.ask(is_chosen, target)?;
+            if !self.narrow_unless(is_met, alloc, target, &matching)? {
+                return Ok(false);
+            }
+        }
+        Ok(true)
+    }
+
+    /// Meets what the only version that is left of a package depends on, if one is.
+    pub(crate) fn meet_only(
+        &mut self,
+        alloc: Global,
+        registry: &Registry,
+        pkg: Pkg,
+    ) -> Result<bool, AllocError>
+        ensures found { OnOk result (self.new.found ≡ self.old.found) }
+        ensures asked { IfOk result (λ whole. whole ≡ true → self.new.asked.items ≡ self.old.asked.items) }
+        ensures grown { OnOk result (IsGrown self.old self.new) }
+        ensures holds { OnOk result ((wanted : Wanted) → Holds registry.now.packages wanted self.old → Holds registry.now.packages wanted self.new) }
+    {
+        let Some(ordinal) = self.only(pkg) else {
+            return Ok(true);
+        };
+        Ok(self.meet(alloc, registry, (pkg, ordinal), false, false)?)
+    }
+
+    /// Meets what all versions of a package depend on, if that is the same, or what the only one that is left does.
+    fn meet_if_alike(
+        &mut self,
+        alloc: Global,
+        registry: &Registry,
+        pkg: Pkg,
+    ) -> Result<bool, AllocError>
+        ensures found { OnOk result (self.new.found ≡ self.old.found) }
+        ensures asked { IfOk result (λ whole. whole ≡ true → self.new.asked.items ≡ self.old.asked.items) }
+        ensures grown { OnOk result (IsGrown self.old self.new) }
+        ensures holds { OnOk result ((wanted : Wanted) → OfEach registry.now.packages wanted self.old.found.entries (λ t. (k : ℕ) × (t pkg ≡ Some k)) → Holds registry.now.packages wanted self.old → Holds registry.now.packages wanted self.new) }
+    {
+        if !are_alike(registry, pkg) {
+            return Ok(self.meet_only(alloc, registry, pkg)?);
+        }
+        Ok(self.meet(alloc, registry, (pkg, 0), false, false)?)
+    }
+
+    /// Meets what all versions of packages depend on that are newly needed.
+    pub(crate) fn meet_alike(
+        &mut self,
+        alloc: Global,
+        registry: &Registry,
+    ) -> Result<bool, AllocError>
+        ensures found { OnOk result (self.new.found ≡ self.old.found) }
+        ensures asked { IfOk result (λ whole. whole ≡ true → self.new.asked.items ≡ self.old.asked.items) }
+        ensures grown { OnOk result (IsGrown self.old self.new) }
+        ensures holds { OnOk result ((wanted : Wanted) → Holds registry.now.packages wanted self.old → Holds registry.now.packages wanted self.new) }
+    {
+        // Each package is new once at most, and once comes to its only version.
+        for _ in 0..registry.packages().saturating_mul(2) {
+            let Some(pkg) = self.fresh.pop() else {
+                return Ok(true);
+            };
+            if !self.meet_if_alike(alloc, registry, pkg)? {
+                return Ok(false);
+            }
+        }
+        Ok(self.fresh.is_empty())
+    }
+
+    /// Meets the need at an index, and asks for its package. Answers no where that has no version left.
+    fn meet_need(
+        &mut self,
+        alloc: Global,
+        registry: &Registry,
+        request: &Request,
+        index: usize,
+    ) -> Result<bool, AllocError>
+        requires within { index < length request.now.needs }
+        requires holds { Holds registry.now.packages request.now self.old }
+        ensures found { OnOk result (self.new.found ≡ self.old.found) }
+        ensures asks { IfOk result (λ whole. whole ≡ true → AsksNeed registry.now.packages request.now.needs index self.old.asked.items self.new.asked.items) }
+        ensures holds { OnOk result (Holds registry.now.packages request.now self.new) }
+    {
+        let need = &request.needs()[index];
+        let Some(target) = registry.number(&need.0) else {
+            return Ok(false);
+        };
+        let matching = registry.matching_set(target, &need.1)?;
+        self.ask(true, target)?;
+        Ok(self.narrow(alloc, target, &matching)?)
+    }
+
+    /// Meets the needs, by name.
+    pub(crate) fn meet_needs(
+        &mut self,
+        alloc: Global,
+        registry: &Registry,
+        request: &Request,
+    ) -> Result<bool, AllocError>
+        requires asked { self.old.asked.items ≡ [] }
+        requires holds { Holds registry.now.packages request.now self.old }
+        ensures found { OnOk result (self.new.found ≡ self.old.found) }
+        ensures targets { IfOk result (λ whole. whole ≡ true → AreTargets registry.now.packages (in_name_order request.now.needs) self.new.asked.items) }
+        ensures holds { OnOk result (Holds registry.now.packages request.now self.new) }
+    {
+        let places = places_in_order(alloc, request.needs())?;
+        for i in 0..places.len() {
+            if !self.meet_need(alloc, registry, request, places[i])? {
+                return Ok(false);
+            }
+        }
+        Ok(true)
+    }
+}
