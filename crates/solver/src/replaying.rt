@@ -28,11 +28,13 @@ use std::alloc::{AllocError, Global};
 use terms::{Pkg, Relation, VSet, relation};
 
 /// By how many of its first steps what may be learnt of a trace follows. All offers together have no more lines.
+/// Half and twice of it were measured: docs/BENCHMARKS.md, Constants.
 const LEARNT_STEPS: u32 = 1024;
 
 /// What is derived from the trace of a selection has at most so many terms together, and so many more for each of its
 /// steps. Each incompatibility can name each package that was decided before: without a limit their memory would grow
 /// with the square of their number.
+/// Half and twice of it were measured: docs/BENCHMARKS.md, Constants.
 const MOST_TERMS: usize = 65_536;
 
 const MOST_TERMS_A_STEP: usize = 64;

@@ -236,7 +236,7 @@ fn search_alone(
 }
 
 /// Finds what answers a task that the preferred selection doesn't: the newest selection, where that is asked for
-/// and it is chosen without going back; else by searches, for the newest one first by what an oracle says.
+/// and it is chosen without a search; else by searches, for the newest one first by what an oracle says.
 fn search_for<O: Oracle>(
     task: &Task<'_>,
     oracle: &mut O,

@@ -26,6 +26,10 @@ use terms::Pkg;
 use versions::Refusal;
 use walk::NewestChoice;
 
+/// After so many versions that were taken back, a search only to learn costs more than what it teaches is worth: on the
+/// workload `partial` it was half of the instructions of each request.
+const MOST_TAKEN_BACK: usize = 32;
+
 /// What a search that stopped so leaves: the request is refused, or nothing was found.
 fn stopped(task: &Task<'_>, stop: Stop) -> Result<Option<Found>, Refusal>
     ensures found { IfOk result (IsValidated task.now) }
@@ -136,7 +140,7 @@ fn offered_first(task: &Task<'_>, trace: &Trace) -> Vec<Learnt>
 
 /// The refusal that a trace shows by lines, if it does. Where it has many steps, its first records are what is
 /// offered of, as where no lines are made.
-fn refusal_by_chains(task: &Task<'_>, trace: &Trace) -> Result<Option<Found>, AllocError>
+fn refusal_by_lines(task: &Task<'_>, trace: &Trace) -> Result<Option<Found>, AllocError>
     requires { StoreStands task.now }
     ensures { IfOk result (IsValidated task.now) }
 {
@@ -161,7 +165,7 @@ fn validate_refusal(task: &Task<'_>, trace: &Trace) -> Result<Option<Found>, All
             return Ok(Some(Found::Unexplained(offered_first(task, trace))));
         }
     }
-    refusal_by_chains(task, trace)
+    refusal_by_lines(task, trace)
 }
 
 /// What is right of what an oracle says, if anything is.
@@ -177,8 +181,15 @@ pub(crate) fn validate<O: Oracle>(task: &Task<'_>, oracle: &mut O) -> Result<Opt
     }
 }
 
-/// The newest selection, where it was chosen without a search. Where choices were taken back for it, the oracle is asked all the same:
-/// it counts the conflicts, and what it learns of them may be learnt. Nothing is answered where it doesn't find a selection.
+/// Whether a choice for which so many versions were taken back is answered without asking the oracle. Under a budget
+/// its conflicts count.
+fn is_answered_at_once(task: &Task<'_>, taken_back: usize) -> bool {
+    taken_back == 0 || (task.budget.is_none() && taken_back > MOST_TAKEN_BACK)
+}
+
+/// The newest selection, where it was chosen without a search. Where few choices were taken back for it, or there is a
+/// budget, the oracle is asked all the same: it counts the conflicts, and what it learns of them may be learnt. Nothing
+/// is answered where it doesn't find a selection.
 pub(crate) fn validate_choice<O: Oracle>(
     task: &Task<'_>,
     oracle: &mut O,
@@ -190,7 +201,7 @@ pub(crate) fn validate_choice<O: Oracle>(
     ensures only { IfErr result (MayRefuse task.now.budget) }
 {
     let NewestChoice { list, ruled_out } = choice;
-    if ruled_out == 0 {
+    if is_answered_at_once(task, ruled_out) {
         return Ok(Some(Found::Selected(list, Vec::new(task.alloc))));
     }
     match oracle.search() {
