@@ -107,11 +107,6 @@ pub learns_nothing : (offered : List (List Line)) (here : List Item) → LearnsO
 learns_nothing [] here = refl
 learns_nothing (lines ∷ offered) here = ([], refl)
 
--- what is offered may be learnt
-pub learns_offered : (offered : List (List Line)) (first : List Line) (rest : List (List Line)) (old new : List Item) → offered ≡ first ∷ rest → LearnsSome session_ways old new → LearnsOf offered old new
-learns_offered [] first rest old new is learns = absurd (cc)
-learns_offered (lines ∷ offered) first rest old new is learns = learns
-
 -- the reply to a request is the same where what was learnt differs
 same_reply : (here items : List Item) (body : Body) → revision_of here ≡ revision_of items → reply_at session_ways here body ≡ reply_at session_ways items body
 same_reply here items body same = ap (λ (n : ℕ). reply_from (record { revision = n; stamp = None }) body) same

@@ -1,5 +1,5 @@
 -- A session that is fed, step by step.
-use Rattle.std.proofs.Common.{◌≡◌, ◌≢◌, ◌≤◌, ◌<◌, ◌+◌, inl, inr, ℕ, Bool, true, false, suc, replicate, MatchBool, arith, lit<, ne_of_lt, List, [], ◌∷◌, ◌++◌, refl, sym, ap, subst, ◌∙◌, None, Some, Option, drop, length, OnOk, Result, Ok, Err, MatchResult, if◌then◌else◌}
+use Rattle.std.proofs.Common.{◌≡◌, ◌≢◌, ◌≤◌, ◌<◌, inl, inr, ℕ, Bool, true, false, suc, replicate, MatchBool, arith, lit<, ne_of_lt, List, [], ◌∷◌, ◌++◌, refl, sym, ap, subst, ◌∙◌, None, Some, Option, drop, length, Result, Ok, Err, MatchResult, if◌then◌else◌}
 use lib.Seq.{drop-append-le}
 use Rattle.std.proofs.lemmas.Bool.{lt-leb}
 use Rattle.std.proofs.lemmas.List.{append_assoc, append-nil, length-replicate}
@@ -26,7 +26,7 @@ use Rattle.session.specs.Committing.{FrontOf}
 use Rattle.session.specs.Fed.{Answers, FedSession, Feeding, Feeds, IsElseSame, IsFed, IsStopped, LosesOne, Stops, is_read_search, is_search, needs_of}
 use Rattle.session.specs.Session.{session_ways}
 use Rattle.session.proofs.BatchLemmas.{refuses_within}
-use Rattle.session.proofs.DurableLemmas.{front_longer}
+use Rattle.session.proofs.RestLemmas.{front_longer}
 use Rattle.session.proofs.ServeLemmas.{no_feeds-append, replies_text-more, with_feeds-append}
 
 -- ---- some line is too long, and each buffer stands for some text
@@ -244,10 +244,6 @@ feeding_stops r0 r r' old new held before after needs_before needs f keeps = rec
 }
 
 -- ---- all that was fed
-
-pub with_end : {T E P Q R : Type 0} (r : Result T E) → R → (P → Q) → OnOk r P → OnOk r (R × Q)
-with_end (Ok x) end f p = (end, f p)
-with_end (Err e) end f p = tt
 
 drop_more : (taken : ℕ) (before after more : List ℕ) → taken ≤ length before → after ≡ before ++ more → drop taken after ≡ drop taken before ++ more
 drop_more taken before after more within is = ap (drop taken) is ∙ drop-append-le taken before more within

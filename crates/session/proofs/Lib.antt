@@ -8,7 +8,11 @@ pub mod WaitLemmas
 pub mod FaultLemmas
 pub mod FedLemmas
 pub mod CallLemmas
+pub mod GrowthLemmas
+pub mod LogLemmas
+pub mod RestLemmas
 pub mod DurableLemmas
+pub mod EndLemmas
 pub mod CommitLemmas
 pub mod SavableLemmas
 pub mod CrashLemmas

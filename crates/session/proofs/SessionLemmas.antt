@@ -1,5 +1,5 @@
 -- The lines of a text, as a session finds them.
-use Rattle.std.proofs.Common.{◌≡◌, ℕ, ◌<◌, List, [], ◌∷◌, length, Option, refl, sym, subst}
+use Rattle.std.proofs.Common.{◌≡◌, ℕ, ◌<◌, List, [], ◌∷◌, length, refl, sym, subst}
 use Rattle.book.specs.declared.item.Item.{Item}
 use Rattle.lines.specs.Lines.{HasNoFeed, lines_of}
 use Rattle.lines.specs.Unread.{Unread, BeginsWith, IsFound, Finds, FindsLast}

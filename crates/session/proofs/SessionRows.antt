@@ -26,7 +26,7 @@ use Rattle.derivations.specs.Facts.{need_terms}
 use Rattle.derivations.specs.declared.facts.Cause.TheVariants.{Need, Root}
 use Rattle.derivations.specs.Lines.{Line}
 use Rattle.walk.specs.Choosing.{choice_of}
-use Rattle.walk.specs.Newest.{Has, IsAhead, IsNewest, is_preferred_to, next_package}
+use Rattle.walk.specs.Newest.{IsAhead, IsNewest, is_preferred_to, next_package}
 use Rattle.solver.specs.Outcomes.{Tells}
 use Rattle.replies.specs.Replies.{Body, follows, no_selection, refused, selected}
 use Rattle.wire.specs.Shapes.{check, resolve}

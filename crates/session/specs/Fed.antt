@@ -1,5 +1,5 @@
 -- A session that is fed bytes of lines, call by call, and whose replies are taken.
-use Rattle.std.specs.Prelude.{◌≡◌, ◌⊎◌, ◌+◌, ◌≤◌, Bool, true, false, ℕ, List, [], ◌∷◌, ◌++◌, Option, None, Ok, Err, Result, MatchBool, MatchResult, drop, if◌then◌else◌, length, nat_le, take}
+use Rattle.std.specs.Prelude.{◌≡◌, ◌⊎◌, ◌+◌, ◌≤◌, Bool, true, false, ℕ, List, [], ◌∷◌, ◌++◌, Option, Ok, Err, Result, MatchBool, MatchResult, drop, if◌then◌else◌, length, nat_le, take}
 use Rattle.std.specs.List.{AllByRecursion}
 use Rattle.std.specs.Io.KnownBytes.{Consumes}
 use Rattle.versions.specs.declared.refusal.Refusal.{Refusal}

@@ -5,24 +5,32 @@
 //! |---|---|
 //! | `session_state` | the registry of the session, with the items that it accepted |
 //! | `batch` | requests of neighbouring lines, which are answered together by several threads |
+//! | `putting` | the replies to such requests, put one behind another, and what their answers offer to be learnt |
 //! | `telling` | the replies to such requests, while threads search for those behind the next |
 //! | `telling_kept` | the same, in a session whose journal is kept in a file |
 //! | `found` | lines that were found: each is replied to, or waits to be answered with its neighbours |
 //! | `serve` | serving the lines of a reader |
 //! | `committed` | how far a session's journal is in its file |
+//! | `committing` | what was accepted goes to that file, and then the replies go out |
+//! | `replying` | the replies to requests that wait, with a commit before each search that may be long |
 //! | `durable` | the same as `serve`, with a file that has what was accepted before it is told |
 //! | `fed` | a session that lives between calls: it is fed bytes, and its replies are taken |
+//! | `feeding` | the replies to lines that are fed |
 //! | `journal` | the journal's file from which a session begins, and the one that it leaves |
 #![tactic(auto)]
 
 mod batch;
 mod committed;
+mod committing;
 mod durable;
 mod fed;
+mod feeding;
 mod found;
 mod journal;
 mod laws;
 mod limits;
+mod putting;
+mod replying;
 mod serve;
 mod session_state;
 mod telling;

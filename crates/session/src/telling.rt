@@ -3,7 +3,7 @@ ghost use Rattle.std.specs.Prelude.{◌≡◌, [], IfSome, length};
 ghost use Rattle.book.specs.Items.{packages_of};
 ghost use Rattle.session.specs.Batches.{Tells};
 
-use crate::batch::{put_answer, send_if};
+use crate::putting::{put_answer, send_if};
 use crate::session_state::SessionState;
 use answers::Backend;
 use book::journals_grow;

@@ -4,9 +4,9 @@ ghost use Rattle.book.specs.Items.{packages_of};
 ghost use Rattle.session.specs.Batches.{Question};
 ghost use Rattle.session.specs.Committing.{TellsOn};
 
-use crate::batch::put_answer;
 use crate::committed::Committed;
-use crate::durable::commit_if;
+use crate::committing::commit_if;
+use crate::putting::put_answer;
 use crate::session_state::SessionState;
 use answers::Backend;
 use book::journals_grow;

@@ -1,4 +1,4 @@
-use Rattle.std.proofs.Common.{◌≡◌, ◌∙◌, List, Bool, ap, length, subst, sym, take}
+use Rattle.std.proofs.Common.{◌∙◌, ap, take}
 use Rattle.session.proofs.BatchLemmas.{part_within, tells_part}
 use Rattle.session.proofs.batch.Batch.reply_soon.Goals as goal
 
