@@ -79,6 +79,12 @@ int lock_file(int file)
     return errno == EWOULDBLOCK ? 0 : -1;
 }
 
+void close_locked(int file)
+{
+    flock(file, LOCK_UN);
+    close(file);
+}
+
 int is_named(const char *name, int file)
 {
     struct stat held, named;

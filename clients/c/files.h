@@ -30,6 +30,10 @@ int open_file(const char *name, int how);
 /* Takes an open file, where no other session has it: 1. Otherwise 0, or -1 where the system refuses. The lock is the program's. */
 int lock_file(int file);
 
+/* Closes an open file that was locked. A process that another thread has just forked shares the open file, and with it the lock, until it
+ * runs a program of its own: so the lock is given back first. */
+void close_locked(int file);
+
 /* Whether a name stands for this open file: 1, 0, or -1 where the system can't tell. */
 int is_named(const char *name, int file);
 

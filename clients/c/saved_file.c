@@ -262,7 +262,7 @@ struct fault write_saved(struct saved_file *it, const struct bytes *text)
 void close_saved(struct saved_file *it)
 {
     if (it->file >= 0)
-        close(it->file);
+        close_locked(it->file);
     it->file = -1;
     free(it->name);
     free(it->path);

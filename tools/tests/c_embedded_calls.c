@@ -5,7 +5,9 @@
 
 #include <errno.h>
 #include <fcntl.h>
+#include <signal.h>
 #include <sys/stat.h>
+#include <sys/syscall.h>
 #include <sys/wait.h>
 #include <unistd.h>
 
@@ -347,6 +349,40 @@ static void forks(const char *program, int is_threaded)
     WANT(errno == ECHILD);
 }
 
+/* A process that shares all open files, as a forked one does before the library, or a program of its own, has closed them there. It lives
+ * until `ends` is closed. */
+static long sharing(const int *ends)
+{
+    char text[1];
+    long child = syscall(SYS_clone, (long)SIGCHLD, 0L, 0L, 0L, 0L);
+    WANT(child >= 0);
+    if (!child) {
+        close(ends[1]);
+        _exit(read(ends[0], text, 1) != 0);
+    }
+    return child;
+}
+
+/* The end of a session frees its file, though another process still shares it. */
+static void shared_files(void)
+{
+    registryd_session kept = opened_journal("f.journal"), saved = opened(NULL, "w.journal");
+    int ends[2], status;
+    /* one that stands there is held */
+    WANT(registryd_save(saved) == REGISTRYD_OK);
+    closed(saved);
+    saved = opened(NULL, "w.journal");
+    WANT(pipe(ends) == 0);
+    long child = sharing(ends);
+    closed(kept);
+    closed(saved);
+    closed(opened_journal("f.journal"));
+    closed(opened(NULL, "w.journal"));
+    close(ends[0]);
+    close(ends[1]);
+    WANT(waitpid((pid_t)child, &status, 0) == child && status == 0);
+}
+
 /* ---- threads */
 
 static registryd_session shared;
@@ -434,6 +470,7 @@ int main(int count, char **given)
         changed_journals();
     } else if (!strcmp(given[1], "forks") || !strcmp(given[1], "forks beside a thread")) {
         forks(given[2], strlen(given[1]) > strlen("forks"));
+        shared_files();
     } else {
         threads();
     }
