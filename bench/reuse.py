@@ -19,6 +19,7 @@ from workloads import SHARED, about_one, chain, crossed, dead_ends, tower, worn 
 from limits import MOST_STORED as STORE
 
 SPENT = b'"error":22'
+MOST_CONFLICTS = 4_294_967_295
 
 
 def within(request, budget):
@@ -99,16 +100,18 @@ def report_shared(asked):
 # ---- a full store
 
 def filled(program, lines, fill):
-    """A session in which these requests were answered, so that nothing more is stored."""
+    """A session in which these requests were answered, so that nothing more is stored. Each has a budget: without one, a
+    request whose selection is found without a search may teach nothing."""
     session = begun(program, lines)
     for request in fill:
-        session.resolve(request)
+        session.resolve(within(request, MOST_CONFLICTS))
     return session
 
 
 def is_stored(session, request):
-    """Whether what a request of `dead_ends` or `about_one` leads to is stored: then a second one meets no conflict."""
-    return SPENT not in session.resolve(within(request, 0))[1]
+    """Whether what a request of `dead_ends` or `about_one` leads to is stored: then a second one meets one conflict at most, where
+    the first one met one for each of its packages."""
+    return SPENT not in session.resolve(within(request, 1))[1]
 
 
 def beside(program, lines, fill, request, rounds):

@@ -16,6 +16,7 @@ use derivations::{
 use std::alloc::{AllocError, Global};
 
 /// The most lines that all offers of one search have together.
+/// Half and twice of it were measured: docs/BENCHMARKS.md, Constants.
 const OFFERED_LIMIT: usize = 1_024;
 
 /// How many lines one more offer may have behind so many lines of others: as many as are left, but for

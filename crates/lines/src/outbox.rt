@@ -11,6 +11,7 @@ use std::io::{ErrorKind, Write};
 use std::marker::Model;
 
 // How many bytes may wait.
+// Half and twice of it were measured: docs/BENCHMARKS.md, Constants.
 const OUTBOX_ROOM: usize = 65_536;
 
 /// Holds text that waits to be written. A contract sees the text that waits.

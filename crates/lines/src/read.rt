@@ -8,6 +8,7 @@ use std::io;
 use std::io::{ErrorKind, Read};
 
 /// The most bytes that one read gives.
+/// Half and twice of it were measured: docs/BENCHMARKS.md, Constants.
 pub const READ_SIZE: usize = 65_536;
 
 /// Reads once, into the places from `at` on, and answers how many bytes came: 0 at the reader's end. A read that a

@@ -17,13 +17,16 @@ pub const THREAD: usize = 64;
 
 /// How much there was to do for a refusal that is not shown and led to nothing that may be learnt: as much as
 /// for one by a few lines.
+/// Half and twice of it were measured: docs/BENCHMARKS.md, Constants.
 const REFUSED: usize = 4;
 
 /// With how many conflicts a request is still answered before any thread is started.
+/// Half and twice of it were measured: docs/BENCHMARKS.md, Constants.
 const CONFLICTS_WITHOUT_THREADS: u32 = 8;
 
 /// The most effort after which a thread wakes the calling one, in the packages and lines that answers have, where each
 /// request takes little.
+/// Half and twice of it were measured: docs/BENCHMARKS.md, Constants.
 const SHARE: usize = 128;
 
 /// By how many threads requests are to be answered, and after how many of them each is to wake the calling one.
