@@ -119,7 +119,7 @@ fn step_for(
 
 /// For how many lines room is made before they are written, so that a short derivation is not moved
 /// again and again while it grows.
-/// Half and twice of it were measured: docs/BENCHMARKS.md, Constants.
+/// Measured at half and at twice this value: docs/BENCHMARKS.md, Constants.
 const DERIVATION_ROOM: usize = 128;
 
 /// A list of so many zeros.

@@ -10,7 +10,7 @@ use terms::Pkg;
 
 /// From how many lines on a run is long: a shorter one names few versions, and reads well as it is. With a reason for
 /// each of 1,024 versions a derivation has 0.4 MB instead of 7 MB as it was found.
-/// Half and twice of it were measured: docs/BENCHMARKS.md, Constants.
+/// Measured at half and at twice this value: docs/BENCHMARKS.md, Constants.
 const LONG: usize = 16;
 
 /// A chain of many resolution steps, each of which takes the conclusion of the one before it.

@@ -6,8 +6,8 @@ use terms::Pkg;
 
 /// From how many versions on the dependencies of a package are put among the lines before one is
 /// decided. Packages with fewer are decided early, since those with the fewest versions come first.
-/// Half and twice of it were measured: docs/BENCHMARKS.md, Constants.
-const SEVERAL: usize = 4;
+/// Measured at half and at twice this value: docs/BENCHMARKS.md, Constants.
+const SEVERAL: usize = 2;
 
 /// Whether all versions of a package depend on the same. It costs a look at each of them at most.
 pub(crate) fn are_alike(registry: &Registry, pkg: Pkg) -> bool {

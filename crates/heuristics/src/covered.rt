@@ -7,7 +7,7 @@ use terms::{Pkg, Term};
 
 /// How many targets of a package stand in the list. Hardly any package has more; those beyond stand in
 /// a map, so that a look stays short whatever a package depends on.
-/// Half and twice of it were measured: docs/BENCHMARKS.md, Constants.
+/// Measured at half and at twice this value: docs/BENCHMARKS.md, Constants.
 const LISTED: usize = 32;
 
 /// The versions of a package whose dependency on a target stands among the lines: a version has at most

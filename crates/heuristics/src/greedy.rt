@@ -18,7 +18,7 @@ use terms::{Pkg, Term, VSet};
 use versions::{Name, Need};
 
 /// How many versions may be looked at, for each package of the registry, before it gives up.
-/// Half and twice of it were measured: docs/BENCHMARKS.md, Constants.
+/// Measured at half and at twice this value: docs/BENCHMARKS.md, Constants.
 const PATIENCE: usize = 4;
 
 /// What is known of a package that is needed.

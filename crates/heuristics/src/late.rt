@@ -9,8 +9,8 @@ use std::alloc::{AllocError, Global};
 use terms::{Incompat, Pkg, Relation, Term, relation};
 
 /// From how many levels on a search jumps back to a level between.
-/// Half and twice of it were measured: docs/BENCHMARKS.md, Constants.
-pub const FAR: usize = 300;
+/// Measured at half and at twice this value: docs/BENCHMARKS.md, Constants.
+pub const FAR: usize = 75;
 
 /// Lines that derived something later than they could have, by their places.
 #[derive(Drop)]

@@ -12,7 +12,7 @@ use terms::{Incompat, Pkg, Relation, Term, relation};
 
 /// How many inactive lines of a package are passed over before they are put aside: so a package with very many
 /// lines costs no look at each of them whenever it changes, and short lists are left as they are.
-/// Half and twice of it were measured: docs/BENCHMARKS.md, Constants.
+/// Measured at half and at twice this value: docs/BENCHMARKS.md, Constants.
 const PASSED: usize = 32;
 
 /// A line that names a package. These are read far more often than what the lines say, so they stand by

@@ -10,12 +10,12 @@ use versions::{Name, Need, Published};
 
 /// For at least so many packages room is made before a search, so that a small one need not move its lists
 /// again and again while they grow.
-/// Half and twice of it were measured: docs/BENCHMARKS.md, Constants.
+/// Measured at half and at twice this value: docs/BENCHMARKS.md, Constants.
 pub(crate) const PACKAGES_ROOM: usize = 128;
 
 /// For how many packages room is made for each that is known to be needed before a search: the others that
 /// it comes to are needed by these.
-/// Half and twice of it were measured: docs/BENCHMARKS.md, Constants.
+/// Measured at half and at twice this value: docs/BENCHMARKS.md, Constants.
 const REACHED: usize = 4;
 
 /// For how many packages room is made before a search, where so many are known to be needed.

@@ -10,7 +10,7 @@ use versions::{Name, Need};
 
 /// Up to this many dependencies of a package are compared with each that is looked for, which takes less
 /// than a table of them.
-/// Half and twice of it were measured: docs/BENCHMARKS.md, Constants.
+/// Measured at half and at twice this value: docs/BENCHMARKS.md, Constants.
 const MOST_COMPARED_DEPENDENCIES: usize = 256;
 
 /// Packages with at most so many versions have few dependencies, whatever each depends on.

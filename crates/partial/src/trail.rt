@@ -23,7 +23,7 @@ pub(crate) struct Note {
 }
 
 /// Up to so many assignments on a package a walk along them is as short as one by jumps.
-/// Half and twice of it were measured: docs/BENCHMARKS.md, Constants.
+/// Measured at half and at twice this value: docs/BENCHMARKS.md, Constants.
 pub(crate) const SHALLOW: usize = 8;
 
 /// Before the first assignment on a package.

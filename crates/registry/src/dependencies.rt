@@ -11,7 +11,7 @@ use std::sync::Arc;
 use versions::{Name, Need};
 
 /// Up to this many needs are compared each with each, which takes less time than to sort them.
-/// Half and twice of it were measured: docs/BENCHMARKS.md, Constants.
+/// Measured at half and at twice this value: docs/BENCHMARKS.md, Constants.
 const MOST_COMPARED_NEEDS: usize = 8;
 
 /// What a version depends on: names of packages, each with a requirement, in order.

@@ -16,7 +16,7 @@ use versions::{Need, Published};
 
 /// So many links are looked at for a requirement. Where it stands behind them, it is put in once more,
 /// and is tested twice; else requirements that share a chain could make each search for one long.
-/// Half and twice of it were measured: docs/BENCHMARKS.md, Constants.
+/// Measured at half and at twice this value: docs/BENCHMARKS.md, Constants.
 const MOST_STEPS: usize = 256;
 
 /// A requirement on a package.

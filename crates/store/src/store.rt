@@ -26,7 +26,7 @@ use versions::{Published, Refusal};
 pub const STORE_LIMIT: usize = 4_096;
 
 /// So many places may be empty, and as many as there are members.
-/// Half and twice of it were measured: docs/BENCHMARKS.md, Constants.
+/// Measured at half and at twice this value: docs/BENCHMARKS.md, Constants.
 const MOST_EMPTY: usize = 256;
 
 /// The most requirements that lines rest on.
