@@ -63,6 +63,12 @@ impl Analysis {
         }
     }
 
+    /// Forgets all packages, and keeps their memory.
+    pub fn clear(&mut self) {
+        self.rows.clear();
+        self.touched.clear();
+    }
+
     /// The packages that the conflict was about, those on which it was resolved twice.
     pub fn touched(&self) -> &[u32] {
         &self.touched

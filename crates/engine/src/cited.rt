@@ -4,12 +4,13 @@ use crate::bits::Bits;
 use crate::engine::Engine;
 use crate::incompats::Term;
 use crate::origins::{Origin, Step};
+use crate::plain::is_plain;
 use crate::stop::{Stop, at, at_mut, count_of};
 use std::alloc::{AllocError, Global};
 
 /// By how many steps what is told of what was learnt follows at most, all of it together: more is not offered to be
 /// learnt.
-/// Half and twice of it were measured: docs/BENCHMARKS.md, Constants.
+/// Measured at half and at twice this value: docs/BENCHMARKS.md, Constants.
 const LEARNT_STEPS: u32 = 1024;
 
 /// What is cited by a refusal, directly or not.
@@ -21,10 +22,12 @@ pub(crate) struct Cited {
     pub entries: Vec<bool>,
     /// The packages, by index, of which it is used that versions are not allowed.
     pub barred: Vec<bool>,
-    /// The entries that rule better versions out, by place.
+    /// The entries that rule better versions out, by place, but for what is seen without them.
     pub better: Vec<u32>,
     /// Cited entries whose reasons were not looked at.
     unread: Vec<u32>,
+    /// Whether the trace is that of a selection, in which a term goes by the entries that take from it what is left.
+    is_of_selection: bool,
 }
 
 /// So many marks, none of them set.
@@ -54,7 +57,7 @@ fn resolved_in(steps: &[Step], first: u32, end: u32) -> Result<u32, Stop> {
 }
 
 impl Cited {
-    fn new(engine: &Engine<'_>) -> Result<Cited, Stop> {
+    fn new(engine: &Engine<'_>, is_of_selection: bool) -> Result<Cited, Stop> {
         let alloc = engine.question.alloc;
         Ok(Cited {
             incompats: unset(alloc, engine.incompats.count())?,
@@ -62,6 +65,7 @@ impl Cited {
             barred: unset(alloc, count_of(engine.trail.variables().len()))?,
             better: Vec::new(alloc),
             unread: Vec::new(alloc),
+            is_of_selection,
         })
     }
 
@@ -83,8 +87,34 @@ impl Cited {
         Ok(())
     }
 
-    /// Cites what satisfies a term at level 0.
+    /// Cites the entries by whose lines a term goes, the last one first, up to a decision.
+    fn cite_lines(&mut self, engine: &Engine<'_>, term: &Term) -> Result<(), Stop> {
+        let row = engine.trail.variable(term.variable)?;
+        let mut choices = term.choices;
+        let mut place = engine.trail.satisfier(row.last, choices)?;
+        for _ in 0..engine.trail.entries().len() {
+            self.cite_entry(term.variable, place)?;
+            let Some(here) = place else {
+                return Ok(());
+            };
+            let entry = engine.trail.entry(here)?;
+            let Some(reason) = entry.reason else {
+                return Ok(());
+            };
+            choices = choices.or(engine.incompats.choices_on(reason, term.variable)?);
+            if row.all.is_within(choices) {
+                return Ok(());
+            }
+            place = engine.trail.satisfier(entry.previous, choices)?;
+        }
+        Ok(())
+    }
+
+    /// Cites what satisfies a term: at level 0, or in a selection.
     fn cite_satisfier(&mut self, engine: &Engine<'_>, term: &Term) -> Result<(), Stop> {
+        if self.is_of_selection {
+            return self.cite_lines(engine, term);
+        }
         let last = engine.trail.variable(term.variable)?.last;
         let since = engine.trail.satisfier(last, term.choices)?;
         self.cite_entry(term.variable, since)
@@ -98,7 +128,9 @@ impl Cited {
             return Ok(());
         };
         self.cite(reason)?;
-        self.cite_entry(entry.variable, entry.previous)?;
+        if !self.is_of_selection {
+            self.cite_entry(entry.variable, entry.previous)?;
+        }
         for term in engine.incompats.terms(reason)? {
             if term.variable != entry.variable {
                 self.cite_satisfier(engine, term)?;
@@ -118,10 +150,31 @@ impl Cited {
         Ok(())
     }
 
+    /// Cites what level 0 says of a package from an entry on, and all entries of the package before.
+    fn cite_entries(
+        &mut self,
+        engine: &Engine<'_>,
+        variable: u32,
+        since: Option<u32>,
+    ) -> Result<(), Stop> {
+        let mut place = since;
+        for _ in 0..engine.trail.entries().len() {
+            self.cite_entry(variable, place)?;
+            let Some(here) = place else {
+                return Ok(());
+            };
+            place = engine.trail.entry(here)?.previous;
+        }
+        Ok(())
+    }
+
     /// Cites a step.
-    fn cite_step(&mut self, step: Step) -> Result<(), Stop> {
+    fn cite_step(&mut self, engine: &Engine<'_>, step: Step) -> Result<(), Stop> {
         match step {
             Step::Resolved { with, .. } => self.cite(with),
+            Step::LeftOut { on, since } if self.is_of_selection => {
+                self.cite_entries(engine, on, since)
+            }
             Step::LeftOut { on, since } => self.cite_entry(on, since),
         }
     }
@@ -138,7 +191,7 @@ impl Cited {
         };
         self.cite(conflict)?;
         for index in first..end {
-            self.cite_step(*at(&engine.steps, index)?)?;
+            self.cite_step(engine, *at(&engine.steps, index)?)?;
         }
         self.cite_reasons(engine)
     }
@@ -152,8 +205,14 @@ impl Cited {
         Ok(())
     }
 
-    /// Cites the entries of a package by which a version was ruled out that is better than the selected one.
-    fn cite_better(&mut self, engine: &Engine<'_>, variable: u32) -> Result<(), Stop> {
+    /// Cites the entries of a package by which a version was ruled out that is better than the selected one, but for
+    /// those whose versions are plainly out behind the packages that are passed.
+    fn cite_better(
+        &mut self,
+        engine: &Engine<'_>,
+        passed: &[bool],
+        variable: u32,
+    ) -> Result<(), Stop> {
         let row = engine.trail.variable(variable)?;
         let selected = row.left;
         let mut after = row.left;
@@ -165,7 +224,7 @@ impl Cited {
             let entry = engine.trail.entry(here)?;
             let versions = entry.before.minus(after).minus(Bits::absence());
             let best = engine.best_choice(variable, row.pkg, versions.or(selected))?;
-            if !selected.has(best) {
+            if !selected.has(best) && !is_plain(engine, passed, entry)? {
                 self.cite_entry(variable, place)?;
                 self.better.push(here)?;
             }
@@ -177,8 +236,11 @@ impl Cited {
 
     /// Cites what rules better versions out than those that are selected.
     fn cite_selection(&mut self, engine: &Engine<'_>) -> Result<(), Stop> {
+        let variables = count_of(engine.trail.variables().len());
+        let mut passed = unset(engine.question.alloc, variables)?;
         for variable in engine.turn.listed() {
-            self.cite_better(engine, *variable)?;
+            self.cite_better(engine, &passed, *variable)?;
+            *at_mut(&mut passed, *variable)? = true;
         }
         Ok(())
     }
@@ -243,7 +305,7 @@ impl Cited {
 
 /// What a conflict of level 0 rests on.
 pub(crate) fn cited_by(engine: &Engine<'_>, conflict: u32) -> Result<Cited, Stop> {
-    let mut cited = Cited::new(engine)?;
+    let mut cited = Cited::new(engine, false)?;
     cited.cite_conflict(engine, conflict)?;
     cited.cite_all(engine)?;
     Ok(cited)
@@ -251,14 +313,14 @@ pub(crate) fn cited_by(engine: &Engine<'_>, conflict: u32) -> Result<Cited, Stop
 
 /// What was learnt first, and what it rests on.
 pub(crate) fn cited_by_learnt(engine: &Engine<'_>) -> Result<Cited, Stop> {
-    let mut cited = Cited::new(engine)?;
+    let mut cited = Cited::new(engine, false)?;
     cited.cite_first(engine)?;
     Ok(cited)
 }
 
 /// What it rests on that no better versions are selected, in the order of the walk.
 pub(crate) fn cited_by_selection(engine: &Engine<'_>) -> Result<Cited, Stop> {
-    let mut cited = Cited::new(engine)?;
+    let mut cited = Cited::new(engine, true)?;
     cited.cite_selection(engine)?;
     cited.cite_all(engine)?;
     Ok(cited)

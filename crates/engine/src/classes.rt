@@ -6,7 +6,7 @@ use heuristics::{Question, locked_version};
 use terms::{Pkg, VSet};
 
 /// How many versions have a choice each at most. Two choices stand for the other allowed ones.
-/// Half and twice of it were measured: docs/BENCHMARKS.md, Constants.
+/// Measured at half and at twice this value: docs/BENCHMARKS.md, Constants.
 const MOST_SINGLE: usize = 60;
 
 /// The allowed versions of a package that has many versions.

@@ -55,7 +55,6 @@ impl Engine<'_> {
         let before = self.trail.entries().len();
         self.enter(variable, choice)?;
         if self.pending.is_some() || self.trail.entries().len() > before {
-            self.order.offer(&self.trail, variable)?;
             return Ok(None);
         }
         if self.trail.left(variable)?.has_several() {

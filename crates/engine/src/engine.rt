@@ -19,7 +19,7 @@ use terms::Pkg;
 const FIRST_CONFLICTS: u32 = 2;
 
 /// After so many assignments a conflict is taken for the last one of those.
-/// Half and twice of it were measured: docs/BENCHMARKS.md, Constants.
+/// Measured at half and at twice this value: docs/BENCHMARKS.md, Constants.
 const FIRST_ASSIGNMENTS: u64 = 4096;
 
 /// More turns than any search makes.
@@ -47,7 +47,7 @@ pub(crate) enum Verdict {
 
 /// An incompatibility that propagation may miss after a jump back.
 #[derive(Clone, Copy)]
-struct Late {
+pub(crate) struct Late {
     id: u32,
     /// The level at which it was looked at last. What it says holds until the search jumps below.
     level: u32,
@@ -63,7 +63,7 @@ pub struct Engine<'a> {
     pub(crate) trail: Trail,
     pub(crate) incompats: Incompats,
     pub(crate) order: Order,
-    analysis: Analysis,
+    pub(crate) analysis: Analysis,
     /// What the incompatibilities that were learnt follow from.
     pub(crate) steps: Vec<Step>,
     pub(crate) phase: Phase,
@@ -73,7 +73,7 @@ pub struct Engine<'a> {
     pub(crate) wides: Vec<Option<Wide>>,
     /// Versions that have a choice of their own beside the best, since an earlier search came to them.
     pub(crate) refined: Vec<(Pkg, u32)>,
-    /// How often the search began again for those.
+    /// How often the search began again for those that are refined.
     pub(crate) again: u32,
     /// How many packages were asked for in the store, and how many members were looked at.
     pub(crate) asked: u32,
@@ -84,7 +84,7 @@ pub struct Engine<'a> {
     pub(crate) looked: u32,
     /// Incompatibilities to look at again after a jump back: those of one term that came in above level 0, and
     /// conflicts behind a first one. The levels rise.
-    late: Vec<Late>,
+    pub(crate) late: Vec<Late>,
     /// A conflict that was met outside of propagation.
     pub(crate) pending: Option<u32>,
     pub(crate) conflicts: u32,
@@ -93,40 +93,7 @@ pub struct Engine<'a> {
     pub(crate) turn: Turn,
 }
 
-impl<'a> Engine<'a> {
-    pub(crate) fn with(
-        question: Question<'a>,
-        store: &'a Store,
-        budget: Option<u32>,
-    ) -> Engine<'a> {
-        let alloc = question.alloc;
-        Engine {
-            question,
-            store,
-            budget,
-            view: View::new(alloc),
-            trail: Trail::new(alloc),
-            incompats: Incompats::new(alloc),
-            order: Order::new(alloc),
-            analysis: Analysis::new(alloc),
-            steps: Vec::new(alloc),
-            phase: Phase::Lazy,
-            numbers: Vec::new(alloc),
-            wides: Vec::new(alloc),
-            refined: Vec::new(alloc),
-            again: 0,
-            asked: 0,
-            looks: 0,
-            named: Vec::new(alloc),
-            looked: 0,
-            late: Vec::new(alloc),
-            pending: None,
-            conflicts: 0,
-            in_order: false,
-            turn: Turn::new(alloc),
-        }
-    }
-
+impl Engine<'_> {
     // ---- assignments
 
     /// Takes the choices of a term away by an incompatibility whose other terms are satisfied, or notes the
@@ -158,7 +125,9 @@ impl<'a> Engine<'a> {
             return Ok(());
         }
         self.pending = None;
-        self.order.go_back(&self.trail, level)?;
+        if !self.in_order {
+            self.order.go_back(&self.trail, level)?;
+        }
         self.trail.back_to(level)?;
         self.looked = self.looked.min(count_of(self.trail.entries().len()));
         self.turn.go_back(&self.trail)
@@ -331,9 +300,9 @@ impl<'a> Engine<'a> {
 
     /// Searches once more, in the order of the walk, over what was learnt.
     pub(crate) fn run_in_order(&mut self) -> Result<Verdict, Stop> {
+        self.in_order = true;
         self.back_to(0)?;
         self.derive_late()?;
-        self.in_order = true;
         self.list_needs()?;
         self.run()
     }

@@ -57,6 +57,7 @@ impl Engine<'_> {
     }
 
     /// Puts a package on the trail that is reached by a requirement, and answers its index.
+    #[inline(never)]
     fn add_variable(&mut self, pkg: Pkg, by: Origin) -> Result<u32, Stop> {
         for _ in self.numbers.len()..pkg as usize + 1 {
             self.numbers.push(None)?;
@@ -71,6 +72,7 @@ impl Engine<'_> {
             entered: Bits::none(),
         })?;
         *at_mut(&mut self.numbers, pkg)? = Some(variable);
+        self.incompats.make_lists(self.trail.variables().len())?;
         Ok(variable)
     }
 
@@ -164,7 +166,7 @@ impl Engine<'_> {
     fn enter_rows(&mut self, variable: u32, having: Bits) -> Result<(), Stop> {
         let pkg = self.trail.variable(variable)?.pkg;
         let wide = wide_at(&self.wides, variable);
-        let span = self.view.span(self.question.registry, variable, pkg, wide)?;
+        let span = self.view.span(self.question.registry, pkg, wide)?;
         let first = self.incompats.count();
         for row in span.first..span.end {
             if self.view.enters(row, having)? {

@@ -15,8 +15,13 @@ use crate::bits::{Bits, MOST_CHOICES};
 use crate::origins::Origin;
 use crate::stop::{Stop, at, at_mut, count_of, index_of};
 use crate::trail::Trail;
-use crate::watches::{Watch, Watches};
+use crate::watches::{Watch, Watches, clear_lists};
 use std::alloc::Global;
+use std::mem;
+
+/// After so many the lists keep no memory, since each of them keeps what it took at most: so all of them keep less than
+/// 10 MB.
+const MOST_FORGOTTEN: u32 = 1 << 16;
 
 /// That one of these choices of a package is selected.
 #[derive(Clone, Copy)]
@@ -25,11 +30,12 @@ pub(crate) struct Term {
     pub choices: Bits,
 }
 
-/// Where the terms of an incompatibility stand among those of all.
+/// Where the terms of an incompatibility stand among those of all, and where it comes from.
 #[derive(Clone, Copy)]
 struct Span {
     first: u32,
     end: u32,
+    origin: Origin,
 }
 
 /// Incompatibilities: of each not all terms hold in a selection that meets the request. Each is known by
@@ -39,12 +45,14 @@ pub(crate) struct Incompats {
     alloc: Global,
     spans: Vec<Span>,
     terms: Vec<Term>,
-    /// Where each comes from.
-    origins: Vec<Origin>,
     /// Those of two terms, by index of the package of one of them.
     pairs: Vec<Vec<Watch>>,
+    /// How many of these lists are in use. The others are empty, and keep their memory.
+    used: u32,
     /// The longer ones.
     watches: Watches,
+    /// How many were forgotten since the lists kept no memory.
+    forgotten: u32,
 }
 
 /// What a look at a watched incompatibility found.
@@ -65,10 +73,26 @@ impl Incompats {
             alloc,
             spans: Vec::new(alloc),
             terms: Vec::new(alloc),
-            origins: Vec::new(alloc),
             pairs: Vec::new(alloc),
+            used: 0,
             watches: Watches::new(alloc),
+            forgotten: 0,
         }
+    }
+
+    /// Forgets all, and mostly keeps their memory.
+    pub fn clear(&mut self) {
+        self.forgotten = self.forgotten.saturating_add(self.count());
+        if self.forgotten > MOST_FORGOTTEN {
+            let before = mem::replace(self, Incompats::new(self.alloc));
+            drop(before);
+            return;
+        }
+        self.spans.clear();
+        self.terms.clear();
+        clear_lists(&mut self.pairs, self.used);
+        self.used = 0;
+        self.watches.clear();
     }
 
     /// How many there are.
@@ -102,7 +126,7 @@ impl Incompats {
 
     /// Where an incompatibility comes from.
     pub fn origin(&self, id: u32) -> Result<Origin, Stop> {
-        Ok(*at(&self.origins, id)?)
+        Ok(at(&self.spans, id)?.origin)
     }
 
     // ---- adding
@@ -113,16 +137,21 @@ impl Incompats {
         let first = index_of(self.terms.len())?;
         self.terms.extend_from_slice(terms)?;
         let end = index_of(self.terms.len())?;
-        self.origins.push(origin)?;
-        self.spans.push(Span { first, end })?;
+        self.spans.push(Span { first, end, origin })?;
         Ok(id)
+    }
+
+    /// Makes the lists of so many packages.
+    pub fn make_lists(&mut self, packages: usize) -> Result<(), Stop> {
+        for _ in self.pairs.len()..packages {
+            self.pairs.push(Vec::new(self.alloc))?;
+        }
+        self.used = self.used.max(count_of(packages));
+        Ok(())
     }
 
     /// Puts one of two terms into the list of a package.
     fn add_pair(&mut self, own: Term, other: Term, id: u32) -> Result<(), Stop> {
-        for _ in self.pairs.len()..own.variable as usize + 1 {
-            self.pairs.push(Vec::new(self.alloc))?;
-        }
         at_mut(&mut self.pairs, own.variable)?.push(Watch::new(own, other, id))?;
         Ok(())
     }

@@ -14,6 +14,7 @@ mod meeting;
 mod members;
 mod order;
 mod origins;
+mod plain;
 mod refining;
 mod ruling;
 mod stop;
@@ -24,8 +25,10 @@ mod verdict;
 mod view;
 mod watches;
 mod wide;
+mod workspace;
 
 pub use engine::Engine;
 pub use stop::Stop;
 pub use trace::{Record, Step, Trace};
 pub use verdict::Found;
+pub use workspace::Workspace;

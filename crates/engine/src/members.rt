@@ -13,11 +13,11 @@ use std::mem;
 use terms::{Pkg, VSet};
 
 /// The most members that are asked when a package is reached: the newest that name it.
-/// Half and twice of it were measured: docs/BENCHMARKS.md, Constants.
+/// Measured at half and at twice this value: docs/BENCHMARKS.md, Constants.
 const NEWEST: u32 = 256;
 
 /// How many members more may be asked for each incompatibility: so the store costs a share of the search at most.
-/// Half and twice of it were measured: docs/BENCHMARKS.md, Constants.
+/// Measured at half and at twice this value: docs/BENCHMARKS.md, Constants.
 const LOOKS_EACH: u32 = 16;
 
 /// The choices of these versions, among all.

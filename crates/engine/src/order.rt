@@ -84,6 +84,14 @@ impl Order {
         }
     }
 
+    /// Forgets all packages, and keeps their memory.
+    pub fn clear(&mut self) {
+        self.rows.clear();
+        self.heap.clear();
+        self.step = FIRST_STEP;
+        self.followed = 0;
+    }
+
     /// Makes the rows of packages that came in.
     fn add_rows(&mut self, trail: &Trail) -> Result<(), Stop> {
         for variable in rows_from(trail.variables(), self.rows.len()) {
@@ -197,12 +205,6 @@ impl Order {
         Ok(())
     }
 
-    /// Adds a package, if something is to be done for it.
-    pub fn offer(&mut self, trail: &Trail, variable: u32) -> Result<(), Stop> {
-        self.add_rows(trail)?;
-        self.add_open(trail, variable)
-    }
-
     /// Adds the packages of which something was taken since this was done last.
     fn follow(&mut self, trail: &Trail) -> Result<(), Stop> {
         self.add_rows(trail)?;
@@ -227,10 +229,10 @@ impl Order {
         Ok(())
     }
 
-    /// The package that comes next.
+    /// The package that comes next. It stays there until it is not to be decided any more.
     pub fn next(&mut self, trail: &Trail) -> Result<Option<u32>, Stop> {
         self.follow(trail)?;
-        // Each turn takes a package, or mends one that has more choices.
+        // Each turn takes a package that is not to be decided, or mends one that has more choices.
         for _ in 0..u32::MAX {
             let Some(variable) = self.heap.as_slice().first().copied() else {
                 return Ok(None);
@@ -238,15 +240,15 @@ impl Order {
             let there = trail.variable(variable)?;
             let count = there.left.count();
             let row = at_mut(&mut self.rows, variable)?;
-            if is_open(there) && row.count < count {
-                row.count = count;
-                self.sink(variable)?;
+            if !is_open(there) {
+                self.take(variable)?;
                 continue;
             }
-            self.take(variable)?;
-            if is_open(there) {
+            if row.count >= count {
                 return Ok(Some(variable));
             }
+            row.count = count;
+            self.sink(variable)?;
         }
         Err(Stop::Lost)
     }

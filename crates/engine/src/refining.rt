@@ -10,15 +10,14 @@ use crate::meeting::versions_meeting;
 use crate::origins::Origin;
 use crate::stop::{Stop, count_of};
 use crate::view::target_of;
-use std::mem;
 use terms::{Pkg, VSet};
 
 /// How often a search begins again at most.
-/// Half and twice of it were measured: docs/BENCHMARKS.md, Constants.
-const MOST_AGAIN: u32 = 8;
+/// Measured at half and at twice this value: docs/BENCHMARKS.md, Constants.
+const MOST_AGAIN: u32 = 4;
 
 /// How many versions of a package get a choice of their own each time.
-/// Half and twice of it were measured: docs/BENCHMARKS.md, Constants.
+/// Measured at half and at twice this value: docs/BENCHMARKS.md, Constants.
 const MOST_REFINED: usize = 20;
 
 /// Whether one of the marked versions is among these.
@@ -139,12 +138,8 @@ impl Engine<'_> {
 
     /// Takes back all but the count of conflicts and what versions are to have a choice of their own.
     fn begin_again(&mut self) {
-        let mut next = Engine::with(self.question, self.store, self.budget);
-        next.conflicts = self.conflicts;
-        next.again = self.again.saturating_add(1);
-        mem::swap(&mut next.refined, &mut self.refined);
-        let before = mem::replace(self, next);
-        drop(before);
+        self.clear();
+        self.again = self.again.saturating_add(1);
     }
 
     /// Searches from the start on, until no choice is selected that stands for several versions.

@@ -43,8 +43,9 @@ impl Writer {
         Ok(())
     }
 
-    /// Writes the line of an entry.
-    fn write_line(&mut self, engine: &Engine<'_>, entry: &Entry, reason: u32) -> Result<(), Stop> {
+    /// Writes the line of an entry, and answers its record: that of its reason, if the other terms of that are on packages
+    /// that were decided.
+    fn write_line(&mut self, engine: &Engine<'_>, entry: &Entry, reason: u32) -> Result<u32, Stop> {
         let from = *at(&self.numbers, reason)?;
         let first = self.steps()?;
         for term in engine.incompats.terms(reason)? {
@@ -53,22 +54,36 @@ impl Writer {
             }
         }
         let end = self.steps()?;
+        if first == end {
+            return Ok(from);
+        }
+        let number = index_of(self.trace.records.len())?;
         self.trace
             .records
             .push(Record::Follows { from, first, end })?;
-        Ok(())
+        Ok(number)
+    }
+
+    /// Writes the line of the entry at a place, if it is cited, and answers its record; any, if it is not.
+    fn write_line_at(
+        &mut self,
+        engine: &Engine<'_>,
+        cited: &Cited,
+        place: u32,
+    ) -> Result<u32, Stop> {
+        let entry = engine.trail.entry(place)?;
+        match entry.reason {
+            Some(reason) if is_set(&cited.entries, place) => {
+                self.write_line(engine, entry, reason)
+            }
+            _ => Ok(0),
+        }
     }
 
     /// Writes the lines of the entries before a place, as far as they are cited.
     fn write_lines(&mut self, engine: &Engine<'_>, cited: &Cited, end: u32) -> Result<(), Stop> {
         for place in count_of(self.lines.len())..end {
-            let number = index_of(self.trace.records.len())?;
-            let entry = engine.trail.entry(place)?;
-            if let Some(reason) = entry.reason {
-                if is_set(&cited.entries, place) {
-                    self.write_line(engine, entry, reason)?;
-                }
-            }
+            let number = self.write_line_at(engine, cited, place)?;
             self.lines.push(number)?;
         }
         Ok(())

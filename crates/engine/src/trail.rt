@@ -58,6 +58,15 @@ impl Trail {
         }
     }
 
+    /// Forgets all packages, and keeps their memory.
+    pub fn clear(&mut self) {
+        self.variables.clear();
+        self.entries.clear();
+        self.starts.clear();
+        self.head = 0;
+        self.made = 0;
+    }
+
     // ---- packages
 
     /// Adds a package, and answers its index.

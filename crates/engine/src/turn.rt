@@ -62,6 +62,13 @@ impl Turn {
         }
     }
 
+    /// Forgets all packages, and keeps their memory.
+    pub fn clear(&mut self) {
+        self.listed.clear();
+        self.is_listed.clear();
+        self.passed.clear();
+    }
+
     /// The packages in the order of the walk.
     pub fn listed(&self) -> &[u32] {
         &self.listed

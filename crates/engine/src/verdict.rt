@@ -3,9 +3,7 @@
 use crate::engine::{Engine, Verdict};
 use crate::stop::{Stop, count_of};
 use crate::trace::{Trace, trace_of, trace_of_learnt, trace_of_need, trace_of_selection};
-use heuristics::Question;
 use indexmap::IndexMap;
-use store::Store;
 use terms::Pkg;
 
 /// What a search found.
@@ -18,13 +16,7 @@ pub enum Found {
     Refused(Trace),
 }
 
-impl<'a> Engine<'a> {
-    /// A search for a selection that meets a request, with what is stored of earlier ones. At the first conflict
-    /// beyond the budget it stops.
-    pub fn new(question: &Question<'a>, store: &'a Store, budget: Option<u32>) -> Engine<'a> {
-        Engine::with(*question, store, budget)
-    }
-
+impl Engine<'_> {
     /// How many conflicts were met.
     pub fn conflicts(&self) -> u32 {
         self.conflicts

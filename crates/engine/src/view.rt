@@ -10,6 +10,7 @@ use crate::stop::{Stop, at, at_mut, count_of, index_of};
 use crate::wide::Wide;
 use registry::{PlaceHint, Registry};
 use std::alloc::Global;
+use std::mem;
 use terms::{Pkg, VSet};
 
 /// From how many versions on what all of them depend on is entered before one is decided. Packages with fewer are
@@ -20,6 +21,9 @@ const SEVERAL: usize = 4;
 /// another row, which costs no more than that. With 64 in place of 8, a hundred small conflicts side by side take 2 %
 /// longer.
 const LOOKS: u32 = 8;
+
+/// How many rows are kept for later searches at most: 1.3 MB.
+const MOST_KEPT: usize = 1 << 15;
 
 /// A dependency of versions of a package.
 #[derive(Clone, Copy)]
@@ -32,8 +36,8 @@ pub(crate) struct Dependency {
     /// One of the versions that have it, and its index there.
     pub ordinal: u32,
     pub index: usize,
-    /// Whether it is among the incompatibilities.
-    is_entered: bool,
+    /// The last search in which it was among the incompatibilities.
+    entered: u32,
 }
 
 /// Where the dependencies of a package stand.
@@ -43,14 +47,27 @@ pub(crate) struct Span {
     pub end: u32,
 }
 
-/// The dependencies of packages, in rows.
+/// What was listed of a package.
+#[derive(Clone, Copy)]
+struct Listed {
+    span: Span,
+    /// How many versions it had.
+    versions: u32,
+    /// The search that listed it.
+    search: u32,
+}
+
+/// The dependencies of packages, in rows, which are kept from search to search: a package has the same ones as long as it
+/// has the same number of versions.
 #[derive(Drop)]
 pub(crate) struct View {
     rows: Vec<Dependency>,
-    /// By index of the package, up to the highest that was asked for.
-    spans: Vec<Option<Span>>,
+    /// By number of the package, up to the highest that was asked for.
+    listed: Vec<Option<Listed>>,
     /// The rows of the version that is looked at, in the order of its dependencies.
     current: Vec<u32>,
+    /// The number of the search, from 1 on.
+    search: u32,
 }
 
 /// The package of a dependency.
@@ -80,9 +97,20 @@ impl View {
     pub fn new(alloc: Global) -> View {
         View {
             rows: Vec::new(alloc),
-            spans: Vec::new(alloc),
+            listed: Vec::new(alloc),
             current: Vec::new(alloc),
+            search: 1,
         }
+    }
+
+    /// Begins the next search.
+    pub fn begin_next(&mut self, alloc: Global) {
+        if self.rows.len() > MOST_KEPT || self.search == u32::MAX {
+            let before = mem::replace(self, View::new(alloc));
+            drop(before);
+            return;
+        }
+        self.search = self.search.saturating_add(1);
     }
 
     // ---- making the rows of a package
@@ -129,7 +157,7 @@ impl View {
             need,
             ordinal,
             index,
-            is_entered: false,
+            entered: 0,
         })?;
         Ok(row)
     }
@@ -196,26 +224,55 @@ impl View {
 
     // ---- what is asked
 
-    /// Where the dependencies of a package stand, which has this index, and maybe many versions.
-    pub fn span(
+    /// What was listed of a package, if that is so still. What a package with many versions depends on is listed anew by
+    /// each search, since its choices are made anew.
+    #[inline(always)]
+    fn kept(&self, pkg: Pkg, versions: u32, is_wide: bool) -> Option<Span> {
+        let Some(Some(listed)) = self.listed.as_slice().get(pkg as usize).copied() else {
+            return None;
+        };
+        if listed.versions != versions || (is_wide && listed.search != self.search) {
+            return None;
+        }
+        Some(listed.span)
+    }
+
+    /// Lists a package.
+    fn list_anew(
         &mut self,
         registry: &Registry,
-        variable: u32,
         pkg: Pkg,
+        versions: u32,
         wide: Option<&Wide>,
     ) -> Result<Span, Stop> {
-        for _ in self.spans.len()..variable as usize + 1 {
-            self.spans.push(None)?;
-        }
-        if let Some(span) = *at(&self.spans, variable)? {
-            return Ok(span);
+        for _ in self.listed.len()..pkg as usize + 1 {
+            self.listed.push(None)?;
         }
         let span = match wide {
             None => self.list(registry, pkg)?,
             Some(wide) => self.list_single(registry, pkg, wide)?,
         };
-        *at_mut(&mut self.spans, variable)? = Some(span);
+        let search = self.search;
+        *at_mut(&mut self.listed, pkg)? = Some(Listed {
+            span,
+            versions,
+            search,
+        });
         Ok(span)
+    }
+
+    /// Where the dependencies of a package stand, which has maybe many versions.
+    pub fn span(
+        &mut self,
+        registry: &Registry,
+        pkg: Pkg,
+        wide: Option<&Wide>,
+    ) -> Result<Span, Stop> {
+        let versions = registry.version_count(pkg);
+        match self.kept(pkg, versions, wide.is_some()) {
+            Some(span) => Ok(span),
+            None => self.list_anew(registry, pkg, versions, wide),
+        }
     }
 
     /// The dependency that stands there; Lost, if none does.
@@ -225,11 +282,12 @@ impl View {
 
     /// Whether a dependency was not entered yet, and is one of these versions; it is taken to be entered from now on.
     pub fn enters(&mut self, row: u32, having: Bits) -> Result<bool, Stop> {
+        let search = self.search;
         let row = at_mut(&mut self.rows, row)?;
-        if row.is_entered || row.sharing.is_apart(having) {
+        if row.entered == search || row.sharing.is_apart(having) {
             return Ok(false);
         }
-        row.is_entered = true;
+        row.entered = search;
         Ok(true)
     }
 }

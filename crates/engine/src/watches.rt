@@ -2,7 +2,7 @@
 
 use crate::bits::Bits;
 use crate::incompats::Term;
-use crate::stop::{Stop, at, at_mut, index_of};
+use crate::stop::{Stop, at, at_mut};
 use crate::trail::Trail;
 use std::alloc::Global;
 use std::mem;
@@ -23,6 +23,8 @@ pub(crate) struct Watches {
     alloc: Global,
     /// The lists of a package's choices stand one behind the other.
     lists: Vec<Vec<Watch>>,
+    /// How many of them are in use. The others are empty, and keep their memory.
+    used: u32,
     /// By index of the package, where the list of its first choice stands, if one of them is watched.
     firsts: Vec<Option<u32>>,
 }
@@ -41,6 +43,15 @@ fn choice_to_watch(trail: &Trail, term: Term) -> Result<u32, Stop> {
     match outside.lowest() {
         None => Err(Stop::Lost),
         Some(choice) => Ok(choice),
+    }
+}
+
+/// Empties the first lists of some, which keep their memory.
+pub(crate) fn clear_lists(lists: &mut [Vec<Watch>], count: u32) {
+    for place in 0..count as usize {
+        if let Some(list) = lists.get_mut(place) {
+            list.clear();
+        }
     }
 }
 
@@ -73,8 +84,16 @@ impl Watches {
         Watches {
             alloc,
             lists: Vec::new(alloc),
+            used: 0,
             firsts: Vec::new(alloc),
         }
+    }
+
+    /// Nothing is watched any more. The lists keep their memory.
+    pub fn clear(&mut self) {
+        clear_lists(&mut self.lists, self.used);
+        self.used = 0;
+        self.firsts.clear();
     }
 
     /// Where the list of the first choice of a package stands, if one of its choices is watched.
@@ -88,10 +107,12 @@ impl Watches {
 
     /// Adds so many lists, and answers where the first one stands.
     fn add_lists(&mut self, count: u32) -> Result<u32, Stop> {
-        let first = index_of(self.lists.len())?;
-        for _ in 0..count {
+        let first = self.used;
+        let used = first.saturating_add(count);
+        for _ in self.lists.len()..used as usize {
             self.lists.push(Vec::new(self.alloc))?;
         }
+        self.used = used;
         Ok(first)
     }
 
