@@ -67,6 +67,15 @@ pub parts-more : (texts : List (Bor (List ℕ))) (i : ℕ) (d : Bor (List ℕ)) 
     → flat_map now_of (take (i + 1) texts) ≡ flat_map now_of (take i texts) ++ (get_or texts i d).now
 parts-more texts i d h = rw (take_more texts i d h, flat_map-append now_of (take i texts) (get_or texts i d ∷ []), append-nil (get_or texts i d).now) refl
 
+-- what is read past the end of a list of texts
+abbrev pub no_text : Bor (List ℕ)
+no_text = record { ref_ptr = (0, 0); now = [] }
+
+-- how many bytes one text more has
+pub parts-count : (texts : List (Bor (List ℕ))) (i : ℕ) (d : Bor (List ℕ)) → i < length texts
+    → length (flat_map now_of (take (i + 1) texts)) ≡ length (flat_map now_of (take i texts)) + length (get_or texts i d).now
+parts-count texts i d h = ap length (parts-more texts i d h) ∙ length-append (flat_map now_of (take i texts)) (get_or texts i d).now
+
 pub parts-split : (texts : List (Bor (List ℕ))) (i : ℕ) (d : Bor (List ℕ)) → i < length texts
     → flat_map now_of texts ≡ (flat_map now_of (take i texts) ++ (get_or texts i d).now) ++ flat_map now_of (drop (i + 1) texts)
 parts-split texts i d h = ap (flat_map now_of) (sym (take-append-drop (i + 1) texts)) ∙ flat_map-append now_of (take (i + 1) texts) (drop (i + 1) texts)

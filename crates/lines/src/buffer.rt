@@ -37,14 +37,14 @@ pub enum Next {
 #[derive(Drop)]
 pub struct LineBuffer {
     held: Vec<u8>,
-    // the line that was found last
+    /// The line that was found last.
     line_start: usize,
     line_end: usize,
-    // what was read and not yet taken; there is no line feed before `scanned`
+    /// What was read and not yet taken; there is no line feed before `scanned`.
     start: usize,
     scanned: usize,
     end: usize,
-    // the front of the line that begins at `start` was too long to be held
+    /// The front of the line that begins at `start` was too long to be held.
     is_long: bool,
 }
 
@@ -184,8 +184,8 @@ pub fn find_feed(bytes: &[u8]) -> Option<usize>
     memchr(b'\n', bytes)
 }
 
-// Moves the part from `start` to `end` to the front. A part that does not stand there yet is what the
-// last read gave behind a line feed, so in all no more bytes are moved than are read.
+/// Moves the part from `start` to `end` to the front. A part that does not stand there yet is what the
+/// last read gave behind a line feed, so in all no more bytes are moved than are read.
 fn move_to_front(held: &mut Vec<u8>, start: usize, end: usize)
     requires ordered { start ≤ end }
     requires within { end ≤ vec_len held.old }
@@ -198,7 +198,7 @@ fn move_to_front(held: &mut Vec<u8>, start: usize, end: usize)
     }
 }
 
-// Moves the part from `start` to `end` to the front, and has bytes for one read behind it.
+/// Moves the part from `start` to `end` to the front, and has bytes for one read behind it.
 fn make_room(held: &mut Vec<u8>, start: usize, end: usize)
     requires ordered { start ≤ end }
     requires within { end ≤ vec_len held.old }
@@ -212,7 +212,7 @@ fn make_room(held: &mut Vec<u8>, start: usize, end: usize)
     lengthen(held, end - start + READ_SIZE);
 }
 
-// Has at least so many bytes, where there is room for them: what comes behind is 0.
+/// Has at least so many bytes, where there is room for them: what comes behind is 0.
 fn lengthen(held: &mut Vec<u8>, len: usize)
     requires { len ≤ vec_capacity held.old }
     ensures front { take (vec_len held.old) held.new.items ≡ held.old.items }

@@ -1,5 +1,5 @@
 //! Text that waits to be written, so that many short texts become one write.
-ghost use Rattle.std.specs.Prelude.{◌≡◌, ◌≢◌, ◌+◌, ◌≤◌, List, [], ◌++◌, ℕ, length, IsOk, IfOk, IfErr, OnErr, vec_len, vec_capacity, flat_map, Option};
+ghost use Rattle.std.specs.Prelude.{◌≡◌, ◌≢◌, ◌+◌, ◌≤◌, true, List, [], ◌++◌, ℕ, length, IsOk, IfOk, IfErr, OnErr, vec_len, vec_capacity, flat_map, Option};
 ghost use Rattle.std.specs.Io.KnownBytes.{Appends};
 ghost use Rattle.std.specs.IoError.{error_kind};
 ghost use Rattle.lines.specs.Texts.{Writes, Puts, outbox_room};
@@ -10,8 +10,8 @@ use std::io;
 use std::io::{ErrorKind, Write};
 use std::marker::Model;
 
-// How many bytes may wait.
-// Half and twice of it were measured: docs/BENCHMARKS.md, Constants.
+/// How many bytes may wait.
+/// Measured at half and at twice this value: docs/BENCHMARKS.md, Constants.
 const OUTBOX_ROOM: usize = 65_536;
 
 /// Holds text that waits to be written. A contract sees the text that waits.
@@ -75,7 +75,7 @@ impl Outbox {
         Ok(())
     }
 
-    /// Puts texts one behind another.
+    /// Puts texts one behind another. Room is asked for once, for all of them.
     pub fn put_all<W: Write>(&mut self, writer: &mut W, texts: &[&[u8]]) -> io::Result<()>
         ensures texts { Puts (W.contents writer.old) (W.contents writer.new) self.old self.new result (flat_map (λ t. t.now) texts.now) }
         ensures waits { length self.old + length (flat_map (λ t. t.now) texts.now) ≤ outbox_room
@@ -83,6 +83,10 @@ impl Outbox {
         ensures err { OnErr result (self.new ≡ []) }
         ensures retried { IfErr result (λ e. error_kind e ≢ ErrorKind.Interrupted) }
     {
+        if fit(texts, self.waiting.capacity() - self.waiting.len()) {
+            append_all(&mut self.waiting, texts);
+            return Ok(());
+        }
         for text in texts {
             self.put(writer, *text)?;
         }
@@ -90,6 +94,7 @@ impl Outbox {
     }
 }
 
+/// Writes a text, and has it leave the writer.
 fn write_flushed<W: Write>(writer: &mut W, text: &[u8]) -> io::Result<()>
     ensures written { Writes (W.contents writer.old) (W.contents writer.new) result text.now }
     ensures retried { IfErr result (λ e. error_kind e ≢ ErrorKind.Interrupted) }
@@ -98,7 +103,7 @@ fn write_flushed<W: Write>(writer: &mut W, text: &[u8]) -> io::Result<()>
     flush(writer)
 }
 
-// Copies a text behind what waits, where there is room for it.
+/// Copies a text behind what waits, where there is room for it.
 fn append(waiting: &mut Vec<u8>, text: &[u8])
     requires { vec_len waiting.old + length text.now ≤ vec_capacity waiting.old }
     ensures items { waiting.new.items ≡ waiting.old.items ++ text.now }
@@ -107,4 +112,29 @@ fn append(waiting: &mut Vec<u8>, text: &[u8])
     let Ok(()) = waiting.extend_from_slice(text) else {
         unreachable!()
     };
+}
+
+/// Whether these texts together have at most so many bytes.
+fn fit(texts: &[&[u8]], room: usize) -> bool
+    ensures { result ≡ true → length (flat_map (λ t. t.now) texts.now) ≤ room }
+{
+    let mut left = room;
+    for text in texts {
+        if text.len() > left {
+            return false;
+        }
+        left -= text.len();
+    }
+    true
+}
+
+/// Copies texts behind what waits, where there is room for all of them.
+fn append_all(waiting: &mut Vec<u8>, texts: &[&[u8]])
+    requires { vec_len waiting.old + length (flat_map (λ t. t.now) texts.now) ≤ vec_capacity waiting.old }
+    ensures items { waiting.new.items ≡ waiting.old.items ++ flat_map (λ t. t.now) texts.now }
+    ensures capacity { vec_capacity waiting.old ≤ vec_capacity waiting.new }
+{
+    for text in texts {
+        append(waiting, *text);
+    }
 }

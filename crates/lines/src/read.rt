@@ -8,7 +8,7 @@ use std::io;
 use std::io::{ErrorKind, Read};
 
 /// The most bytes that one read gives.
-/// Half and twice of it were measured: docs/BENCHMARKS.md, Constants.
+/// Measured at half and at twice this value: docs/BENCHMARKS.md, Constants.
 pub const READ_SIZE: usize = 65_536;
 
 /// Reads once, into the places from `at` on, and answers how many bytes came: 0 at the reader's end. A read that a
@@ -27,7 +27,7 @@ pub fn read_at<R: Read>(reader: &mut R, held: &mut Vec<u8>, at: usize) -> io::Re
     read_into(reader, held.as_mut_slice(), at)
 }
 
-// The same over the slice, since the prover wants one borrow a function.
+/// The same over the slice, since the prover wants one borrow a function.
 fn read_into<R: Read>(reader: &mut R, held: &mut [u8], at: usize) -> io::Result<usize>
     requires { at + READ_SIZE ≤ length held.old }
     ensures front { take at held.new ≡ take at held.old }
@@ -40,7 +40,7 @@ fn read_into<R: Read>(reader: &mut R, held: &mut [u8], at: usize) -> io::Result<
     read_retrying(reader, &mut held[at..at + READ_SIZE])
 }
 
-// Fills a beginning of the room, by one read that no signal broke off.
+/// Fills a beginning of the room, by one read that no signal broke off.
 fn read_retrying<R: Read>(reader: &mut R, room: &mut [u8]) -> io::Result<usize>
     requires { 0 < length room.old }
     ensures within { IfOk result (λ n. n ≤ length room.new) }

@@ -1,27 +1,17 @@
 -- Versions that are preferred to a selected one, and what shows that they are not to be had.
-use Rattle.std.proofs.Common.{◌≡◌, ◌∙◌, ℕ, suc, refl, sym, ap, subst, ◌⊎◌, inl, inr, List, [], ◌∷◌, ◌&&◌, ◌||◌, not, Bool, true, false, true≢false}
-use Rattle.std.proofs.lemmas.Bool.{cases_Bool}
-use Rattle.std.proofs.lemmas.Option.{none-some, same_Some}
-use Rattle.std.proofs.lemmas.Slice.Eq.{bytes_eq-Decides}
-use Rattle.std.specs.Prelude.{IfNone, IfSome, None, Option, Some, slice_get}
-use Rattle.std.specs.Map.{lookup}
+use Rattle.std.proofs.Common.{◌≡◌, ◌∙◌, ℕ, refl, sym, ap, subst, ◌⊎◌, inl, inr, List, [], ◌∷◌, ◌&&◌, ◌||◌, not, Bool, true, false, true≢false}
+use Rattle.std.specs.Prelude.{IfNone, IfSome, None, Option, Some}
 use Rattle.std.specs.Option.{option_map}
 use Rattle.std.specs.Ordering.{is_lt}
-use Rattle.std.specs.Str.{bytes_eq}
 use Rattle.std.specs.declared.cmp.Ordering.{Ordering}
 use Rattle.std.specs.declared.cmp.Ordering.TheVariants.{Less, Equal, Greater}
-use Rattle.versions.specs.Words.{Text, meets, precedence}
-use Rattle.registry.specs.Dependencies.{IsDependency}
-use Rattle.registry.specs.Laws.{NamesHaveTheirNumbers}
-use Rattle.registry.specs.Lawful.{IsRegistry}
+use Rattle.versions.specs.Words.{Text, precedence}
 use Rattle.registry.specs.Highest.{IsHighest}
-use Rattle.registry.specs.Registry.{Package, Packages, Publication, equals_at, meets_at, number_of, package_at, publication_at, publication_equals, publication_meets, versions_or_none}
+use Rattle.registry.specs.Registry.{Package, Packages, Publication, equals_at, package_at, publication_at, publication_equals, versions_or_none}
 use Rattle.registry.specs.Requests.{Wanted, is_locked, locks}
 use Rattle.walk.specs.Best.{IsBest, IsOut}
-use Rattle.walk.specs.Choosing.{choice_of}
-use Rattle.walk.specs.Newest.{IsAhead, IsExcluded}
+use Rattle.walk.specs.Newest.{IsAhead}
 use Rattle.walk.specs.PlainlyNewest.{AreHigherOut, IsLocked, NoneLocked, is_locked_at, locks_some}
-use Rattle.walk.proofs.Lists.{get-contains}
 use Rattle.walk.proofs.Preferring.{package-named}
 use Rattle.walk.proofs.Publications.{listed_at}
 
@@ -131,39 +121,3 @@ module _ (packages : Packages) (wanted : Wanted) (p k : ℕ) where
       | inl locked ↦ subst (λ i. IsOut packages wanted before p i) (sym (there.only j locked.0)) out
       | inr above ↦ higher j a.one a.other a.first a.second above.1
     ]
-
--- ---- what is not to be had
-
-module _ (packages : Packages) (wanted : Wanted) (before : List (ℕ × ℕ)) where
-  pub excluded_by : (asker k index target p j : ℕ) (ordinals : List ℕ) → choice_of before asker ≡ Some k → (d : IsDependency packages asker k index target ordinals) → target ≡ p → meets_at packages target j d.need ≡ false
-      → IsExcluded packages wanted before p j
-  excluded_by asker k index target p j ordinals chosen d same out = record {
-    name = d.name;
-    need = d.need;
-    among = inr (asker, k, chosen, get-contains _ index (d.name, d.need) d.at);
-    numbered = d.number ∙ ap Some same;
-    unmet = sym (ap (λ q. meets_at packages q j d.need) same) ∙ out;
-  }
-
-  line_of : (lines : List (Text × Text)) (name need : Text) → lookup (bytes_eq name) lines ≡ Some need → (i : ℕ) × (slice_get lines i ≡ Some (name, need))
-  line_of [] name need e = absurd (none-some need e)
-  line_of (line ∷ lines) name need e = elim (cases_Bool (bytes_eq name line.0)) [
-    | inl t ↦
-        let first : line.0 ≡ name = sym ((bytes_eq-Decides name line.0).0 t) in
-        let second : line.1 ≡ need = same_Some line.1 need (rw t at e) in
-        (0, ap Some (ap (λ x. (x, line.1)) first ∙ ap (λ y. (name, y)) second))
-    | inr f ↦ let rest = line_of lines name need (rw f at e) in (suc rest.0, rest.1)
-  ]
-
-  pub unneeded_by : NamesHaveTheirNumbers → (p j : ℕ) (name need : Text) (v : Publication) → IsRegistry packages → Some name ≡ option_map (λ (x : Package). x.name) (package_at packages p)
-      → lookup (bytes_eq name) wanted.needs ≡ Some need → publication_at packages p j ≡ Some v → meets need v.version ≡ false → IsExcluded packages wanted before p j
-  unneeded_by numbers p j name need v lawful named line at out =
-      let pack = package-named packages p name (sym named) in
-      let place = line_of wanted.needs name need line in
-      record {
-        name = name;
-        need = need;
-        among = inl (get-contains wanted.needs place.0 (name, need) place.1);
-        numbered = ap (number_of packages) (sym pack.2) ∙ numbers packages p pack.0 lawful pack.1;
-        unmet = ap (λ o. publication_meets o need) at ∙ out;
-      }

@@ -1,5 +1,8 @@
 -- Lemmas.
 pub mod Lists
+pub mod Choices
+pub mod Paging
+pub mod Fronts
 pub mod Steps
 pub mod Preferring
 pub mod Publications
@@ -10,7 +13,6 @@ pub mod Listings
 pub mod NeedsInOrder
 pub mod Better
 pub mod Wholes
-pub mod Entries
 pub mod OneListing
 pub mod Orders
 pub mod Bests

@@ -16,7 +16,7 @@ use Rattle.registry.specs.Registry.{Package, Packages, Publication, meets_at, ne
 use Rattle.registry.specs.Requests.{Wanted, is_locked}
 use Rattle.registry.specs.Selections.{Choices, IsMet}
 use Rattle.walk.specs.Best.{IsOut}
-use Rattle.walk.specs.Newest.{Has, IsAhead, IsAtOdds, IsExcluded, IsNewest, IsPlainlyNewest, IsPlainlyOut, dependencies_of, first_new, in_name_order, insert_by_name, new_or_later, next_package}
+use Rattle.walk.specs.Newest.{Has, IsAhead, IsApart, IsAtOdds, IsExcluded, IsNewest, IsPlainlyNewest, IsPlainlyOut, dependencies_of, first_new, in_name_order, insert_by_name, new_or_later, next_package}
 use Rattle.walk.specs.Choosing.{choice_of}
 use Rattle.walk.proofs.Lists.{choice-left, choice-push_here}
 use Rattle.walk.proofs.Publications.{publication_at-package, tied_once}
@@ -247,12 +247,23 @@ module _ (packages : Packages) (wanted : Wanted) (before : List (ℕ × ℕ)) (p
   not_at_odds out t meets has chosen =
       true≢false (sym (met_by packages t out.name out.need out.target out.ordinal (meets.closed p j out.name out.need chosen out.among) out.numbered (has out.target out.ordinal out.chosen)) ∙ out.unmet)
 
+module _ (packages : Packages) (wanted : Wanted) (before : List (ℕ × ℕ)) (p j : ℕ) where
+  not_apart : IsApart packages wanted before p j → IsOut packages wanted before p j
+  not_apart out t meets has chosen =
+      let met = meets.closed p j out.name out.need chosen out.among in
+      let same : met.target ≡ out.target = same_Some met.target out.target (sym met.numbered ∙ out.numbered) in
+      let excluded = out.apart met.ordinal (ap (λ q. meets_at packages q met.ordinal out.need) (sym same) ∙ met.meeting) in
+      not_excluded packages wanted before out.target met.ordinal excluded t meets has (ap t (sym same) ∙ met.selected)
+
   pub plainly-out : IsPlainlyOut packages wanted before p j → IsOut packages wanted before p j
   plainly-out out t meets has chosen = elim out [
     | inl barred ↦ true≢false (sym (meets.allowed p j chosen) ∙ barred)
     | inr other ↦ elim other [
-      | inl excluded ↦ not_excluded excluded t meets has chosen
-      | inr at_odds ↦ not_at_odds at_odds t meets has chosen
+      | inl excluded ↦ not_excluded packages wanted before p j excluded t meets has chosen
+      | inr unmet ↦ elim unmet [
+        | inl at_odds ↦ not_at_odds packages wanted before p j at_odds t meets has chosen
+        | inr apart ↦ not_apart apart t meets has chosen
+      ]
     ]
   ]
 

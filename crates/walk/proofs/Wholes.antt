@@ -1,11 +1,10 @@
 -- A list in the order of the walk, to whose end nothing comes next, is the whole of a selection.
-use Rattle.std.proofs.Common.{◌≡◌, ◌∙◌, ℕ, zero, suc, refl, sym, ap, subst, inl, inr, List, [], ◌∷◌, ◌++◌, take, length, nat_eq, if◌then◌else◌}
+use Rattle.std.proofs.Common.{◌≡◌, ◌∙◌, ℕ, zero, suc, refl, sym, ap, subst, inl, inr, List, [], ◌∷◌, ◌++◌, if◌then◌else◌}
 use Rattle.std.proofs.lemmas.Bool.{cases_Bool}
-use Rattle.std.proofs.lemmas.Option.{none-some, same_Some, slice_get_within}
+use Rattle.std.proofs.lemmas.Option.{none-some, same_Some}
 use Rattle.std.specs.Prelude.{None, Option, Some, is_some, slice_get}
 use Rattle.std.specs.Cmp.Lexicographic.{slice_cmp}
 use Rattle.std.specs.List.{AllByRecursion}
-use Rattle.std.specs.Option.{option_or}
 use Rattle.std.specs.Ordering.{is_lt, nat_cmp}
 use Rattle.versions.specs.Words.{Text}
 use Rattle.registry.specs.Registry.{Packages, needs_of, number_of}
@@ -13,10 +12,8 @@ use Rattle.registry.specs.Requests.{Wanted}
 use Rattle.registry.specs.Selections.{Choices, Meets}
 use Rattle.walk.specs.Choosing.{choice_of}
 use Rattle.walk.specs.Listing.{AllPassed, IsListing, IsPassed}
-use Rattle.walk.specs.Newest.{IsNewest, dependencies_of, first_new, in_name_order, insert_by_name, new_or_later, next_package}
-use Rattle.walk.specs.PlainlyNewest.{AreEachNew, FirstAreBest, IsNewestIfMet, SelectsAs}
-use Rattle.walk.proofs.Lists.{choice-entry, choice-left, choice-push_cases, contains_at}
-use Rattle.walk.proofs.NewestLaws.{is_new}
+use Rattle.walk.specs.Newest.{dependencies_of, first_new, in_name_order, insert_by_name, new_or_later, next_package}
+use Rattle.walk.proofs.Lists.{choice-entry, contains_at}
 use Rattle.walk.proofs.NewestPreferred.{holds-reached}
 
 -- ---- what holds of each
@@ -102,47 +99,3 @@ module _ (packages : Packages) (wanted : Wanted) (s : Choices) (found : List (�
       by None None e f = refl
       by None (Some k) e f = let here = found_reached p (k, f) in absurd (none-some here.0 (sym e ∙ here.1))
       by (Some k) b e f = sym (listed_has p k e) ∙ f
-
--- ---- lists that select the same
-
--- no package of a list in the order of the walk stands before
-pub each_new : (packages : Packages) (needs : List (Text × Text)) (chooses : Choices) (found : List (ℕ × ℕ)) → IsListing packages needs chooses found → AreEachNew found
-each_new packages needs chooses found listing i e at =
-    is_new packages (take i found) (in_name_order needs ++ dependencies_of packages (take i found)) e.0 (listing.walked i e at)
-
-pub choice-append : (xs ys : List (ℕ × ℕ)) (p : ℕ) → choice_of (xs ++ ys) p ≡ option_or (choice_of xs p) (choice_of ys p)
-choice-append [] ys p = refl
-choice-append (x ∷ xs) ys p = elim (cases_Bool (nat_eq p x.0)) [
-  | inl t ↦ rw t refl
-  | inr f ↦ rw f (choice-append xs ys p)
-]
-
--- a package that was there keeps its version
-pub choice-again : (found : List (ℕ × ℕ)) (p k j : ℕ) → choice_of found p ≡ Some k → (q : ℕ) → choice_of found q ≡ choice_of (found ++ (p, j) ∷ []) q
-choice-again found p k j has q = by (choice_of found q) refl (choice_of (found ++ (p, j) ∷ []) q) refl
-  where
-    by : (a : Option ℕ) → choice_of found q ≡ a → (b : Option ℕ) → choice_of (found ++ (p, j) ∷ []) q ≡ b → choice_of found q ≡ choice_of (found ++ (p, j) ∷ []) q
-    by (Some i) e b f = e ∙ sym (choice-left found ((p, j) ∷ []) q i e)
-    by None e None f = e ∙ sym f
-    by None e (Some i) f = elim (choice-push_cases found p j q i f) [
-      | inl before ↦ absurd (none-some i (sym e ∙ before))
-      | inr last ↦ absurd (none-some k (sym e ∙ ap (choice_of found) (sym last.0) ∙ has))
-    ]
-
--- where each is the best with those before
-pub newest-if_met : (packages : Packages) (wanted : Wanted) (selection entries found : List (ℕ × ℕ)) → SelectsAs entries selection → IsListing packages wanted.needs (choice_of entries) found
-    → next_package packages wanted.needs found ≡ None → FirstAreBest packages wanted found (length found) → IsNewestIfMet packages wanted selection
-newest-if_met packages wanted selection entries found same listing ended best meets =
-    subst (λ (s : Choices). IsNewest packages wanted s) is (record {
-      found = found;
-      selects = refl;
-      meets = subst (λ (s : Choices). Meets packages wanted s) (sym is) meets;
-      walked = listing.walked;
-      best = λ i j e at ahead. best i e (slice_get_within found i e at) at j ahead;
-    })
-  where
-    own : choice_of entries ≡ choice_of selection
-    own = λ i p. same p i
-
-    is : choice_of found ≡ choice_of selection
-    is = λ i p. (whole packages wanted (choice_of entries) found listing ended (subst (λ (s : Choices). Meets packages wanted s) (sym own) meets) p ∙ same p) i

@@ -43,6 +43,10 @@ AreTargets packages lines asked = map (λ (line : Text × Text). number_of packa
 abbrev pub AreLeft : Packages → Wanted → List (ℕ × ℕ) → List Needed → Type 0
 AreLeft packages wanted found needed = (i : ℕ) (e : Needed) → slice_get needed i ≡ Some e → OfEach packages wanted found (λ t. true_of e.left (t e.pkg) ≡ true)
 
+-- each of these selections has a version of the package of which this is true
+abbrev pub IsLeft : Packages → Wanted → List (ℕ × ℕ) → ℕ → Term → Type 0
+IsLeft packages wanted found p left = OfEach packages wanted found (λ t. true_of left (t p) ≡ true)
+
 -- each has a version of each of these packages
 abbrev pub AreNeeded : Packages → Wanted → List (ℕ × ℕ) → List ℕ → Type 0
 AreNeeded packages wanted found pkgs = (i q : ℕ) → slice_get pkgs i ≡ Some q → OfEach packages wanted found (λ t. (k : ℕ) × (t q ≡ Some k))

@@ -1,5 +1,6 @@
 -- The definitions that contracts cite.
 pub mod Choosing
+pub mod Pages
 pub mod Walks
 pub mod Preferring
 pub mod Names

@@ -98,9 +98,18 @@ pub record IsAtOdds (packages : Packages) (before : List (ℕ × ℕ)) (p j : �
   pub chosen : choice_of before target ≡ Some ordinal
   pub unmet : meets_at packages target ordinal need ≡ false
 
+-- the version depends on a package with a requirement, and each version of that package that meets it is excluded by a line that is asked for behind these versions
+pub record IsApart (packages : Packages) (wanted : Wanted) (before : List (ℕ × ℕ)) (p j : ℕ) : Type 0 where
+  pub name : Text
+  pub need : Text
+  pub among : Contains (needs_of packages p j) (name, need)
+  pub target : ℕ
+  pub numbered : number_of packages name ≡ Some target
+  pub apart : (k : ℕ) → meets_at packages target k need ≡ true → IsExcluded packages wanted before target k
+
 -- behind these versions the version is not to be had, as can be seen without a search
 abbrev pub IsPlainlyOut : Packages → Wanted → List (ℕ × ℕ) → ℕ → ℕ → Type 0
-IsPlainlyOut packages wanted before p j = (is_allowed packages wanted p j ≡ false) ⊎ (IsExcluded packages wanted before p j ⊎ IsAtOdds packages before p j)
+IsPlainlyOut packages wanted before p j = (is_allowed packages wanted p j ≡ false) ⊎ (IsExcluded packages wanted before p j ⊎ (IsAtOdds packages before p j ⊎ IsApart packages wanted before p j))
 
 -- what the list selects meets the request, they stand in the order of the walk, and each version that is preferred to one of them is plainly out there
 pub record IsPlainlyNewest (packages : Packages) (wanted : Wanted) (found : List (ℕ × ℕ)) : Type 0 where

@@ -1,11 +1,11 @@
 -- What shows without a search that a selection is the newest.
-use Rattle.std.specs.Prelude.{◌≡◌, ◌<◌, ◌⊎◌, ℕ, Bool, true, false, List, slice_get, take, Option, None, Some}
+use Rattle.std.specs.Prelude.{◌≡◌, ◌⊎◌, ℕ, Bool, true, false, List, Option, None, Some}
 use Rattle.std.specs.declared.cmp.Ordering.TheVariants.{Less}
 use Rattle.versions.specs.Words.{precedence}
 use Rattle.registry.specs.Registry.{Package, Packages, Publication, package_at, publication_at}
 use Rattle.registry.specs.Requests.{Wanted, is_locked}
 use Rattle.registry.specs.Selections.{Meets}
-use Rattle.walk.specs.Best.{IsBest, IsOut}
+use Rattle.walk.specs.Best.{IsOut}
 use Rattle.walk.specs.Choosing.{choice_of}
 use Rattle.walk.specs.Newest.{IsAhead, IsNewest}
 
@@ -46,19 +46,7 @@ abbrev pub AreHigherOut : Packages → Wanted → List (ℕ × ℕ) → ℕ → 
 AreHigherOut packages wanted before p k = (j : ℕ) (one other : Publication) → publication_at packages p j ≡ Some one → publication_at packages p k ≡ Some other
     → precedence other.version one.version ≡ Less → IsOut packages wanted before p j
 
--- each of the first i of the list is the best with those before
-abbrev pub FirstAreBest : Packages → Wanted → List (ℕ × ℕ) → ℕ → Type 0
-FirstAreBest packages wanted found i = (j : ℕ) (e : ℕ × ℕ) → j < i → slice_get found j ≡ Some e → IsBest packages wanted (take j found) e.0 e.1
-
 -- ---- the selection
-
--- the entries select what the list does
-abbrev pub SelectsAs : List (ℕ × ℕ) → List (ℕ × ℕ) → Type 0
-SelectsAs entries list = (p : ℕ) → choice_of entries p ≡ choice_of list p
-
--- no package of the list stands before
-abbrev pub AreEachNew : List (ℕ × ℕ) → Type 0
-AreEachNew list = (i : ℕ) (e : ℕ × ℕ) → slice_get list i ≡ Some e → choice_of (take i list) e.0 ≡ None
 
 -- what the list selects is the newest selection, if it meets the request
 abbrev pub IsNewestIfMet : Packages → Wanted → List (ℕ × ℕ) → Type 0

@@ -31,7 +31,7 @@ impl Choosing {
         let Ok((target, matching)) = registry.dependency(version.0, version.1, index) else {
             return false;
         };
-        if let Some(chosen) = self.found.get(&target).copied() {
+        if let Some(chosen) = self.found.get(target) {
             return !matching.has(chosen);
         }
         match self.place_of(target) {
@@ -56,7 +56,7 @@ impl Choosing {
 
     /// Whether a version of a package, of which these are left, may be had. Of the only one that is left it is seen
     /// once it is chosen.
-    fn is_open(
+    pub(crate) fn is_open(
         &self,
         registry: &Registry,
         request: &Request,

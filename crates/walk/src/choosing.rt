@@ -11,9 +11,9 @@ ghost use Rattle.registry.specs.Requests.{Wanted};
 ghost use Rattle.walk.specs.Best.{Holds, Narrows, OfEach, Pushes};
 ghost use Rattle.walk.specs.declared.choosing.Needed.{Needed};
 
+use crate::choice_map::{ChoiceMap, WALK_ROOM};
+use crate::package_table::PackageTable;
 use crate::versions_left::{has_all, is_some, only_of};
-use crate::walking::WALK_ROOM;
-use indexmap::IndexMap;
 use registry::{Matching, Pkg};
 use std::alloc::{AllocError, Global};
 use terms::{Term, VSet};
@@ -24,21 +24,21 @@ pub(crate) struct Needed {
     pub(crate) pkg: Pkg,
     /// The versions of it that are left.
     pub(crate) left: Term,
-    /// The number of the package before. Nothing rests on it.
-    pub(crate) before: usize,
+    /// The index of the package before. Nothing rests on it.
+    pub(crate) before: Option<u32>,
 }
 
 /// What is chosen, and what is left.
 #[derive(Drop)]
 pub(crate) struct Choosing {
     /// The chosen versions, in the order of the walk.
-    pub(crate) found: IndexMap<Pkg, u32>,
+    pub(crate) found: ChoiceMap,
     /// The packages that lines name: the needs by name, and what each chosen version depends on.
     pub(crate) asked: Vec<Pkg>,
     /// What is left of packages that are needed. Of those that name one package the last counts.
     pub(crate) needed: Vec<Needed>,
-    /// By number of the package, one more than its index among those, or 0. Nothing rests on it.
-    pub(crate) numbers: Vec<usize>,
+    /// By package its index among those. Nothing rests on it.
+    pub(crate) numbers: PackageTable,
     /// Packages that are needed, and not looked at yet for what all their versions depend on, or the only one that is
     /// left.
     pub(crate) fresh: Vec<Pkg>,
@@ -48,14 +48,15 @@ pub(crate) struct Choosing {
 }
 
 impl Choosing {
+    /// Nothing is chosen. Room is made for as much as most requests need.
     pub(crate) fn new(alloc: Global) -> Result<Choosing, AllocError>
         ensures { IfOk result (λ c. (c.found.entries ≡ []) × (c.asked.items ≡ []) × (c.needed.items ≡ []) × (c.fresh.items ≡ [])) }
     {
         Ok(Choosing {
-            found: IndexMap::with_capacity(alloc, WALK_ROOM)?,
+            found: ChoiceMap::new(alloc)?,
             asked: Vec::with_capacity(alloc, WALK_ROOM)?,
             needed: Vec::with_capacity(alloc, WALK_ROOM)?,
-            numbers: Vec::with_capacity(alloc, WALK_ROOM)?,
+            numbers: PackageTable::new(alloc)?,
             fresh: Vec::with_capacity(alloc, WALK_ROOM)?,
             taken: 0,
             ruled_out: 0,
@@ -66,7 +67,7 @@ impl Choosing {
     pub(crate) fn place_of(&self, pkg: Pkg) -> Option<usize>
         ensures { IfSome result (λ place. (e : Needed) × (slice_get self.now.needed.items place ≡ Some e) × (e.pkg ≡ pkg)) }
     {
-        let index = self.numbers.as_slice().get(pkg as usize)?.checked_sub(1)?;
+        let index = self.numbers.get(pkg)? as usize;
         if index < self.needed.len() && self.needed[index].pkg == pkg {
             Some(index)
         } else {
@@ -74,35 +75,14 @@ impl Choosing {
         }
     }
 
-    /// The number of a package: one more than the index of what is left of it, or 0.
-    fn number_of(&self, pkg: Pkg) -> usize {
-        match self.numbers.as_slice().get(pkg as usize) {
-            None => 0,
-            Some(number) => *number,
-        }
-    }
-
-    /// Notes at which index it stands what is left of a package.
-    fn note_place(&mut self, pkg: Pkg, number: usize) -> Result<(), AllocError>
-        ensures { OnOk result ((self.new.found ≡ self.old.found) × (self.new.asked ≡ self.old.asked) × (self.new.needed ≡ self.old.needed) × (self.new.fresh ≡ self.old.fresh)) }
-    {
-        for _ in self.numbers.len()..pkg as usize + 1 {
-            self.numbers.push(0)?;
-        }
-        if let Some(own) = self.numbers.as_mut_slice().get_mut(pkg as usize) {
-            *own = number;
-        }
-        Ok(())
-    }
-
     /// Keeps what is left of a package.
     fn push_left(&mut self, pkg: Pkg, left: Term) -> Result<(), AllocError>
         ensures { OnOk result (Pushes left pkg self.old self.new) }
     {
-        let before = self.number_of(pkg);
+        let before = self.numbers.get(pkg);
+        let index = self.needed.len().min(u32::MAX as usize) as u32;
         self.needed.push(Needed { pkg, left, before })?;
-        let number = self.needed.len();
-        self.note_place(pkg, number)?;
+        self.numbers.set(pkg, index)?;
         Ok(())
     }
 

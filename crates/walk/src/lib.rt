@@ -7,6 +7,7 @@
 #![tactic(auto)]
 
 mod best;
+mod choice_map;
 mod chooser;
 mod choosing;
 mod evidence;
@@ -17,12 +18,14 @@ mod names;
 mod newest;
 mod newest_choice;
 mod order;
+mod package_table;
 mod preferred;
 mod reached;
 mod trial;
 mod versions_left;
 mod walking;
 
+pub use choice_map::ChoiceMap;
 pub use chooser::Chooser;
 pub use evidence::Evidence;
 pub use laws::{

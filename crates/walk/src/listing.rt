@@ -1,8 +1,10 @@
 //! Packages in the order of the walk: the needs by name, then what each version that is found depends on.
 
-ghost use Rattle.std.specs.Prelude.{◌≡◌, ◌<◌, ◌≤◌, ◌+◌, [], length, map, slice_get, Some, IfNone, IfOk, IfSome, OnOk};
-ghost use Rattle.std.specs.List.{AllByRecursion};
+ghost use Rattle.std.specs.Prelude.{◌≡◌, ◌<◌, ◌≤◌, ◌+◌, [], length, map, nat_eq, slice_get, Some, IfNone, IfOk, IfSome, OnOk};
+ghost use Rattle.std.specs.List.{AllByRecursion, IsDistinct};
+ghost use Rattle.std.specs.Map.{keys_of};
 ghost use Rattle.registry.specs.Registry.{needs_of};
+ghost use Rattle.walk.specs.Choosing.{choice_of};
 ghost use Rattle.walk.specs.Listing.{need_at, AllPassed, AreInOrder, GoesAt, IsListed, IsListing, IsNext, IsPassedTo, PassesAt, Visits};
 ghost use Rattle.walk.specs.Newest.{in_name_order};
 ghost use Rattle.walk.specs.Walks.{Grows};
@@ -10,7 +12,6 @@ ghost use Rattle.walk.specs.Walks.{Grows};
 use crate::chooser::Chooser;
 use crate::order::Order;
 use crate::reached::Asker;
-use crate::walking::{entries_of, entry_at};
 use indexmap::IndexMap;
 use registry::{Pkg, Registry, Request};
 use std::alloc::{AllocError, Global};
@@ -197,6 +198,32 @@ pub(crate) fn needs_count(registry: &Registry, version: (Pkg, u32)) -> usize
         None => 0,
         Some(facts) => facts.needs.len(),
     }
+}
+
+/// The package that was found at a place, with its version's ordinal.
+pub(crate) fn entry_at(found: &IndexMap<Pkg, u32>, place: usize) -> (Pkg, u32)
+    requires { place < length found.now.entries }
+    ensures at { slice_get found.now.entries place ≡ Some result }
+    ensures chosen { choice_of found.now.entries result.0 ≡ Some result.1 }
+{
+    match found.get_index(place) {
+        Some((pkg, ordinal)) => (*pkg, *ordinal),
+        None => unreachable!(),
+    }
+}
+
+/// What was found, as a list.
+pub(crate) fn entries_of(
+    alloc: Global,
+    found: &IndexMap<Pkg, u32>,
+) -> Result<Vec<(Pkg, u32)>, AllocError>
+    ensures list { IfOk result (λ list. list.items ≡ found.now.entries) }
+    ensures once { IsDistinct nat_eq (keys_of found.now.entries) }
+{
+    found
+        .iter()
+        .map(|(pkg, ordinal)| (*pkg, *ordinal))
+        .collect(alloc)
 }
 
 /// Lists packages in the order of the walk, each with the version that the chooser gives, up to a

@@ -1,272 +1,256 @@
 //! Whether a selection is the newest, as can be seen without a search.
 
-ghost use Rattle.std.specs.Prelude.{◌≡◌, ◌<◌, true, length, IfOk};
+ghost use Rattle.std.specs.Prelude.{◌≡◌, ◌<◌, ◌+◌, ◌++◌, true, length, [], ◌∷◌, None, IfOk, OnOk};
 ghost use Rattle.std.specs.Bool.{OnFalse};
-ghost use Rattle.registry.specs.Registry.{needs_of};
 ghost use Rattle.registry.specs.Requests.{Wanted};
-ghost use Rattle.walk.specs.Best.{IsBest, IsOut};
-ghost use Rattle.walk.specs.Choosing.{choice_of};
-ghost use Rattle.walk.specs.Newest.{IsAtOdds, IsExcluded, IsPlainlyOut};
-ghost use Rattle.walk.specs.PlainlyNewest.{AreEachNew, AreHigherOut, FirstAreBest, IsNewestIfMet, SelectsAs, ShowsWhatIsOut};
+ghost use Rattle.walk.specs.Best.{AreBest, ArePassed, AsksFor, Holds, IsBest, IsChoosing, IsGrown, IsLeft, IsOut};
+ghost use Rattle.walk.specs.Choosing.{choice_of, Follows};
+ghost use Rattle.walk.specs.PlainlyNewest.{AreHigherOut, IsNewestIfMet, ShowsWhatIsOut};
 
-use crate::chooser::Chooser;
-use crate::evidence::Evidence;
-use crate::listing::{list_in_order, needs_count};
+use crate::choice_map::ChoiceMap;
+use crate::choosing::Choosing;
+use crate::evidence::{Evidence, NoEvidence};
 use crate::preferred::locked_ordinal;
-use indexmap::IndexMap;
-use registry::{Pkg, Registry, Request, names_have_their_numbers};
+use registry::{Pkg, Registry, Request};
 use std::alloc::{AllocError, Global};
+use terms::Term;
 use versions::precedence_is_a_total_preorder;
-
-/// Chooses what a map has.
-#[derive(Clone, Copy)]
-struct Chosen<'a> {
-    choices: &'a IndexMap<Pkg, u32>,
-}
-
-impl Chooser for Chosen<'_> {
-    ghost chooses = { λ c. choice_of c.choices.now.entries };
-
-    fn choose(&self, pkg: Pkg) -> Option<u32> {
-        self.choices.get(&pkg).copied()
-    }
-}
-
-/// A dependency: the package that it names, the version that has it, and at which index.
-#[derive(Clone, Copy)]
-struct DependencyLine {
-    target: Pkg,
-    asker: (Pkg, u32),
-    index: usize,
-}
-
-/// The dependencies of versions, in the order of the packages that they name.
-///
-/// A dependency is looked at before it counts, so nothing rests on which ones are there.
-#[derive(Clone, Copy)]
-struct DependencyLines<'a> {
-    registry: &'a Registry,
-    lines: &'a [DependencyLine],
-}
-
-/// What a version of a package is to be had with: the packages before it in the walk, with their versions.
-#[derive(Clone, Copy)]
-struct Behind<'a> {
-    registry: &'a Registry,
-    request: &'a Request,
-    before: &'a IndexMap<Pkg, u32>,
-}
-
-// ---- versions that dependencies exclude
-
-/// Whether a dependency of a version before excludes a version of a package. Where memory is short, it
-/// is not seen.
-fn is_excluded_by(
-    registry: &Registry,
-    before: &IndexMap<Pkg, u32>,
-    line: DependencyLine,
-    pkg: Pkg,
-    ordinal: u32,
-) -> bool
-    ensures { result ≡ true → (wanted : Wanted) → IsExcluded registry.now.packages wanted before.now.entries pkg ordinal }
-{
-    let (asker, own) = line.asker;
-    let Some(chosen) = before.get(&asker).copied() else {
-        return false;
-    };
-    if chosen != own {
-        return false;
-    }
-    if line.index >= needs_count(registry, line.asker) {
-        return false;
-    }
-    match registry.dependency(asker, own, line.index) {
-        Err(_) => false,
-        Ok((target, matching)) => target == pkg && !matching.has(ordinal),
-    }
-}
-
-impl Evidence for DependencyLines<'_> {
-    ghost shows = { λ d before p j. (wanted : Wanted) → IsExcluded d.registry.now.packages wanted before p j };
-
-    /// The cost grows with the logarithm of the number of dependencies and with those on the package.
-    fn rules_out(&self, before: &IndexMap<Pkg, u32>, pkg: Pkg, ordinal: u32) -> bool {
-        let first = self.lines.partition_point(|line| line.target < pkg);
-        for i in first..self.lines.len() {
-            let line = self.lines[i];
-            if line.target != pkg {
-                return false;
-            }
-            if is_excluded_by(self.registry, before, line, pkg, ordinal) {
-                return true;
-            }
-        }
-        false
-    }
-}
-
-// ---- versions that are not to be had
-
-/// Whether the request's need on a package excludes a version.
-fn is_unneeded(behind: &Behind<'_>, pkg: Pkg, ordinal: u32) -> bool
-    ensures { result ≡ true → IsExcluded behind.now.registry.now.packages behind.now.request.now behind.now.before.now.entries pkg ordinal }
-{
-    names_have_their_numbers();
-    let Some(name) = behind.registry.name_at(pkg) else {
-        return false;
-    };
-    let Some(need) = behind.request.need_on(name) else {
-        return false;
-    };
-    match behind.registry.facts_at(pkg, ordinal) {
-        None => false,
-        Some(facts) => !need.admits(facts.version),
-    }
-}
-
-/// Whether a dependency of a version, at an index, is not met by the version before of its package.
-/// Where memory is short, it is not seen.
-fn is_at_odds_by(behind: &Behind<'_>, pkg: Pkg, ordinal: u32, index: usize) -> bool
-    requires { index < length (needs_of behind.now.registry.now.packages pkg ordinal) }
-    ensures { result ≡ true → IsAtOdds behind.now.registry.now.packages behind.now.before.now.entries pkg ordinal }
-{
-    match behind.registry.dependency(pkg, ordinal, index) {
-        Err(_) => false,
-        Ok((target, matching)) => match behind.before.get(&target).copied() {
-            None => false,
-            Some(chosen) => !matching.has(chosen),
-        },
-    }
-}
-
-/// Whether a version depends on a package before in a version that is not the one before.
-fn is_at_odds(behind: &Behind<'_>, pkg: Pkg, ordinal: u32) -> bool
-    ensures { result ≡ true → IsAtOdds behind.now.registry.now.packages behind.now.before.now.entries pkg ordinal }
-{
-    let count = needs_count(behind.registry, (pkg, ordinal));
-    for index in 0..count {
-        if is_at_odds_by(behind, pkg, ordinal, index) {
-            return true;
-        }
-    }
-    false
-}
-
-/// Whether a version is not allowed, or the request's need excludes it, or it is at odds with those before.
-fn is_plainly_out(behind: &Behind<'_>, pkg: Pkg, ordinal: u32) -> bool
-    ensures { result ≡ true → IsPlainlyOut behind.now.registry.now.packages behind.now.request.now behind.now.before.now.entries pkg ordinal }
-{
-    if !behind.registry.allowed(behind.request, pkg, ordinal) {
-        return true;
-    }
-    is_unneeded(behind, pkg, ordinal) || is_at_odds(behind, pkg, ordinal)
-}
-
-/// Whether a version is seen not to be had with those before, by the evidence or without it.
-fn is_out<E: Evidence>(behind: &Behind<'_>, evidence: &E, pkg: Pkg, ordinal: u32) -> bool
-    requires { ShowsWhatIsOut behind.now.registry.now.packages behind.now.request.now (E.shows evidence.now) }
-    ensures { result ≡ true → IsOut behind.now.registry.now.packages behind.now.request.now behind.now.before.now.entries pkg ordinal }
-{
-    if evidence.rules_out(behind.before, pkg, ordinal) {
-        return true;
-    }
-    is_plainly_out(behind, pkg, ordinal)
-}
 
 // ---- versions than which no better one is to be had
 
+/// A walk up to a package: what is chosen before it, and what that leaves of it.
+#[derive(Clone, Copy)]
+struct Prefix<'a> {
+    registry: &'a Registry,
+    request: &'a Request,
+    choosing: &'a Choosing,
+    /// The versions of the package that are left.
+    left: &'a Term,
+}
+
+/// Whether a version is seen not to be had with those before: it is not left or not allowed, or it depends on a
+/// package of which it leaves no version, or the evidence shows it.
+fn is_out<E: Evidence>(prefix: &Prefix<'_>, evidence: &E, pkg: Pkg, ordinal: u32) -> bool
+    requires shows { ShowsWhatIsOut prefix.now.registry.now.packages prefix.now.request.now (E.shows evidence.now) }
+    requires holds { Holds prefix.now.registry.now.packages prefix.now.request.now prefix.now.choosing.now }
+    requires left { IsLeft prefix.now.registry.now.packages prefix.now.request.now prefix.now.choosing.now.found.entries pkg prefix.now.left.now }
+    ensures { result ≡ true → IsOut prefix.now.registry.now.packages prefix.now.request.now prefix.now.choosing.now.found.entries pkg ordinal }
+{
+    let (registry, request) = (prefix.registry, prefix.request);
+    let choosing = prefix.choosing;
+    if !choosing.is_open(registry, request, prefix.left, false, (pkg, ordinal)) {
+        return true;
+    }
+    evidence.rules_out(&choosing.found, pkg, ordinal)
+}
+
 /// Whether a version is this one, or can't be seen not to be had.
 fn is_left<E: Evidence>(
-    behind: &Behind<'_>,
+    prefix: &Prefix<'_>,
     evidence: &E,
     pkg: Pkg,
     ordinal: u32,
     other: u32,
 ) -> bool
-    requires { ShowsWhatIsOut behind.now.registry.now.packages behind.now.request.now (E.shows evidence.now) }
-    ensures { OnFalse result (IsOut behind.now.registry.now.packages behind.now.request.now behind.now.before.now.entries pkg other) }
+    requires shows { ShowsWhatIsOut prefix.now.registry.now.packages prefix.now.request.now (E.shows evidence.now) }
+    requires holds { Holds prefix.now.registry.now.packages prefix.now.request.now prefix.now.choosing.now }
+    requires left { IsLeft prefix.now.registry.now.packages prefix.now.request.now prefix.now.choosing.now.found.entries pkg prefix.now.left.now }
+    ensures { OnFalse result (IsOut prefix.now.registry.now.packages prefix.now.request.now prefix.now.choosing.now.found.entries pkg other) }
 {
-    other == ordinal || !is_out(behind, evidence, pkg, other)
+    other == ordinal || !is_out(prefix, evidence, pkg, other)
 }
 
 /// Whether each version of higher precedence is seen not to be had. It costs a look at each of them.
-fn is_highest_left<E: Evidence>(behind: &Behind<'_>, evidence: &E, pkg: Pkg, ordinal: u32) -> bool
-    requires { ShowsWhatIsOut behind.now.registry.now.packages behind.now.request.now (E.shows evidence.now) }
-    ensures { result ≡ true → AreHigherOut behind.now.registry.now.packages behind.now.request.now behind.now.before.now.entries pkg ordinal }
+fn is_highest_left<E: Evidence>(prefix: &Prefix<'_>, evidence: &E, pkg: Pkg, ordinal: u32) -> bool
+    requires shows { ShowsWhatIsOut prefix.now.registry.now.packages prefix.now.request.now (E.shows evidence.now) }
+    requires holds { Holds prefix.now.registry.now.packages prefix.now.request.now prefix.now.choosing.now }
+    requires left { IsLeft prefix.now.registry.now.packages prefix.now.request.now prefix.now.choosing.now.found.entries pkg prefix.now.left.now }
+    ensures { result ≡ true → AreHigherOut prefix.now.registry.now.packages prefix.now.request.now prefix.now.choosing.now.found.entries pkg ordinal }
 {
-    let registry = behind.registry;
-    match registry.highest_where(pkg, |other| is_left(behind, evidence, pkg, ordinal, other)) {
+    let registry = prefix.registry;
+    match registry.highest_where(pkg, |other| is_left(prefix, evidence, pkg, ordinal, other)) {
         None => false,
         Some(highest) => highest == ordinal,
     }
 }
 
-/// Whether each version of a package that is preferred to this one is seen not to be had.
-fn is_best<E: Evidence>(behind: &Behind<'_>, evidence: &E, pkg: Pkg, ordinal: u32) -> bool
-    requires { ShowsWhatIsOut behind.now.registry.now.packages behind.now.request.now (E.shows evidence.now) }
-    ensures { result ≡ true → IsBest behind.now.registry.now.packages behind.now.request.now behind.now.before.now.entries pkg ordinal }
+/// Whether each version of a package, of which these are left, that is preferred to this one is seen not to be had.
+fn is_best_left<E: Evidence>(prefix: &Prefix<'_>, evidence: &E, pkg: Pkg, ordinal: u32) -> bool
+    requires shows { ShowsWhatIsOut prefix.now.registry.now.packages prefix.now.request.now (E.shows evidence.now) }
+    requires holds { Holds prefix.now.registry.now.packages prefix.now.request.now prefix.now.choosing.now }
+    requires left { IsLeft prefix.now.registry.now.packages prefix.now.request.now prefix.now.choosing.now.found.entries pkg prefix.now.left.now }
+    ensures { result ≡ true → IsBest prefix.now.registry.now.packages prefix.now.request.now prefix.now.choosing.now.found.entries pkg ordinal }
 {
     precedence_is_a_total_preorder();
-    match locked_ordinal(behind.registry, behind.request, pkg) {
-        None => is_highest_left(behind, evidence, pkg, ordinal),
+    match locked_ordinal(prefix.registry, prefix.request, pkg) {
+        None => is_highest_left(prefix, evidence, pkg, ordinal),
         Some(locked) => {
             locked == ordinal
-                || is_out(behind, evidence, pkg, locked)
-                    && is_highest_left(behind, evidence, pkg, ordinal)
+                || is_out(prefix, evidence, pkg, locked)
+                    && is_highest_left(prefix, evidence, pkg, ordinal)
         }
     }
 }
 
+/// Whether each version of a package that is preferred to this one is seen not to be had with what is chosen.
+fn is_best<E: Evidence>(
+    registry: &Registry,
+    request: &Request,
+    choosing: &Choosing,
+    evidence: &E,
+    version: (Pkg, u32),
+) -> bool
+    requires shows { ShowsWhatIsOut registry.now.packages request.now (E.shows evidence.now) }
+    requires holds { Holds registry.now.packages request.now choosing.now }
+    ensures { result ≡ true → IsBest registry.now.packages request.now choosing.now.found.entries version.0 version.1 }
+{
+    let Some(place) = choosing.place_of(version.0) else {
+        return false;
+    };
+    let prefix = Prefix {
+        registry,
+        request,
+        choosing,
+        left: &choosing.needed[place].left,
+    };
+    is_best_left(&prefix, evidence, version.0, version.1)
+}
+
 // ---- the selection
 
-/// What a list selects. Of entries that name one package the first counts.
-fn choices_of(alloc: Global, list: &[(Pkg, u32)]) -> Result<IndexMap<Pkg, u32>, AllocError>
-    ensures { IfOk result (λ choices. SelectsAs choices.entries list.now) }
-{
-    let mut choices = IndexMap::with_capacity(alloc, list.len())?;
+/// What a list selects. Nothing rests on it.
+fn choices_of(alloc: Global, list: &[(Pkg, u32)]) -> Result<ChoiceMap, AllocError> {
+    let mut choices = ChoiceMap::new(alloc)?;
     for i in 0..list.len() {
         let (pkg, ordinal) = list[i];
-        if !choices.contains_key(&pkg) {
-            choices.insert(pkg, ordinal)?;
+        if !choices.contains(pkg) {
+            choices.push(pkg, ordinal)?;
         }
     }
     Ok(choices)
 }
 
-/// Whether in a list each version that is preferred to one of it is seen not to be had behind those before.
-fn are_best<E: Evidence>(
+impl Choosing {
+    /// Chooses a version, and meets what it depends on, but not what needed packages depend on besides. Answers no where
+    /// a package has no version left then.
+    fn add_version(
+        &mut self,
+        alloc: Global,
+        registry: &Registry,
+        version: (Pkg, u32),
+    ) -> Result<bool, AllocError>
+        requires new { choice_of self.old.found.entries version.0 ≡ None }
+        ensures found { OnOk result (self.new.found.entries ≡ self.old.found.entries ++ (version.0, version.1) ∷ []) }
+        ensures asks { IfOk result (λ whole. whole ≡ true → AsksFor registry.now.packages version.0 version.1 true self.old.asked.items self.new.asked.items) }
+        ensures grown { OnOk result (IsGrown self.old self.new) }
+        ensures holds { OnOk result ((wanted : Wanted) → Holds registry.now.packages wanted self.old → Holds registry.now.packages wanted self.new) }
+    {
+        self.found.push(version.0, version.1)?;
+        Ok(self.meet(alloc, registry, version, true, false)?)
+    }
+
+    /// Chooses what is selected of the package that is asked for at a place, unless it is chosen. Answers no where
+    /// nothing is selected of it, a version that is preferred to that can't be seen not to be had, or a package has no
+    /// version left.
+    fn choose_selected<E: Evidence>(
+        &mut self,
+        alloc: Global,
+        registry: &Registry,
+        request: &Request,
+        choices: &ChoiceMap,
+        evidence: &E,
+        at: usize,
+    ) -> Result<bool, AllocError>
+        requires within { at < length self.old.asked.items }
+        requires shows { ShowsWhatIsOut registry.now.packages request.now (E.shows evidence.now) }
+        requires choosing { IsChoosing registry.now.packages request.now self.old }
+        requires passed { ArePassed self.old at }
+        ensures choosing { IfOk result (λ whole. whole ≡ true → IsChoosing registry.now.packages request.now self.new) }
+        ensures passed { IfOk result (λ whole. whole ≡ true → ArePassed self.new (at + 1)) }
+    {
+        let pkg = self.asked[at];
+        if self.found.contains(pkg) {
+            return Ok(true);
+        }
+        let Some(ordinal) = choices.get(pkg) else {
+            return Ok(false);
+        };
+        if !is_best(registry, request, self, evidence, (pkg, ordinal)) {
+            return Ok(false);
+        }
+        Ok(self.add_version(alloc, registry, (pkg, ordinal))?)
+    }
+
+    /// Chooses what is selected of each package that is asked for, in turn, as [`Choosing::choose_selected`]. Answers no
+    /// where that does.
+    fn choose_all_selected<E: Evidence>(
+        &mut self,
+        alloc: Global,
+        registry: &Registry,
+        request: &Request,
+        choices: &ChoiceMap,
+        evidence: &E,
+    ) -> Result<bool, AllocError>
+        requires shows { ShowsWhatIsOut registry.now.packages request.now (E.shows evidence.now) }
+        requires choosing { IsChoosing registry.now.packages request.now self.old }
+        ensures { IfOk result (λ whole. whole ≡ true → AreBest registry.now.packages request.now self.new.found.entries) }
+    {
+        let mut at = 0;
+        'asked: while at < self.asked.len() {
+            if !self.choose_selected(alloc, registry, request, choices, evidence, at)? {
+                return Ok(false);
+            }
+            at += 1;
+        }
+        Ok(true)
+    }
+}
+
+/// Chooses what is selected, from the needs on, in the order of the walk. Answers no where a version that is preferred
+/// can't be seen not to be had.
+fn choose_selection<E: Evidence>(
     alloc: Global,
     registry: &Registry,
     request: &Request,
-    list: &[(Pkg, u32)],
+    choices: &ChoiceMap,
     evidence: &E,
+    choosing: &mut Choosing,
 ) -> Result<bool, AllocError>
-    requires new { AreEachNew list.now }
     requires shows { ShowsWhatIsOut registry.now.packages request.now (E.shows evidence.now) }
-    ensures { IfOk result (λ best. best ≡ true → FirstAreBest registry.now.packages request.now list.now (length list.now)) }
+    requires found { choosing.old.found.entries ≡ [] }
+    requires asked { choosing.old.asked.items ≡ [] }
+    requires needed { choosing.old.needed.items ≡ [] }
+    requires fresh { choosing.old.fresh.items ≡ [] }
+    ensures { IfOk result (λ whole. whole ≡ true → AreBest registry.now.packages request.now choosing.new.found.entries) }
 {
-    let mut before = IndexMap::with_capacity(alloc, list.len())?;
-    for i in 0..list.len() {
-        let (pkg, ordinal) = list[i];
-        let behind = Behind {
-            registry,
-            request,
-            before: &before,
-        };
-        if !is_best(&behind, evidence, pkg, ordinal) {
-            return Ok(false);
-        }
-        before.insert(pkg, ordinal)?;
+    if !choosing.meet_needs(alloc, registry, request)? {
+        return Ok(false);
     }
-    Ok(true)
+    Ok(choosing.choose_all_selected(alloc, registry, request, choices, evidence)?)
 }
 
-/// Whether a selection that meets the request can be seen to be the newest by some evidence: each version that is
-/// preferred to a selected one is yanked, or the evidence rules it out, or the request's need does, or it depends on
-/// a package before in a version that is not selected.
+/// Whether each version of a list is chosen.
+fn are_chosen(found: &ChoiceMap, list: &[(Pkg, u32)]) -> bool
+    ensures { result ≡ true → Follows (choice_of found.now.entries) (choice_of list.now) }
+{
+    for i in 0..list.len() {
+        let (pkg, ordinal) = list[i];
+        let Some(chosen) = found.get(pkg) else {
+            return false;
+        };
+        if chosen != ordinal {
+            return false;
+        }
+    }
+    true
+}
+
+/// Whether a selection that meets the request can be seen to be the newest by some evidence: of each version that is
+/// preferred to a selected one the evidence shows that it can't be selected with those before, or it is seen as
+/// [`is_plainly_newest`] sees it.
 ///
-/// Where it answers no, the selection may be the newest all the same. The cost is linear in the dependencies of what
-/// is selected and in the better versions, each with a look at the evidence and at its own dependencies.
+/// Where it answers no, the selection may be the newest all the same. The cost is that of [`is_plainly_newest`], and a
+/// look at the evidence for each better version that is not seen without it.
 pub fn is_newest_by<E: Evidence>(
     alloc: Global,
     registry: &Registry,
@@ -278,55 +262,19 @@ pub fn is_newest_by<E: Evidence>(
     ensures { IfOk result (λ newest. newest ≡ true → IsNewestIfMet registry.now.packages request.now selection.now) }
 {
     let choices = choices_of(alloc, selection)?;
-    let chooser = Chosen { choices: &choices };
-    let listed = list_in_order(alloc, registry, request, &chooser)?;
-    if listed.next.is_some() {
+    let mut choosing = Choosing::new(alloc)?;
+    if !choose_selection(alloc, registry, request, &choices, evidence, &mut choosing)? {
         return Ok(false);
     }
-    Ok(are_best(alloc, registry, request, &listed.found, evidence)?)
+    Ok(are_chosen(&choosing.found, selection))
 }
 
-// ---- by dependencies
-
-/// Adds what a version depends on.
-fn add_lines(
-    registry: &Registry,
-    asker: (Pkg, u32),
-    lines: &mut Vec<DependencyLine>,
-) -> Result<(), AllocError> {
-    let count = needs_count(registry, asker);
-    for index in 0..count {
-        let (target, _) = registry.dependency(asker.0, asker.1, index)?;
-        lines.push(DependencyLine {
-            target,
-            asker,
-            index,
-        })?;
-    }
-    Ok(())
-}
-
-/// What the versions of a list depend on, in the order of the packages that they name.
-fn lines_of(
-    alloc: Global,
-    registry: &Registry,
-    list: &[(Pkg, u32)],
-) -> Result<Vec<DependencyLine>, AllocError> {
-    let mut lines = Vec::new(alloc);
-    for i in 0..list.len() {
-        add_lines(registry, list[i], &mut lines)?;
-    }
-    lines.sort_unstable_by(|a, b| a.target.cmp(&b.target));
-    Ok(lines)
-}
-
-/// Whether a selection that meets the request can be seen to be the newest without a search: each
-/// version that is preferred to a selected one is yanked, or a line that is asked before excludes it, or
-/// it depends on a package before in a version that is not selected.
+/// Whether a selection that meets the request can be seen to be the newest without a search: each version that is
+/// preferred to a selected one is yanked, or a line that is asked before excludes it, or it depends on a package of
+/// which no version meets this and the lines that are asked before.
 ///
-/// Where it answers no, the selection may be the newest all the same. The cost is linear in the
-/// dependencies of what is selected, but for the order of the packages that they name, and in the better
-/// versions with their dependencies.
+/// Where it answers no, the selection may be the newest all the same. The cost is linear in the dependencies of what is
+/// selected and of the better versions, each with a look at the versions that are left.
 pub fn is_plainly_newest(
     alloc: Global,
     registry: &Registry,
@@ -335,10 +283,5 @@ pub fn is_plainly_newest(
 ) -> Result<bool, AllocError>
     ensures { IfOk result (λ plain. plain ≡ true → IsNewestIfMet registry.now.packages request.now selection.now) }
 {
-    let lines = lines_of(alloc, registry, selection)?;
-    let evidence = DependencyLines {
-        registry,
-        lines: &lines,
-    };
-    is_newest_by(alloc, registry, request, selection, &evidence)
+    is_newest_by(alloc, registry, request, selection, &NoEvidence)
 }

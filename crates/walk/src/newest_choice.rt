@@ -10,12 +10,10 @@ ghost use Rattle.walk.specs.Best.{AreBest, ArePassed, IsChoosing};
 ghost use Rattle.walk.specs.Choosing.{choice_of};
 ghost use Rattle.walk.specs.Newest.{next_package, IsNewest};
 
-use crate::chooser::Chooser;
 use crate::choosing::Choosing;
 use crate::reached::Reached;
 use crate::trial::Tried;
 use crate::walking::reach;
-use indexmap::IndexMap;
 use registry::{Pkg, Registry, Request};
 use std::alloc::{AllocError, Global};
 
@@ -26,20 +24,6 @@ pub struct NewestChoice {
     pub list: Vec<(Pkg, u32)>,
     /// How many versions were ruled out for it, since they left a package none. Nothing rests on it.
     pub ruled_out: usize,
-}
-
-/// Chooses what was chosen.
-#[derive(Clone, Copy)]
-struct Chosen<'a> {
-    found: &'a IndexMap<Pkg, u32>,
-}
-
-impl Chooser for Chosen<'_> {
-    ghost chooses = { λ c. choice_of c.found.now.entries };
-
-    fn choose(&self, pkg: Pkg) -> Option<u32> {
-        self.found.get(&pkg).copied()
-    }
 }
 
 impl Choosing {
@@ -87,7 +71,7 @@ impl Choosing {
         ensures passed { IfOk result (λ whole. whole ≡ true → ArePassed self.new (at + 1)) }
     {
         let pkg = self.asked[at];
-        if self.found.contains_key(&pkg) {
+        if self.found.contains(pkg) {
             return Ok(true);
         }
         Ok(self.choose(alloc, registry, request, pkg)?)
@@ -141,8 +125,8 @@ fn choose_from_needs(
 /// the same.
 ///
 /// The cost is linear in the dependencies of what is chosen, and of packages whose versions all depend on the same or of
-/// which one is left, each with a look at the versions that are left. What is tried in vain costs at most some eight
-/// times as much.
+/// which one is left, each with a look at the versions that are left. What is tried in vain costs at most some
+/// sixteen times as much.
 pub fn choose_newest(
     alloc: Global,
     registry: &Registry,
@@ -162,7 +146,7 @@ pub fn choose_newest(
         drop(found);
         return Ok(None);
     }
-    let reached = reach(alloc, registry, request, &Chosen { found: &found });
+    let reached = reach(alloc, registry, request, &found);
     drop(found);
     match reached? {
         Reached::Selection(list) => Ok(Some(NewestChoice { list, ruled_out })),

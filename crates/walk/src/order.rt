@@ -7,8 +7,7 @@ ghost use Rattle.walk.specs.Listing.{AreChosen, EndsWith, IsListing, IsNext, IsO
 ghost use Rattle.walk.specs.Walks.{Grows};
 
 use crate::chooser::Chooser;
-use crate::listing::{NextPackage, pass_dependencies, pass_needs};
-use crate::walking::entry_at;
+use crate::listing::{NextPackage, entry_at, pass_dependencies, pass_needs};
 use indexmap::IndexMap;
 use registry::{Pkg, Registry, Request};
 use std::alloc::{AllocError, Global};

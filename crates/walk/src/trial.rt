@@ -18,8 +18,8 @@ use std::alloc::{AllocError, Global};
 use terms::{Term, VSet};
 
 /// Versions are tried as long as what was taken back is at most so many times what is kept ..
-/// Half and twice of it were measured: docs/BENCHMARKS.md, Constants.
-const TAKEN_SHARE: usize = 8;
+/// Measured at half and at twice this value: docs/BENCHMARKS.md, Constants.
+const TAKEN_SHARE: usize = 16;
 
 /// .. and so much more.
 const TAKEN_ROOM: usize = 64;
@@ -72,7 +72,7 @@ impl Choosing {
         // Where a package was looked at with this outcome, it is met already.
         let is_only = self.only(version.0).is_some();
         let is_met = is_only || are_alike(registry, version.0);
-        self.found.insert(version.0, version.1)?;
+        self.found.push(version.0, version.1)?;
         self.keep_only(alloc, version, is_only)?;
         if !self.meet(alloc, registry, version, true, is_met)? {
             return Ok(false);
@@ -91,16 +91,14 @@ impl Choosing {
         !is_some(&self.needed[count - 1].left)
     }
 
-    /// Gives the packages from an index on the numbers back that they had before.
+    /// Gives the packages of what is left from an index on the indexes back that they had before.
     fn number_again(&mut self, count: usize)
         ensures { (self.new.found ≡ self.old.found) × (self.new.asked ≡ self.old.asked) × (self.new.needed ≡ self.old.needed) × (self.new.fresh ≡ self.old.fresh) }
     {
         for at in (count..self.needed.len()).rev() {
             let pkg = self.needed[at].pkg;
             let before = self.needed[at].before;
-            if let Some(own) = self.numbers.as_mut_slice().get_mut(pkg as usize) {
-                *own = before;
-            }
+            self.numbers.set_back(pkg, before);
         }
     }
 

@@ -8,17 +8,12 @@ ghost use Rattle.registry.specs.Registry.{meets_at, needs_of};
 ghost use Rattle.walk.specs.Choosing.{choice_of, Follows};
 ghost use Rattle.walk.specs.Walks.{asked_by, AreMet, ComeFrom, ComesAs, FoundFrom, FoundMeets, Grows, IsMetAt, IsUnmetAt, IsUnmetOf, ReachesBy};
 
+use crate::choice_map::ChoiceMap;
 use crate::chooser::Chooser;
 use crate::reached::{Asker, Reached};
-use indexmap::IndexMap;
 use registry::{Pkg, Registry, Request, allowed_is_published};
 use std::alloc::{AllocError, Global};
 use versions::Need;
-
-/// For how many packages room is made before a walk, so that a short one need not move them again and
-/// again.
-/// Half and twice of it were measured: docs/BENCHMARKS.md, Constants.
-pub(crate) const WALK_ROOM: usize = 128;
 
 /// Whether a version of a package is published and meets a requirement.
 fn meets(registry: &Registry, pkg: Pkg, ordinal: u32, need: &Need) -> bool
@@ -36,7 +31,7 @@ fn follow_to<C: Chooser, F: Fn(u32) -> bool>(
     chooser: &C,
     target: Pkg,
     passes: F,
-    found: &mut IndexMap<Pkg, u32>,
+    found: &mut ChoiceMap,
 ) -> Result<bool, AllocError>
     requires callable { F.IsAlwaysCallable passes }
     requires follows { Follows (C.chooses chooser.now) (choice_of found.old.entries) }
@@ -46,7 +41,7 @@ fn follow_to<C: Chooser, F: Fn(u32) -> bool>(
     ensures passed { IfOk result (λ met. OnTrue met ((k : ℕ) × (choice_of found.new.entries target ≡ Some k) × F.post passes k true)) }
     ensures failed { IfOk result (λ met. OnFalse met ((k : ℕ) → C.chooses chooser.now target ≡ Some k → F.post passes k false)) }
 {
-    if let Some(ordinal) = found.get(&target).copied() {
+    if let Some(ordinal) = found.get(target) {
         return Ok(passes(ordinal));
     }
     let Some(ordinal) = chooser.choose(target) else {
@@ -55,7 +50,7 @@ fn follow_to<C: Chooser, F: Fn(u32) -> bool>(
     if !passes(ordinal) {
         return Ok(false);
     }
-    found.insert(target, ordinal)?;
+    found.push(target, ordinal)?;
     Ok(true)
 }
 
@@ -65,7 +60,7 @@ fn follow_need<C: Chooser>(
     request: &Request,
     chooser: &C,
     index: usize,
-    found: &mut IndexMap<Pkg, u32>,
+    found: &mut ChoiceMap,
 ) -> Result<bool, AllocError>
     requires within { index < length request.now.needs }
     requires follows { Follows (C.chooses chooser.now) (choice_of found.old.entries) }
@@ -90,7 +85,7 @@ fn follow_dependency<C: Chooser>(
     pkg: Pkg,
     ordinal: u32,
     index: usize,
-    found: &mut IndexMap<Pkg, u32>,
+    found: &mut ChoiceMap,
 ) -> Result<bool, AllocError>
     requires within { index < length (needs_of registry.now.packages pkg ordinal) }
     requires follows { Follows (C.chooses chooser.now) (choice_of found.old.entries) }
@@ -113,7 +108,7 @@ fn follow_at<C: Chooser>(
     chooser: &C,
     asker: Asker,
     index: usize,
-    found: &mut IndexMap<Pkg, u32>,
+    found: &mut ChoiceMap,
 ) -> Result<bool, AllocError>
     requires within { index < length (asked_by registry.now.packages request.now asker) }
     requires follows { Follows (C.chooses chooser.now) (choice_of found.old.entries) }
@@ -137,7 +132,7 @@ fn follow_all<C: Chooser>(
     request: &Request,
     chooser: &C,
     asker: Asker,
-    found: &mut IndexMap<Pkg, u32>,
+    found: &mut ChoiceMap,
 ) -> Result<Option<usize>, AllocError>
     requires { Follows (C.chooses chooser.now) (choice_of found.old.entries) }
     ensures follows { OnOk result (Follows (C.chooses chooser.now) (choice_of found.new.entries)) }
@@ -169,7 +164,7 @@ pub fn reach<C: Chooser>(
 ) -> Result<Reached, AllocError>
     ensures { IfOk result (ReachesBy registry.now.packages request.now (C.chooses chooser.now)) }
 {
-    let mut found = IndexMap::with_capacity(alloc, WALK_ROOM)?;
+    let mut found = ChoiceMap::new(alloc)?;
     reach_into(alloc, registry, request, chooser, &mut found)
 }
 
@@ -179,7 +174,7 @@ fn reach_into<C: Chooser>(
     registry: &Registry,
     request: &Request,
     chooser: &C,
-    found: &mut IndexMap<Pkg, u32>,
+    found: &mut ChoiceMap,
 ) -> Result<Reached, AllocError>
     requires { found.old.entries ≡ [] }
     ensures { IfOk result (ReachesBy registry.now.packages request.now (C.chooses chooser.now)) }
@@ -189,7 +184,7 @@ fn reach_into<C: Chooser>(
     }
     let mut next = 0;
     'walk: while next < found.len() {
-        let (pkg, ordinal) = entry_at(found, next);
+        let (pkg, ordinal) = found.at(next);
         if !registry.allowed(request, pkg, ordinal) {
             return Ok(Reached::NotAllowed(pkg, ordinal));
         }
@@ -200,31 +195,5 @@ fn reach_into<C: Chooser>(
         next += 1;
     }
     allowed_is_published();
-    Ok(Reached::Selection(entries_of(alloc, found)?))
-}
-
-/// The package that was found at a place, with its version's ordinal.
-pub(crate) fn entry_at(found: &IndexMap<Pkg, u32>, place: usize) -> (Pkg, u32)
-    requires { place < length found.now.entries }
-    ensures at { slice_get found.now.entries place ≡ Some result }
-    ensures chosen { choice_of found.now.entries result.0 ≡ Some result.1 }
-{
-    match found.get_index(place) {
-        Some((pkg, ordinal)) => (*pkg, *ordinal),
-        None => unreachable!(),
-    }
-}
-
-/// What was found, as a list.
-pub(crate) fn entries_of(
-    alloc: Global,
-    found: &IndexMap<Pkg, u32>,
-) -> Result<Vec<(Pkg, u32)>, AllocError>
-    ensures list { IfOk result (λ list. list.items ≡ found.now.entries) }
-    ensures once { IsDistinct nat_eq (keys_of found.now.entries) }
-{
-    found
-        .iter()
-        .map(|(pkg, ordinal)| (*pkg, *ordinal))
-        .collect(alloc)
+    Ok(Reached::Selection(found.list(alloc)?))
 }

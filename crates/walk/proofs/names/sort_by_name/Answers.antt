@@ -1,32 +1,47 @@
-use Rattle.std.proofs.Common.{◌≡◌, List, nat_eq, of_calls, rules, ℕ}
-use Rattle.std.proofs.lemmas.Cmp.{nat_eq_equiv}
-use Rattle.std.proofs.lemmas.Fn.{always_returns_same}
-use Rattle.std.proofs.lemmas.List.Sorted.{IsPermutation-map, ranks_by}
-use Rattle.std.proofs.lemmas.Map.Keys.{IsDistinct-IsPermutation}
-use Rattle.std.specs.Cmp.Lexicographic.{nat_list_cmp_total}
-use Rattle.std.specs.List.{IsDistinct}
-use Rattle.std.specs.List.Sorted.{IsPermutation}
-use Rattle.std.specs.Map.{keys_of}
-use Rattle.std.specs.Ordering.{is_lt}
-use Rattle.indexmap.proofs.MapLemmas.{lookup_permutation}
-use Rattle.walk.specs.Choosing.{choice_of}
-use Rattle.walk.specs.Names.{by_name, name_of}
+use Rattle.std.proofs.Common.{◌≡◌, ◌∙◌, ◌++◌, ap, append-nil, arith, drop, length, List, ℕ, map, subst, sym, take}
+use Rattle.std.proofs.lemmas.List.{drop_all, take_all}
+use Rattle.std.proofs.lemmas.List.Sorted.{All-permutation, IsPermutation-map}
+use Rattle.std.specs.List.Sorted.{IsPermutation, IsSorted}
+use Rattle.std.specs.Prelude.{All}
+use Rattle.walk.specs.Names.{by_name, IsFronted}
+use Rattle.walk.proofs.Fronts.{once_moved, same_moved, sorted_names}
 use Rattle.walk.proofs.names.sort_by_name.Goals as goal
 
-once_moved : (old new : List (ℕ × ℕ)) → IsPermutation old new → IsDistinct nat_eq (keys_of old) → IsDistinct nat_eq (keys_of new)
-once_moved old new moves once = IsDistinct-IsPermutation nat_eq nat_eq_equiv.symm (keys_of old) (keys_of new) (IsPermutation-map (λ (e : ℕ × ℕ). e.0) old new moves) once
+-- a list of the same length is put in the place of another
+put : (len : ℕ) (new old : List (ℕ × (ℕ × ℕ))) → len ≡ length old → length new ≡ length old → take len (new ++ drop (length new) old) ≡ new
+put len new old whole same = ap (λ (l : List (ℕ × (ℕ × ℕ))). take len (new ++ l)) (drop_all (length new) old (omega arith)) ∙ ap (take len) (append-nil new) ∙ take_all len new (omega arith)
 
-same_moved : (old new : List (ℕ × ℕ)) → IsPermutation old new → IsDistinct nat_eq (keys_of old) → choice_of new ≡ choice_of old
-same_moved old new moves once = λ i p. lookup_permutation nat_eq_equiv old new moves (once_moved old new moves once) (nat_eq p) (nat_eq_equiv.congr p) i
+-- what stands behind the fronts is moved as these are
+moved_behind : (list new : List (ℕ × ℕ)) (fronted sorted : List (ℕ × (ℕ × ℕ))) → map (λ (f : ℕ × (ℕ × ℕ)). f.1) fronted ≡ list → IsPermutation fronted sorted → new ≡ map (λ (f : ℕ × (ℕ × ℕ)). f.1) sorted → IsPermutation list new
+moved_behind list new fronted sorted behind moved taken =
+    let back : ℕ × (ℕ × ℕ) → ℕ × ℕ = λ f. f.1 in
+    subst (IsPermutation list) (sym taken) (subst (λ (l : List (ℕ × ℕ)). IsPermutation l (map back sorted)) behind (IsPermutation-map back fronted sorted moved))
 
-pub returns-clause-sorted : goal.returns-clause-sorted
-returns-clause-sorted c =
+pub returns-in-Ok-clause-sorted : goal.returns-in-Ok-clause-sorted
+returns-in-Ok-clause-sorted c =
+    let back : ℕ × (ℕ × ℕ) → ℕ × ℕ = λ f. f.1 in
     let packages = c.args.registry.now.packages in
-    let ranks = ranks_by nat_list_cmp_total (λ (e : ℕ × ℕ). name_of packages e.0) in
-    c.sort_unstable_by.ensures.sorted (λ a b. is_lt (by_name packages a b)) ranks (always_returns_same _ _ _ (λ a r f' k. search (rules, of_calls)))
+    let fronted = c.in-Ok.fronted.items in
+    let sorted = c.sort_fronted.new.fronted in
+    let taken : c.take_order.new.list ≡ map back sorted = c.take_order.ensures ∙ ap (map back) (c.deref.ensures.value ∙ put c.in-Ok.fronted.len sorted fronted (omega (arith, c.in-Ok.fronted.ok.0)) (omega (arith, c.sort_fronted.auto.fronted, c.deref_mut.ensures.len, ap length c.deref_mut.ensures.value))) in
+    let moved : IsPermutation fronted sorted = subst (λ (l : List (ℕ × (ℕ × ℕ))). IsPermutation l sorted) c.deref_mut.ensures.value c.sort_fronted.ensures.moved in
+    let right : All (IsFronted packages) fronted = c.in-Ok.ensures.fronted in
+    subst (IsSorted (by_name packages)) (sym taken) (sorted_names packages sorted (All-permutation (IsFronted packages) fronted sorted moved right) c.sort_fronted.ensures.sorted)
 
-pub returns-clause-same : goal.returns-clause-same
-returns-clause-same c = same_moved c.args.list.now c.sort_unstable_by.new.self c.sort_unstable_by.ensures.permutation c.requires
+pub returns-in-Ok-clause-same : goal.returns-in-Ok-clause-same
+returns-in-Ok-clause-same c =
+    let back : ℕ × (ℕ × ℕ) → ℕ × ℕ = λ f. f.1 in
+    let fronted = c.in-Ok.fronted.items in
+    let sorted = c.sort_fronted.new.fronted in
+    let taken : c.take_order.new.list ≡ map back sorted = c.take_order.ensures ∙ ap (map back) (c.deref.ensures.value ∙ put c.in-Ok.fronted.len sorted fronted (omega (arith, c.in-Ok.fronted.ok.0)) (omega (arith, c.sort_fronted.auto.fronted, c.deref_mut.ensures.len, ap length c.deref_mut.ensures.value))) in
+    let moved : IsPermutation fronted sorted = subst (λ (l : List (ℕ × (ℕ × ℕ))). IsPermutation l sorted) c.deref_mut.ensures.value c.sort_fronted.ensures.moved in
+    same_moved c.args.list.now c.take_order.new.list (moved_behind c.args.list.now c.take_order.new.list fronted sorted c.in-Ok.ensures.same moved taken) c.requires
 
-pub returns-clause-once : goal.returns-clause-once
-returns-clause-once c = once_moved c.args.list.now c.sort_unstable_by.new.self c.sort_unstable_by.ensures.permutation c.requires
+pub returns-in-Ok-clause-once : goal.returns-in-Ok-clause-once
+returns-in-Ok-clause-once c =
+    let back : ℕ × (ℕ × ℕ) → ℕ × ℕ = λ f. f.1 in
+    let fronted = c.in-Ok.fronted.items in
+    let sorted = c.sort_fronted.new.fronted in
+    let taken : c.take_order.new.list ≡ map back sorted = c.take_order.ensures ∙ ap (map back) (c.deref.ensures.value ∙ put c.in-Ok.fronted.len sorted fronted (omega (arith, c.in-Ok.fronted.ok.0)) (omega (arith, c.sort_fronted.auto.fronted, c.deref_mut.ensures.len, ap length c.deref_mut.ensures.value))) in
+    let moved : IsPermutation fronted sorted = subst (λ (l : List (ℕ × (ℕ × ℕ))). IsPermutation l sorted) c.deref_mut.ensures.value c.sort_fronted.ensures.moved in
+    once_moved c.args.list.now c.take_order.new.list (moved_behind c.args.list.now c.take_order.new.list fronted sorted c.in-Ok.ensures.same moved taken) c.requires

@@ -6,9 +6,9 @@ use Rattle.walk.proofs.newest.is_highest_left.Goals as goal
 
 pub returns-in-Some : goal.returns-in-Some
 returns-in-Some g c = λ yes.
-    let behind = c.args.behind.now in
-    let packages = behind.registry.now.packages in
-    let wanted = behind.request.now in
-    let before = behind.before.now.entries in
+    let prefix = c.args.prefix.now in
+    let packages = prefix.registry.now.packages in
+    let wanted = prefix.request.now in
+    let before = prefix.choosing.now.found.entries in
     let this : c.in-Some.highest ≡ c.args.ordinal = eqb-true c.in-Some.highest c.args.ordinal yes in
     subst (λ k. AreHigherOut packages wanted before c.args.pkg k) this (higher_out packages wanted c.args.pkg c.in-Some.highest before _ c.in-Some.ensures.some (λ j fails. let out = fails in search rules))

@@ -1,7 +1,6 @@
 use Rattle.std.proofs.Common.{◌≡◌, ◌∙◌, ◌++◌, [], ◌∷◌, ℕ, List, inl, inr, nat_eq, rules, subst, sym, ap, false}
 use Rattle.std.proofs.lemmas.List.{append-nil}
 use Rattle.std.specs.Prelude.{None, Some}
-use Rattle.indexmap.proofs.CallerLemmas.{insert_entry-new}
 use Rattle.walk.specs.Choosing.{choice_of, Follows}
 use Rattle.walk.specs.Walks.{ComesAs}
 use Rattle.std.proofs.lemmas.Bool.{OnFalse_from, OnTrue_from}
@@ -23,7 +22,7 @@ returns-clause-grown g c =
     let target = c.args.target in
     let ordinal = c.in-Some-choose.ordinal in
     let new : choice_of c.args.found.now.entries target ≡ None = search rules in
-    ((target, ordinal) ∷ [], c.in_ok-insert.ensures.entries ∙ insert_entry-new nat_eq c.args.found.now target ordinal new)
+    ((target, ordinal) ∷ [], c.in_ok-push.ensures)
 
 pub returns-clause-follows : goal.returns-clause-follows
 returns-clause-follows g c =
@@ -31,7 +30,7 @@ returns-clause-follows g c =
     let ordinal = c.in-Some-choose.ordinal in
     let chooses = g.C.Chooser.chooses c.args.chooser.now in
     let new : choice_of c.args.found.now.entries target ≡ None = search rules in
-    subst (λ (l : List (ℕ × ℕ)). Follows chooses (choice_of l)) (sym (c.in_ok-insert.ensures.entries ∙ insert_entry-new nat_eq c.args.found.now target ordinal new))
+    subst (λ (l : List (ℕ × ℕ)). Follows chooses (choice_of l)) (sym (c.in_ok-push.ensures))
     (follows_push chooses c.args.found.now.entries target ordinal c.requires.follows (sym c.choose.ensures ∙ c.in-Some-choose.is))
 
 pub returns-clause-comes : goal.returns-clause-comes
@@ -40,7 +39,7 @@ returns-clause-comes g c =
     let ordinal = c.in-Some-choose.ordinal in
     let old = c.args.found.now.entries in
     let new : choice_of old target ≡ None = search rules in
-    subst (λ (l : List (ℕ × ℕ)). ComesAs target (choice_of old) (choice_of l)) (sym (c.in_ok-insert.ensures.entries ∙ insert_entry-new nat_eq c.args.found.now target ordinal new))
+    subst (λ (l : List (ℕ × ℕ)). ComesAs target (choice_of old) (choice_of l)) (sym (c.in_ok-push.ensures))
     (comes_pushed old target ordinal)
 
 -- where nothing is added
@@ -71,7 +70,7 @@ returns-clause-passed g c =
     let ordinal = c.in-Some-choose.ordinal in
     let old = c.args.found.now.entries in
     let new : choice_of old target ≡ None = search rules in
-    let grown = c.in_ok-insert.ensures.entries ∙ insert_entry-new nat_eq c.args.found.now target ordinal new in
+    let grown = c.in_ok-push.ensures in
     (ordinal, ap (λ (l : List (ℕ × ℕ)). choice_of l target) grown ∙ choice-push_here old target ordinal new, rw c.if-not-passes.false at c.passes-2.ensures)
 
 pub returns-then-not-passes-clause-failed : goal.returns-then-not-passes-clause-failed
@@ -96,17 +95,17 @@ returns-in-Some-clause-failed g c =
 
 -- where memory is refused
 
-pub returns-in_err-insert-clause-follows : goal.returns-in_err-insert-clause-follows
-returns-in_err-insert-clause-follows g c = IfOk-from_err c.from_residual.result _ c.from_residual.ensures.0
+pub returns-in_err-push-clause-follows : goal.returns-in_err-push-clause-follows
+returns-in_err-push-clause-follows g c = IfOk-from_err c.from_residual.result _ c.from_residual.ensures.0
 
-pub returns-in_err-insert-clause-grown : goal.returns-in_err-insert-clause-grown
-returns-in_err-insert-clause-grown g c = IfOk-from_err c.from_residual.result _ c.from_residual.ensures.0
+pub returns-in_err-push-clause-grown : goal.returns-in_err-push-clause-grown
+returns-in_err-push-clause-grown g c = IfOk-from_err c.from_residual.result _ c.from_residual.ensures.0
 
-pub returns-in_err-insert-clause-comes : goal.returns-in_err-insert-clause-comes
-returns-in_err-insert-clause-comes g c = IfOk-from_err c.from_residual.result _ c.from_residual.ensures.0
+pub returns-in_err-push-clause-comes : goal.returns-in_err-push-clause-comes
+returns-in_err-push-clause-comes g c = IfOk-from_err c.from_residual.result _ c.from_residual.ensures.0
 
-pub returns-in_err-insert-clause-passed : goal.returns-in_err-insert-clause-passed
-returns-in_err-insert-clause-passed g c = IfOk-from_err c.from_residual.result _ c.from_residual.ensures.0
+pub returns-in_err-push-clause-passed : goal.returns-in_err-push-clause-passed
+returns-in_err-push-clause-passed g c = IfOk-from_err c.from_residual.result _ c.from_residual.ensures.0
 
-pub returns-in_err-insert-clause-failed : goal.returns-in_err-insert-clause-failed
-returns-in_err-insert-clause-failed g c = IfOk-from_err c.from_residual.result _ c.from_residual.ensures.0
+pub returns-in_err-push-clause-failed : goal.returns-in_err-push-clause-failed
+returns-in_err-push-clause-failed g c = IfOk-from_err c.from_residual.result _ c.from_residual.ensures.0
