@@ -55,7 +55,7 @@ true_at-none (t ∷ rest) pkg choice h = elim (cases_Bool (nat_eq t.0 pkg)) [
   | inr e ↦ rw e (true_at-none rest pkg choice (rw e at h))
 ]
 
-true_at-term_on : (terms : Terms) (pkg : ℕ) (choice : Option ℕ) → true_at terms pkg choice ≡ true_where (term_on terms pkg) choice
+pub true_at-term_on : (terms : Terms) (pkg : ℕ) (choice : Option ℕ) → true_at terms pkg choice ≡ true_where (term_on terms pkg) choice
 true_at-term_on [] pkg choice = refl
 true_at-term_on (t ∷ rest) pkg choice = elim (cases_Bool (nat_eq t.0 pkg)) [
   | inl e ↦ rw e refl

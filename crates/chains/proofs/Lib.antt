@@ -1,4 +1,5 @@
 -- Lemmas.
 pub mod Showing
 pub mod Joining
+pub mod Within
 pub mod Members

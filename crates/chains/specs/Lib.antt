@@ -1,5 +1,6 @@
 -- What contracts say.
 pub mod Shown
+pub mod Within
 pub mod Laws
 pub mod Tables
 pub mod Places

@@ -7,8 +7,10 @@
 
 mod chain;
 mod laws;
+mod stronger;
 mod table;
 
 pub use chain::{Chain, Place, terms_at};
 pub use laws::{kept_lines_are_shown, shown_holds, shown_refutes};
+pub use stronger::Stronger;
 pub use table::{Conclusion, Stop};

@@ -69,7 +69,7 @@ fn is_always(term: &Term) -> bool
 }
 
 /// The term on a package, if there is one.
-fn term_on(terms: &[(Pkg, Term)], pkg: Pkg) -> Option<&Term>
+pub fn term_on(terms: &[(Pkg, Term)], pkg: Pkg) -> Option<&Term>
     ensures { option_copied result ≡ term_on terms.now pkg }
 {
     for (other, term) in terms {
@@ -142,6 +142,16 @@ impl Table {
             terms: Vec::new(alloc),
             places: vec![in alloc; 0; packages]?,
         })
+    }
+
+    /// What is said of a package, if something is.
+    pub fn term(&self, pkg: Pkg) -> Option<&Term>
+        ensures { option_copied result ≡ term_on self.now pkg }
+    {
+        match place_of(&self.terms, &self.places, pkg) {
+            None => None,
+            Some(place) => Some(&self.terms[place].1),
+        }
     }
 
     /// Leaves no term.

@@ -13,4 +13,4 @@ mod taking;
 
 pub use cutting::extract_derivation;
 pub use limits::limits_in_numbers;
-pub use offering::offers;
+pub use offering::{offers, room_behind};

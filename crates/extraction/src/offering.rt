@@ -16,12 +16,12 @@ use derivations::{
 use std::alloc::{AllocError, Global};
 
 /// The most lines that all offers of one search have together.
-/// Half and twice of it were measured: docs/BENCHMARKS.md, Constants.
+/// Measured at half and at twice this value: docs/BENCHMARKS.md, Constants.
 const OFFERED_LIMIT: usize = 1_024;
 
 /// How many lines one more offer may have behind so many lines of others: as many as are left, but for
 /// those that are kept for the last one.
-fn room_behind(taken: usize, is_last: bool) -> usize
+pub fn room_behind(taken: usize, is_last: bool) -> usize
     ensures few { result ≤ DERIVATION_LINE_LIMIT }
     ensures kept { is_last ≡ false → taken ≤ OFFERED_LIMIT - DERIVATION_LINE_LIMIT → taken + result ≤ OFFERED_LIMIT - DERIVATION_LINE_LIMIT }
 {

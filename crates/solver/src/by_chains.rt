@@ -4,6 +4,7 @@
 ghost use Rattle.std.specs.Prelude.{◌≡◌, true, IfOk, IfSome};
 ghost use Rattle.walk.specs.PlainlyNewest.{IsNewestIfMet};
 ghost use Rattle.solver.specs.Answering.{IsAnswer};
+ghost use Rattle.solver.specs.Finding.{IsFirstAnswer};
 ghost use Rattle.solver.specs.Reusing.{StoreStands};
 ghost use Rattle.solver.specs.Ruling.{HasWith, IsRuledOut, RulesOut};
 
@@ -18,7 +19,7 @@ use engine::Trace;
 use indexmap::IndexMap;
 use std::alloc::AllocError;
 use terms::{Pkg, Term};
-use walk::{Evidence, is_newest_by};
+use walk::{ChoiceMap, Evidence, is_newest_by};
 
 /// What is shown of a trace, and what of that is named for packages, of which it rules versions out.
 #[derive(Clone, Copy)]
@@ -32,7 +33,7 @@ struct NamedShown<'a> {
 }
 
 /// What a package has with a version behind others: the root its own, else this version, or one of the others.
-fn chosen_with(before: &IndexMap<Pkg, u32>, pkg: Pkg, ordinal: u32, on: Pkg) -> Option<u32>
+fn chosen_with(before: &ChoiceMap, pkg: Pkg, ordinal: u32, on: Pkg) -> Option<u32>
     ensures { IfSome result (HasWith before.now.entries pkg ordinal on) }
 {
     if on == ROOT {
@@ -41,11 +42,11 @@ fn chosen_with(before: &IndexMap<Pkg, u32>, pkg: Pkg, ordinal: u32, on: Pkg) -> 
     if on == pkg {
         return Some(ordinal);
     }
-    before.get(&on).copied()
+    before.get(on)
 }
 
 /// Whether all terms are true with a version behind others, so that no selection has them together.
-fn are_all_true(terms: &[(Pkg, Term)], before: &IndexMap<Pkg, u32>, pkg: Pkg, ordinal: u32) -> bool
+fn are_all_true(terms: &[(Pkg, Term)], before: &ChoiceMap, pkg: Pkg, ordinal: u32) -> bool
     ensures { result ≡ true → RulesOut terms.now before.now.entries pkg ordinal }
 {
     for (on, term) in terms {
@@ -65,7 +66,7 @@ fn are_all_true(terms: &[(Pkg, Term)], before: &IndexMap<Pkg, u32>, pkg: Pkg, or
 fn is_ruled_out_by(
     shown: &NamedShown<'_>,
     record: u32,
-    before: &IndexMap<Pkg, u32>,
+    before: &ChoiceMap,
     pkg: Pkg,
     ordinal: u32,
 ) -> bool
@@ -84,7 +85,7 @@ impl Evidence for NamedShown<'_> {
     ghost shows = { λ shown before p j. IsRuledOut shown.known.now shown.made.now before p j };
 
     /// The cost grows with the logarithm of the number of records that are named, and with those that are named for the package.
-    fn rules_out(&self, before: &IndexMap<Pkg, u32>, pkg: Pkg, ordinal: u32) -> bool {
+    fn rules_out(&self, before: &ChoiceMap, pkg: Pkg, ordinal: u32) -> bool {
         let first = self.named.partition_point(|named| named.0 < pkg);
         for i in first..self.named.len() {
             let (named, record) = self.named[i];
@@ -115,7 +116,8 @@ fn is_shown_newest(task: &Task<'_>, trace: &Trace, list: &[(Pkg, u32)]) -> Resul
 {
     shown_holds();
     let mut showing = Showing::new(task, terms_room(trace))?;
-    let mut search = begin(task, 8)?;
+    // Facts alone become lines.
+    let mut search = begin(task, trace.records.len() / 2)?;
     let _last = show_records(task, &mut search, &mut showing, trace)?;
     let shown = NamedShown {
         known: &search.known,
@@ -126,17 +128,41 @@ fn is_shown_newest(task: &Task<'_>, trace: &Trace, list: &[(Pkg, u32)]) -> Resul
     Ok(is_newest_by(task.alloc, task.registry, task.request, list, &shown)?)
 }
 
-/// The selection of a trace, if it is one and chains show by the trace that it is the newest. An error is
-/// [`Stop::Unknown`] where chains do not come to the trace's end, or have no room for what it says.
+/// Whether a trace selects what was decided.
+pub(crate) fn selects(trace: &Trace, decided: &IndexMap<Pkg, u32>) -> bool {
+    trace.selected.len() == decided.len()
+        && trace.selected.iter().all(|(pkg, ordinal)| decided.get(pkg).copied() == Some(*ordinal))
+}
+
+/// The selection of a trace, if it is one: this one, where the trace selects the same.
+fn selection_in(
+    task: &Task<'_>,
+    trace: &Trace,
+    same: Option<Vec<(Pkg, u32)>>,
+) -> Result<Option<Vec<(Pkg, u32)>>, AllocError>
+    requires { IfSome same (λ list. IsFirstAnswer task.now list.items) }
+    ensures { IfOk result (λ found. IfSome found (λ list. IsFirstAnswer task.now list.items)) }
+{
+    if let Some(list) = same {
+        return Ok(Some(list));
+    }
+    let selected = selected_by(task, trace)?;
+    selection_by(task, &selected)
+}
+
+/// The selection of a trace, if it is one and chains show by the trace that it is the newest. Where a selection is given,
+/// it is what the trace selects. An error is [`Stop::Unknown`] where chains do not come to the trace's end, or have no
+/// room for what it says.
 pub(crate) fn newest_by_chains(
     task: &Task<'_>,
     trace: &Trace,
+    same: Option<Vec<(Pkg, u32)>>,
 ) -> Result<Option<Vec<(Pkg, u32)>>, Stop>
-    requires { StoreStands task.now }
+    requires stored { StoreStands task.now }
+    requires same { IfSome same (λ list. IsFirstAnswer task.now list.items) }
     ensures { IfOk result (λ found. IfSome found (λ list. IsAnswer task.now list.items)) }
 {
-    let selected = selected_by(task, trace)?;
-    let Some(list) = selection_by(task, &selected)? else {
+    let Some(list) = selection_in(task, trace, same)? else {
         return Ok(None);
     };
     if is_shown_newest(task, trace, &list)? {

@@ -23,7 +23,7 @@ pub(crate) enum Resolution {
 }
 
 /// Up to how many terms a line has to do with few of the packages that are decided.
-/// Half and twice of it were measured: docs/BENCHMARKS.md, Constants.
+/// Measured at half and at twice this value: docs/BENCHMARKS.md, Constants.
 const SHORT_LINE: usize = 3;
 
 /// The level to jump back to, from the one at which a line of so many terms is almost satisfied up to

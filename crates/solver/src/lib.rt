@@ -11,8 +11,11 @@
 //! | `oracle.rt` | who is asked for the answer of a hard request | | none |
 //! | `validating.rt` | what an oracle says, checked by the walk or a replay | | `IsValidated` |
 //! | `by_chains.rt` | the newest selection, as lines of a trace show it | | `IsAnswer` |
+//! | `showing.rt` | the trace of a refusal, shown by chains | | `IsRefuted` |
+//! | `line_counts.rt`, `novelty.rt` | what may be learnt of a refusal that is shown | | none |
 //! | `over_trace.rt` | the newest selection, searched for over the lines of a trace | | `IsFound` |
 //! | `replaying.rt` | the trace of a refusal, derived again line by line | | `Refuses` |
+//! | `part.rt` | the part of a trace that some records rest on | | none |
 //! | `starting.rt` | the root, and the needs of the request | The Algorithm | `Searches` |
 //! | `turns.rt` | propagation, else a decision, else the walk, until there is an answer | The Algorithm | `TurnsBy`, `StopsBy` |
 //! | `propagating.rt` | the lines that name what changed | Unit Propagation | `ActsBy` |
@@ -41,11 +44,14 @@ mod facts;
 mod found;
 mod greedy;
 mod laws;
+mod line_counts;
 mod lines;
 mod meeting;
+mod novelty;
 mod offering;
 mod oracle;
 mod over_trace;
+mod part;
 mod picking;
 mod propagating;
 mod replaying;
@@ -60,6 +66,7 @@ mod turns;
 mod validating;
 mod worklist;
 
+pub use engine::Workspace;
 pub use laws::there_is_one_newest_list;
 pub use oracle::{EngineOracle, Oracle};
-pub use solving::{Options, Outcome, solve, solve_by, solve_with, solve_within};
+pub use solving::{Options, Outcome, solve, solve_by, solve_in, solve_with, solve_within};

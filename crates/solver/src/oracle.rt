@@ -1,6 +1,6 @@
 //! Who is asked for the answer of a hard request. What it says is checked, so no proof rests on it.
 
-use engine::{Engine, Found, Stop, Trace};
+use engine::{Engine, Found, Stop, Trace, Workspace};
 use heuristics::Question;
 use store::Store;
 
@@ -24,6 +24,8 @@ pub struct EngineOracle<'a> {
     store: &'a Store,
     budget: Option<u32>,
     engine: Option<Engine<'a>>,
+    /// What the engine is to be made of.
+    workspace: Option<Workspace>,
 }
 
 impl<'a> EngineOracle<'a> {
@@ -35,13 +37,49 @@ impl<'a> EngineOracle<'a> {
             store,
             budget,
             engine: None,
+            workspace: None,
+        }
+    }
+
+    /// As [`EngineOracle::new`], in what earlier engines handed on.
+    pub(crate) fn in_workspace(
+        question: Question<'a>,
+        store: &'a Store,
+        budget: Option<u32>,
+        workspace: Workspace,
+    ) -> EngineOracle<'a> {
+        EngineOracle {
+            question,
+            store,
+            budget,
+            engine: None,
+            workspace: Some(workspace),
+        }
+    }
+
+    /// What the next engine is handed.
+    pub(crate) fn into_workspace(self) -> Workspace {
+        let EngineOracle {
+            question,
+            engine,
+            workspace,
+            ..
+        } = self;
+        match (engine, workspace) {
+            (Some(engine), _) => engine.into_workspace(),
+            (None, Some(workspace)) => workspace,
+            (None, None) => Workspace::new(question.alloc),
         }
     }
 }
 
 impl Oracle for EngineOracle<'_> {
     fn search(&mut self) -> Result<Found, Stop> {
-        let mut engine = Engine::new(&self.question, self.store, self.budget);
+        let workspace = match self.workspace.take() {
+            Some(workspace) => workspace,
+            None => Workspace::new(self.question.alloc),
+        };
+        let mut engine = Engine::new(&self.question, self.store, self.budget, workspace);
         let found = engine.search();
         self.engine = Some(engine);
         found

@@ -15,6 +15,7 @@ ghost use Rattle.solver.specs.Searching.{Refuses, Searches};
 use crate::entering::push_shared;
 use crate::facts::{push_barred, push_need};
 use crate::lines::line_from;
+use crate::part::part_of;
 use crate::picking::is_package;
 use crate::reusing::{member_of, push_learnt};
 use crate::search::Search;
@@ -28,13 +29,13 @@ use std::alloc::{AllocError, Global};
 use terms::{Pkg, Relation, VSet, relation};
 
 /// By how many of its first steps what may be learnt of a trace follows. All offers together have no more lines.
-/// Half and twice of it were measured: docs/BENCHMARKS.md, Constants.
+/// Measured at half and at twice this value: docs/BENCHMARKS.md, Constants.
 const LEARNT_STEPS: u32 = 1024;
 
 /// What is derived from the trace of a selection has at most so many terms together, and so many more for each of its
 /// steps. Each incompatibility can name each package that was decided before: without a limit their memory would grow
 /// with the square of their number.
-/// Half and twice of it were measured: docs/BENCHMARKS.md, Constants.
+/// Measured at half and at twice this value: docs/BENCHMARKS.md, Constants.
 const MOST_TERMS: usize = 65_536;
 
 const MOST_TERMS_A_STEP: usize = 64;
@@ -334,29 +335,6 @@ fn push_record(
     push_fact_of(task, known, &mut places.sharing, record)
 }
 
-/// Derives what some records of a trace say, one after the other, and answers the place of the last one's line,
-/// if each says something.
-fn push_some(
-    task: &Task<'_>,
-    known: &mut Vec<CausedIncompatibility>,
-    places: &mut Places,
-    trace: &Trace,
-    records: &[Record],
-) -> Result<Option<usize>, AllocError>
-    requires { StoreStands task.now }
-    ensures { OnOk result (Extends task.now known.old.items known.new.items) }
-{
-    let mut last = None;
-    for record in records {
-        last = push_record(task, known, places, trace, *record)?;
-        let Some(at) = last else {
-            return Ok(None);
-        };
-        places.of_records.push(at)?;
-    }
-    Ok(last)
-}
-
 /// Derives what the records of a trace say, one after the other, and answers the place of the last one's line,
 /// if each says something.
 pub(crate) fn push_records(
@@ -368,7 +346,15 @@ pub(crate) fn push_records(
     requires { StoreStands task.now }
     ensures { OnOk result (Extends task.now known.old.items known.new.items) }
 {
-    push_some(task, known, places, trace, &trace.records)
+    let mut last = None;
+    for record in trace.records.as_slice() {
+        last = push_record(task, known, places, trace, *record)?;
+        let Some(at) = last else {
+            return Ok(None);
+        };
+        places.of_records.push(at)?;
+    }
+    Ok(last)
 }
 
 // ---- the trace
@@ -443,7 +429,7 @@ pub(crate) fn is_short(trace: &Trace) -> bool {
 }
 
 /// The records of a trace before one that follows by later steps than the first ones.
-fn first_records(trace: &Trace) -> &[Record] {
+pub(crate) fn first_records(trace: &Trace) -> &[Record] {
     let records = trace.records.as_slice();
     for at in 0..records.len() {
         if let Record::Follows { end, .. } = records[at] {
@@ -460,29 +446,37 @@ pub(crate) fn replay_learnt(task: &Task<'_>, trace: &Trace) -> Result<ReplayedLe
     requires { StoreStands task.now }
     ensures { IfOk result (λ replayed. AreLines task.now.registry.now.packages task.now.request.now replayed.known.items) }
 {
-    replay_some(task, trace, &trace.records)
+    replay_in_room(task, trace, terms_room(trace))
 }
 
-/// Derives again what the first records of a trace say.
-pub(crate) fn replay_first(task: &Task<'_>, trace: &Trace) -> Result<ReplayedLearnt, AllocError>
-    requires { StoreStands task.now }
-    ensures { IfOk result (λ replayed. AreLines task.now.registry.now.packages task.now.request.now replayed.known.items) }
-{
-    replay_some(task, trace, first_records(trace))
-}
-
-/// Derives again what some records of a trace say.
-fn replay_some(
+/// Derives again what the marked records of the trace of a refusal say. What they rest on is marked too.
+pub(crate) fn replay_marked(
     task: &Task<'_>,
     trace: &Trace,
-    records: &[Record],
+    marks: &[bool],
 ) -> Result<ReplayedLearnt, AllocError>
     requires { StoreStands task.now }
     ensures { IfOk result (λ replayed. AreLines task.now.registry.now.packages task.now.request.now replayed.known.items) }
 {
-    let mut places = Places::of_selection(task.alloc, trace);
-    let mut search = begin(task, records.len())?;
-    let said = push_some(task, &mut search.known, &mut places, trace, records);
+    let room = if is_short(trace) {
+        usize::MAX
+    } else {
+        terms_room(trace)
+    };
+    let part = part_of(task.alloc, trace, marks)?;
+    let replayed = replay_in_room(task, &part, room);
+    drop(part);
+    replayed
+}
+
+/// Derives again what a trace says, with room for so many terms.
+fn replay_in_room(task: &Task<'_>, trace: &Trace, room: usize) -> Result<ReplayedLearnt, AllocError>
+    requires { StoreStands task.now }
+    ensures { IfOk result (λ replayed. AreLines task.now.registry.now.packages task.now.request.now replayed.known.items) }
+{
+    let mut places = Places::with_room(task.alloc, room);
+    let mut search = begin(task, trace.records.len())?;
+    let said = push_records(task, &mut search.known, &mut places, trace);
     let Search { partial, known, .. } = search;
     let Places {
         of_records,

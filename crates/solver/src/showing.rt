@@ -3,7 +3,7 @@
 // Nothing that it says is believed: each fact is made anew as a line, and each conclusion follows by a chain from what
 // was shown before it.
 
-ghost use Rattle.std.specs.Prelude.{◌≡◌, ◌∷◌, ◌++◌, [], true, IfOk, OnOk};
+ghost use Rattle.std.specs.Prelude.{◌≡◌, ◌∷◌, ◌++◌, [], true, IfOk, IfSome, OnOk};
 ghost use Rattle.derivations.specs.Derivations.{IsRefuted};
 ghost use Rattle.registry.specs.Registry.{Packages};
 ghost use Rattle.registry.specs.Requests.{Wanted};
@@ -13,12 +13,14 @@ ghost use Rattle.solver.specs.Reusing.{StoreStands};
 ghost use Rattle.solver.specs.Searching.{Searches};
 ghost use Rattle.solver.specs.Showing.{AreConcluded};
 
-use crate::replaying::push_fact_of;
+use crate::line_counts::LineCounts;
+use crate::novelty::{Learnable, Shown, find_learnable};
+use crate::replaying::{first_records, push_fact_of};
 use crate::reusing::member_of;
 use crate::search::Search;
 use crate::starting::begin;
 use crate::task::Task;
-use chains::{Chain, Conclusion, Place, Stop, shown_refutes};
+use chains::{Chain, Conclusion, Place, Stop, Stronger, shown_refutes, terms_at};
 use derivations::{CausedIncompatibility, ROOT};
 use engine::{Record, Step, Trace};
 use heuristics::Sharing;
@@ -31,6 +33,8 @@ pub(crate) struct Showing {
     pub conclusions: Vec<Conclusion>,
     /// By record, where it is shown.
     pub places: Vec<Place>,
+    /// How many lines would derive that, where they are counted.
+    counts: Option<LineCounts>,
     /// How many terms the conclusions may have together that are still to be made.
     room: usize,
     sharing: Sharing,
@@ -46,6 +50,7 @@ impl Showing {
             chain: Chain::new(task.alloc, task.registry.packages().saturating_add(1))?,
             conclusions: Vec::new(task.alloc),
             places: Vec::new(task.alloc),
+            counts: None,
             room,
             sharing: Sharing::new(task.alloc),
         })
@@ -66,6 +71,61 @@ impl Showing {
     }
 }
 
+/// Resolves what a chain shows so far with what is shown at a place, as lines would be resolved: where one of both says
+/// what would follow, that one is left. It is counted as lines would be.
+fn step_as_lines(
+    alloc: Global,
+    known: &[CausedIncompatibility],
+    made: &[Conclusion],
+    chain: &mut Chain,
+    counts: &mut LineCounts,
+    with: Place,
+    step: &Step,
+) -> Result<(), Stop>
+    ensures { (packages : Packages) (wanted : Wanted) → AreShown packages wanted known.now made.now → IsShown packages wanted chain.old.table → OnOk result (IsShown packages wanted chain.new.table) }
+{
+    let Some(cause) = terms_at(known, made, with) else {
+        return Err(Stop::Unknown);
+    };
+    match chain.stronger(cause, step.on) {
+        Stronger::Chain => Ok(()),
+        Stronger::Cause => {
+            counts.begin_from(step.with)?;
+            chain.start(alloc, known, made, with)
+        }
+        Stronger::Neither => {
+            if counts.is_first_asked(step.with) {
+                counts.keep_source(chain.conclusion(alloc)?);
+            }
+            counts.step(step.with)?;
+            chain.resolve(alloc, known, made, with, step.on)
+        }
+    }
+}
+
+/// Resolves what a chain shows so far by a step.
+fn take_step(
+    alloc: Global,
+    known: &[CausedIncompatibility],
+    made: &[Conclusion],
+    places: &[Place],
+    chain: &mut Chain,
+    counts: &mut Option<LineCounts>,
+    step: &Step,
+) -> Result<(), Stop>
+    ensures { (packages : Packages) (wanted : Wanted) → AreShown packages wanted known.now made.now → IsShown packages wanted chain.old.table → OnOk result (IsShown packages wanted chain.new.table) }
+{
+    let Some(with) = places.get(step.with as usize).copied() else {
+        return Err(Stop::Unknown);
+    };
+    match counts {
+        Some(counts) if counts.is_open() => {
+            step_as_lines(alloc, known, made, chain, counts, with, step)
+        }
+        Some(_) | None => chain.resolve(alloc, known, made, with, step.on),
+    }
+}
+
 /// What follows from a place by some steps.
 fn follow(
     alloc: Global,
@@ -73,6 +133,7 @@ fn follow(
     made: &[Conclusion],
     places: &[Place],
     chain: &mut Chain,
+    counts: &mut Option<LineCounts>,
     from: Place,
     steps: &[Step],
 ) -> Result<Conclusion, Stop>
@@ -80,12 +141,29 @@ fn follow(
 {
     chain.start(alloc, known, made, from)?;
     for step in steps {
-        let Some(with) = places.get(step.with as usize).copied() else {
-            return Err(Stop::Unknown);
-        };
-        chain.resolve(alloc, known, made, with, step.on)?;
+        take_step(alloc, known, made, places, chain, counts, step)?;
     }
     Ok(chain.conclusion(alloc)?)
+}
+
+/// Begins to count the lines that would derive a record, where they are counted.
+fn begin_count(
+    task: &Task<'_>,
+    counts: &mut Option<LineCounts>,
+    record: Record,
+) -> Result<(), AllocError> {
+    match counts {
+        None => Ok(()),
+        Some(counts) => counts.begin_record(task, record),
+    }
+}
+
+/// Ends what is counted of a record, where that is counted.
+fn end_count(counts: &mut Option<LineCounts>) -> Result<(), AllocError> {
+    match counts {
+        None => Ok(()),
+        Some(counts) => counts.end(),
+    }
 }
 
 /// Shows what follows from a record by some steps, and answers its place, if that record is shown.
@@ -111,6 +189,7 @@ fn show_steps(
         made,
         places,
         &mut showing.chain,
+        &mut showing.counts,
         first,
         steps,
     )?;
@@ -177,11 +256,13 @@ pub(crate) fn show_records(
 {
     let mut last = None;
     for record in trace.records.as_slice() {
+        begin_count(task, &mut showing.counts, *record)?;
         last = show_record(task, search, showing, trace, *record)?;
         let Some(place) = last else {
             return Ok(None);
         };
         showing.places.push(place)?;
+        end_count(&mut showing.counts)?;
     }
     Ok(last)
 }
@@ -203,43 +284,70 @@ fn is_end(
     Ok(end.terms().is_empty())
 }
 
-/// Whether a trace shows behind the root's line that no selection meets the request.
-fn is_shown_in(
+/// What may be learnt of what is shown of a trace.
+fn learnable_of(
+    task: &Task<'_>,
+    search: &Search,
+    showing: &Showing,
+    trace: &Trace,
+) -> Result<Learnable, AllocError> {
+    let Some(counts) = &showing.counts else {
+        return Ok(Learnable::Unknown);
+    };
+    let shown = Shown {
+        known: &search.known,
+        made: &showing.conclusions,
+        places: &showing.places,
+        counts,
+    };
+    find_learnable(task, &shown, trace)
+}
+
+/// Whether a trace shows behind the root's line that no selection meets the request; if it does, what may be learnt of
+/// it.
+fn show_refusal_in(
     task: &Task<'_>,
     search: &mut Search,
     showing: &mut Showing,
     trace: &Trace,
-) -> Result<bool, Stop>
+) -> Result<Option<Learnable>, Stop>
     requires search { Searches task.now search.old }
     requires stored { StoreStands task.now }
     requires shown { AreConcluded task.now showing.old }
-    ensures { IfOk result (λ yes. yes ≡ true → IsRefuted task.now.registry.now.packages task.now.request.now) }
+    ensures { IfOk result (λ shown. IfSome shown (λ _. IsRefuted task.now.registry.now.packages task.now.request.now)) }
 {
     let Some(last) = show_records(task, search, showing, trace)? else {
-        return Ok(false);
+        return Ok(None);
     };
-    is_end(
+    if !is_end(
         task.alloc,
         &search.known,
         &showing.conclusions,
         &mut showing.chain,
         last,
-    )
+    )? {
+        return Ok(None);
+    }
+    Ok(Some(learnable_of(task, search, showing, trace)?))
 }
 
-/// Whether chains show by a trace that no selection meets the request. Where they don't, nothing is said.
-pub(crate) fn is_shown(task: &Task<'_>, trace: &Trace) -> Result<bool, AllocError>
+/// Whether chains show by a trace that no selection meets the request; if they do, what may be learnt of it. Where they
+/// don't, nothing is said.
+pub(crate) fn show_refusal(task: &Task<'_>, trace: &Trace) -> Result<Option<Learnable>, AllocError>
     requires { StoreStands task.now }
-    ensures { IfOk result (λ yes. yes ≡ true → IsRefuted task.now.registry.now.packages task.now.request.now) }
+    ensures { IfOk result (λ shown. IfSome shown (λ _. IsRefuted task.now.registry.now.packages task.now.request.now)) }
 {
     let mut showing = Showing::new(task, usize::MAX)?;
-    let mut search = begin(task, 8)?;
-    let shown = is_shown_in(task, &mut search, &mut showing, trace);
+    let counted = first_records(trace).len();
+    showing.counts = Some(LineCounts::new(task.alloc, counted));
+    // Facts alone become lines.
+    let mut search = begin(task, trace.records.len() / 2)?;
+    let shown = show_refusal_in(task, &mut search, &mut showing, trace);
     drop(search);
     drop(showing);
     match shown {
-        Ok(yes) => Ok(yes),
+        Ok(found) => Ok(found),
         Err(Stop::NoMemory) => Err(AllocError),
-        Err(Stop::Unknown) => Ok(false),
+        Err(Stop::Unknown) => Ok(None),
     }
 }

@@ -24,10 +24,12 @@ use crate::turns::{Ended, run};
 use crate::validating::{validate, validate_choice};
 use crate::worklist::Worklist;
 use derivations::{Derivation, Learnt, kept_lines_refute};
+use engine::Workspace;
 use extraction::extract_derivation;
 use heuristics::{Obstacle, Question};
 use registry::{Registry, Request, ordinals_are_below_the_count};
 use std::alloc::{AllocError, Global};
+use std::mem;
 use store::Store;
 use terms::Pkg;
 use versions::{Name, Published, Refusal};
@@ -78,7 +80,7 @@ fn named_all(
     requires selection { IsSelection registry.now.packages (choice_of list.now) }
     ensures { IfOk result (λ pairs. pairs.items ≡ map (told registry.now.packages) list.now) }
 {
-    let mut pairs = Vec::new(alloc);
+    let mut pairs = Vec::with_capacity(alloc, list.len())?;
     for chosen in list {
         pairs.push(named(registry, chosen)?)?;
     }
@@ -96,7 +98,7 @@ fn tell(
     ensures { IfOk result (λ pairs. Tells registry.now.packages (choice_of chosen.items) pairs.items) }
 {
     let mut list = chosen;
-    sort_by_name(registry, &mut list);
+    sort_by_name(alloc, registry, &mut list);
     Ok(named_all(alloc, registry, &list)?)
 }
 
@@ -339,14 +341,42 @@ pub fn solve_with(
     ensures unspent { IfPreferredServes registry.now.packages request.now (λ s. IfErr result (λ e. e ≡ Refusal.NoMemory)) }
     ensures only { IfErr result (MayStop registry.now.packages request.now options.budget) }
 {
+    let mut workspace = Workspace::new(alloc);
+    let outcome = solve_in(alloc, registry, request, store, options, &mut workspace);
+    drop(workspace);
+    outcome
+}
+
+/// As [`solve_with`], in the workspace of earlier calls, which asked this registry, before it grew or since. A hard request
+/// takes less time so. What is answered is the same, and so are the errors. After [`Refusal::NoMemory`] the workspace is empty.
+pub fn solve_in(
+    alloc: Global,
+    registry: &Registry,
+    request: &Request,
+    store: &Store,
+    options: Options,
+    workspace: &mut Workspace,
+) -> Result<Outcome, Refusal>
+    requires stored { All (AllStand registry.now.packages) store.now.members }
+    ensures lawful { IfOk result (IsLawful registry.now.packages request.now options.explain) }
+    ensures preferred { IfPreferredServes registry.now.packages request.now (λ s. IfOk result (Answers registry.now.packages s)) }
+    ensures newest { options.newest ≡ true → IfOk result (SelectsNewest registry.now.packages request.now) }
+    ensures unspent { IfPreferredServes registry.now.packages request.now (λ s. IfErr result (λ e. e ≡ Refusal.NoMemory)) }
+    ensures only { IfErr result (MayStop registry.now.packages request.now options.budget) }
+{
     let question = Question {
         alloc,
         registry,
         request,
     };
-    let mut oracle = EngineOracle::new(question, store, options.budget);
+    let taken = mem::replace(workspace, Workspace::new(alloc));
+    let mut oracle = EngineOracle::in_workspace(question, store, options.budget, taken);
     let outcome = solve_by(alloc, registry, request, store, options, &mut oracle);
-    drop(oracle);
+    *workspace = oracle.into_workspace();
+    if let Err(Refusal::NoMemory) = &outcome {
+        // Its memory is what the next request may lack.
+        *workspace = Workspace::new(alloc);
+    }
     outcome
 }
 

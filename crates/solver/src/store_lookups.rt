@@ -9,11 +9,11 @@ use store::Link;
 use terms::{Incompat, Pkg, VSet};
 
 /// The most members that are asked when something was settled of a package: the newest that name it.
-/// Half and twice of it were measured: docs/BENCHMARKS.md, Constants.
+/// Measured at half and at twice this value: docs/BENCHMARKS.md, Constants.
 const NEWEST: usize = 256;
 
 /// How many members more a search may ask for each of its lines.
-/// Half and twice of it were measured: docs/BENCHMARKS.md, Constants.
+/// Measured at half and at twice this value: docs/BENCHMARKS.md, Constants.
 const LOOKS_A_LINE: usize = 16;
 
 /// Which members of the store a search asked and used.

@@ -7,14 +7,15 @@ ghost use Rattle.solver.specs.Finding.{IsFirstAnswer, IsFound, IsValidated};
 ghost use Rattle.solver.specs.Reusing.{StoreStands};
 ghost use Rattle.solver.specs.Searching.{MayRefuse};
 
-use crate::by_chains::newest_by_chains;
+use crate::by_chains::{newest_by_chains, selects};
 use crate::found::{Found, found_of, suffices};
 use crate::greedy::selection_of;
+use crate::novelty::{Learnable, is_learnt_whole};
 use crate::offering::offered_of;
 use crate::oracle::Oracle;
 use crate::over_trace::search_over;
-use crate::replaying::{is_short, replay, replay_first, replay_learnt};
-use crate::showing::is_shown;
+use crate::replaying::{first_records, is_short, replay, replay_learnt, replay_marked};
+use crate::showing::show_refusal;
 use crate::task::Task;
 use crate::turns::Ended;
 use chains::Stop as Unshown;
@@ -81,30 +82,48 @@ fn found_with(task: &Task<'_>, list: Vec<(Pkg, u32)>, trace: &Trace) -> Found
 
 /// The newest selection, where one was found that is not seen to be it, with what may be learnt of the trace of that:
 /// the oracle searches on, and if its trace does not show that what it found is the newest, the search that is proved
-/// goes over the trace's lines. Nothing, if the trace can't be followed, or says too much to be kept.
+/// goes over the trace's lines. Nothing, if the trace can't be followed, or says too much to be kept. What was found first
+/// is given if it was looked at, so that it is not walked again if it is the newest.
 fn find_newest<O: Oracle>(
     task: &Task<'_>,
     oracle: &mut O,
-    room: usize,
+    decided: &IndexMap<Pkg, u32>,
+    first: Option<Vec<(Pkg, u32)>>,
     learnt: &Trace,
 ) -> Result<Option<Found>, Refusal>
-    requires { StoreStands task.now }
+    requires stored { StoreStands task.now }
+    requires first { IfSome first (λ list. IsFirstAnswer task.now list.items) }
     ensures found { IfOk result (IsValidated task.now) }
     ensures only { IfErr result (MayRefuse task.now.budget) }
 {
+    let room = decided.len();
     match oracle.search_newest() {
         Err(stop) => stopped(task, stop),
-        Ok(trace) => match newest_by_chains(task, &trace) {
-            Ok(Some(list)) => Ok(Some(found_with(task, list, learnt))),
-            Ok(None) => {
-                let conflicts = oracle.conflicts();
-                Ok(Some(search_over(task, &trace, room, conflicts)?))
+        Ok(trace) => {
+            let same = if first.is_some() && selects(&trace, decided) {
+                first
+            } else {
+                None
+            };
+            match newest_by_chains(task, &trace, same) {
+                Ok(Some(list)) => Ok(Some(found_with(task, list, learnt))),
+                Ok(None) => {
+                    let conflicts = oracle.conflicts();
+                    Ok(Some(search_over(task, &trace, room, conflicts)?))
+                }
+                // It would take as much memory to search over it.
+                Err(Unshown::Unknown) => Ok(None),
+                Err(Unshown::NoMemory) => Err(Refusal::NoMemory),
             }
-            // It would take as much memory to search over it.
-            Err(Unshown::Unknown) => Ok(None),
-            Err(Unshown::NoMemory) => Err(Refusal::NoMemory),
-        },
+        }
     }
+}
+
+/// Whether a selection that was found after so many conflicts is looked at without a search. After conflicts that seldom
+/// shows it to be the newest: never in the workloads `sat` and `stairs`. Under a budget the search for the newest would
+/// count more of them.
+fn is_looked_at(task: &Task<'_>, conflicts: u32) -> bool {
+    !task.newest || task.budget.is_some() || conflicts == 0
 }
 
 /// What is right of a selection: that one, if it is what is asked for, else the newest.
@@ -118,22 +137,44 @@ fn validate_selection<O: Oracle>(
     ensures found { IfOk result (IsValidated task.now) }
     ensures only { IfErr result (MayRefuse task.now.budget) }
 {
+    if !is_looked_at(task, oracle.conflicts()) {
+        return find_newest(task, oracle, decided, None, trace);
+    }
     let Some(list) = selection_by(task, decided)? else {
         return Ok(None);
     };
     if suffices(task, &list)? {
         return Ok(Some(found_with(task, list, trace)));
     }
-    find_newest(task, oracle, list.len(), trace)
+    find_newest(task, oracle, decided, Some(list), trace)
 }
 
-/// What may be learnt of a trace by its first records; nothing for lack of memory.
+/// What may be learnt of the marked records of a trace; nothing for lack of memory. What they rest on is marked too.
+fn offered_of_marked(task: &Task<'_>, trace: &Trace, marks: &[bool]) -> Vec<Learnt>
+    requires { StoreStands task.now }
+    ensures { All (AllStand task.now.registry.now.packages) result.items }
+{
+    if !marks.contains(&true) {
+        return Vec::new(task.alloc);
+    }
+    match replay_marked(task, trace, marks) {
+        Ok(replayed) => offered_of(task, &replayed.known, &replayed.learnt, None),
+        Err(_) => Vec::new(task.alloc),
+    }
+}
+
+/// Marks of all the first records of a trace.
+fn first_marks(task: &Task<'_>, trace: &Trace) -> Result<Vec<bool>, AllocError> {
+    vec![in task.alloc; true; first_records(trace).len()]
+}
+
+/// What may be learnt of the first records of a trace; nothing for lack of memory.
 fn offered_first(task: &Task<'_>, trace: &Trace) -> Vec<Learnt>
     requires { StoreStands task.now }
     ensures { All (AllStand task.now.registry.now.packages) result.items }
 {
-    match replay_first(task, trace) {
-        Ok(replayed) => offered_of(task, &replayed.known, &replayed.learnt, None),
+    match first_marks(task, trace) {
+        Ok(marks) => offered_of_marked(task, trace, &marks),
         Err(_) => Vec::new(task.alloc),
     }
 }
@@ -155,14 +196,31 @@ fn refusal_by_lines(task: &Task<'_>, trace: &Trace) -> Result<Option<Found>, All
     Ok(Some(Found::Refused(replayed.known, replayed.end, offered)))
 }
 
-/// The refusal that a trace shows, if it does: by chains, where it has many steps and is not asked to be explained.
+/// Of which records of a trace lines are made for what may be learnt, where no line is made for the rest.
+fn marks_of(
+    task: &Task<'_>,
+    trace: &Trace,
+    learnable: Learnable,
+) -> Result<Option<Vec<bool>>, AllocError> {
+    match learnable {
+        Learnable::Marked(marks) => Ok(Some(marks)),
+        Learnable::Unknown if is_short(trace) => Ok(None),
+        Learnable::Unknown => Ok(Some(first_marks(task, trace)?)),
+    }
+}
+
+/// The refusal that a trace shows, if it does. Where it is not asked to be explained it is shown by chains, and lines
+/// are made of what may be learnt alone, if that is known.
 fn validate_refusal(task: &Task<'_>, trace: &Trace) -> Result<Option<Found>, AllocError>
     requires { StoreStands task.now }
     ensures { IfOk result (IsValidated task.now) }
 {
-    if !task.explain && !is_short(trace) {
-        if is_shown(task, trace)? {
-            return Ok(Some(Found::Unexplained(offered_first(task, trace))));
+    if !task.explain && !is_learnt_whole(task, trace) {
+        if let Some(learnable) = show_refusal(task, trace)? {
+            if let Some(marks) = marks_of(task, trace, learnable)? {
+                let offered = offered_of_marked(task, trace, &marks);
+                return Ok(Some(Found::Unexplained(offered)));
+            }
         }
     }
     refusal_by_lines(task, trace)

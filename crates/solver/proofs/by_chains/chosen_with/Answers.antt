@@ -9,4 +9,4 @@ pub returns-then-on-pkg : goal.returns-then-on-pkg
 returns-then-on-pkg c = own-with c.args.before.now.entries c.args.pkg c.args.ordinal c.args.on c.if-on-eq-ROOT.false c.if-on-pkg.true
 
 pub returns : goal.returns
-returns c = earlier-with c.args.before.now.entries c.args.pkg c.args.ordinal c.args.on c.if-on-eq-ROOT.false c.copied.result (search rules)
+returns c = earlier-with c.args.before.now.entries c.args.pkg c.args.ordinal c.args.on c.if-on-eq-ROOT.false c.get.result (search rules)

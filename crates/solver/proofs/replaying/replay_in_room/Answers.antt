@@ -1,5 +1,5 @@
 use Rattle.std.proofs.lemmas.Result.{IfOk-from_err}
-use Rattle.solver.proofs.replaying.replay_some.Goals as goal
+use Rattle.solver.proofs.replaying.replay_in_room.Goals as goal
 
 -- where memory is refused
 

@@ -1,5 +1,5 @@
 use Rattle.std.proofs.lemmas.Result.{IfOk-from_err}
-use Rattle.solver.proofs.replaying.push_some.Goals as goal
+use Rattle.solver.proofs.replaying.push_records.Goals as goal
 
 pub loop-record-init : goal.loop-record-init
 loop-record-init c made search = search
