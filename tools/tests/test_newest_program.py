@@ -3,6 +3,7 @@ asked what before, the same. Each judge is shown to find what answers otherwise:
 import json
 import os
 import sys
+import tempfile
 import unittest
 from unittest import mock
 
@@ -104,6 +105,29 @@ class Properties(unittest.TestCase):
     def test_any_selection_is_lawful(self):
         self.assertEqual(newest_properties.lawful(SEEDS, any_selection), [])
         self.assertGreater(len(newest_properties.lawful(SEEDS[:40], Changed(one_less))), 0)
+
+
+class TakenBack(unittest.TestCase):
+    """Packages of each of which the newest version is taken back: the engine learns that of each, unless there are more than 32 and no budget."""
+
+    @staticmethod
+    def resolved(count, **members):
+        """What is selected of so many packages, and how many incompatibilities were learnt by then."""
+        lines, (request,) = workloads.dead_ends(count)
+        lines.append(json.dumps({**json.loads(request), **members}))
+        with tempfile.TemporaryDirectory() as folder:
+            journal = os.path.join(folder, "saved.journal")
+            done = run(["serve", "--workers", "1", "--save", journal], "".join(f"{line}\n" for line in lines).encode())
+            assert (done.returncode, done.stderr) == (0, b""), (done.returncode, done.stderr)
+            with open(journal, encoding="utf-8") as kept:
+                learnt = sum('"derivation"' in line for line in kept)
+        return json.loads(done.stdout.splitlines()[-1])["selected"], learnt
+
+    def test_what_is_learnt(self):
+        for count, members, learnt in ((1, {}, 1), (32, {}, 32), (33, {}, 0), (33, {"budget": 33}, 33), (64, {}, 0), (64, {"budget": 1_000}, 64)):
+            with self.subTest(count=count, **members):
+                older = [[f"d{number:05}", "1.0.0"] for number in range(count)]
+                self.assertEqual(self.resolved(count, **members), (older, learnt))
 
 
 if __name__ == "__main__":

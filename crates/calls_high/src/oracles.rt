@@ -1,6 +1,6 @@
 //! Oracles that lose or lie, so that rows show that no answer depends on what an oracle says.
 
-use engine::{Engine, Found, Stop, Trace};
+use engine::{Engine, Found, Stop, Trace, Workspace};
 use heuristics::Question;
 use indexmap::IndexMap;
 use rows::{Unread, text_at};
@@ -93,7 +93,7 @@ impl<'a> Liar<'a> {
     pub fn new(question: Question<'a>, store: &'a Store, lie: Lie) -> Liar<'a> {
         Liar {
             alloc: question.alloc,
-            engine: Engine::new(&question, store, None),
+            engine: Engine::new(&question, store, None, Workspace::new(question.alloc)),
             lie,
             first: Vec::new(question.alloc),
         }

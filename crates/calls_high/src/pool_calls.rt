@@ -9,7 +9,7 @@ use pool::{
 use registry::Registry;
 use rows::{AnswerText, CallResult, Shows, Unread, items, member, request_at, size_at, whole_at};
 use serde_json::Value;
-use solver::Outcome;
+use solver::{Outcome, Workspace};
 use std::alloc::{AllocError, Global};
 use std::sync::Wait;
 use std::thread::Threads;
@@ -107,7 +107,18 @@ fn handed_over<R: Threads + Wait + Sync>(
         taken: Vec::new(alloc),
     };
     let store = Store::new(alloc);
-    let all = answer_in_order(rt, alloc, registry, &store, &requests, workers, &mut first);
+    let mut workspace = Workspace::new(alloc);
+    let all = answer_in_order(
+        rt,
+        alloc,
+        registry,
+        &store,
+        &requests,
+        workers,
+        &mut workspace,
+        &mut first,
+    );
+    drop(workspace);
     drop(store);
     drop(requests);
     let First { count: _, taken } = first;

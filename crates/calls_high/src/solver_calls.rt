@@ -1,5 +1,8 @@
 //! Calls of the solver.
 
+ghost use Rattle.std.specs.Prelude.{All};
+ghost use Rattle.derivations.specs.Learning.{AllStand};
+
 use crate::oracles::{Liar, Lie, lie_at};
 use crate::outcomes::{budget_at, offered, options_at, put_outcome};
 use derivations::{Learnt, check};
@@ -7,7 +10,7 @@ use heuristics::Question;
 use registry::{Registry, Request};
 use rows::{AnswerText, CallResult, Shows, Unread, request_at, shown};
 use serde_json::Value;
-use solver::{Options, Outcome, solve, solve_by, solve_with, solve_within};
+use solver::{Options, Outcome, Workspace, solve, solve_by, solve_in, solve_with, solve_within};
 use std::alloc::Global;
 use store::Store;
 use versions::Refusal;
@@ -34,6 +37,9 @@ fn answered(
 ) -> Result<CallResult, Unread> {
     if name == "solve_with" {
         return solved_with(alloc, registry, request, options_at(row)?);
+    }
+    if name == "solve_in" {
+        return solved_again(alloc, registry, request, options_at(row)?);
     }
     if name == "solve_by" {
         return solved_by(alloc, registry, request, options_at(row)?, lie_at(row)?);
@@ -106,6 +112,36 @@ fn solved_with(
     let outcome = solve_with(alloc, registry, request, &store, options);
     drop(store);
     conclusions_told(alloc, outcome?)
+}
+
+/// As [`solved_with`], in the workspace in which it was asked before.
+fn solved_again(
+    alloc: Global,
+    registry: &Registry,
+    request: &Request,
+    options: Options,
+) -> Result<CallResult, Unread> {
+    let store = Store::new(alloc);
+    let mut workspace = Workspace::new(alloc);
+    let outcome = asked_twice(alloc, registry, request, &store, options, &mut workspace);
+    drop(workspace);
+    drop(store);
+    conclusions_told(alloc, outcome?)
+}
+
+fn asked_twice(
+    alloc: Global,
+    registry: &Registry,
+    request: &Request,
+    store: &Store,
+    options: Options,
+    workspace: &mut Workspace,
+) -> Result<Outcome, Refusal>
+    requires { All (AllStand registry.now.packages) store.now.members }
+{
+    let first = solve_in(alloc, registry, request, store, options, workspace)?;
+    drop(first);
+    solve_in(alloc, registry, request, store, options, workspace)
 }
 
 fn conclusions_told(alloc: Global, outcome: Outcome) -> Result<CallResult, Unread> {

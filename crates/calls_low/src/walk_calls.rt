@@ -5,7 +5,6 @@ ghost use Rattle.std.specs.BTreeMap.{get};
 ghost use Rattle.std.specs.Prelude.{OnOk};
 ghost use Rattle.walk.specs.Listing.{IsOrder};
 
-use indexmap::IndexMap;
 use registry::{Pkg, Registry, Request};
 use rows::{AnswerText, CallResult, Given, Shows, Unread, items, member, request_at, whole_at};
 use serde_json::Value;
@@ -13,9 +12,9 @@ use std::alloc::Global;
 use std::collections::BTreeMap;
 use versions::{Name, Need, Published};
 use walk::{
-    Asker, Chooser, Evidence, NextPackage, Order, Preferred, Reached, WalkListing, choose_newest,
-    is_newest_by, is_plainly_newest, list_in_order, locked_ordinal, preferred_version, reach,
-    reach_preferred, sort_by_name,
+    Asker, ChoiceMap, Chooser, Evidence, NextPackage, Order, Preferred, Reached, WalkListing,
+    choose_newest, is_newest_by, is_plainly_newest, list_in_order, locked_ordinal,
+    preferred_version, reach, reach_preferred, sort_by_name,
 };
 
 pub fn walk_call(
@@ -125,7 +124,7 @@ fn walked<C: Chooser>(
 ) -> Result<CallResult, Unread> {
     match reach(alloc, registry, request, chooser)? {
         Reached::Selection(mut list) => {
-            sort_by_name(registry, &mut list);
+            sort_by_name(alloc, registry, &mut list);
             selected(alloc, registry, &list)
         }
         Reached::Unmet(asker, index) => unmet(alloc, registry, request, asker, index),
@@ -140,7 +139,7 @@ fn reach_by_itself(
 ) -> Result<CallResult, Unread> {
     match reach_preferred(alloc, registry, request)? {
         Reached::Selection(mut list) => {
-            sort_by_name(registry, &mut list);
+            sort_by_name(alloc, registry, &mut list);
             selected(alloc, registry, &list)
         }
         Reached::Unmet(asker, index) => unmet(alloc, registry, request, asker, index),
@@ -247,7 +246,7 @@ fn chosen_newest(
     match choose_newest(alloc, registry, request)? {
         Some(choice) => {
             let mut list = choice.list;
-            sort_by_name(registry, &mut list);
+            sort_by_name(alloc, registry, &mut list);
             selected(alloc, registry, &list)
         }
         None => {
@@ -265,7 +264,7 @@ struct NoEvidence;
 impl Evidence for NoEvidence {
     ghost shows = { λ evidence before p j. ⊥ };
 
-    fn rules_out(&self, _before: &IndexMap<Pkg, u32>, _pkg: Pkg, _ordinal: u32) -> bool {
+    fn rules_out(&self, _before: &ChoiceMap, _pkg: Pkg, _ordinal: u32) -> bool {
         false
     }
 }

@@ -7,6 +7,7 @@ use crate::gate::Gate;
 use crate::jobs::{Jobs, Taker};
 use crate::query::{Answered, Query};
 use crate::work::Finder;
+use solver::Workspace;
 use std::sync::{Condvar, Mutex, Wait};
 use std::thread;
 use std::thread::Threads;
@@ -25,6 +26,7 @@ pub(crate) struct Ahead<'a, G, Q: Query> {
 }
 
 impl<'a, G: Gate, Q: Query> Ahead<'a, G, Q> {
+    /// No thread searches yet. Each wakes the calling one after a share of answers.
     pub(crate) fn new(finder: Finder<'a, G, Q>, share: usize, board: Board<Q>) -> Ahead<'a, G, Q> {
         Ahead {
             finder,
@@ -48,8 +50,9 @@ impl<'a, G: Gate, Q: Query> Ahead<'a, G, Q> {
         requires own { IsTakerOf jobs.now taker.old }
     {
         self.sit(rt);
+        let mut workspace = Workspace::new(self.finder.alloc());
         for _ in rt.forever() {
-            if !self.search_some(rt, jobs, taker) {
+            if !self.search_some(rt, jobs, taker, &mut workspace) {
                 return self.leave(rt);
             }
             self.wake(rt);
@@ -64,7 +67,13 @@ impl<'a, G: Gate, Q: Query> Ahead<'a, G, Q> {
     }
 
     /// Takes a share of the requests and searches for them. Answers whether any may be left.
-    fn search_some<R: Wait>(&self, rt: &R, jobs: &Jobs, taker: &mut Taker) -> bool
+    fn search_some<R: Wait>(
+        &self,
+        rt: &R,
+        jobs: &Jobs,
+        taker: &mut Taker,
+        workspace: &mut Workspace,
+    ) -> bool
         requires jobs { jobs.now.count ≡ length Q.asked }
         requires own { IsTakerOf jobs.now taker.old }
         ensures { IsTakerOf jobs.now taker.new }
@@ -73,7 +82,7 @@ impl<'a, G: Gate, Q: Query> Ahead<'a, G, Q> {
             let Some(index) = jobs.take(rt, taker) else {
                 return false;
             };
-            let found = self.find(rt, index);
+            let found = self.find(rt, index, workspace);
             self.board.lock(rt).put(found);
         }
         true
@@ -81,17 +90,17 @@ impl<'a, G: Gate, Q: Query> Ahead<'a, G, Q> {
 
     /// What is found of the request at an index. Where that takes longer, the calling thread is woken before, if what
     /// it waits for is there.
-    fn find<R: Wait>(&self, rt: &R, index: usize) -> Answered<Q>
+    fn find<R: Wait>(&self, rt: &R, index: usize, workspace: &mut Workspace) -> Answered<Q>
         requires { index < length Q.asked }
         ensures { result ≡ index }
     {
         if self.share > 1 {
-            if let Some(found) = self.find_soon(index) {
+            if let Some(found) = self.try_find(index, workspace) {
                 return found;
             }
             self.wake(rt);
         }
-        self.find_here(index)
+        self.find_here(index, workspace)
     }
 
     /// Wakes the calling thread, if what it waits for is there.
@@ -102,19 +111,19 @@ impl<'a, G: Gate, Q: Query> Ahead<'a, G, Q> {
     }
 
     /// The answer to the request at an index, if few conflicts stand in its way.
-    pub(crate) fn find_soon(&self, index: usize) -> Option<Answered<Q>>
+    pub(crate) fn try_find(&self, index: usize, workspace: &mut Workspace) -> Option<Answered<Q>>
         requires { index < length Q.asked }
         ensures { IfSome result (λ answered. answered ≡ index) }
     {
-        self.finder.find_soon(index)
+        self.finder.try_find(index, workspace)
     }
 
     /// The answer to the request at an index.
-    pub(crate) fn find_here(&self, index: usize) -> Answered<Q>
+    pub(crate) fn find_here(&self, index: usize, workspace: &mut Workspace) -> Answered<Q>
         requires { index < length Q.asked }
         ensures { result ≡ index }
     {
-        self.finder.find(index)
+        self.finder.find(index, workspace)
     }
 
     /// The answer to the request at an index, if it was found and not taken yet.
@@ -167,6 +176,7 @@ pub(crate) struct Own<'a> {
 }
 
 impl<'a> Own<'a> {
+    /// A taker of this queue.
     pub(crate) fn new(jobs: &'a Jobs, taker: Taker) -> Own<'a>
         requires { IsTakerOf jobs.now taker }
     {
@@ -208,6 +218,7 @@ pub(crate) fn search_all<Q: Query + Send + Sync, G: Gate + Sync, R: Threads + Wa
     search_by(rt, ahead, jobs, takers.as_mut_slice());
 }
 
+/// As [`search_all`], over the slice of the takers.
 fn search_by<Q: Query + Send + Sync, G: Gate + Sync, R: Threads + Wait + Sync>(
     rt: &R,
     ahead: &Ahead<'_, G, Q>,

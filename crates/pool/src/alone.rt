@@ -7,7 +7,7 @@ ghost use Rattle.pool.specs.Answering.{IsAnswerTo};
 use crate::query::{Answered, Query};
 use crate::work::{Finder, RequestWithOptions, SolveResult, answer};
 use registry::Registry;
-use solver::{Options, Outcome, solve_with};
+use solver::{Options, Outcome, Workspace, solve_in};
 use std::alloc::Global;
 use store::Store;
 use versions::Refusal;
@@ -17,16 +17,16 @@ pub const THREAD: usize = 64;
 
 /// How much there was to do for a refusal that is not shown and led to nothing that may be learnt: as much as
 /// for one by a few lines.
-/// Half and twice of it were measured: docs/BENCHMARKS.md, Constants.
+/// Measured at half and at twice this value: docs/BENCHMARKS.md, Constants.
 const REFUSED: usize = 4;
 
 /// With how many conflicts a request is still answered before any thread is started.
-/// Half and twice of it were measured: docs/BENCHMARKS.md, Constants.
+/// Measured at half and at twice this value: docs/BENCHMARKS.md, Constants.
 const CONFLICTS_WITHOUT_THREADS: u32 = 8;
 
 /// The most effort after which a thread wakes the calling one, in the packages and lines that answers have, where each
 /// request takes little.
-/// Half and twice of it were measured: docs/BENCHMARKS.md, Constants.
+/// Measured at half and at twice this value: docs/BENCHMARKS.md, Constants.
 const SHARE: usize = 128;
 
 /// By how many threads requests are to be answered, and after how many of them each is to wake the calling one.
@@ -43,6 +43,7 @@ pub(crate) fn begin<G, Q: Query>(
     finder: &Finder<'_, G, Q>,
     workers: usize,
     slots: &mut Vec<Option<Answered<Q>>>,
+    workspace: &mut Workspace,
 ) -> Pace
     requires { AreFirst (length Q.asked) slots.old }
     ensures { AreFirst (length Q.asked) slots.new }
@@ -53,7 +54,7 @@ pub(crate) fn begin<G, Q: Query>(
             share: 1,
         };
     }
-    let effort = answer_first(finder, slots);
+    let effort = answer_first(finder, slots, workspace);
     let others = finder.count() - slots.len();
     Pace {
         threads: workers.min(threads_for(effort, slots.len(), others)),
@@ -66,6 +67,7 @@ pub(crate) fn begin<G, Q: Query>(
 fn answer_first<G, Q: Query>(
     finder: &Finder<'_, G, Q>,
     slots: &mut Vec<Option<Answered<Q>>>,
+    workspace: &mut Workspace,
 ) -> usize
     requires { AreFirst (length Q.asked) slots.old }
     ensures { AreFirst (length Q.asked) slots.new }
@@ -75,7 +77,7 @@ fn answer_first<G, Q: Query>(
         if effort >= THREAD {
             break;
         }
-        let Some(found) = finder.find_soon(index) else {
+        let Some(found) = finder.try_find(index, workspace) else {
             return usize::MAX;
         };
         effort = effort.saturating_add(effort_of(found.answer()));
@@ -86,11 +88,12 @@ fn answer_first<G, Q: Query>(
 
 /// The answer to a request, unless more than [`CONFLICTS_WITHOUT_THREADS`] conflicts stand in its way. Where no
 /// memory was left for it, it is [`Refusal::NoMemory`].
-pub fn answer_soon(
+pub fn try_answer(
     alloc: Global,
     registry: &Registry,
     store: &Store,
     asked: &RequestWithOptions,
+    workspace: &mut Workspace,
 ) -> Option<SolveResult>
     requires { All (AllStand registry.now.packages) store.now.members }
     ensures { IfSome result (IsAnswerTo registry.now.packages asked.now) }
@@ -100,14 +103,14 @@ pub fn answer_soon(
         .budget
         .is_some_and(|budget| budget <= CONFLICTS_WITHOUT_THREADS)
     {
-        return Some(answer(alloc, registry, store, asked));
+        return Some(answer(alloc, registry, store, asked, workspace));
     }
     let few = Options {
         budget: Some(CONFLICTS_WITHOUT_THREADS),
         explain: options.explain,
         newest: options.newest,
     };
-    match solve_with(alloc, registry, request, store, few) {
+    match solve_in(alloc, registry, request, store, few, workspace) {
         Ok(outcome) => Some(Ok(outcome)),
         Err(Refusal::NoMemory) => Some(Err(Refusal::NoMemory)),
         Err(_) => None,

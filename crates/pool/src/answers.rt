@@ -8,6 +8,7 @@ use crate::in_order::{Answers, Consumer, answer_in_order, start};
 use crate::query::Query;
 use crate::work::{RequestWithOptions, SolveResult, Work};
 use registry::Registry;
+use solver::Workspace;
 use std::alloc::{AllocError, Global};
 use std::marker::Brand;
 use std::sync::Wait;
@@ -58,7 +59,17 @@ pub fn answer_all<R: Threads + Wait + Sync>(
         count: requests.len(),
     };
     let asked = requests.as_slice();
-    answer_in_order(rt, alloc, registry, store, asked, workers, &mut all);
+    let mut workspace = Workspace::new(alloc);
+    answer_in_order(
+        rt,
+        alloc,
+        registry,
+        store,
+        asked,
+        workers,
+        &mut workspace,
+        &mut all,
+    );
     let Keeping { answers, count: _ } = all;
     Ok(answers)
 }
@@ -88,7 +99,8 @@ pub fn answer_all_with<R: Threads + Wait + Sync, G: Gate + Sync>(
         asked: requests.as_slice(),
         gate,
     };
-    start::<Brand, G, R, Keeping>(rt, work, workers, true, &mut all);
+    let mut workspace = Workspace::new(alloc);
+    start::<Brand, G, R, Keeping>(rt, work, workers, true, &mut workspace, &mut all);
     let Keeping { answers, count: _ } = all;
     Ok(answers)
 }

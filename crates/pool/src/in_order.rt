@@ -16,6 +16,7 @@ use crate::jobs::{Jobs, Taker};
 use crate::query::{Answered, Query};
 use crate::work::{Finder, RequestWithOptions, SolveResult, Work};
 use registry::Registry;
+use solver::Workspace;
 use std::alloc::Global;
 use std::marker::{Brand, Model};
 use std::sync::Wait;
@@ -29,6 +30,8 @@ pub struct Answers<'a, G, Q: Query> {
     ahead: &'a Ahead<'a, G, Q>,
     /// None where the calling thread answers alone.
     own: Option<Own<'a>>,
+    /// What the calling thread searches in.
+    workspace: &'a mut Workspace,
     at: usize,
     held: Option<Answered<Q>>,
     /// Whether the calling thread has begun the next request.
@@ -47,12 +50,17 @@ impl<'a, G, Q: Query> Model for Answers<'a, G, Q> {
 
 impl<'a, G: Gate, Q: Query> Answers<'a, G, Q> {
     /// None was handed over.
-    fn new(ahead: &'a Ahead<'a, G, Q>, own: Option<Own<'a>>) -> Answers<'a, G, Q>
+    fn new(
+        ahead: &'a Ahead<'a, G, Q>,
+        own: Option<Own<'a>>,
+        workspace: &'a mut Workspace,
+    ) -> Answers<'a, G, Q>
         ensures { result ≡ 0 }
     {
         Answers {
             ahead,
             own,
+            workspace,
             at: 0,
             held: None,
             is_own: false,
@@ -69,7 +77,7 @@ impl<'a, G: Gate, Q: Query> Answers<'a, G, Q> {
         let was_own = self.is_own;
         self.look(rt);
         if self.at > 0 && self.is_own && !was_own {
-            self.held = self.ahead.find_soon(self.at);
+            self.held = self.ahead.try_find(self.at, self.workspace);
             if self.held.is_some() {
                 self.leave(rt);
             }
@@ -106,7 +114,7 @@ impl<'a, G: Gate, Q: Query> Answers<'a, G, Q> {
                 return found;
             }
         }
-        let found = self.ahead.find_here(self.at);
+        let found = self.ahead.find_here(self.at, self.workspace);
         self.leave(rt);
         found
     }
@@ -183,6 +191,8 @@ pub trait Consumer {
 /// itself: that for the first requests, until as much was done as starting a thread takes, and for the next one as long
 /// as no other thread searches, since none has begun yet, none could be started or there was no room to keep an answer.
 ///
+/// The calling thread searches in this workspace.
+///
 /// When the consumer ends, no other request is begun, and those that are searched for are waited for.
 pub fn answer_in_order<R: Threads + Wait + Sync, C: Consumer>(
     rt: &R,
@@ -191,6 +201,7 @@ pub fn answer_in_order<R: Threads + Wait + Sync, C: Consumer>(
     store: &Store,
     requests: &[RequestWithOptions],
     workers: usize,
+    workspace: &mut Workspace,
     consumer: &mut C,
 ) -> C::Output
     requires stored { All (AllStand registry.now.packages) store.now.members }
@@ -204,7 +215,7 @@ pub fn answer_in_order<R: Threads + Wait + Sync, C: Consumer>(
         asked: requests,
         gate: &Idle,
     };
-    start::<Brand, Idle, R, C>(rt, work, workers, false, consumer)
+    start::<Brand, Idle, R, C>(rt, work, workers, false, workspace, consumer)
 }
 
 /// Hands the answers over. Threads are started for all requests at once, or for those behind the first ones and where
@@ -214,6 +225,7 @@ pub(crate) fn start<Q: Query + Send + Sync, G: Gate + Sync, R: Threads + Wait + 
     work: Work<'_, G>,
     workers: usize,
     at_once: bool,
+    workspace: &mut Workspace,
     consumer: &mut C,
 ) -> C::Output
     requires packages { work.registry.now.packages ≡ Q.packages }
@@ -226,7 +238,7 @@ pub(crate) fn start<Q: Query + Send + Sync, G: Gate + Sync, R: Threads + Wait + 
     let alloc = finder.alloc();
     let Ok(mut slots) = Vec::with_capacity(alloc, finder.count()) else {
         let slots = Vec::new(alloc);
-        return consume_alone(rt, finder, slots, consumer);
+        return consume_alone(rt, finder, slots, workspace, consumer);
     };
     let pace = if at_once {
         Pace {
@@ -234,9 +246,9 @@ pub(crate) fn start<Q: Query + Send + Sync, G: Gate + Sync, R: Threads + Wait + 
             share: 1,
         }
     } else {
-        begin(&finder, workers, &mut slots)
+        begin(&finder, workers, &mut slots, workspace)
     };
-    share_out(rt, finder, slots, pace, consumer)
+    share_out(rt, finder, slots, pace, workspace, consumer)
 }
 
 /// Has the consumer take the answers while threads search, where at least two are worth it and there is room for what
@@ -247,6 +259,7 @@ fn share_out<Q: Query + Send + Sync, G: Gate + Sync, R: Threads + Wait + Sync, C
     finder: Finder<'_, G, Q>,
     mut slots: Vec<Option<Answered<Q>>>,
     pace: Pace,
+    workspace: &mut Workspace,
     consumer: &mut C,
 ) -> C::Output
     requires first { AreFirst (length Q.asked) slots }
@@ -257,7 +270,7 @@ fn share_out<Q: Query + Send + Sync, G: Gate + Sync, R: Threads + Wait + Sync, C
     let others = finder.count() - first;
     let threads = pace.threads.min(others);
     if threads < 2 {
-        return consume_alone(rt, finder, slots, consumer);
+        return consume_alone(rt, finder, slots, workspace, consumer);
     }
     // A taker more is the calling thread's.
     let made = Jobs::new(
@@ -267,12 +280,12 @@ fn share_out<Q: Query + Send + Sync, G: Gate + Sync, R: Threads + Wait + Sync, C
         threads.saturating_add(1),
     );
     let Ok((jobs, takers)) = made else {
-        return consume_alone(rt, finder, slots, consumer);
+        return consume_alone(rt, finder, slots, workspace, consumer);
     };
     put_none(&mut slots, others);
     let board = Board::new(slots, threads);
     let ahead = Ahead::new(finder, pace.share, board);
-    consume_beside(rt, &ahead, first, &jobs, takers, consumer)
+    consume_beside(rt, &ahead, first, &jobs, takers, workspace, consumer)
 }
 
 /// Makes so many more slots, with nothing in them.
@@ -291,6 +304,7 @@ fn consume_alone<G: Gate, Q: Query, R: Wait, C: Consumer>(
     rt: &R,
     finder: Finder<'_, G, Q>,
     slots: Vec<Option<Answered<Q>>>,
+    workspace: &mut Workspace,
     consumer: &mut C,
 ) -> C::Output
     requires places { AreInPlace slots.items }
@@ -299,7 +313,7 @@ fn consume_alone<G: Gate, Q: Query, R: Wait, C: Consumer>(
 {
     let board = Board::new(slots, 1);
     let ahead = Ahead::new(finder, 1, board);
-    consume_all(rt, &ahead, None, consumer)
+    consume_all(rt, &ahead, None, workspace, consumer)
 }
 
 /// Has the consumer take the answers, while the others take requests and search. The calling thread has answered the
@@ -317,6 +331,7 @@ fn consume_beside<
     first: usize,
     jobs: &'a Jobs,
     mut takers: Vec<Taker>,
+    workspace: &mut Workspace,
     consumer: &mut C,
 ) -> C::Output
     requires jobs { jobs.now.count ≡ length Q.asked }
@@ -325,7 +340,7 @@ fn consume_beside<
     ensures { C.consumes consumer.old Q.packages Q.asked result consumer.new }
 {
     let Some(taker) = takers.pop() else {
-        return consume_all(rt, ahead, None, consumer);
+        return consume_all(rt, ahead, None, workspace, consumer);
     };
     let mut own = Own::new(jobs, taker);
     own.take_first(rt, first);
@@ -336,7 +351,7 @@ fn consume_beside<
         &mut ||
             requires { (jobs.now.count ≡ length Q.asked) × All (IsTakerOf jobs.now) others.now.items }
         { search_all(rt, ahead, jobs, others) },
-        &mut || consume_by(rt, ahead, &mut own, consumer),
+        &mut || consume_by(rt, ahead, &mut own, workspace, consumer),
     )
     .1
 }
@@ -346,13 +361,14 @@ fn consume_by<'a, G: Gate, Q: Query, R: Wait, C: Consumer>(
     rt: &R,
     ahead: &'a Ahead<'a, G, Q>,
     own: &mut Option<Own<'a>>,
+    workspace: &mut Workspace,
     consumer: &mut C,
 ) -> C::Output
     requires { C.can_consume consumer.old Q.packages Q.asked }
     ensures { C.consumes consumer.old Q.packages Q.asked result consumer.new }
 {
     let own = own.take();
-    consume_all(rt, ahead, own, consumer)
+    consume_all(rt, ahead, own, workspace, consumer)
 }
 
 /// Has the consumer take the answers. Then no other request is begun.
@@ -360,12 +376,13 @@ fn consume_all<'a, G: Gate, Q: Query, R: Wait, C: Consumer>(
     rt: &R,
     ahead: &'a Ahead<'a, G, Q>,
     own: Option<Own<'a>>,
+    workspace: &'a mut Workspace,
     consumer: &mut C,
 ) -> C::Output
     requires { C.can_consume consumer.old Q.packages Q.asked }
     ensures { C.consumes consumer.old Q.packages Q.asked result consumer.new }
 {
-    let mut answers = Answers::new(ahead, own);
+    let mut answers = Answers::new(ahead, own, workspace);
     let output = consumer.consume(rt, &mut answers);
     answers.end(rt);
     output

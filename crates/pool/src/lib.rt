@@ -12,7 +12,7 @@ mod query;
 mod rule;
 mod work;
 
-pub use alone::{THREAD, answer_soon, effort_of};
+pub use alone::{THREAD, effort_of, try_answer};
 pub use answers::{answer_all, answer_all_with};
 pub use gate::Gate;
 pub use in_order::{Answers, Consumer, answer_in_order};

@@ -49,6 +49,7 @@ impl<Q: Query> Model for Answered<Q> {
 }
 
 impl<Q: Query> Answered<Q> {
+    /// The answer to the request at an index.
     pub(crate) fn new(index: usize, answer: SolveResult) -> Answered<Q>
         requires { IsAnswerAt Q.packages Q.asked index answer }
         ensures { result ≡ index }
@@ -60,16 +61,19 @@ impl<Q: Query> Answered<Q> {
         }
     }
 
+    /// The index of the request that is answered.
     pub(crate) fn index(&self) -> usize
         ensures { result ≡ self.now }
     {
         self.index
     }
 
+    /// The answer.
     pub(crate) fn answer(&self) -> &SolveResult {
         &self.answer
     }
 
+    /// The answer, to keep.
     pub(crate) fn into_answer(self) -> SolveResult
         ensures { IsAnswerAt Q.packages Q.asked self result }
     {

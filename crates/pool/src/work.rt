@@ -3,11 +3,11 @@ ghost use Rattle.std.specs.Prelude.{◌≡◌, ◌<◌, All, IfSome, length};
 ghost use Rattle.derivations.specs.Learning.{AllStand};
 ghost use Rattle.pool.specs.Answering.{IsAnswerTo};
 
-use crate::alone::answer_soon;
+use crate::alone::try_answer;
 use crate::gate::Gate;
 use crate::query::{Answered, Query};
 use registry::{Registry, Request};
-use solver::{Options, Outcome, solve_with};
+use solver::{Options, Outcome, Workspace, solve_in};
 use std::alloc::Global;
 use std::marker::{Model, PhantomData};
 use store::Store;
@@ -35,11 +35,12 @@ pub(crate) fn answer(
     registry: &Registry,
     store: &Store,
     asked: &RequestWithOptions,
+    workspace: &mut Workspace,
 ) -> SolveResult
     requires { All (AllStand registry.now.packages) store.now.members }
     ensures { IsAnswerTo registry.now.packages asked.now result }
 {
-    solve_with(alloc, registry, &asked.0, store, asked.1)
+    solve_in(alloc, registry, &asked.0, store, asked.1, workspace)
 }
 
 /// Who finds answers to the requests of a call. Threads share it.
@@ -62,6 +63,7 @@ impl<'a, G, Q: Query> Model for Finder<'a, G, Q> {
 }
 
 impl<'a, G, Q: Query> Finder<'a, G, Q> {
+    /// Of the requests of a call, which are those of the query.
     pub(crate) fn new(work: Work<'a, G>) -> Finder<'a, G, Q>
         requires packages { work.registry.now.packages ≡ Q.packages }
         requires asked { work.asked.now ≡ Q.asked }
@@ -73,6 +75,7 @@ impl<'a, G, Q: Query> Finder<'a, G, Q> {
         }
     }
 
+    /// Where what is found is allocated.
     pub(crate) fn alloc(&self) -> Global {
         self.work.alloc
     }
@@ -85,15 +88,16 @@ impl<'a, G, Q: Query> Finder<'a, G, Q> {
     }
 
     /// The answer to the request at an index, if few conflicts stand in its way. No gate is asked.
-    pub(crate) fn find_soon(&self, index: usize) -> Option<Answered<Q>>
+    pub(crate) fn try_find(&self, index: usize, workspace: &mut Workspace) -> Option<Answered<Q>>
         requires { index < length Q.asked }
         ensures { IfSome result (λ answered. answered ≡ index) }
     {
-        match answer_soon(
+        match try_answer(
             self.work.alloc,
             self.work.registry,
             self.work.store,
             &self.work.asked[index],
+            workspace,
         ) {
             Some(answer) => Some(Answered::new(index, answer)),
             None => None,
@@ -103,7 +107,7 @@ impl<'a, G, Q: Query> Finder<'a, G, Q> {
 
 impl<'a, G: Gate, Q: Query> Finder<'a, G, Q> {
     /// The answer to the request at an index.
-    pub(crate) fn find(&self, index: usize) -> Answered<Q>
+    pub(crate) fn find(&self, index: usize, workspace: &mut Workspace) -> Answered<Q>
         requires { index < length Q.asked }
         ensures { result ≡ index }
     {
@@ -113,6 +117,7 @@ impl<'a, G: Gate, Q: Query> Finder<'a, G, Q> {
             self.work.registry,
             self.work.store,
             &self.work.asked[index],
+            workspace,
         );
         self.work.gate.after(index);
         Answered::new(index, answer)

@@ -1,12 +1,12 @@
 //! Requests of neighbouring lines, which are answered together by several threads.
-ghost use Rattle.std.specs.Prelude.{◌≡◌, ◌↔◌, ◌∷◌, ◌++◌, ◌<◌, ◌≤◌, [], List, drop, length, take, IfOk, IsTrue, OnOk};
+ghost use Rattle.std.specs.Prelude.{◌≡◌, ◌↔◌, ◌∷◌, ◌++◌, ◌<◌, ◌≤◌, [], List, drop, length, take, IfOk, IsTrue, OnOk, vec_capacity};
 ghost use Rattle.session.specs.Batches.{AreReplied, Leaves, Tells};
 ghost use Rattle.session.specs.Committing.{TellsOn};
 ghost use Rattle.session.specs.Putting.{PutsReplies};
 ghost use Rattle.session.specs.Session.{session_ways};
 
 use crate::committed::Committed;
-use crate::putting::{learn_offered, put_soon, send_if};
+use crate::putting::{learn_offered, send_if, try_put};
 use crate::session_state::SessionState;
 use crate::telling::tell_in_order;
 use crate::telling_kept::tell_kept_in_order;
@@ -17,7 +17,7 @@ use lines::Outbox;
 use pool::{RequestWithOptions, THREAD};
 use registry::Request;
 use replies::puts_add_up;
-use solver::Options;
+use solver::{Options, Workspace};
 use std::alloc::{AllocError, Global};
 use std::io;
 use std::io::Write;
@@ -33,6 +33,7 @@ pub const BATCH_LIMIT: usize = 256;
 pub struct Batch {
     asked: Vec<RequestWithOptions>,
     workers: usize,
+    workspace: Workspace,
 }
 
 impl Model for Batch {
@@ -55,6 +56,7 @@ impl Batch {
         Ok(Batch {
             asked: Vec::with_capacity(alloc, BATCH_LIMIT)?,
             workers,
+            workspace: Workspace::new(alloc),
         })
     }
 
@@ -153,14 +155,14 @@ impl Batch {
             }
             outbox.send(writer)?;
             self.reply_next(rt, alloc, served, outbox, writer, offered)?;
-            self.reply_soon(alloc, served, outbox, writer, BATCH_LIMIT, offered)?;
+            self.try_reply(alloc, served, outbox, writer, BATCH_LIMIT, offered)?;
         }
         unreachable!()
     }
 
     /// Replies to the first requests, so many at most, until one asks for a longer search, or where several threads may
     /// answer, until as much was done as starting one takes. Answers whether the next one, if any, may be replied to so.
-    pub fn reply_soon<W: Write>(
+    pub fn try_reply<W: Write>(
         &mut self,
         alloc: Global,
         served: &SessionState,
@@ -174,13 +176,14 @@ impl Batch {
     {
         let mut count = 0;
         let effort = if self.workers < 2 { usize::MAX } else { THREAD };
-        let put = put_soon(
+        let put = try_put(
             alloc,
             served,
             outbox,
             writer,
             first_of(self.asked.as_slice(), most),
             effort,
+            &mut self.workspace,
             offered,
             &mut count,
         );
@@ -188,7 +191,7 @@ impl Batch {
         put
     }
 
-    /// Replies as [`Batch::reply_soon`]. Where `is_free`, so that replies may go out before any search, it replies to
+    /// Replies as [`Batch::try_reply`]. Where `is_free`, so that replies may go out before any search, it replies to
     /// nothing if one request waits alone: its search holds no other back, and one that is given up would be made again.
     pub fn reply_first<W: Write>(
         &mut self,
@@ -206,7 +209,7 @@ impl Batch {
         if is_free && self.asked.len() == 1 {
             return Ok(false);
         }
-        self.reply_soon(alloc, served, outbox, writer, most, offered)
+        self.try_reply(alloc, served, outbox, writer, most, offered)
     }
 
     /// Replies to the first request, or where several threads may answer, to all that wait, however long the searches are.
@@ -226,7 +229,10 @@ impl Batch {
         let asked = first_of(self.asked.as_slice(), most);
         let count = asked.len();
         let workers = self.workers;
-        let put = tell_in_order(rt, alloc, served, outbox, writer, asked, workers, offered);
+        let workspace = &mut self.workspace;
+        let put = tell_in_order(
+            rt, alloc, served, outbox, writer, asked, workers, workspace, offered,
+        );
         self.leave_out(count);
         put
     }
@@ -251,8 +257,9 @@ impl Batch {
         let asked = first_of(self.asked.as_slice(), most);
         let count = asked.len();
         let workers = self.workers;
+        let workspace = &mut self.workspace;
         let put = tell_kept_in_order(
-            rt, alloc, devices, served, outbox, held, at, asked, workers, offered,
+            rt, alloc, devices, served, outbox, held, at, asked, workers, workspace, offered,
         );
         self.leave_out(count);
         put
@@ -263,9 +270,18 @@ impl Batch {
         requires { count ≤ length self.old }
         ensures { self.new ≡ drop count self.old }
     {
-        self.asked.rotate_left(count);
-        self.asked.truncate(self.asked.len() - count);
+        drop_first(&mut self.asked, count);
     }
+}
+
+/// Takes the first requests away. The room stays.
+fn drop_first(asked: &mut Vec<RequestWithOptions>, count: usize)
+    requires { count ≤ length asked.old.items }
+    ensures items { asked.new.items ≡ drop count asked.old.items }
+    ensures room { vec_capacity asked.new ≡ vec_capacity asked.old }
+{
+    asked.rotate_left(count);
+    asked.truncate(asked.len() - count);
 }
 
 /// The first requests, so many at most.

@@ -14,9 +14,10 @@ use answers::{Backend, lawful_replies_add_up, learn_all, put_reply, reply_body_o
 use book::journals_grow;
 use derivations::Learnt;
 use lines::Outbox;
-use pool::{RequestWithOptions, SolveResult, answer_soon, effort_of};
+use pool::{RequestWithOptions, SolveResult, effort_of, try_answer};
 use registry::Registry;
 use replies::{Body, puts_add_up};
+use solver::Workspace;
 use std::alloc::Global;
 use std::io;
 use std::io::Write;
@@ -34,13 +35,14 @@ pub(crate) fn send_if<W: Write>(asked: bool, outbox: &mut Outbox, writer: &mut W
 
 /// Puts the replies to the first requests for which few conflicts do, with this effort at most, and counts them. Answers
 /// whether the next one may be answered so.
-pub(crate) fn put_soon<W: Write>(
+pub(crate) fn try_put<W: Write>(
     alloc: Global,
     served: &SessionState,
     outbox: &mut Outbox,
     writer: &mut W,
     asked: &[RequestWithOptions],
     most: usize,
+    workspace: &mut Workspace,
     offered: &mut Vec<Learnt>,
     count: &mut usize,
 ) -> io::Result<bool>
@@ -57,7 +59,7 @@ pub(crate) fn put_soon<W: Write>(
             return Ok(false);
         }
         let one = &asked[at];
-        let Some(answer) = soon(alloc, served, one) else {
+        let Some(answer) = try_one(alloc, served, one, workspace) else {
             return Ok(false);
         };
         effort = effort.saturating_add(effort_of(&answer));
@@ -68,10 +70,15 @@ pub(crate) fn put_soon<W: Write>(
 }
 
 /// What a request is answered, unless more than a few conflicts stand in its way.
-fn soon(alloc: Global, served: &SessionState, asked: &RequestWithOptions) -> Option<SolveResult>
+fn try_one(
+    alloc: Global,
+    served: &SessionState,
+    asked: &RequestWithOptions,
+    workspace: &mut Workspace,
+) -> Option<SolveResult>
     ensures { IfSome result (IsAnswerTo (packages_of served.now) asked.now) }
 {
-    answer_soon(alloc, served.registry(), served.store(), asked)
+    try_answer(alloc, served.registry(), served.store(), asked, workspace)
 }
 
 /// Puts the reply to a request that was answered so, and has what the answer offers stand behind what was offered before.

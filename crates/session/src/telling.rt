@@ -11,6 +11,7 @@ use derivations::Learnt;
 use lines::Outbox;
 use pool::{Answers, Consumer, Gate, Query, RequestWithOptions, answer_in_order};
 use replies::puts_add_up;
+use solver::Workspace;
 use std::alloc::Global;
 use std::io;
 use std::io::Write;
@@ -70,6 +71,7 @@ pub(crate) fn tell_in_order<H: Threads + Wait + Sync, W: Write>(
     writer: &mut W,
     asked: &[RequestWithOptions],
     workers: usize,
+    workspace: &mut Workspace,
     offered: &mut Vec<Learnt>,
 ) -> io::Result<()>
     ensures { Tells (W.contents writer.old) (W.contents writer.new) outbox.old outbox.new result
@@ -90,6 +92,7 @@ pub(crate) fn tell_in_order<H: Threads + Wait + Sync, W: Write>(
         served.store(),
         asked,
         workers,
+        workspace,
         &mut telling,
     )
 }

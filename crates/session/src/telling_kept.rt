@@ -15,6 +15,7 @@ use derivations::Learnt;
 use lines::{Outbox, lines_end_at_feeds};
 use pool::{Answers, Consumer, Gate, Query, RequestWithOptions, answer_in_order};
 use replies::puts_add_up;
+use solver::Workspace;
 use std::alloc::Global;
 use std::io;
 use std::sync::Wait;
@@ -81,6 +82,7 @@ pub(crate) fn tell_kept_in_order<H: Threads + Wait + Sync, D: Devices>(
     at: &mut Committed,
     asked: &[RequestWithOptions],
     workers: usize,
+    workspace: &mut Workspace,
     offered: &mut Vec<Learnt>,
 ) -> io::Result<()>
     ensures { (behind : List Question) → TellsOn result (D.seen devices.old) (D.seen devices.new) served.now outbox.old outbox.new
@@ -103,6 +105,7 @@ pub(crate) fn tell_kept_in_order<H: Threads + Wait + Sync, D: Devices>(
         served.store(),
         asked,
         workers,
+        workspace,
         &mut telling,
     )
 }

@@ -8,11 +8,11 @@ leave_out-requires g c =
     let first = c.first_of-asked.result.now in
     let part = c.first_of-asked.ensures ∙ ap (take most) c.as_slice.ensures.value ∙ ap (take most) c.self.view_is in
     let all : length first ≤ length first = omega arith in
-    part_within first _ most (length first) part all
+    rw c.self.view_is (part_within first _ most (length first) part all)
 
 pub returns : goal.returns
 returns g c =
     let most = c.if-self-lt2.most in
     let first = c.first_of-asked.result.now in
     let part = c.first_of-asked.ensures ∙ ap (take most) c.as_slice.ensures.value ∙ ap (take most) c.self.view_is in
-    rw c.leave_out.ensures (tells_whole c.tell_in_order-put.result _ _ _ _ first _ most (length first) _ _ _ part refl c.tell_in_order-put.ensures)
+    rw c.leave_out.ensures (rw c.self.view_is (tells_whole c.tell_in_order-put.result _ _ _ _ first _ most (length first) _ _ _ part refl c.tell_in_order-put.ensures))

@@ -1,6 +1,6 @@
 use Rattle.std.proofs.Common.{◌≡◌, drop}
 use Rattle.session.proofs.BatchLemmas.{HasTold}
-use Rattle.session.proofs.putting.put_soon.Given as goal
+use Rattle.session.proofs.putting.try_put.Given as goal
 
 abbrev pub invariant-loop-at : goal.invariant-loop-at
 invariant-loop-at g l = record {

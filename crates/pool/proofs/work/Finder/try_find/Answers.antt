@@ -5,7 +5,7 @@ use Rattle.registry.specs.Registry.{Packages}
 use Rattle.registry.specs.Requests.{Wanted}
 use Rattle.solver.specs.declared.solving.Options.{Options}
 use Rattle.pool.specs.Answering.{IsAnswerTo}
-use Rattle.pool.proofs.work.Finder.find_soon.Goals as goal
+use Rattle.pool.proofs.work.Finder.try_find.Goals as goal
 
 pub new-requires : goal.new-requires
 new-requires g c = λ one at.

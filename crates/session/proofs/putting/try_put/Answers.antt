@@ -1,7 +1,7 @@
 use Rattle.std.proofs.Common.{ℕ, ap, drop, refl}
 use Rattle.std.proofs.lemmas.Result.{err_from_is_err_and}
 use Rattle.session.proofs.BatchLemmas.{tells_err, tells_next, tells_none, tells_ok, tells_then}
-use Rattle.session.proofs.putting.put_soon.Goals as goal
+use Rattle.session.proofs.putting.try_put.Goals as goal
 
 pub loop-at-init : goal.loop-at-init
 loop-at-init g c = record { counted = c.requires; told = tells_none _ _ _ _ _ }
