@@ -101,6 +101,7 @@ impl Service {
         let folder = folder();
         let words = words.iter().map(|it| it.to_string()).collect::<Vec<_>>();
         let (running, told) = begun(&folder, &words);
+        assert!(is_served(&told), "{told}");
         Service { socket: folder.join("socket"), told, words, folder, running }
     }
 
@@ -119,10 +120,11 @@ impl Service {
         let since = Instant::now();
         loop {
             (self.running, self.told) = begun(&self.folder, &self.words);
-            if !self.told.is_empty() || since.elapsed() > SOON {
+            if is_served(&self.told) {
                 return;
             }
             self.running.wait().unwrap();
+            assert!(since.elapsed() < SOON, "{}", self.told);
         }
     }
 
@@ -139,7 +141,11 @@ impl Drop for Service {
     }
 }
 
-/// Starts a service by the command that `REGISTRY` names, and waits until it listens.
+fn is_served(told: &str) -> bool {
+    told.contains(" is served at ")
+}
+
+/// Starts a service by the command that `REGISTRY` names, and answers its first line: it listens, or nothing and it ends.
 fn begun(folder: &Path, words: &[String]) -> (Child, String) {
     let built = concat!(env!("CARGO_MANIFEST_DIR"), "/../../registry");
     let mut command = Command::new(std::env::var_os("REGISTRY").unwrap_or(built.into()));
@@ -150,7 +156,6 @@ fn begun(folder: &Path, words: &[String]) -> (Child, String) {
     let mut running = command.stdin(Stdio::null()).stdout(Stdio::piped()).spawn().unwrap();
     let mut told = String::new();
     BufReader::new(running.stdout.as_mut().unwrap()).read_line(&mut told).unwrap();
-    assert!(told.contains(" is served at "), "{told}");
     (running, told)
 }
 
