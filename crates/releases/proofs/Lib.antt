@@ -6,3 +6,6 @@ pub mod Room
 pub mod Standing
 pub mod MatchingLemmas
 pub mod Meeting
+pub mod BoundOrder
+pub mod Between
+pub mod Publishing

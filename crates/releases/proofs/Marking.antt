@@ -31,13 +31,14 @@ length-marked (release ∷ rest) zero yanked = refl
 length-marked (release ∷ rest) (suc k) yanked = ap suc (length-marked rest k yanked)
 
 -- a mark changes nothing that is kept beside the releases
-pub IsKept-marked : (releases : List Release) (rising : List ℕ) (needs : List Text) (sets : List Growing) (bounds : List Reach) (k : ℕ) (yanked : Bool)
-    → IsKept releases rising needs sets bounds → IsKept (marked releases k yanked) rising needs sets bounds
-IsKept-marked releases rising needs sets bounds k yanked m = record {
+pub IsKept-marked : (releases : List Release) (rising : List ℕ) (needs : List Text) (sets : List Growing) (bounds : List Reach) (is_plain : Bool) (k : ℕ) (yanked : Bool)
+    → IsKept releases rising needs sets bounds is_plain → IsKept (marked releases k yanked) rising needs sets bounds is_plain
+IsKept-marked releases rising needs sets bounds is_plain k yanked m = record {
   few = omega (arith, m.few, length-marked releases k yanked);
   in_order = rw (versions_of-marked releases k yanked) m.in_order;
   matching = rw (versions_of-marked releases k yanked) m.matching;
   bounded = m.bounded;
+  plain = rw (versions_of-marked releases k yanked) m.plain;
 }
 
 -- ---- the release of equal precedence

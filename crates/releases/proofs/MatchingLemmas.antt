@@ -1,5 +1,5 @@
 -- Matching sets: computed afresh, and kept up at a publication.
-use Rattle.std.proofs.Common.{◌≡◌, ◌∙◌, ◌<◌, ◌≤◌, ◌+◌, ◌++◌, ◌∷◌, [], ℕ, List, length, get_or, set, arith, ap, subst, sym, inl, inr, true, false, ◌||◌, ◌&&◌, ◌≢◌, length-append, get_or-set_same, get_or-set_other}
+use Rattle.std.proofs.Common.{◌≡◌, ◌∙◌, ◌<◌, ◌≤◌, ◌+◌, ◌++◌, ◌∷◌, [], ℕ, List, length, get_or, set, Bool, arith, ap, subst, sym, inl, inr, true, false, ◌||◌, ◌&&◌, ◌≢◌, length-append, get_or-set_same, get_or-set_other}
 use Rattle.std.specs.Prelude.{nat_eq, nat_lt, min, slice_get, Some}
 use Rattle.std.specs.Str.{bytes_eq}
 use Rattle.std.proofs.lemmas.Bool.{cases_lt, ne_eqb, lt-ltb, le-ltb}
@@ -17,9 +17,7 @@ use Rattle.releases.specs.declared.matching.TheConstants.{KEPT_SETS}
 use Rattle.releases.specs.declared.release.Release.{Release}
 use Rattle.releases.specs.Kept.{AreBounds, AreMatching, IsKept, IsKeptNext, IsMatching}
 use Rattle.releases.specs.Releases.{is_named, meets_at, meets_some, versions_of}
-
-itself : (k : ℕ) → nat_eq k k ≡ true
-itself k = grind arith
+use Rattle.releases.proofs.Standing.{itself}
 
 -- what one version more meets
 pub meets_at-push : (versions : List Text) (version need : Text) (k : ℕ) → meets_at (versions ++ version ∷ []) need k ≡ (meets_at versions need k || (nat_eq (length versions) k && meets need version))
@@ -211,10 +209,10 @@ AreMatching-next versions needs need sets sets' m next =
     ]
 
 -- one requirement more, with its bounds, and with its set where that is kept
-IsKept-push : (releases : List Release) (rising : List ℕ) (needs : List Text) (sets sets' : List Growing) (bounds : List Reach) (need : Text) (of : Reach)
-    → IsKept releases rising needs sets bounds → IsKeptNext (versions_of releases) need (length needs) sets sets' → IsBounded need of
-    → IsKept releases rising (needs ++ need ∷ []) sets' (bounds ++ of ∷ [])
-IsKept-push releases rising needs sets sets' bounds need of kept next bounded = record {
+IsKept-push : (releases : List Release) (rising : List ℕ) (needs : List Text) (sets sets' : List Growing) (bounds : List Reach) (is_plain : Bool) (need : Text) (of : Reach)
+    → IsKept releases rising needs sets bounds is_plain → IsKeptNext (versions_of releases) need (length needs) sets sets' → IsBounded need of
+    → IsKept releases rising (needs ++ need ∷ []) sets' (bounds ++ of ∷ []) is_plain
+IsKept-push releases rising needs sets sets' bounds is_plain need of kept next bounded = record {
   few = kept.few;
   in_order = kept.in_order;
   matching = AreMatching-next (versions_of releases) needs need sets sets' kept.matching next;
@@ -222,13 +220,14 @@ IsKept-push releases rising needs sets sets' bounds need of kept next bounded = 
     paired = omega (arith, kept.bounded.paired, length-append needs (need ∷ []), length-append bounds (of ∷ []));
     exact = pairs-push IsBounded needs bounds need of kept.bounded.paired kept.bounded.exact bounded;
   };
+  plain = kept.plain;
 }
 
-pub IsKept-named : (releases : List Release) (rising : List ℕ) (needs needs' : List Text) (sets sets' : List Growing) (bounds bounds' : List Reach) (need : Text) (of : Reach)
-    → IsKept releases rising needs sets bounds → IsKeptNext (versions_of releases) need (length needs) sets sets' → IsBounded need of
-    → needs' ≡ needs ++ need ∷ [] → bounds' ≡ bounds ++ of ∷ [] → IsKept releases rising needs' sets' bounds'
-IsKept-named releases rising needs needs' sets sets' bounds bounds' need of kept next bounded en eb =
-    rw (en, eb) (IsKept-push releases rising needs sets sets' bounds need of kept next bounded)
+pub IsKept-named : (releases : List Release) (rising : List ℕ) (needs needs' : List Text) (sets sets' : List Growing) (bounds bounds' : List Reach) (is_plain : Bool) (need : Text) (of : Reach)
+    → IsKept releases rising needs sets bounds is_plain → IsKeptNext (versions_of releases) need (length needs) sets sets' → IsBounded need of
+    → needs' ≡ needs ++ need ∷ [] → bounds' ≡ bounds ++ of ∷ [] → IsKept releases rising needs' sets' bounds' is_plain
+IsKept-named releases rising needs needs' sets sets' bounds bounds' is_plain need of kept next bounded en eb =
+    rw (en, eb) (IsKept-push releases rising needs sets sets' bounds is_plain need of kept next bounded)
 
 -- ---- a look-up
 
@@ -263,3 +262,10 @@ placed-low_bits versions needs sets i set bits m within is low =
     let at = slice_get-get_or needs i [] (omega (arith, within, m.paired)) in
     let exact = placed-matching versions needs sets (get_or needs i []) i set m at within is in
     (get_or needs i [], at, λ k lt. low k lt ∙ exact k)
+
+-- the requirement whose set stands at a place
+pub placed-set : (versions needs : List Text) (sets : List Growing) (i : ℕ) (set : Growing) → AreMatching versions needs sets → i < length sets → set ≡ get_or sets i set
+    → (need : Text) × (slice_get needs i ≡ Some need) × IsMatching versions need set.ordinals
+placed-set versions needs sets i set m within is =
+    let at = slice_get-get_or needs i [] (omega (arith, within, m.paired)) in
+    (get_or needs i [], at, placed-matching versions needs sets (get_or needs i []) i set m at within is)

@@ -17,12 +17,15 @@ use Rattle.releases.specs.Releases.{IsFound, has_version, version_at, versions_o
 use Rattle.releases.specs.Rising.{IsGap, IsHighest, IsRising, risen}
 
 -- an element that passes the test, by its place
-witness : {X : Type 0} (p : X → Bool) (d : X) (xs : List X) → list_any p xs ≡ true → (i : ℕ) × (i < length xs) × (p (get_or xs i d) ≡ true)
+pub witness : {X : Type 0} (p : X → Bool) (d : X) (xs : List X) → list_any p xs ≡ true → (i : ℕ) × (i < length xs) × (p (get_or xs i d) ≡ true)
 witness p d [] e = absurd (true≢false (sym e))
 witness p d (x ∷ xs) e = elim (cases_Bool (p x)) [
   | inl passes ↦ (0, omega arith, passes)
   | inr fails ↦ let w = witness p d xs (sym (ap (λ b. b || list_any p xs) fails) ∙ e) in (suc w.0, omega (arith, w.1), w.2)
 ]
+
+pub itself : (k : ℕ) → nat_eq k k ≡ true
+itself k = grind arith
 
 -- the place of an ordinal among the rising ones
 pub place-of : (versions : List Text) (rising : List ℕ) (k : ℕ) → IsRising versions rising → k < length versions → (i : ℕ) × (i < length rising) × (get_or rising i 0 ≡ k)

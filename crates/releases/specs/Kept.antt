@@ -1,5 +1,5 @@
 -- What is kept beside the releases of a package.
-use Rattle.std.specs.Prelude.{◌≡◌, ◌<◌, ◌≤◌, ◌^◌, ℕ, min, List, [], ◌∷◌, ◌++◌, length, slice_index_or}
+use Rattle.std.specs.Prelude.{◌≡◌, ◌<◌, ◌≤◌, ◌^◌, ℕ, Bool, true, min, List, [], ◌∷◌, ◌++◌, length, slice_index_or}
 use Rattle.terms.specs.Growing.{Growing}
 use Rattle.terms.specs.Sets.{has}
 use Rattle.versions.specs.Bounds.{IsBounded, Reach}
@@ -7,7 +7,7 @@ use Rattle.versions.specs.Words.{Text}
 use Rattle.releases.specs.declared.matching.TheConstants.{KEPT_SETS}
 use Rattle.releases.specs.declared.release.Release.{Release}
 use Rattle.releases.specs.Releases.{meets_at, versions_of}
-use Rattle.releases.specs.Rising.{IsRising}
+use Rattle.releases.specs.Rising.{ArePlain, IsRising}
 
 -- what a contract sees of the releases of a package
 pub record Listing : Type 0 where
@@ -43,9 +43,10 @@ least_room room [] = room
 least_room room (set ∷ rest) = min set.room (least_room room rest)
 
 -- what is kept beside the releases is what they ask for
-pub record IsKept (releases : List Release) (rising : List ℕ) (needs : List Text) (sets : List Growing) (bounds : List Reach) : Type 0 where
+pub record IsKept (releases : List Release) (rising : List ℕ) (needs : List Text) (sets : List Growing) (bounds : List Reach) (is_plain : Bool) : Type 0 where
   -- each ordinal is a number of 32 bits
   pub few : length releases ≤ 2 ^ 32
   pub in_order : IsRising (versions_of releases) rising
   pub matching : AreMatching (versions_of releases) needs sets
   pub bounded : AreBounds needs bounds
+  pub plain : is_plain ≡ true → ArePlain (versions_of releases)

@@ -2,8 +2,11 @@
 use Rattle.std.specs.Prelude.{◌≡◌, ◌<◌, ◌≤◌, ℕ, Bool, true, false, List, length, slice_index, Result, Ok, Err}
 use Rattle.std.specs.declared.cmp.Ordering.TheVariants.{Less}
 use Rattle.terms.specs.Sets.{has}
+use Rattle.versions.specs.Bounds.{is_before, is_within, numbers_in, IsPlain, Reach}
 use Rattle.versions.specs.Words.{Text, precedence, same_precedence}
 use Rattle.releases.specs.Releases.{version_at}
+use Rattle.releases.specs.declared.ranked.Edge.{Edge}
+use Rattle.releases.specs.declared.ranked.Edge.TheVariants.{Begin, End}
 
 -- the version that stands at this place of the rising ordinals
 abbrev pub risen : List Text → List ℕ → ℕ → Text
@@ -32,3 +35,12 @@ pub record IsHighest (gives : ℕ → Bool → Type 0) (versions : List Text) (k
   pub published : k < length versions
   pub passes : gives k true
   pub fails : (j : ℕ) → j < length versions → precedence (version_at versions k) (version_at versions j) ≡ Less → gives j false
+
+-- no version has a pre-release
+abbrev pub ArePlain : List Text → Type 0
+ArePlain versions = (k : ℕ) → k < length versions → IsPlain (version_at versions k)
+
+-- whether a version stands before an edge of the range
+abbrev pub is_before_edge : Edge → Reach → Text → Bool
+is_before_edge Begin bounds version = is_before (numbers_in version) bounds.range.lowest
+is_before_edge End bounds version = is_within (numbers_in version) bounds.range.end

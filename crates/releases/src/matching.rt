@@ -8,6 +8,7 @@ ghost use Rattle.releases.specs.Releases.{versions_of};
 ghost use Rattle.releases.specs.Matching.{ordinals_of};
 ghost use Rattle.versions.specs.Bounds.{IsBounded};
 
+use crate::ranked::Ranked;
 use crate::release::Release;
 use crate::tested::Tested;
 use std::alloc::{AllocError, Global};
@@ -52,8 +53,8 @@ impl Matching<'_> {
     }
 }
 
-/// The matching set of a requirement, which has these bounds, computed afresh: one test a release.
-pub(crate) fn computed(
+/// The matching set of a requirement, which has these bounds, by one test a release.
+pub(crate) fn tested(
     alloc: Global,
     releases: &[Release],
     need: &Need,
@@ -75,22 +76,21 @@ pub(crate) fn computed(
 /// Keeps the matching set of the requirement that comes to a place, if it is one of the first.
 pub(crate) fn keep_set(
     alloc: Global,
-    releases: &[Release],
+    ranked: &Ranked,
     need: &Need,
     bounds: &Bounds,
     place: usize,
     sets: &mut Vec<GrowingSet>,
 ) -> Result<(), AllocError>
-    requires few { length releases.now ≤ 2 ^ 32 }
-    requires bounds { IsBounded need.now bounds.now }
-    ensures kept { OnOk result (IsKeptNext (versions_of releases.now) need.now place sets.old.items sets.new.items) }
+    requires { IsBounded need.now bounds.now }
+    ensures kept { OnOk result (IsKeptNext ranked.now need.now place sets.old.items sets.new.items) }
     ensures unchanged { OnErr result (sets.new.items ≡ sets.old.items) }
 {
     if place >= KEPT_SETS {
         return Ok(());
     }
     sets.reserve(1)?;
-    let set = computed(alloc, releases, need, bounds)?;
+    let set = ranked.matching(alloc, need, bounds)?;
     sets.push(set).unwrap();
     Ok(())
 }

@@ -10,7 +10,8 @@ ghost use Rattle.releases.specs.Releases.{has_version, is_named, marked, meets_a
 ghost use Rattle.releases.specs.Rising.{IsHighest};
 ghost use Rattle.releases.specs.declared.release.Release.{Release};
 
-use crate::matching::{Matching, computed, keep_set, keep_up, make_room};
+use crate::matching::{Matching, keep_set, keep_up, make_room};
+use crate::ranked::Ranked;
 use crate::release::Release;
 use crate::rising::{highest_of, place_of, raise};
 use crate::tested::Tested;
@@ -34,6 +35,8 @@ pub struct Releases {
     needs: IndexSet<Need>,
     sets: Vec<GrowingSet>,
     bounds: Vec<Bounds>,
+    /// Whether none has a pre-release.
+    is_plain: bool,
     alloc: Global,
 }
 
@@ -49,7 +52,7 @@ impl Model for Releases {
       room = least_room (min (vec_capacity r.releases - vec_len r.releases) (vec_capacity r.rising - vec_len r.rising)) r.sets.items;
     } };
 
-    ghost invariant = { λ r. IsKept r.releases.items r.rising.items r.needs.keys r.sets.items r.bounds.items };
+    ghost invariant = { λ r. IsKept r.releases.items r.rising.items r.needs.keys r.sets.items r.bounds.items r.is_plain };
 }
 
 impl Releases {
@@ -64,6 +67,7 @@ impl Releases {
             needs: IndexSet::new(alloc),
             sets: Vec::new(alloc),
             bounds: Vec::new(alloc),
+            is_plain: true,
             alloc,
         }
     }
@@ -98,7 +102,7 @@ impl Releases {
     }
 
     /// The ordinals of the releases that meet a requirement: a look-up where its text is named, which
-    /// takes no memory, else one test a release. Of those that are named the sets of the first are kept.
+    /// takes no memory, else two bisections or one test a release. Of those that are named the sets of the first are kept.
     pub fn matching(&self, need: &Need) -> Result<Matching<'_>, AllocError>
         ensures members { IfOk result (λ m. (k : ℕ) → has (ordinals_of m) k ≡ meets_at (versions_of self.now.releases) need.now k) }
         ensures known { is_named self.now.needs need.now ≡ true → IsOk result }
@@ -121,8 +125,21 @@ impl Releases {
         }
     }
 
-    /// What meets the requirement that is named at a place: its set where it is kept, else a test of each
-    /// release. Takes no memory.
+    /// What meets the requirement that is named at a place, if one is: its set where it is kept, else what is
+    /// computed when it is asked for. No text is looked at, and no memory is taken.
+    pub fn matching_named(&self, place: usize) -> Option<Matching<'_>>
+        ensures { IfSome result (λ m. (need : Text) × (slice_get self.now.needs place ≡ Some need)
+            × ((k : ℕ) → has (ordinals_of m) k ≡ meets_at (versions_of self.now.releases) need k)) }
+    {
+        if place < self.sets.len() {
+            return Some(Matching::Known(&self.sets[place]));
+        }
+        let need = self.needs.get_index(place)?;
+        Some(self.lent(place, need))
+    }
+
+    /// What meets the requirement that is named at a place: its set where it is kept, else what is computed
+    /// when it is asked for. Takes no memory.
     fn lent<'a>(&'a self, place: usize, need: &'a Need) -> Matching<'a>
         requires { slice_get self.now.needs place ≡ Some need.now }
         ensures { (k : ℕ) → has (ordinals_of result) k ≡ meets_at (versions_of self.now.releases) need.now k }
@@ -130,7 +147,14 @@ impl Releases {
         if place < self.sets.len() {
             return Matching::Known(&self.sets[place]);
         }
-        Matching::Tested(Tested::new(&self.releases, need, &self.bounds[place]))
+        Matching::Tested(Tested::new(self.ranked(), need, &self.bounds[place]))
+    }
+
+    /// The releases by their precedence.
+    fn ranked(&self) -> Ranked<'_>
+        ensures { result ≡ versions_of self.now.releases }
+    {
+        Ranked::new(&self.releases, &self.rising, self.is_plain)
     }
 
     /// Of the ordinals below 64 those that meet the requirement which is named at a place, a bit each, if its set
@@ -150,7 +174,7 @@ impl Releases {
         ensures { IfOk result (λ set. IsMatching (versions_of self.now.releases) need.now set.ordinals) }
     {
         let bounds = Bounds::of(need);
-        computed(self.alloc, &self.releases, need, &bounds)
+        self.ranked().matching(self.alloc, need, &bounds)
     }
 
     /// The release of highest precedence in a set. No versions are compared: it costs a look for each
@@ -203,6 +227,7 @@ impl Releases {
             &version,
         );
         raise(&self.releases, &mut self.rising, &version);
+        self.is_plain = self.is_plain && version.is_plain();
         self.releases
             .push(Release {
                 version,
@@ -235,7 +260,7 @@ impl Releases {
     }
 
     /// Names a requirement on the package: its matching set is kept from now on, if it is one of the
-    /// first. Then it costs one test a release, else a look-up. No answer but the speed of
+    /// first. Then that is computed, else it costs a look-up. No answer but the speed of
     /// [`Releases::matching`] shows it, so it can be called ahead of the publication that names it.
     /// Answers the place of the requirement.
     pub fn name_need(&mut self, need: &Need) -> Result<usize, AllocError>
@@ -253,14 +278,8 @@ impl Releases {
         let named = need.clone()?;
         let bounds = Bounds::of(need);
         let place = self.needs.len();
-        keep_set(
-            self.alloc,
-            &self.releases,
-            need,
-            &bounds,
-            place,
-            &mut self.sets,
-        )?;
+        let ranked = Ranked::new(&self.releases, &self.rising, self.is_plain);
+        keep_set(self.alloc, &ranked, need, &bounds, place, &mut self.sets)?;
         self.needs.insert(named).unwrap();
         self.bounds.push(bounds).unwrap();
         Ok(place)

@@ -1,12 +1,11 @@
 //! A named requirement whose matching set is not kept.
 
-ghost use Rattle.std.specs.Prelude.{◌≡◌, ◌≤◌, ◌^◌, length, IfOk};
+ghost use Rattle.std.specs.Prelude.{◌≡◌, IfOk};
 ghost use Rattle.terms.specs.Sets.{has, IsAscending};
-ghost use Rattle.releases.specs.Releases.{meeting, versions_of};
+ghost use Rattle.releases.specs.Releases.{meeting};
 ghost use Rattle.versions.specs.Bounds.{IsBounded};
 
-use crate::matching::computed;
-use crate::release::Release;
+use crate::ranked::Ranked;
 use std::alloc::{AllocError, Global};
 use std::marker::Model;
 use terms::{VSet, same_set};
@@ -16,32 +15,31 @@ use versions::{Bounds, Need};
 /// is asked for.
 #[derive(Drop)]
 pub struct Tested<'a> {
-    releases: &'a [Release],
+    ranked: Ranked<'a>,
     need: &'a Need,
     bounds: &'a Bounds,
 }
 
 impl<'a> Model for Tested<'a> {
-    ghost use Rattle.std.specs.Prelude.{◌≤◌, ◌^◌, ℕ, List, length};
-    ghost use Rattle.releases.specs.Releases.{meeting, versions_of};
+    ghost use Rattle.std.specs.Prelude.{ℕ, List};
+    ghost use Rattle.releases.specs.Releases.{meeting};
     ghost use Rattle.versions.specs.Bounds.{IsBounded};
 
     ghost Value = { List ℕ };
 
-    ghost view = { λ t. meeting (versions_of t.releases.now) t.need.now };
+    ghost view = { λ t. meeting t.ranked t.need.now };
 
-    ghost invariant = { λ t. (length t.releases.now ≤ 2 ^ 32) × IsBounded t.need.now t.bounds.now };
+    ghost invariant = { λ t. IsBounded t.need.now t.bounds.now };
 }
 
 impl<'a> Tested<'a> {
     /// The releases beside a requirement, which has these bounds.
-    pub(crate) fn new(releases: &'a [Release], need: &'a Need, bounds: &'a Bounds) -> Tested<'a>
-        requires few { length releases.now ≤ 2 ^ 32 }
-        requires bounds { IsBounded need.now bounds.now }
-        ensures { result ≡ meeting (versions_of releases.now) need.now }
+    pub(crate) fn new(ranked: Ranked<'a>, need: &'a Need, bounds: &'a Bounds) -> Tested<'a>
+        requires { IsBounded need.now bounds.now }
+        ensures { result ≡ meeting ranked.entry need.now }
     {
         Tested {
-            releases,
+            ranked,
             need,
             bounds,
         }
@@ -51,20 +49,16 @@ impl<'a> Tested<'a> {
     pub fn has(&self, ordinal: u32) -> bool
         ensures { result ≡ has self.now ordinal }
     {
-        let place = ordinal as usize;
-        if place >= self.releases.len() {
-            return false;
-        }
-        self.bounds.admit(self.need, &self.releases[place].version)
+        self.ranked.admits(ordinal, self.need, self.bounds)
     }
 
-    /// The ordinals, by one test a release.
+    /// The ordinals, by two bisections, or by one test a release.
     pub fn set(&self, alloc: Global) -> Result<VSet, AllocError>
         ensures same { IfOk result (λ set. set ≡ self.now) }
         ensures ascending { IfOk result IsAscending }
     {
         same_set();
-        let members = computed(alloc, self.releases, self.need, self.bounds)?;
+        let members = self.ranked.matching(alloc, self.need, self.bounds)?;
         members.set(alloc)
     }
 }

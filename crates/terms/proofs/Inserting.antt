@@ -1,5 +1,5 @@
 -- One more ordinal comes in, at the place of its word.
-use Rattle.std.proofs.Common.{◌≡◌, ◌<◌, ◌≤◌, ◌-◌, ◌*◌, ◌/◌, ◌%◌, ◌^◌, ◌∙◌, inl, inr, ℕ, zero, suc, List, [], ◌∷◌, ◌++◌, take, drop, get_or, set, length, refl, sym, ap, subst, arith, false, ◌||◌, true≢false, nat_eq, if◌then◌else◌}
+use Rattle.std.proofs.Common.{◌≡◌, ◌<◌, ◌≤◌, ◌-◌, ◌*◌, ◌/◌, ◌%◌, ◌^◌, ◌∙◌, inl, inr, ℕ, zero, suc, Bool, List, [], ◌∷◌, ◌++◌, take, drop, get_or, set, length, refl, sym, ap, subst, arith, false, ◌||◌, true≢false, nat_eq, if◌then◌else◌}
 use Rattle.std.specs.Prelude.{bit_or, slice_get, slice_index_or, slice_set, Some, Result, Ok, Err}
 use Rattle.std.specs.List.{insert, refill}
 use Rattle.std.specs.List.Sorted.{IsBinarySearchResult, IsSearchInRange}
@@ -137,17 +137,14 @@ pub record IsWordOf (k : ℕ) (word : Word) : Type 0 where
   pub some : 0 < word.bits
   pub fits : word.bits < 2 ^ 64
 
-pub word_of-is : (k : ℕ) (word : Word) → k < 2 ^ 32 → word.number ≡ k / 64 → word.bits ≡ 2 ^ (k % 64) → IsWordOf k word
-word_of-is k word lt is_number is_bits = record {
+is-word_of : (k : ℕ) (word : Word) → k < 2 ^ 32 → word.number ≡ k / 64 → word.bits ≡ 2 ^ (k % 64) → IsWordOf k word
+is-word_of k word lt is_number is_bits = record {
   number = is_number;
   bits = is_bits;
   small = omega (arith, is_number);
   some = let p = pow_pos (k % 64) in omega (arith, is_bits, p);
   fits = let p = pow_below (k % 64) 64 (omega arith) in omega (arith, is_bits, p);
 }
-
-pub AreWords-word_of : (k : ℕ) (word : Word) → IsWordOf k word → AreWords (word ∷ [])
-AreWords-word_of k word m = (omega arith, m.small, m.some, m.fits, tt)
 
 places : (k j : ℕ) → k / 64 ≡ j / 64 → nat_eq (k % 64) (j % 64) ≡ nat_eq k j
 places k j e = elim (cases_Bool (nat_eq k j)) [
@@ -167,6 +164,27 @@ has_bit-word_of k word m j = elim (cases_Bool (nat_eq word.number (j / 64))) [
       ap (λ b. is_bit (if b then word.bits else 0) (j % 64)) e ∙ ap (λ n. nat_eq n 1) (bit_at-zero (j % 64)) ∙ sym (ne_eqb k j apart)
 ]
 
+-- ---- a word of several ordinals
+
+-- the word has the ordinals that pass a test
+pub record IsWordWith (passes : ℕ → Bool) (word : Word) : Type 0 where
+  pub small : 64 * word.number < 2 ^ 32
+  pub some : 0 < word.bits
+  pub fits : word.bits < 2 ^ 64
+  pub members : (j : ℕ) → has_bit (word ∷ []) j ≡ passes j
+
+pub AreWords-one : (passes : ℕ → Bool) (word : Word) → IsWordWith passes word → AreWords (word ∷ [])
+AreWords-one passes word m = (omega arith, m.small, m.some, m.fits, tt)
+
+-- a word by what it has
+pub word-with : (word : Word) → AreWords (word ∷ []) → IsWordWith (has_bit (word ∷ [])) word
+word-with word h = record { small = h.1; some = h.2; fits = h.3; members = λ j. refl }
+
+pub word_of-is : (k : ℕ) (word : Word) → k < 2 ^ 32 → word.number ≡ k / 64 → word.bits ≡ 2 ^ (k % 64) → IsWordWith (nat_eq k) word
+word_of-is k word lt is_number is_bits =
+    let m = is-word_of k word lt is_number is_bits in
+    record { small = m.small; some = m.some; fits = m.fits; members = has_bit-word_of k word m }
+
 or-none : (n : ℕ) → bit_or n 0 ≡ n
 or-none n = or_comm n 0
 
@@ -174,23 +192,23 @@ or-none n = or_comm n 0
 abbrev pub HasBitsOf : List Word → List Word → Word → Type 0
 HasBitsOf grown ws word = (n : ℕ) → bits_of grown n ≡ bit_or (bits_of ws n) (bits_of (word ∷ []) n)
 
-pub grown-members : (k : ℕ) (word : Word) (ws grown : List Word) → IsWordOf k word → AreWords ws → AreWords grown → HasBitsOf grown ws word
-    → (j : ℕ) → has (ordinals_of grown) j ≡ (has (ordinals_of ws) j || nat_eq k j)
-grown-members k word ws grown m h g bits j =
-    let one = AreWords-word_of k word m in
+pub grown-members : (passes : ℕ → Bool) (word : Word) (ws grown : List Word) → IsWordWith passes word → AreWords ws → AreWords grown → HasBitsOf grown ws word
+    → (j : ℕ) → has (ordinals_of grown) j ≡ (has (ordinals_of ws) j || passes j)
+grown-members passes word ws grown m h g bits j =
+    let one = AreWords-one passes word m in
     kept_ordinals rule.Either ws (word ∷ []) grown h one g bits j
-    ∙ ap (λ b. has (ordinals_of ws) j || b) (has-ordinals_of 0 (word ∷ []) one j ∙ has_bit-word_of k word m j)
+    ∙ ap (λ b. has (ordinals_of ws) j || b) (has-ordinals_of 0 (word ∷ []) one j ∙ m.members j)
 
 -- ---- the words grow
 
--- `grown` has the ordinals of words, and k
-abbrev pub Grown : ℕ → List Word → List Word → Type 0
-Grown k words grown = AreWords grown × ((j : ℕ) → has (ordinals_of grown) j ≡ (has (ordinals_of words) j || nat_eq k j))
+-- `grown` has the ordinals of words, and those that pass a test
+abbrev pub Grown : (ℕ → Bool) → List Word → List Word → Type 0
+Grown passes words grown = AreWords grown × ((j : ℕ) → has (ordinals_of grown) j ≡ (has (ordinals_of words) j || passes j))
 
-module _ (k : ℕ) (word : Word) (m : IsWordOf k word) (front back : List Word) where
+module _ (passes : ℕ → Bool) (word : Word) (m : IsWordWith passes word) (front back : List Word) where
   -- into a word that is there
   grown-in : (w joined : Word) → AreWords (front ++ w ∷ back) → w.number ≡ word.number → joined.number ≡ w.number → joined.bits ≡ bit_or w.bits word.bits
-      → Grown k (front ++ w ∷ back) (front ++ joined ∷ back)
+      → Grown passes (front ++ w ∷ back) (front ++ joined ∷ back)
   grown-in w joined h at same bits =
       let p = WordsFrom-parts 0 front back w h in
       let below : NumbersBelow joined.number front = subst (λ n. NumbersBelow n front) (sym same) p.1 in
@@ -200,7 +218,7 @@ module _ (k : ℕ) (word : Word) (m : IsWordOf k word) (front back : List Word) 
       let fits : joined.bits < 2 ^ 64 = rw bits (or_lt 64 w.bits word.bits p.6 m.fits) in
       let g = WordsFrom-between 0 front back joined p.0 below above (omega arith) small some fits in (
         g,
-        grown-members k word (front ++ w ∷ back) (front ++ joined ∷ back) m h g (λ n. elim (cases_Bool (nat_eq word.number n)) [
+        grown-members passes word (front ++ w ∷ back) (front ++ joined ∷ back) m h g (λ n. elim (cases_Bool (nat_eq word.number n)) [
           | inl e ↦
               let is : word.number ≡ n = eqb-true word.number n e in
               let is_joined : joined.number ≡ n = same ∙ at ∙ is in
@@ -217,11 +235,11 @@ module _ (k : ℕ) (word : Word) (m : IsWordOf k word) (front back : List Word) 
       )
 
   -- as a word of its own
-  grown-between : AreWords (front ++ back) → WordsFrom 0 front → NumbersBelow word.number front → WordsFrom (suc word.number) back → Grown k (front ++ back) (front ++ word ∷ back)
+  grown-between : AreWords (front ++ back) → WordsFrom 0 front → NumbersBelow word.number front → WordsFrom (suc word.number) back → Grown passes (front ++ back) (front ++ word ∷ back)
   grown-between h f below above =
       let g = WordsFrom-between 0 front back word f below above (omega arith) m.small m.some m.fits in (
         g,
-        grown-members k word (front ++ back) (front ++ word ∷ back) m h g (λ n. elim (cases_Bool (nat_eq word.number n)) [
+        grown-members passes word (front ++ back) (front ++ word ∷ back) m h g (λ n. elim (cases_Bool (nat_eq word.number n)) [
           | inl e ↦
               let is : word.number ≡ n = eqb-true word.number n e in
               let gone : bits_of (front ++ back) n ≡ 0 = ap (λ x. bits_of (front ++ back) x) (sym is) ∙ bits_of-gap word.number front back below above in
@@ -234,28 +252,28 @@ module _ (k : ℕ) (word : Word) (m : IsWordOf k word) (front back : List Word) 
         ]),
       )
 
-pub grown-at : (k : ℕ) (word : Word) (ws : List Word) (place : ℕ) (w r : Word) → IsWordOf k word → AreWords ws → slice_get ws place ≡ Some w → w.number ≡ word.number
-    → r ≡ get_or ws place r → Grown k ws (set ws place (record { number = r.number; bits = bit_or r.bits word.bits }))
-grown-at k word ws place w r m h at same is_r =
+pub grown-at : (passes : ℕ → Bool) (word : Word) (ws : List Word) (place : ℕ) (w r : Word) → IsWordWith passes word → AreWords ws → slice_get ws place ≡ Some w → w.number ≡ word.number
+    → r ≡ get_or ws place r → Grown passes ws (set ws place (record { number = r.number; bits = bit_or r.bits word.bits }))
+grown-at passes word ws place w r m h at same is_r =
     let is_w : r ≡ w = is_r ∙ get_or_from_slice_get ws place w r at in
     let split = split-at ws place w at in
     let joined : Word = record { number = r.number; bits = bit_or r.bits word.bits } in
-    let g = grown-in k word m (take place ws) (drop (suc place) ws) w joined (subst (λ l. AreWords l) split h) same (ap (λ v. v.number) is_w) (ap (λ v. bit_or v.bits word.bits) is_w) in
-    subst (λ l. Grown k l (set ws place joined)) (sym split) (rw (set-at ws place joined w at) g)
+    let g = grown-in passes word m (take place ws) (drop (suc place) ws) w joined (subst (λ l. AreWords l) split h) same (ap (λ v. v.number) is_w) (ap (λ v. bit_or v.bits word.bits) is_w) in
+    subst (λ l. Grown passes l (set ws place joined)) (sym split) (rw (set-at ws place joined w at) g)
 
 -- the same, written through the slice of the vector
-pub grown-through : (k : ℕ) (word : Word) (v : SmallVec Word) (shown : List Word) (place : ℕ) (w : Word) → IsWordOf k word → AreWords v.items → slice_get v.items place ≡ Some w → w.number ≡ word.number → shown ≡ v.items
-    → Grown k v.items (refill (small_vec_len v) v.items (slice_set shown place (record { number = (slice_index_or shown place no_word).number; bits = bit_or (slice_index_or shown place no_word).bits word.bits })))
-grown-through k word v shown place w m h at same is =
+pub grown-through : (passes : ℕ → Bool) (word : Word) (v : SmallVec Word) (shown : List Word) (place : ℕ) (w : Word) → IsWordWith passes word → AreWords v.items → slice_get v.items place ≡ Some w → w.number ≡ word.number → shown ≡ v.items
+    → Grown passes v.items (refill (small_vec_len v) v.items (slice_set shown place (record { number = (slice_index_or shown place no_word).number; bits = bit_or (slice_index_or shown place no_word).bits word.bits })))
+grown-through passes word v shown place w m h at same is =
     let r : Word = slice_index_or v.items place no_word in
     let joined : Word = record { number = r.number; bits = bit_or r.bits word.bits } in
     let is_r : r ≡ get_or v.items place r = get_or_from_slice_get v.items place w no_word at ∙ sym (get_or_from_slice_get v.items place w r at) in
     let kept = items-with_items v (set v.items place joined) (length-set v.items place joined) in
-    rw is (subst (λ l. Grown k v.items l) (sym kept) (grown-at k word v.items place w r m h at same is_r))
+    rw is (subst (λ l. Grown passes v.items l) (sym kept) (grown-at passes word v.items place w r m h at same is_r))
 
-pub grown-with : (k : ℕ) (word : Word) (ws : List Word) (place : ℕ) → IsWordOf k word → AreWords ws → NumbersBelow word.number (take place ws) → WordsFrom (suc word.number) (drop place ws)
-    → Grown k ws (insert ws place word)
-grown-with k word ws place m h below above =
+pub grown-with : (passes : ℕ → Bool) (word : Word) (ws : List Word) (place : ℕ) → IsWordWith passes word → AreWords ws → NumbersBelow word.number (take place ws) → WordsFrom (suc word.number) (drop place ws)
+    → Grown passes ws (insert ws place word)
+grown-with passes word ws place m h below above =
     let split = sym (take-append-drop place ws) in
     let whole : AreWords (take place ws ++ drop place ws) = subst (λ l. AreWords l) split h in
-    subst (λ l. Grown k l (insert ws place word)) (sym split) (grown-between k word m (take place ws) (drop place ws) whole (WordsFrom-front 0 (take place ws) (drop place ws) whole) below above)
+    subst (λ l. Grown passes l (insert ws place word)) (sym split) (grown-between passes word m (take place ws) (drop place ws) whole (WordsFrom-front 0 (take place ws) (drop place ws) whole) below above)

@@ -10,3 +10,4 @@ pub mod Inserting
 pub mod Cursor
 pub mod SameWords
 pub mod TermLists
+pub mod WordsTogether

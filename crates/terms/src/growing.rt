@@ -1,11 +1,11 @@
 //! Sets that grow, with room made beforehand.
 
 ghost use Rattle.std.specs.Prelude.{◌≡◌, ◌<◌, ◌≤◌, ◌+◌, [], IfOk, IsOk, OnErr, OnOk};
-ghost use Rattle.terms.specs.Sets.{has, AddsOrdinal, IsAscending};
+ghost use Rattle.terms.specs.Sets.{has, AddsOrdinal, HasExactly, IsAscending};
 ghost use Rattle.terms.specs.Words.{AreLowBits};
 
 use crate::sets::VSet;
-use crate::words::{Words, bits_of, has_ordinal, insert_ordinal};
+use crate::words::{Words, bits_of, has_ordinal, insert_ordinal, words_of};
 use smallvec::SmallVec;
 use std::alloc::{AllocError, Global};
 use std::marker::Model;
@@ -41,6 +41,16 @@ impl GrowingSet {
         GrowingSet {
             words: SmallVec::new(alloc),
         }
+    }
+
+    /// The set of these ordinals, which may come in any order and several times. It is linear in
+    /// ascending ones.
+    pub fn of(alloc: Global, ordinals: &[u32]) -> Result<GrowingSet, AllocError>
+        ensures { IfOk result (λ set. HasExactly set.ordinals ordinals.now) }
+    {
+        Ok(GrowingSet {
+            words: words_of(alloc, ordinals)?,
+        })
     }
 
     /// Makes room for one ordinal more.

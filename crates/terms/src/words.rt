@@ -1,9 +1,9 @@
 //! The words of a set: where one stands, and how an ordinal comes in.
 
-ghost use Rattle.std.specs.Prelude.{◌≡◌, ◌↔◌, ◌<◌, ◌≤◌, ◌+◌, ◌*◌, ◌/◌, ◌%◌, ◌^◌, [], length, IfOk, IsOk, IsTrue, OnErr, OnOk};
+ghost use Rattle.std.specs.Prelude.{◌≡◌, ◌↔◌, ◌<◌, ◌≤◌, ◌+◌, ◌*◌, ◌/◌, ◌%◌, ◌^◌, ◌||◌, ◌∷◌, ℕ, [], length, IfOk, IsOk, IsTrue, OnErr, OnOk};
 ghost use Rattle.smallvec.specs.SmallVec.{small_vec_len};
 ghost use Rattle.terms.specs.Sets.{has, AddsOrdinal, HasExactly};
-ghost use Rattle.terms.specs.Words.{AreWords, IsPlace, ordinals_of};
+ghost use Rattle.terms.specs.Words.{AreWords, IsPlace, has_bit, ordinals_of};
 ghost use Rattle.terms.specs.Words as spec;
 
 use smallvec::SmallVec;
@@ -73,6 +73,27 @@ pub(crate) fn has_ordinal(words: &[Word], ordinal: u32) -> bool
     bits >> (ordinal % WORD_BITS) & 1 == 1
 }
 
+/// Puts the ordinals of a word in. It costs one step where no ordinal of a higher word is there, and takes
+/// memory only where no ordinal of the word is.
+#[inline(always)]
+fn insert_word(words: &mut Words, word: Word) -> Result<(), AllocError>
+    requires words { AreWords words.old.items }
+    requires word { AreWords (word ∷ []) }
+    ensures words { AreWords words.new.items }
+    ensures added { OnOk result
+        ((k : ℕ) → has (ordinals_of words.new.items) k ≡ (has (ordinals_of words.old.items) k || has_bit (word ∷ []) k)) }
+    ensures unchanged { OnErr result (words.new.items ≡ words.old.items) }
+    ensures room { words.old.capacity ≤ words.new.capacity }
+    ensures grown { small_vec_len words.new ≤ small_vec_len words.old + 1 }
+    ensures succeeds { small_vec_len words.old < words.old.capacity → IsOk result }
+{
+    match place_of(words, word.number) {
+        Ok(place) => words[place].bits |= word.bits,
+        Err(place) => words.insert(place, word)?,
+    }
+    Ok(())
+}
+
 /// Puts an ordinal in. It costs one step where no ordinal of a higher word is there, and takes
 /// memory only where no ordinal of its word is.
 #[inline(always)]
@@ -86,12 +107,7 @@ pub(crate) fn insert_ordinal(words: &mut Words, ordinal: u32) -> Result<(), Allo
     ensures grown { small_vec_len words.new ≤ small_vec_len words.old + 1 }
     ensures succeeds { small_vec_len words.old < words.old.capacity → IsOk result }
 {
-    let word = word_of(ordinal);
-    match place_of(words, word.number) {
-        Ok(place) => words[place].bits |= word.bits,
-        Err(place) => words.insert(place, word)?,
-    }
-    Ok(())
+    insert_word(words, word_of(ordinal))
 }
 
 /// The words of one ordinal, without memory.
@@ -104,15 +120,26 @@ pub(crate) fn words_of_one(alloc: Global, ordinal: u32) -> Words
     SmallVec::from_buf(alloc, [word])
 }
 
-/// The words of these ordinals. It is linear in ascending ones.
+/// The words of these ordinals. It is linear in ascending ones: those of one word come in together.
 pub(crate) fn words_of(alloc: Global, ordinals: &[u32]) -> Result<Words, AllocError>
     ensures words { IfOk result (λ words. AreWords words.items) }
     ensures members { IfOk result (λ words. HasExactly (ordinals_of words.items) ordinals.now) }
 {
     let mut words = SmallVec::new(alloc);
-    for ordinal in ordinals {
-        insert_ordinal(&mut words, *ordinal)?;
+    let [first, rest @ ..] = ordinals else {
+        return Ok(words);
+    };
+    let mut last = word_of(*first);
+    for ordinal in rest {
+        let word = word_of(*ordinal);
+        if word.number == last.number {
+            last.bits |= word.bits;
+        } else {
+            insert_word(&mut words, last)?;
+            last = word;
+        }
     }
+    insert_word(&mut words, last)?;
     Ok(words)
 }
 

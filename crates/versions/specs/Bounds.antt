@@ -6,12 +6,20 @@ use Rattle.semver.specs.declared.Comparator.{Comparator}
 use Rattle.semver.specs.declared.Op.{Op}
 use Rattle.semver.specs.declared.Op.TheVariants as op
 use Rattle.semver.specs.declared.Version.{Version}
-use Rattle.versions.specs.Words.{Text, meets}
+use Rattle.versions.specs.Words.{Text, meets, parts_of_text}
 use Rattle.versions.specs.declared.bounds.Numbers.{Numbers}
 use Rattle.versions.specs.declared.bounds.Range.{Range}
 
 abbrev pub numbers_of : Version → Numbers
 numbers_of v = record { major = v.major; minor = v.minor; patch = v.patch }
+
+-- the numbers of a version's text
+abbrev pub numbers_in : Text → Numbers
+numbers_in text = let p = parts_of_text text in record { major = p.0; minor = p.1; patch = p.2 }
+
+-- the text is that of a version without a pre-release
+abbrev pub IsPlain : Text → Type 0
+IsPlain text = (v : Version) × (version_parts text ≡ Ok (parts_of v)) × (pre_text v.pre ≡ [])
 
 -- whether the first numbers come before the second
 abbrev pub is_before : Numbers → Numbers → Bool

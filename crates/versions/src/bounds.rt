@@ -4,7 +4,7 @@ ghost use Rattle.semver.specs.Eval.{matches_op};
 ghost use Rattle.semver.specs.Identifiers.{pre_text};
 ghost use Rattle.semver.specs.declared.Version.{Version};
 ghost use Rattle.versions.specs.Bounds as spec;
-ghost use Rattle.versions.specs.Bounds.{numbers_of, IsBounded};
+ghost use Rattle.versions.specs.Bounds.{numbers_in, numbers_of, IsBounded};
 ghost use Rattle.versions.specs.Words.{meets};
 ghost use Rattle.versions.specs.declared.bounds.Numbers.{Numbers};
 
@@ -75,6 +75,18 @@ impl Numbers {
             || (self.major == others.major
                 && (self.minor < others.minor
                     || (self.minor == others.minor && self.patch < others.patch)))
+    }
+}
+
+/// The numbers of a version.
+fn numbers_of(version: &Published) -> Numbers
+    ensures { result ≡ numbers_in version.now }
+{
+    let parsed = version.parsed();
+    Numbers {
+        major: parsed.major,
+        minor: parsed.minor,
+        patch: parsed.patch,
     }
 }
 
@@ -317,5 +329,29 @@ impl Bounds {
             });
         }
         self.opens && need.admits(version)
+    }
+
+    /// Whether the range is not known, so that the bounds do not tell which versions meet the requirement.
+    pub fn is_vague(&self) -> bool
+        ensures { result ≡ self.now.is_vague }
+    {
+        self.is_vague
+    }
+
+    /// Whether the range begins above the numbers of a version.
+    pub fn begins_above(&self, version: &Published) -> bool
+        ensures { result ≡ spec.is_before (numbers_in version.now) self.now.range.lowest }
+    {
+        numbers_of(version).is_before(&self.range.lowest)
+    }
+
+    /// Whether the range ends above the numbers of a version, or has no end.
+    pub fn ends_above(&self, version: &Published) -> bool
+        ensures { result ≡ spec.is_within (numbers_in version.now) self.now.range.end }
+    {
+        match &self.range.end {
+            Some(end) => numbers_of(version).is_before(end),
+            None => true,
+        }
     }
 }

@@ -2,6 +2,7 @@
 ghost use Rattle.std.specs.Prelude.{◌≡◌, ◌↔◌, IfErr, IfOk, IsTrue, Ok, false};
 ghost use Rattle.semver.specs.Identifiers.{parts_of};
 ghost use Rattle.semver.specs.Parse.{version_parts};
+ghost use Rattle.versions.specs.Bounds.{IsPlain};
 ghost use Rattle.versions.specs.Readings.{version_in};
 ghost use Rattle.versions.specs.Refusals.{Gives};
 ghost use Rattle.versions.specs.VersionTexts.{VersionsAreThoseOfTheGrammar};
@@ -88,6 +89,13 @@ impl Published {
         ensures only { IfErr result (λ e. e ≡ Refusal.NoMemory) }
     {
         Ok(self.clone()?)
+    }
+
+    /// Whether the version has no pre-release.
+    pub fn is_plain(&self) -> bool
+        ensures { IsTrue result ↔ IsPlain self.now }
+    {
+        self.kept.parsed.pre.is_empty()
     }
 
     /// What was read from the text.

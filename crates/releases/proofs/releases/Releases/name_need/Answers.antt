@@ -81,7 +81,10 @@ invariant_of-self-2 c =
     let keys = rw c.unwrap.ensures at c.insert.ensures.keys in
     let same : c.reserve.new.self.keys ≡ c.self.inside.needs.keys = c.in_ok-reserve.ensures.keys in
     let placed : c.len-place.result ≡ length c.self.inside.needs.keys = c.len-place.ensures.len ∙ ap length same in
-    let kept = rw (c.deref.ensures.value, placed) at c.in_ok-keep_set.ensures.kept in
+    let kept = rw (c.new-ranked.ensures, c.deref.ensures.value, placed) at c.in_ok-keep_set.ensures.kept in
     let needs = grown c.self.inside.needs.keys _ c.args.need.now c.in_ok-named.named c.in_ok-named.ensures.cases (sym c.in_default.ensures.found) (rw same at keys) in
-    IsKept-named c.self.inside.releases.items c.self.inside.rising.items c.self.inside.needs.keys _ c.self.inside.sets.items _ c.self.inside.bounds.items _ c.args.need.now c.of-bounds.result
+    IsKept-named c.self.inside.releases.items c.self.inside.rising.items c.self.inside.needs.keys _ c.self.inside.sets.items _ c.self.inside.bounds.items _ c.self.inside.is_plain c.args.need.now c.of-bounds.result
     c.self.invariant kept c.of-bounds.ensures needs bounds
+
+pub new-ranked-requires-clause-plain : goal.new-ranked-requires-clause-plain
+new-ranked-requires-clause-plain c = rw c.deref.ensures.value c.self.invariant.plain

@@ -26,6 +26,7 @@ invariant_of-self-2 c =
       in_order = c.self.invariant.in_order;
       matching = AreMatching-same _ _ c.self.inside.sets.items c.make_room.new.sets c.self.invariant.matching length_same same;
       bounded = c.self.invariant.bounded;
+      plain = c.self.invariant.plain;
     })
 
 pub returns-clause-ok : goal.returns-clause-ok

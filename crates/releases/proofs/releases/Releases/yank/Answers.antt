@@ -7,7 +7,7 @@ pub invariant_of-self : goal.invariant_of-self
 invariant_of-self c =
     let e = ap (λ (r : Release). set c.self.inside.releases.items c.args.ordinal (record { version = r.version; yanked = true })) c.index_mut-release.ensures.value
     ∙ marked-set c.self.inside.releases.items c.args.ordinal c.index_mut-release.result.now true in
-    rw e (IsKept-marked c.self.inside.releases.items _ _ _ _ c.args.ordinal true c.self.invariant)
+    rw e (IsKept-marked c.self.inside.releases.items _ _ _ _ _ c.args.ordinal true c.self.invariant)
 
 pub returns-clause-releases : goal.returns-clause-releases
 returns-clause-releases c =

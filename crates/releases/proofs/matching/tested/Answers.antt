@@ -4,8 +4,8 @@ use Rattle.versions.specs.Words.{meets}
 use Rattle.releases.specs.declared.release.Release.{Release}
 use Rattle.releases.specs.Releases.{versions_of}
 use Rattle.releases.proofs.MatchingLemmas.{matching-end, matching-in, matching-out, meets_at-read}
-use Rattle.releases.proofs.matching.computed.Goals as goal
-use Rattle.releases.proofs.matching.computed.Goals.{then-admit+in_ok-insert, else-admit}
+use Rattle.releases.proofs.matching.tested.Goals as goal
+use Rattle.releases.proofs.matching.tested.Goals.{then-admit+in_ok-insert, else-admit}
 
 pub loop-ordinal-preserved : goal.loop-ordinal-preserved
 loop-ordinal-preserved c =
