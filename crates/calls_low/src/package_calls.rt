@@ -1,7 +1,7 @@
 //! Calls of a registry about one of its packages.
 
 use crate::releases_calls::is_kept;
-use registry::{Facts, Matching, PlaceHint, Registry, ordinals_are_below_the_count};
+use registry::{Facts, Matching, Place, Registry, ordinals_are_below_the_count};
 use rows::{AnswerText, CallResult, Shows, Unread, at, given_if, shown, size_at, whole_at};
 use serde_json::Value;
 use std::alloc::Global;
@@ -71,7 +71,7 @@ fn repeats(alloc: Global, registry: &Registry, pkg: u32) -> Result<CallResult, U
 }
 
 /// The places of dependencies: that of each name, and that of its requirement.
-fn places(alloc: Global, places: &[PlaceHint]) -> Result<CallResult, Unread> {
+fn places(alloc: Global, places: &[Place]) -> Result<CallResult, Unread> {
     let mut text = AnswerText::new(alloc);
     let mut is_first = true;
     text.put("[");
@@ -84,11 +84,11 @@ fn places(alloc: Global, places: &[PlaceHint]) -> Result<CallResult, Unread> {
     text.answer()
 }
 
-fn put_place(text: &mut AnswerText, place: &PlaceHint) {
+fn put_place(text: &mut AnswerText, place: &Place) {
     text.put("[");
-    text.put_plain(place.name());
+    text.put_plain(place.target.saturating_sub(1));
     text.put(",");
-    text.put_plain(place.need());
+    text.put_plain(place.need);
     text.put("]");
 }
 

@@ -2,7 +2,9 @@
 
 ghost use Rattle.std.specs.Ordering.{nat_cmp};
 ghost use Rattle.std.specs.BTreeMap.{get};
-ghost use Rattle.std.specs.Prelude.{OnOk};
+ghost use Rattle.std.specs.Prelude.{nat_eq, IfSome, OnOk};
+ghost use Rattle.std.specs.List.{IsDistinct};
+ghost use Rattle.std.specs.Map.{keys_of};
 ghost use Rattle.walk.specs.Listing.{IsOrder};
 
 use registry::{Pkg, Registry, Request};
@@ -12,9 +14,9 @@ use std::alloc::Global;
 use std::collections::BTreeMap;
 use versions::{Name, Need, Published};
 use walk::{
-    Asker, ChoiceMap, Chooser, Evidence, NextPackage, Order, Preferred, Reached, WalkListing,
-    choose_newest, is_newest_by, is_plainly_newest, list_in_order, locked_ordinal,
-    preferred_version, reach, reach_preferred, sort_by_name,
+    Asker, ChoiceMap, Chooser, Evidence, NewestChoice, NextPackage, Order, Preferred, Reached,
+    WalkListing, choose_newest, choose_newest_by_propagation, is_newest_by, is_plainly_newest,
+    list_in_order, locked_ordinal, preferred_version, reach, reach_preferred, sort_by_name,
 };
 
 pub fn walk_call(
@@ -42,7 +44,11 @@ fn about(
         "reach_preferred" => reach_by_itself(alloc, registry, request),
         "list_in_order" => list_chosen(alloc, registry, row, request),
         "go_on" => go_on_chosen(alloc, registry, row, request),
-        "choose_newest" => chosen_newest(alloc, registry, request),
+        "choose_newest" => chosen_newest(alloc, registry, choose_newest(alloc, registry, request)?),
+        "choose_newest_by_propagation" => {
+            let choice = choose_newest_by_propagation(alloc, registry, request)?;
+            chosen_newest(alloc, registry, choice)
+        }
         "is_newest_by" => newest_by_nothing(alloc, registry, row, request),
         "is_plainly_newest" => plainly_newest(alloc, registry, row, request),
         "locked_ordinal" => {
@@ -241,9 +247,11 @@ fn listed_in_order(
 fn chosen_newest(
     alloc: Global,
     registry: &Registry,
-    request: &Request,
-) -> Result<CallResult, Unread> {
-    match choose_newest(alloc, registry, request)? {
+    choice: Option<NewestChoice>,
+) -> Result<CallResult, Unread>
+    requires { IfSome choice (λ choice. IsDistinct nat_eq (keys_of choice.list.items)) }
+{
+    match choice {
         Some(choice) => {
             let mut list = choice.list;
             sort_by_name(alloc, registry, &mut list);

@@ -9,7 +9,6 @@ use crate::engine::{Engine, Verdict};
 use crate::meeting::versions_meeting;
 use crate::origins::Origin;
 use crate::stop::{Stop, count_of};
-use crate::view::target_of;
 use terms::{Pkg, VSet};
 
 /// How often a search begins again at most.
@@ -69,7 +68,7 @@ impl Engine<'_> {
     ) -> Result<(), Stop> {
         let places = self.question.registry.places(pkg, ordinal);
         for (index, place) in places.iter().enumerate() {
-            if target_of(*place) == target {
+            if place.target == target {
                 let by = Origin::Dependency {
                     pkg,
                     ordinal,

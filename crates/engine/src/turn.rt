@@ -9,7 +9,6 @@ use crate::engine::Engine;
 use crate::origins::Origin;
 use crate::stop::{Stop, at_mut, count_of, rows_from};
 use crate::trail::Trail;
-use crate::view::target_of;
 use std::alloc::Global;
 use std::cmp::Ordering;
 use terms::Pkg;
@@ -165,7 +164,7 @@ impl Engine<'_> {
                 ordinal,
                 index,
             };
-            let variable = self.variable_of(target_of(*place), by)?;
+            let variable = self.variable_of(place.target, by)?;
             self.turn.list(variable)?;
         }
         Ok(())

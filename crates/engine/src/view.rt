@@ -8,7 +8,7 @@
 use crate::bits::{Bits, choice_of};
 use crate::stop::{Stop, at, at_mut, count_of, index_of};
 use crate::wide::Wide;
-use registry::{PlaceHint, Registry};
+use registry::{Place, Registry};
 use std::alloc::Global;
 use std::mem;
 use terms::{Pkg, VSet};
@@ -68,11 +68,6 @@ pub(crate) struct View {
     current: Vec<u32>,
     /// The number of the search, from 1 on.
     search: u32,
-}
-
-/// The package of a dependency.
-pub(crate) fn target_of(place: PlaceHint) -> Pkg {
-    count_of(place.name()).saturating_add(1)
 }
 
 /// The choices of these versions.
@@ -137,11 +132,11 @@ impl View {
     fn row_of(
         &mut self,
         first: u32,
-        place: PlaceHint,
+        place: Place,
         ordinal: u32,
         index: usize,
     ) -> Result<u32, Stop> {
-        let (target, need) = (target_of(place), count_of(place.need()));
+        let (target, need) = (place.target, place.need);
         if let Some(row) = self.current.as_slice().get(index).copied() {
             if self.is_of(row, target, need)? {
                 return Ok(row);
@@ -173,7 +168,7 @@ impl View {
 
     /// Finds the rows of a version, of a package whose rows stand from one on.
     #[inline(always)]
-    fn find(&mut self, first: u32, places: &[PlaceHint], ordinal: u32) -> Result<(), Stop> {
+    fn find(&mut self, first: u32, places: &[Place], ordinal: u32) -> Result<(), Stop> {
         for (index, place) in places.iter().enumerate() {
             let row = self.row_of(first, *place, ordinal, index)?;
             self.note(index, row)?;

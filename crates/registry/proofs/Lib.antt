@@ -16,3 +16,5 @@ pub mod WorkedRows
 pub mod SelectionRows
 pub mod Alike
 pub mod Yanks
+pub mod PlaceLemmas
+pub mod PlacedNeeds

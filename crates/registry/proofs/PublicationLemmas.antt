@@ -167,9 +167,16 @@ if-matching releases needs need e (Err fault) h = h
 -- the lowest ordinals that meet a requirement, where their bits are kept
 pub if-low_bits : (releases : List Release) (needs : List Needs) (named : List Text) (place : ℕ) → length needs ≡ length releases → (result : Option ℕ)
     → IfSome result (λ bits. (need : Text) × (slice_get named place ≡ Some need) × AreLowBits bits (released.meets_at (released.versions_of releases) need))
-    → IfSome result (λ bits. (need : Text) × AreLowBits bits (λ k. publication_meets (slice_get (publications_of releases needs) k) need))
-if-low_bits releases needs named place e (Some bits) h = (h.0, λ k lt. h.2 k lt ∙ meets-releases releases needs h.0 k e)
+    → IfSome result (λ bits. (need : Text) × (slice_get named place ≡ Some need) × AreLowBits bits (λ k. publication_meets (slice_get (publications_of releases needs) k) need))
+if-low_bits releases needs named place e (Some bits) h = (h.0, h.1, λ k lt. h.2 k lt ∙ meets-releases releases needs h.0 k e)
 if-low_bits releases needs named place e None h = h
+
+-- the ordinals that meet the requirement which is named at a place
+pub if-named : (releases : List Release) (needs : List Needs) (named : List Text) (place : ℕ) → length needs ≡ length releases → (result : Option Matching)
+    → IfSome result (λ set. (need : Text) × (slice_get named place ≡ Some need) × ((k : ℕ) → has (ordinals_of set) k ≡ released.meets_at (released.versions_of releases) need k))
+    → IfSome result (λ set. (need : Text) × (slice_get named place ≡ Some need) × ((k : ℕ) → has (ordinals_of set) k ≡ publication_meets (slice_get (publications_of releases needs) k) need))
+if-named releases needs named place e (Some set) h = (h.0, h.1, λ k. h.2 k ∙ meets-releases releases needs h.0 k e)
+if-named releases needs named place e None h = h
 
 -- the version with an ordinal is that of the publication there
 version-placed : (releases : List Release) (needs : List Needs) (k : ℕ) (v : Publication) → slice_get (publications_of releases needs) k ≡ Some v

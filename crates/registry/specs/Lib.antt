@@ -7,6 +7,7 @@ pub mod Commands
 pub mod Rooms
 pub mod Lawful
 pub mod Publications
+pub mod Places
 pub mod Highest
 pub mod Dependencies
 pub mod Requests

@@ -1,13 +1,17 @@
 -- What a contract sees of the publications of a package as they are stored, and of the lists of them.
-use Rattle.std.specs.Prelude.{◌≡◌, ◌↔◌, ◌<◌, ◌+◌, ℕ, Bool, true, List, [], ◌∷◌, length, map, slice_get, Option, None, Some}
+use Rattle.std.specs.Prelude.{◌≡◌, ◌↔◌, ◌<◌, ◌≤◌, ◌+◌, ℕ, All, Bool, true, List, [], ◌∷◌, length, map, slice_get, slice_range, Option, None, Some}
 use Rattle.std.specs.List.{list_any}
 use Rattle.releases.specs.declared.release.Release.{Release}
 use Rattle.versions.specs.Words.{Text}
 use Rattle.registry.specs.Registry.{Packages, Publication}
+use Rattle.registry.specs.declared.place.Place.{Place}
 
--- the publications of a package in order, and how many more fit
+-- the publications of a package in order, the requirements that are named on it, where what each publication depends on
+-- is kept, and how many more fit
 pub record PublicationList : Type 0 where
   pub publications : List Publication
+  pub named : List Text
+  pub places : List (List Place)
   pub room : ℕ
 
 -- releases, and beside each what it depends on
@@ -28,6 +32,14 @@ EndsWith needs next = (j : ℕ) × (j + 1 ≡ length needs) × (slice_get needs 
 -- beside each publication a mark, whether it needs what the one before it does
 abbrev pub AreAlike : List Bool → List (List (Text × Text)) → Type 0
 AreAlike marks needs = (length marks ≡ length needs) × ((k : ℕ) → slice_get marks k ≡ Some true ↔ IsAlike needs k)
+
+-- the parts of a list of places, each with its beginning and its end
+abbrev pub parts_of : List Place → List (ℕ × ℕ) → List (List Place)
+parts_of places spans = map (λ (span : ℕ × ℕ). slice_range places span.0 span.1) spans
+
+-- each part ends within so many
+abbrev pub EndWithin : ℕ → List (ℕ × ℕ) → Type 0
+EndWithin count spans = All (λ (span : ℕ × ℕ). span.1 ≤ count) spans
 
 -- whether one of the releases is yanked
 abbrev pub any_yanked : List Release → Bool

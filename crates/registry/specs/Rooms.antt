@@ -9,9 +9,11 @@ use Rattle.registry.specs.Registry.{Packages}
 use Rattle.registry.specs.Step.{Change, Publish, Unyank, Yank}
 use Rattle.registry.specs.declared.ready.Ready.{Ready}
 
--- the packages, how many commands were accepted, and the publication that room is made for: its package's name and its needs
+-- the packages, the requirements that are named on each, how many commands were accepted, and the publication that room is
+-- made for: its package's name and its needs
 pub record State : Type 0 where
   pub packages : Packages
+  pub named : List (List Text)
   pub revision : ℕ
   pub ready : Option (Text × List (Text × Text))
 

@@ -4,7 +4,6 @@ ghost use Rattle.std.specs.Prelude.{◌≡◌, ◌≢◌, ◌↔◌, ◌≤◌, 
 ghost use Rattle.registry.specs.Needs.{has_name, repeats_name};
 
 use crate::by_name::{places_by_name, repeats};
-use crate::need_list::{NeedList, PlaceHint};
 use std::alloc::{AllocError, Global};
 use std::marker::Model;
 use std::sync::Arc;
@@ -19,7 +18,7 @@ const MOST_COMPARED_NEEDS: usize = 8;
 /// Copies share the list. Whether a name comes twice is found once, when the list is made.
 #[derive(Drop)]
 pub struct Dependencies {
-    listed: Arc<NeedList, Global>,
+    listed: Arc<Vec<(Name, Need)>, Global>,
     repeats: bool,
 }
 
@@ -30,9 +29,9 @@ impl Model for Dependencies {
 
     ghost Value = { List (List ℕ × List ℕ) };
 
-    ghost view = { λ d. arc_value d.listed };
+    ghost view = { λ d. (arc_value d.listed).items };
 
-    ghost invariant = { λ d. d.repeats ≡ repeats_name (arc_value d.listed) };
+    ghost invariant = { λ d. d.repeats ≡ repeats_name (arc_value d.listed).items };
 }
 
 impl Clone for Dependencies {
@@ -54,7 +53,7 @@ impl Dependencies {
     {
         let repeats = repeats_name(alloc, &needs)?;
         Ok(Dependencies {
-            listed: Arc::new(alloc, NeedList::new(alloc, needs))?,
+            listed: Arc::new(alloc, needs)?,
             repeats,
         })
     }
@@ -63,19 +62,7 @@ impl Dependencies {
     pub fn needs(&self) -> &[(Name, Need)]
         ensures { result.now ≡ self.now }
     {
-        self.listed.needs()
-    }
-
-    /// Where a registry may keep the name and the requirement at an index.
-    pub(crate) fn place(&self, index: usize) -> PlaceHint {
-        self.listed.place(index)
-    }
-
-    /// As `place`, of each in their order, as far as they are known.
-    pub(crate) fn places(&self) -> &[PlaceHint]
-        ensures { length result.now ≤ length self.now }
-    {
-        self.listed.places()
+        &self.listed
     }
 
     /// Whether a name comes twice; takes no time.
@@ -85,17 +72,17 @@ impl Dependencies {
         self.repeats
     }
 
-    /// The same list, kept in these handles of equal texts, with their places.
+    /// The same list, kept in these handles of equal texts.
     pub(crate) fn with_handles(
         &self,
         alloc: Global,
-        listed: NeedList,
+        needs: Vec<(Name, Need)>,
     ) -> Result<Dependencies, AllocError>
-        requires { listed ≡ self.now }
+        requires { needs.items ≡ self.now }
         ensures { IfOk result (λ dependencies. dependencies ≡ self.now) }
     {
         Ok(Dependencies {
-            listed: Arc::new(alloc, listed)?,
+            listed: Arc::new(alloc, needs)?,
             repeats: self.repeats,
         })
     }

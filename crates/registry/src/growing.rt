@@ -4,6 +4,7 @@ ghost use Rattle.std.specs.Prelude.{◌≡◌, ◌<◌, ◌≤◌, ◌+◌, [], 
 ghost use Rattle.std.specs.List.{list_any};
 ghost use Rattle.std.specs.Str.{bytes_eq};
 ghost use Rattle.indexmap.specs.IndexSet.{spare};
+ghost use Rattle.registry.specs.Places.{Extends};
 ghost use Rattle.registry.specs.Publications.{packages_in, rooms_of};
 ghost use Rattle.registry.specs.Registry.{number_of};
 ghost use Rattle.registry.specs.Rooms.{names_in, room_where, AreEmpty, KeepTheirRooms};
@@ -42,6 +43,7 @@ pub fn enter_name(
     ensures place { result < length lists.new.items }
     ensures number { number_of (packages_in names.new.keys lists.new.items) name ≡ Some (result + 1) }
     ensures room { slice_index (rooms_of lists.new.items) result ≡ room_where (rooms_of lists.old.items) own.room place }
+    ensures extends { Extends names.old.keys lists.old.items names.new.keys lists.new.items }
 {
     match place {
         Some(index) => {
@@ -74,6 +76,7 @@ fn add_name(
     ensures packages { packages_in names.new.keys lists.new.items ≡ with_name (packages_in names.old.keys lists.old.items) name }
     ensures names_room { spare names.old ≤ spare names.new + 1 }
     ensures lists_room { (vec_capacity lists.old ≤ vec_capacity lists.new) × (vec_len lists.new ≤ vec_len lists.old + 1) }
+    ensures extends { Extends names.old.keys lists.old.items names.new.keys lists.new.items }
 {
     if names.insert(name).unwrap() {
         lists.push(publications).unwrap();
@@ -95,6 +98,7 @@ pub fn add_names(
     ensures paired { length names.new.keys ≡ length lists.new.items }
     ensures stay { KeepTheirRooms lists.old.items lists.new.items }
     ensures packages { packages_in names.new.keys lists.new.items ≡ with_listed (packages_in names.old.keys lists.old.items) (names_in added.items) }
+    ensures extends { Extends names.old.keys lists.old.items names.new.keys lists.new.items }
 {
     for (name, publications) in added {
         add_name(names, lists, name, publications);
@@ -112,6 +116,7 @@ pub fn set_yanked_in(
     requires paired { length names.now.keys ≡ length lists.old.items }
     ensures paired { length names.now.keys ≡ length lists.new.items }
     ensures packages { packages_in names.now.keys lists.new.items ≡ with_yanked name.now version.now yanked (packages_in names.now.keys lists.old.items) }
+    ensures extends { Extends names.now.keys lists.old.items names.now.keys lists.new.items }
 {
     if let Some(index) = names.get_index_of(name) {
         let list = &mut lists[index];

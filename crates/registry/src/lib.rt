@@ -8,6 +8,7 @@ mod growing;
 mod laws;
 mod limits;
 mod need_list;
+mod place;
 mod publications;
 mod ready;
 mod registry;
@@ -21,7 +22,7 @@ pub use laws::{
     registries_stay_lawful, the_highest_is_one,
 };
 pub use limits::limits_in_numbers;
-pub use need_list::PlaceHint;
+pub use place::Place;
 pub use registry::{Facts, NEED_LIMIT, PACKAGE_LIMIT, Registry, VERSION_LIMIT};
 pub use releases::Matching;
 pub use requests::{LOCK_LIMIT, Request, admits, locks};

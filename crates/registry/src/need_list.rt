@@ -1,77 +1,30 @@
-//! Needs in a list, and where a registry keeps their names and requirements.
+//! Needs in a list that is made, each with its place.
 
-ghost use Rattle.std.specs.Prelude.{◌≡◌, ◌≤◌, ◌∷◌, ◌++◌, [], length, IfOk, OnOk};
+ghost use Rattle.std.specs.Prelude.{◌≡◌, ◌∷◌, ◌++◌, [], IfOk, OnOk};
 
+use crate::place::Place;
 use std::alloc::{AllocError, Global};
 use std::marker::Model;
 use versions::{Name, Need};
 
-/// Where a registry may keep the name and the requirement of a dependency: the place of the name among
-/// its names, and that of the requirement among those that are named on the package.
+/// Names of packages, each with a requirement, in order, and a place for each.
 ///
-/// It is a hint, which is tested where it is used and costs a look-up where it is wrong. So no contract
-/// speaks of it.
-#[derive(Clone, Copy)]
-pub struct PlaceHint {
-    name: u32,
-    need: u32,
-}
-
-/// A place as it is kept. None is above the largest number, so what is cut down is a wrong hint.
-fn kept(place: usize) -> u32 {
-    place.min(u32::MAX as usize) as u32
-}
-
-impl PlaceHint {
-    /// Two indexes, each kept in 32 bits: one that needs more is the highest of these.
-    pub(crate) fn new(name: usize, need: usize) -> PlaceHint {
-        PlaceHint {
-            name: kept(name),
-            need: kept(need),
-        }
-    }
-
-    /// Where the name may stand in the registry, as an index of its packages.
-    pub fn name(self) -> usize {
-        self.name as usize
-    }
-
-    /// Where the requirement may stand, as an index of those named on the package.
-    pub fn need(self) -> usize {
-        self.need as usize
-    }
-}
-
-/// Names of packages, each with a requirement, in order, and a place for each that is known.
-///
-/// Contracts speak of the names with their requirements alone.
+/// Contracts speak of the names with their requirements alone: a place is tested before it is kept.
 #[derive(Drop)]
 pub struct NeedList {
     needs: Vec<(Name, Need)>,
-    places: Vec<PlaceHint>,
+    places: Vec<Place>,
 }
 
 impl Model for NeedList {
-    ghost use Rattle.std.specs.Prelude.{◌≤◌, List, ℕ, length};
+    ghost use Rattle.std.specs.Prelude.{List, ℕ};
 
     ghost Value = { List (List ℕ × List ℕ) };
 
     ghost view = { λ l. l.needs.items };
-
-    ghost invariant = { λ l. length l.places.items ≤ length l.needs.items };
 }
 
 impl NeedList {
-    /// These needs, of which no place is known.
-    pub fn new(alloc: Global, needs: Vec<(Name, Need)>) -> NeedList
-        ensures { result ≡ needs.items }
-    {
-        NeedList {
-            needs,
-            places: Vec::new(alloc),
-        }
-    }
-
     /// No needs, with room for so many.
     pub fn with_capacity(alloc: Global, count: usize) -> Result<NeedList, AllocError>
         ensures { IfOk result (λ listed. listed ≡ []) }
@@ -83,7 +36,7 @@ impl NeedList {
     }
 
     /// Puts a need at the end, with its place.
-    pub fn push(&mut self, need: (Name, Need), place: PlaceHint) -> Result<(), AllocError>
+    pub fn push(&mut self, need: (Name, Need), place: Place) -> Result<(), AllocError>
         ensures { OnOk result (self.new ≡ self.old ++ need ∷ []) }
     {
         self.needs.push(need)?;
@@ -91,25 +44,15 @@ impl NeedList {
         Ok(())
     }
 
-    /// The names with their requirements.
-    pub fn needs(&self) -> &[(Name, Need)]
-        ensures { result.now ≡ self.now }
-    {
-        &self.needs
+    /// How many there are.
+    pub fn len(&self) -> usize {
+        self.needs.len()
     }
 
-    /// The places of the needs, in order, as far as they are known.
-    pub fn places(&self) -> &[PlaceHint]
-        ensures { length result.now ≤ length self.now }
+    /// The names with their requirements, and their places.
+    pub fn into_parts(self) -> (Vec<(Name, Need)>, Vec<Place>)
+        ensures { result.0.items ≡ self }
     {
-        &self.places
-    }
-
-    /// The place of the need at an index; any where none is known.
-    pub fn place(&self, index: usize) -> PlaceHint {
-        match self.places.get(index) {
-            Some(place) => *place,
-            None => PlaceHint::new(0, 0),
-        }
+        (self.needs, self.places)
     }
 }

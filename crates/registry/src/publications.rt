@@ -1,6 +1,6 @@
 //! The publications of one package.
 
-ghost use Rattle.std.specs.Prelude.{◌≡◌, ◌↔◌, ◌<◌, ◌≤◌, ◌+◌, ◌∷◌, ◌++◌, [], ℕ, false, length, slice_get, None, Some, IfErr, IfNone, IfOk, IfSome, IsOk, IsTrue, OnOk, is_some, true};
+ghost use Rattle.std.specs.Prelude.{◌≡◌, ◌↔◌, ◌⊎◌, ◌<◌, ◌≤◌, ◌+◌, ◌∷◌, ◌++◌, [], List, ℕ, false, get_or, length, slice_get, slice_range, None, Some, IfErr, IfNone, IfOk, IfSome, IsOk, IsTrue, OnOk, is_some, true, vec_capacity, vec_len};
 ghost use Rattle.std.specs.Option.{option_copied};
 ghost use Rattle.releases.specs.Matching.{ordinals_of};
 ghost use Rattle.terms.specs.Sets.{has};
@@ -8,17 +8,23 @@ ghost use Rattle.terms.specs.Words.{AreLowBits};
 ghost use Rattle.versions.specs.Words.{Text};
 ghost use Rattle.registry.specs.declared.registry.TheConstants.{VERSION_LIMIT};
 ghost use Rattle.registry.specs.Highest.{IsHighest};
-ghost use Rattle.registry.specs.Publications.{any_yanked, publications_in, EndsWith};
+ghost use Rattle.registry.specs.Places.{ArePlaced, ArePlacesOf, IsGrown};
+ghost use Rattle.registry.specs.Publications.{any_yanked, publications_in, EndsWith, EndWithin};
+ghost use Rattle.registry.specs.declared.place.Place.{Place};
 ghost use Rattle.registry.specs.Registry.{has_version, has_yank, needs_or_none, publication_equals, publication_meets};
 ghost use Rattle.registry.specs.Step.{set_yanked, unyank_refusal, yank_of, yank_refusal};
 
 use crate::dependencies::{Dependencies, are_same};
-use crate::need_list::PlaceHint;
+use crate::place::Place;
 use releases::{Matching, Release, Releases};
 use std::alloc::{AllocError, Global};
 use std::marker::Model;
 use terms::VSet;
 use versions::{Need, Published, Refusal};
+
+/// A list with fewer entries has no more room than it needs: most packages of a large registry have few versions. The
+/// value was not tuned.
+const SHORT: usize = 8;
 
 /// The publications of a package, in order: its releases, and beside each what it depends on.
 #[derive(Drop)]
@@ -27,25 +33,35 @@ pub struct Publications {
     needs: Vec<Dependencies>,
     /// Whether each publication needs what the one before it does.
     repeats: Vec<bool>,
+    /// Where the names and the requirements of them stand in the registry: those of one that needs what the one before it
+    /// does are kept once.
+    places: Vec<Place>,
+    /// Where the places of each begin and end.
+    spans: Vec<(u32, u32)>,
     /// Whether one of them is yanked.
     yanks: bool,
 }
 
 impl Model for Publications {
     ghost use Rattle.std.specs.Prelude.{◌≡◌, ◌-◌, length, min, vec_capacity, vec_len};
-    ghost use Rattle.registry.specs.Publications.{PublicationList, publications_of, any_yanked, AreAlike};
+    ghost use Rattle.registry.specs.Publications.{PublicationList, parts_of, publications_of, any_yanked, AreAlike, EndWithin};
 
     ghost Value = { PublicationList };
 
     ghost view = { λ p. record {
       publications = publications_of p.releases.releases p.needs.items;
-      room = min p.releases.room (min (vec_capacity p.needs - vec_len p.needs) (vec_capacity p.repeats - vec_len p.repeats));
+      named = p.releases.needs;
+      places = parts_of p.places.items p.spans.items;
+      room = min (min p.releases.room (vec_capacity p.spans - vec_len p.spans))
+          (min (vec_capacity p.needs - vec_len p.needs) (vec_capacity p.repeats - vec_len p.repeats));
     } };
 
     ghost invariant = { λ p.
         (length p.needs.items ≡ length p.releases.releases)
         × AreAlike p.repeats.items p.needs.items
-        × (p.yanks ≡ any_yanked p.releases.releases) };
+        × (p.yanks ≡ any_yanked p.releases.releases)
+        × (length p.spans.items ≡ length p.needs.items)
+        × EndWithin (length p.places.items) p.spans.items };
 }
 
 impl Publications {
@@ -57,6 +73,8 @@ impl Publications {
             releases: Releases::new(alloc),
             needs: Vec::new(alloc),
             repeats: Vec::new(alloc),
+            places: Vec::new(alloc),
+            spans: Vec::new(alloc),
             yanks: false,
         }
     }
@@ -128,12 +146,12 @@ impl Publications {
         self.releases.matching(need)
     }
 
-    /// As [`Publications::matching`], of a requirement that may be named at this place: where it is, no
-    /// look-up is made.
-    pub fn matching_at(&self, need: &Need, place: usize) -> Result<Matching<'_>, AllocError>
-        ensures { IfOk result (λ set. (k : ℕ) → has (ordinals_of set) k ≡ publication_meets (slice_get self.now.publications k) need.now) }
+    /// As [`Releases::matching_named`].
+    pub fn matching_named(&self, place: usize) -> Option<Matching<'_>>
+        ensures { IfSome result (λ set. (need : Text) × (slice_get self.now.named place ≡ Some need)
+            × ((k : ℕ) → has (ordinals_of set) k ≡ publication_meets (slice_get self.now.publications k) need)) }
     {
-        self.releases.matching_at(need, place)
+        self.releases.matching_named(place)
     }
 
     /// The one of highest precedence in a set.
@@ -161,29 +179,49 @@ impl Publications {
         self.releases.named_at(need, place)
     }
 
-    /// Where the last one has its need at an index; any where there is none. The next one's is mostly on
-    /// the same package, and often the same.
-    pub fn last_place(&self, index: usize) -> PlaceHint {
-        match self.needs.last() {
-            Some(needs) => needs.place(index),
-            None => PlaceHint::new(0, 0),
+    /// Whether this requirement is named at a place.
+    pub fn names_at(&self, need: &Need, place: usize) -> bool
+        ensures { IsTrue result → slice_get self.now.named place ≡ Some need.now }
+    {
+        match self.releases.named_at(need, place) {
+            Some((at, _)) => at == place,
+            None => false,
         }
     }
 
-    /// Where the name and the requirement of each dependency of one may stand; nothing where it is not published.
-    pub fn places(&self, ordinal: u32) -> &[PlaceHint]
-        ensures { length result.now ≤ length (needs_or_none (slice_get self.now.publications ordinal)) }
+    /// The place of the last one's need at an index; nowhere where there is none. The next one's is mostly on
+    /// the same package, and often the same.
+    pub fn last_place(&self, index: usize) -> Place {
+        let last = self.spans.len().saturating_sub(1);
+        match self.part(last).get(index) {
+            Some(place) => *place,
+            None => Place::nowhere(),
+        }
+    }
+
+    /// The places that are kept beside one; nothing where it is not published.
+    pub fn places(&self, ordinal: u32) -> &[Place]
+        ensures kept { result.now ≡ get_or self.now.places ordinal [] }
+        ensures past { length self.now.publications ≤ ordinal → result.now ≡ [] }
     {
-        let place = ordinal as usize;
-        if place >= self.needs.len() {
+        self.part(ordinal as usize)
+    }
+
+    /// The places that are kept beside the one at an index; nothing where there is none.
+    fn part(&self, index: usize) -> &[Place]
+        ensures kept { result.now ≡ get_or self.now.places index [] }
+        ensures past { length self.now.publications ≤ index → result.now ≡ [] }
+    {
+        if index >= self.spans.len() {
             return &[];
         }
-        self.needs[place].places()
+        part_of(&self.places, self.spans[index])
     }
 
     /// As [`Releases::low_bits`].
     pub fn low_bits(&self, place: usize) -> Option<u64>
-        ensures { IfSome result (λ bits. (need : Text) × AreLowBits bits (λ k. publication_meets (slice_get self.now.publications k) need)) }
+        ensures { IfSome result (λ bits. (need : Text) × (slice_get self.now.named place ≡ Some need)
+            × AreLowBits bits (λ k. publication_meets (slice_get self.now.publications k) need)) }
     {
         self.releases.low_bits(place)
     }
@@ -191,29 +229,39 @@ impl Publications {
     /// Names a requirement, whose matching set is kept from now on if it is one of the first, and answers the
     /// requirement's place.
     pub fn name_need(&mut self, need: &Need) -> Result<usize, AllocError>
-        ensures { self.new.publications ≡ self.old.publications }
+        ensures publications { self.new.publications ≡ self.old.publications }
+        ensures grown { IsGrown self.old self.new }
     {
         self.releases.name_need(need)
     }
 
-    /// Makes room for one more.
-    pub fn reserve(&mut self) -> Result<(), AllocError>
+    /// Makes room for one more with so many places.
+    pub fn reserve(&mut self, places: usize) -> Result<(), AllocError>
         ensures same { self.new.publications ≡ self.old.publications }
+        ensures grown { IsGrown self.old self.new }
         ensures ok { OnOk result (0 < self.new.room) }
     {
-        self.needs.reserve(1)?;
-        self.repeats.reserve(1)?;
+        make_room(&mut self.needs, 1)?;
+        make_room(&mut self.repeats, 1)?;
+        make_room(&mut self.places, places)?;
+        make_room(&mut self.spans, 1)?;
         self.releases.reserve()
     }
 
-    /// Publishes a version of new precedence, in room that was made.
-    pub fn push(&mut self, version: Published, needs: Dependencies)
+    /// Publishes a version of new precedence, in room that was made. These are the places of its needs.
+    pub fn push(&mut self, version: Published, needs: Dependencies, places: &[Place])
         requires room { 0 < self.old.room }
         requires new { has_version self.old.publications version ≡ false }
         requires few { length self.old.publications < VERSION_LIMIT }
-        ensures { self.new.publications ≡ self.old.publications ++ (record { version = version; needs = needs; yanked = false }) ∷ [] }
+        ensures publications { self.new.publications ≡ self.old.publications ++ (record { version = version; needs = needs; yanked = false }) ∷ [] }
+        ensures named { self.new.named ≡ self.old.named }
+        ensures placed { (names : List Text) (named : List (List Text)) → ArePlacesOf names named needs places.now
+            → ArePlaced names named self.old → ArePlaced names named self.new }
     {
-        self.repeats.push(end_with(&self.needs, &needs)).unwrap();
+        let repeats = end_with(&self.needs, &needs);
+        let span = next_span(&mut self.places, &self.spans, repeats, places);
+        self.repeats.push(repeats).unwrap();
+        self.spans.push(span).unwrap();
         self.releases.push(version);
         self.needs.push(needs).unwrap();
     }
@@ -221,7 +269,8 @@ impl Publications {
     /// Marks the one of equal precedence as yanked or not, if there is one. Where a yank is undone, it
     /// looks at each whether it is yanked.
     pub fn set_yanked(&mut self, version: &Published, yanked: bool)
-        ensures { self.new.publications ≡ set_yanked version.now yanked self.old.publications }
+        ensures publications { self.new.publications ≡ set_yanked version.now yanked self.old.publications }
+        ensures grown { IsGrown self.old self.new }
     {
         let Some(ordinal) = self.releases.find(version) else {
             return;
@@ -236,6 +285,19 @@ impl Publications {
     }
 }
 
+/// Makes room for more entries: no more than these in a short list, of which there are many.
+fn make_room<T>(list: &mut Vec<T>, more: usize) -> Result<(), AllocError>
+    ensures items { list.new.items ≡ list.old.items }
+    ensures len { vec_len list.new ≡ vec_len list.old }
+    ensures ok { OnOk result (vec_len list.new + more ≤ vec_capacity list.new) }
+{
+    if list.len() < SHORT {
+        list.reserve_exact(more)
+    } else {
+        list.reserve(more)
+    }
+}
+
 /// Whether the last of these needs are the same as others.
 fn end_with(needs: &[Dependencies], next: &Dependencies) -> bool
     ensures { IsTrue result ↔ EndsWith needs.now next.now }
@@ -243,6 +305,49 @@ fn end_with(needs: &[Dependencies], next: &Dependencies) -> bool
     match needs {
         [] => false,
         [.., last] => are_same(last.needs(), next.needs()),
+    }
+}
+
+/// A part of the places.
+fn part_of(places: &[Place], span: (u32, u32)) -> &[Place]
+    requires { span.1 ≤ length places.now }
+    ensures { result.now ≡ slice_range places.now span.0 span.1 }
+{
+    match places.get(span.0 as usize..span.1 as usize) {
+        Some(part) => part,
+        None => &[],
+    }
+}
+
+/// Puts places at the end, and answers where they begin and end. Where there is no room, none are kept.
+fn add_places(all: &mut Vec<Place>, places: &[Place]) -> (u32, u32)
+    ensures grown { (more : List Place) × (all.new.items ≡ all.old.items ++ more) }
+    ensures within { result.1 ≤ length all.new.items }
+    ensures part { (slice_range all.new.items result.0 result.1 ≡ places.now) ⊎ (slice_range all.new.items result.0 result.1 ≡ []) }
+{
+    let from = all.len();
+    if all.extend_from_slice(places).is_err() || all.len() > u32::MAX as usize {
+        return (0, 0);
+    }
+    (from as u32, all.len() as u32)
+}
+
+/// Where the places of the next one begin and end: where those of the last do if it needs the same, else at the end.
+fn next_span(
+    all: &mut Vec<Place>,
+    spans: &[(u32, u32)],
+    repeats: bool,
+    places: &[Place],
+) -> (u32, u32)
+    requires { EndWithin (length all.old.items) spans.now }
+    ensures grown { (more : List Place) × (all.new.items ≡ all.old.items ++ more) }
+    ensures within { result.1 ≤ length all.new.items }
+    ensures part { (slice_range all.new.items result.0 result.1 ≡ places.now) ⊎ (slice_range all.new.items result.0 result.1 ≡ [])
+        ⊎ (IsTrue repeats × (j : ℕ) × (j + 1 ≡ length spans.now) × (slice_get spans.now j ≡ Some result)) }
+{
+    match spans {
+        [.., last] if repeats => *last,
+        _ => add_places(all, places),
     }
 }
 

@@ -1,15 +1,18 @@
 //! What is made ready for a publication, so that it takes no memory.
 
-ghost use Rattle.std.specs.Prelude.{◌≡◌, ◌<◌, ◌≤◌, ◌-◌, ◌↔◌, ◌≢◌, ◌∷◌, ◌++◌, [], length, vec_capacity, vec_len, None, Some, IfOk, IfSome, IsTrue, OnOk, is_some, position};
+ghost use Rattle.std.specs.Prelude.{◌≡◌, ◌<◌, ◌≤◌, ◌-◌, ◌↔◌, ◌≢◌, ◌∷◌, ◌++◌, [], List, length, vec_capacity, vec_len, None, Some, IfOk, IfSome, IsTrue, OnOk, is_some, position};
 ghost use Rattle.std.specs.List.{list_any};
 ghost use Rattle.std.specs.Option.{ForSome, option_map};
 ghost use Rattle.std.specs.Str.{bytes_eq};
 ghost use Rattle.indexmap.specs.IndexSet.{spare};
+ghost use Rattle.versions.specs.Words.{Text};
+ghost use Rattle.registry.specs.Places.{ArePlacesOf, Extends, IsGrown, StandsAt, named_of};
 ghost use Rattle.registry.specs.Publications.{lists_of, rooms_of};
 ghost use Rattle.registry.specs.Rooms.{names_beside, names_in, publication_for, room_where, AreEmpty, IsReady};
 
 use crate::dependencies::{Dependencies, are_same};
-use crate::need_list::{NeedList, PlaceHint};
+use crate::need_list::NeedList;
+use crate::place::Place;
 use crate::publications::Publications;
 use indexmap::IndexSet;
 use std::alloc::{AllocError, Global};
@@ -24,12 +27,52 @@ use versions::{Name, Need};
 pub struct Ready {
     pub name: Name,
     pub needs: Dependencies,
+    /// The places of its needs, as they are expected once it is entered.
+    pub places: Vec<Place>,
     /// The place of the package, where it has one.
     pub place: Option<usize>,
     /// The list of the package, where it is new.
     pub own: Publications,
     /// The names of the needs that are new.
     pub added: Vec<(Name, Publications)>,
+}
+
+/// Whether a name stands at a place, and a requirement among those that are named on the package.
+fn stands_at(
+    names: &IndexSet<Name>,
+    lists: &[Publications],
+    need: &(Name, Need),
+    place: Place,
+) -> bool
+    ensures { IsTrue result → StandsAt names.now.keys (named_of lists.now) need.now place }
+{
+    let Some(index) = place.name() else {
+        return false;
+    };
+    match (names.get_index(index), lists.get(index)) {
+        (Some(name), Some(list)) => *name == need.0 && list.names_at(&need.1, place.need as usize),
+        _ => false,
+    }
+}
+
+/// These places, if each is that of the need at its index, else none: what was expected is tested once.
+pub fn right_places<'a>(
+    names: &IndexSet<Name>,
+    lists: &[Publications],
+    needs: &[(Name, Need)],
+    places: &'a [Place],
+) -> &'a [Place]
+    ensures { ArePlacesOf names.now.keys (named_of lists.now) needs.now result.now }
+{
+    if places.len() > needs.len() {
+        return &[];
+    }
+    for index in 0..places.len() {
+        if !stands_at(names, lists, &needs[index], places[index]) {
+            return &[];
+        }
+    }
+    places
 }
 
 /// What was made ready for this publication.
@@ -113,6 +156,7 @@ fn kept(
     hint: usize,
 ) -> Result<((Name, Need), usize), AllocError>
     ensures publications { list.new.publications ≡ list.old.publications }
+    ensures grown { IsGrown list.old list.new }
     ensures same { IfOk result (λ kept. kept.0 ≡ (name.now, need.now)) }
 {
     let (need, place) = kept_need(list, need, hint)?;
@@ -123,6 +167,7 @@ fn kept(
 /// one.
 fn kept_need(list: &mut Publications, need: &Need, hint: usize) -> Result<(Need, usize), AllocError>
     ensures publications { list.new.publications ≡ list.old.publications }
+    ensures grown { IsGrown list.old list.new }
     ensures same { IfOk result (λ kept. kept.0 ≡ need.now) }
 {
     if let Some((place, kept)) = list.named_at(need, hint) {
@@ -150,10 +195,11 @@ fn add_known(
     same: &mut NeedList,
 ) -> Result<(), AllocError>
     ensures publications { list.new.publications ≡ list.old.publications }
+    ensures grown { IsGrown list.old list.new }
     ensures same { OnOk result (same.new ≡ same.old ++ (name.now, need.now) ∷ []) }
 {
     let (shared, place) = kept(list, name, need, hint)?;
-    same.push(shared, PlaceHint::new(index, place))
+    same.push(shared, Place::new(index, place))
 }
 
 /// Adds a need of a package that is new.
@@ -168,19 +214,19 @@ fn add_new(
     ensures empty { OnOk result (AreEmpty named.old.added.items → AreEmpty named.new.added.items) }
 {
     // The first requirement that is named on a package has the place 0.
-    let place = PlaceHint::new(next.saturating_add(named.added.len()), 0);
+    let place = Place::new(next.saturating_add(named.added.len()), 0);
     named.added.push(new_package(alloc, need)?)?;
     named.needs.push(copied(need)?, place)
 }
 
 /// Where the last publication of a package has its need at an index; any where there is none.
-fn hint_at(lists: &[Publications], own: Option<usize>, index: usize) -> PlaceHint {
+fn hint_at(lists: &[Publications], own: Option<usize>, index: usize) -> Place {
     match own {
         Some(place) => match lists.get(place) {
             Some(list) => list.last_place(index),
-            None => PlaceHint::new(0, 0),
+            None => Place::nowhere(),
         },
-        None => PlaceHint::new(0, 0),
+        None => Place::nowhere(),
     }
 }
 
@@ -191,20 +237,28 @@ fn add_need(
     lists: &mut Vec<Publications>,
     need: &(Name, Need),
     next: usize,
-    hint: PlaceHint,
+    hint: Place,
     named: &mut Named,
 ) -> Result<(), AllocError>
     requires paired { length names.now.keys ≡ length lists.old.items }
     ensures lists { lists_of lists.new.items ≡ lists_of lists.old.items }
     ensures length { length lists.new.items ≡ length lists.old.items }
+    ensures extends { Extends names.now.keys lists.old.items names.now.keys lists.new.items }
     ensures same { OnOk result (named.new.needs ≡ named.old.needs ++ need.now ∷ []) }
     ensures added { OnOk result (names_in named.new.added.items ≡ names_in named.old.added.items ++ names_beside names.now.keys (need.now ∷ [])) }
     ensures empty { OnOk result (AreEmpty named.old.added.items → AreEmpty named.new.added.items) }
 {
-    match kept_near(names, hint.name(), &need.0) {
+    match kept_near(names, hint.target.saturating_sub(1) as usize, &need.0) {
         Some((index, name)) => {
             let list = &mut lists[index];
-            add_known(list, index, name, &need.1, hint.need(), &mut named.needs)
+            add_known(
+                list,
+                index,
+                name,
+                &need.1,
+                hint.need as usize,
+                &mut named.needs,
+            )
         }
         None => add_new(alloc, need, next, named),
     }
@@ -223,6 +277,7 @@ fn name_needs(
     requires paired { length names.now.keys ≡ length lists.old.items }
     ensures lists { lists_of lists.new.items ≡ lists_of lists.old.items }
     ensures length { length lists.new.items ≡ length lists.old.items }
+    ensures extends { Extends names.now.keys lists.old.items names.now.keys lists.new.items }
     ensures same { IfOk result (λ named. named.needs ≡ needs.now) }
     ensures named { IfOk result (λ named. names_in named.added.items ≡ names_beside names.now.keys needs.now) }
     ensures empty { IfOk result (λ named. AreEmpty named.added.items) }
@@ -232,7 +287,7 @@ fn name_needs(
         added: Vec::new(alloc),
     };
     for need in needs {
-        let hint = hint_at(lists, own, named.needs.needs().len());
+        let hint = hint_at(lists, own, named.needs.len());
         add_need(alloc, names, lists, need, next, hint, &mut named)?;
     }
     Ok(named)
@@ -246,55 +301,61 @@ fn named_needs(
     lists: &mut Vec<Publications>,
     needs: &Dependencies,
     place: Option<usize>,
-) -> Result<(Dependencies, Vec<(Name, Publications)>), AllocError>
+) -> Result<(Dependencies, Vec<Place>, Vec<(Name, Publications)>), AllocError>
     requires paired { length names.now.keys ≡ length lists.old.items }
     ensures lists { lists_of lists.new.items ≡ lists_of lists.old.items }
     ensures length { length lists.new.items ≡ length lists.old.items }
+    ensures extends { Extends names.now.keys lists.old.items names.now.keys lists.new.items }
     ensures same { IfOk result (λ named. named.0 ≡ needs.now) }
-    ensures named { IfOk result (λ named. names_in named.1.items ≡ names_beside names.now.keys needs.now) }
-    ensures empty { IfOk result (λ named. AreEmpty named.1.items) }
+    ensures named { IfOk result (λ named. names_in named.2.items ≡ names_beside names.now.keys needs.now) }
+    ensures empty { IfOk result (λ named. AreEmpty named.2.items) }
 {
     let next = next_place(names, place);
     let named = name_needs(alloc, names, lists, needs.needs(), next, place)?;
-    let same = needs.with_handles(alloc, named.needs)?;
-    Ok((same, named.added))
+    let (handles, places) = named.needs.into_parts();
+    let same = needs.with_handles(alloc, handles)?;
+    Ok((same, places, named.added))
 }
 
-/// Makes room for one publication: in the list at this place, or else in that of a new package.
+/// Makes room for one publication with so many needs: in the list at this place, or else in that of a new package.
 fn make_list_room(
     lists: &mut Vec<Publications>,
     own: &mut Publications,
     place: Option<usize>,
+    needs: usize,
 ) -> Result<(), AllocError>
     requires within { ForSome place (λ i. i < length lists.old.items) }
     ensures lists { lists_of lists.new.items ≡ lists_of lists.old.items }
     ensures length { length lists.new.items ≡ length lists.old.items }
+    ensures extends { (names : List Text) → Extends names lists.old.items names lists.new.items }
     ensures same_room { vec_capacity lists.new - vec_len lists.new ≡ vec_capacity lists.old - vec_len lists.old }
     ensures own { own.new.publications ≡ own.old.publications }
     ensures room { OnOk result (0 < room_where (rooms_of lists.new.items) own.new.room place) }
 {
     match place {
-        None => own.reserve()?,
+        None => own.reserve(needs)?,
         Some(index) => {
             let list = &mut lists[index];
-            list.reserve()?;
+            list.reserve(needs)?;
         }
     }
     Ok(())
 }
 
-/// Makes room for one publication, and for so many packages.
+/// Makes room for one publication with so many needs, and for so many packages.
 fn make_room(
     names: &mut IndexSet<Name>,
     lists: &mut Vec<Publications>,
     own: &mut Publications,
     place: Option<usize>,
     count: usize,
+    needs: usize,
 ) -> Result<(), AllocError>
     requires within { ForSome place (λ i. i < length lists.old.items) }
     ensures keys { names.new.keys ≡ names.old.keys }
     ensures lists { lists_of lists.new.items ≡ lists_of lists.old.items }
     ensures length { length lists.new.items ≡ length lists.old.items }
+    ensures extends { (names : List Text) → Extends names lists.old.items names lists.new.items }
     ensures own { own.new.publications ≡ own.old.publications }
     ensures names_room { OnOk result (count ≤ spare names.new) }
     ensures lists_room { OnOk result (count ≤ vec_capacity lists.new - vec_len lists.new) }
@@ -302,7 +363,7 @@ fn make_room(
 {
     names.reserve(count)?;
     lists.reserve(count)?;
-    make_list_room(lists, own, place)
+    make_list_room(lists, own, place, needs)
 }
 
 /// Where a name stands, if it does, and an equal name: the one that stands there, where there is one.
@@ -328,16 +389,18 @@ pub fn make_ready(
     ensures keys { names.new.keys ≡ names.old.keys }
     ensures lists { lists_of lists.new.items ≡ lists_of lists.old.items }
     ensures length { length lists.new.items ≡ length lists.old.items }
+    ensures extends { Extends names.old.keys lists.old.items names.new.keys lists.new.items }
     ensures ready { IfOk result (IsReady names.new.keys (spare names.new) lists.new.items (vec_capacity lists.new - vec_len lists.new)) }
     ensures publication { IfOk result (λ ready. publication_for (Some ready) ≡ Some (name.now, needs.now)) }
 {
     let (place, name) = kept_name(names, name)?;
-    let (needs, added) = named_needs(alloc, names, lists, needs, place)?;
+    let (needs, places, added) = named_needs(alloc, names, lists, needs, place)?;
     let mut own = Publications::new(alloc);
-    match make_room(names, lists, &mut own, place, added.len() + 1) {
+    match make_room(names, lists, &mut own, place, added.len() + 1, places.len()) {
         Ok(()) => Ok(Ready {
             name,
             needs,
+            places,
             place,
             own,
             added,
@@ -345,6 +408,7 @@ pub fn make_ready(
         Err(error) => {
             drop(own);
             drop(added);
+            drop(places);
             drop(needs);
             drop(name);
             Err(error)

@@ -11,10 +11,12 @@ ghost use Rattle.registry.specs.Dependencies.{IsDependency};
 ghost use Rattle.registry.specs.Highest.{IsHighest};
 ghost use Rattle.registry.specs.Lawful.{IsRegistry};
 ghost use Rattle.registry.specs.Needs.{has_name, repeats_name};
+ghost use Rattle.registry.specs.Places.{named_on, AreTold, IsPlace};
 ghost use Rattle.registry.specs.Publications.{publications_in};
 ghost use Rattle.registry.specs.Registry.{Repeats, equals_at, has_version, has_yank, is_published, matching, meets_at, needs_of, number_of, package_at, publication_at, versions_of, versions_or_none};
 ghost use Rattle.registry.specs.Requests.{is_allowed};
 ghost use Rattle.registry.specs.Rooms.{HasRoomFor};
+ghost use Rattle.registry.specs.declared.place.Place.{Place};
 ghost use Rattle.registry.specs.Step as step;
 ghost use Rattle.registry.specs.Step.{after, publish, publish_refusal, refusal_of, with_named, with_yanked, yank_of};
 
@@ -22,9 +24,9 @@ use crate::Pkg;
 use crate::commands::Command;
 use crate::dependencies::{Dependencies, has_name};
 use crate::growing::{add_names, count_new, enter_name, set_yanked_in};
-use crate::need_list::PlaceHint;
+use crate::place::Place;
 use crate::publications::{Publications, check_unyank, check_yank, count, has_version};
-use crate::ready::{Ready, make_ready, ready_for};
+use crate::ready::{Ready, make_ready, ready_for, right_places};
 use crate::requests::Request;
 use indexmap::IndexSet;
 use releases::Matching;
@@ -68,6 +70,7 @@ impl Model for Registry {
     ghost use Rattle.std.specs.Prelude.{◌≡◌, ◌-◌, length, vec_capacity, vec_len};
     ghost use Rattle.indexmap.specs.IndexSet.{spare};
     ghost use Rattle.registry.specs.Lawful.{IsRegistry};
+    ghost use Rattle.registry.specs.Places.{named_of, AreAllPlaced};
     ghost use Rattle.registry.specs.Publications.{packages_in};
     ghost use Rattle.registry.specs.Rooms.{publication_for, IsReadyIfAny, State};
 
@@ -75,6 +78,7 @@ impl Model for Registry {
 
     ghost view = { λ r. record {
       packages = packages_in r.names.keys r.lists.items;
+      named = named_of r.lists.items;
       revision = r.revision;
       ready = publication_for r.ready;
     } };
@@ -82,7 +86,8 @@ impl Model for Registry {
     ghost invariant = { λ r.
         (length r.names.keys ≡ length r.lists.items)
         × IsRegistry (packages_in r.names.keys r.lists.items)
-        × IsReadyIfAny r.names.keys (spare r.names) r.lists.items (vec_capacity r.lists - vec_len r.lists) r.ready };
+        × IsReadyIfAny r.names.keys (spare r.names) r.lists.items (vec_capacity r.lists - vec_len r.lists) r.ready
+        × AreAllPlaced r.names.keys r.lists.items };
 }
 
 impl Registry {
@@ -263,9 +268,33 @@ impl Registry {
 
     /// The package that a version names at an index of its dependencies, and the ordinals of those of
     /// the package's versions that meet the requirement: what [`Registry::number`] and
-    /// [`Registry::matching_set`] answer of them, without the look-ups by their texts. It costs a
-    /// comparison of each text with the one that is kept.
+    /// [`Registry::matching_set`] answer of them. It costs two look-ups by index: no text is looked at.
     pub fn dependency(
+        &self,
+        pkg: Pkg,
+        ordinal: u32,
+        index: usize,
+    ) -> Result<(Pkg, Matching<'_>), AllocError>
+        requires { index < length (needs_of self.now.packages pkg ordinal) }
+        ensures { IfOk result (λ found. IsDependency self.now.packages pkg ordinal index found.0 (ordinals_of found.1)) }
+    {
+        match self.placed(pkg, ordinal, index) {
+            Some(found) => Ok(found),
+            None => self.looked_up(pkg, ordinal, index),
+        }
+    }
+
+    /// As [`Registry::dependency`], where the place of the dependency is kept.
+    fn placed(&self, pkg: Pkg, ordinal: u32, index: usize) -> Option<(Pkg, Matching<'_>)>
+        ensures { IfSome result (λ found. IsDependency self.now.packages pkg ordinal index found.0 (ordinals_of found.1)) }
+    {
+        let place = self.places(pkg, ordinal).get(index)?;
+        let matching = self.matching_named(place.target, place.need)?;
+        Some((place.target, matching))
+    }
+
+    /// As [`Registry::dependency`], by the texts of the dependency.
+    fn looked_up(
         &self,
         pkg: Pkg,
         ordinal: u32,
@@ -276,19 +305,20 @@ impl Registry {
     {
         let listed = self.dependencies(pkg, ordinal);
         let entry = &listed.needs()[index];
-        let place = listed.place(index);
-        let Some(target) = self.number_at(&entry.0, place.name()) else {
+        let Some(target) = self.number(&entry.0) else {
             unreachable!()
         };
-        let matching = self.matching_at(target, &entry.1, place.need())?;
+        let matching = self.matching_set(target, &entry.1)?;
         Ok((target, matching))
     }
 
     /// Where the registry keeps the name and the requirement of each dependency of a version, in their order;
     /// nothing where it is not published. Equal texts stand at the same place, so a search may compare places
-    /// where it would compare texts. Each place is a hint: no contract says that it is right.
-    pub fn places(&self, pkg: Pkg, ordinal: u32) -> &[PlaceHint]
-        ensures { length result.now ≤ length (needs_of self.now.packages pkg ordinal) }
+    /// where it would compare texts.
+    pub fn places(&self, pkg: Pkg, ordinal: u32) -> &[Place]
+        ensures few { length result.now ≤ length (needs_of self.now.packages pkg ordinal) }
+        ensures right { (index : ℕ) (place : Place) → slice_get result.now index ≡ Some place
+            → IsPlace self.now.packages self.now.named pkg ordinal index place }
     {
         match self.publications_at(pkg) {
             None => &[],
@@ -296,11 +326,20 @@ impl Registry {
         }
     }
 
+    /// The ordinals of the versions of a package that meet the requirement which is named at a place, if one is:
+    /// its set, if it is kept, or else its test. No text is looked at, and no memory is taken.
+    pub fn matching_named(&self, pkg: Pkg, place: u32) -> Option<Matching<'_>>
+        ensures { IfSome result (λ set. (need : Text) × (slice_get (named_on self.now.named pkg) place ≡ Some need)
+            × ((k : ℕ) → has (ordinals_of set) k ≡ meets_at self.now.packages pkg k need)) }
+    {
+        self.publications_at(pkg)?.matching_named(place as usize)
+    }
+
     /// Of a package's ordinals below 64 those that meet the requirement which is named at a place, a bit each, if
-    /// their set is kept: bit k stands for the ordinal k. Takes no memory. Which requirement stands at a place, no
-    /// contract says.
+    /// their set is kept: bit k stands for the ordinal k. Takes no memory.
     pub fn low_bits(&self, pkg: Pkg, place: u32) -> Option<u64>
-        ensures { IfSome result (λ bits. (need : Text) × AreLowBits bits (λ k. meets_at self.now.packages pkg k need)) }
+        ensures { IfSome result (λ bits. (need : Text) × (slice_get (named_on self.now.named pkg) place ≡ Some need)
+            × AreLowBits bits (λ k. meets_at self.now.packages pkg k need)) }
     {
         self.publications_at(pkg)?.low_bits(place as usize)
     }
@@ -416,31 +455,11 @@ impl Registry {
         list.at(ordinal).1
     }
 
-    /// As [`Registry::number`], of a name that may stand at this place: where it does, no look-up is
-    /// made.
-    fn number_at(&self, name: &Name, place: usize) -> Option<Pkg>
-        ensures { result ≡ number_of self.now.packages name.now }
-    {
-        match self.names.get_index(place) {
-            Some(kept) if *kept == *name => Some(place as u32 + 1),
-            _ => self.number(name),
-        }
-    }
-
-    /// As [`Registry::matching_set`], of a requirement that may be named at this place: where it is, no
-    /// look-up is made.
-    fn matching_at(&self, pkg: Pkg, need: &Need, place: usize) -> Result<Matching<'_>, AllocError>
-        ensures { IfOk result (λ set. (k : ℕ) → has (ordinals_of set) k ≡ meets_at self.now.packages pkg k need.now) }
-    {
-        match self.publications_at(pkg) {
-            None => Ok(Matching::Computed(GrowingSet::new(self.alloc))),
-            Some(publications) => publications.matching_at(need, place),
-        }
-    }
-
     /// The publications of the package of this number.
     fn publications_at(&self, pkg: Pkg) -> Option<&Publications>
         ensures publications { publications_in (option_copied result) ≡ versions_or_none (package_at self.now.packages pkg) }
+        ensures named { IfSome result (λ list. list.now.named ≡ named_on self.now.named pkg) }
+        ensures placed { IfSome result (λ list. AreTold self.now.packages self.now.named pkg list.now) }
         ensures reachable { IsRegistry self.now.packages }
     {
         let lists = &self.lists;
@@ -568,6 +587,7 @@ impl Registry {
         let Some(ready) = self.ready.take() else {
             unreachable!()
         };
+        let (kept, expected) = (ready.needs, ready.places);
         let index = enter_name(
             &mut self.names,
             &mut self.lists,
@@ -576,8 +596,9 @@ impl Registry {
             ready.place,
         );
         add_names(&mut self.names, &mut self.lists, ready.added);
+        let places = right_places(&self.names, &self.lists, kept.needs(), &expected);
         let list = &mut self.lists[index];
-        list.push(version, ready.needs);
+        list.push(version, kept, places);
     }
 
     /// Marks a version as yanked or not.

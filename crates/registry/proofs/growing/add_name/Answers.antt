@@ -4,6 +4,7 @@ use Rattle.std.specs.Str.{bytes_eq}
 use Rattle.registry.proofs.GrowthLemmas.{rooms-stay}
 use Rattle.registry.proofs.PackageLemmas.{with_name-new, with_name-known}
 use Rattle.registry.specs.Publications.{packages_in}
+use Rattle.registry.proofs.PlaceLemmas.{extends-pushed, extends-same}
 use Rattle.registry.proofs.growing.add_name.Goals as goal
 
 told : (was b : Bool) → was ≡ not b → b ≡ not was
@@ -64,3 +65,21 @@ returns-then-unwrap-clause-names_room c = c.insert.ensures.spare
 
 pub returns-then-unwrap-clause-lists_room : goal.returns-then-unwrap-clause-lists_room
 returns-then-unwrap-clause-lists_room c = (c.push.ensures.capacity, c.push.ensures.upper_bound)
+
+pub returns-then-unwrap-clause-extends : goal.returns-then-unwrap-clause-extends
+returns-then-unwrap-clause-extends c =
+    let names = c.args.names.now.keys in
+    let keys = rw c.unwrap.ensures at c.insert.ensures.keys in
+    let items = rw c.unwrap-then-unwrap.ensures at c.push.ensures.items in
+    let added = rw c.unwrap.ensures at c.insert.ensures.added in
+    let new : list_any (bytes_eq c.args.name) names ≡ false = told c.unwrap.result _ added ∙ rw c.if-unwrap.true refl in
+    extends-pushed names c.insert.new.self.keys c.args.lists.now.items c.push.new.self.items c.args.name c.args.publications
+    (keys ∙ ap (λ b. if b then names else names ++ c.args.name ∷ []) new) items c.requires.empty
+
+pub returns-else-unwrap-clause-extends : goal.returns-else-unwrap-clause-extends
+returns-else-unwrap-clause-extends c =
+    let names = c.args.names.now.keys in
+    let keys = rw c.unwrap.ensures at c.insert.ensures.keys in
+    let added = rw c.unwrap.ensures at c.insert.ensures.added in
+    let known : list_any (bytes_eq c.args.name) names ≡ true = told c.unwrap.result _ added ∙ rw c.if-unwrap.false refl in
+    extends-same names c.insert.new.self.keys c.args.lists.now.items c.args.lists.now.items (keys ∙ ap (λ b. if b then names else names ++ c.args.name ∷ []) known) refl

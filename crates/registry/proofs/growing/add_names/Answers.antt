@@ -5,6 +5,7 @@ use Rattle.versions.specs.Words.{Text}
 use Rattle.registry.specs.Publications.{PublicationList, packages_in}
 use Rattle.registry.specs.Rooms.{names_in}
 use Rattle.registry.specs.Step.{with_listed}
+use Rattle.registry.proofs.PlaceLemmas.{extends-then}
 use Rattle.registry.proofs.growing.add_names.Goals as goal
 
 abbrev IsEmpty : Text × PublicationList → Type 0
@@ -32,5 +33,7 @@ loop-name-preserved c =
           (after.0, after.1 ∙ before.1);
       empty = All-rest IsEmpty (c.in-Some.name, c.in-Some.publications) (into_iter_items c.next.new.self) (into_iter_items c.loop-name.name-iterator)
           c.in-Some.ensures.steps.0 c.loop-name.invariant.empty;
+      extends = extends-then c.args.names.now.keys c.loop-name.names.keys c.add_name.new.names.keys c.args.lists.now.items c.loop-name.lists.items c.add_name.new.lists.items
+          c.loop-name.invariant.extends c.add_name.ensures.extends;
       counted = omega (arith, count, c.loop-name.invariant.counted, c.in-Some.ensures.steps.1);
     }

@@ -11,6 +11,7 @@ use Rattle.registry.proofs.PackageLemmas.{with_name-new, with_name-known}
 use Rattle.registry.proofs.GrowthLemmas.{number-found, number-next}
 use Rattle.registry.specs.Registry.{number_of}
 use Rattle.registry.proofs.growing.enter_name.Goals as goal
+use Rattle.registry.proofs.PlaceLemmas.{extends-none, extends-pushed}
 use Rattle.registry.proofs.growing.enter_name.Goals.{After-unwrap-in-None}
 
 -- the room of the list that is put behind all
@@ -86,3 +87,15 @@ pub returns-in-None-clause-room : goal.returns-in-None-clause-room
 returns-in-None-clause-room c =
     let items = rw c.unwrap-in-None.ensures at c.push.ensures.items in
     room-behind c.args.lists.now.items _ c.args.own c.len-last.result (last c) items ∙ sym (ap (room_where (rooms_of c.args.lists.now.items) c.args.own.room) c.in-None.is)
+
+pub returns-in-Some-clause-extends : goal.returns-in-Some-clause-extends
+returns-in-Some-clause-extends c = extends-none c.args.names.now.keys c.args.lists.now.items
+
+pub returns-in-None-clause-extends : goal.returns-in-None-clause-extends
+returns-in-None-clause-extends c =
+    let names = c.args.names.now.keys in
+    let keys = rw c.unwrap.ensures at c.insert.ensures.keys in
+    let items = rw c.unwrap-in-None.ensures at c.push.ensures.items in
+    let new = list_any-position (bytes_eq c.args.name) names ∙ ap is_some (sym c.requires.placed ∙ c.in-None.is) in
+    extends-pushed names c.insert.new.self.keys c.args.lists.now.items c.push.new.self.items c.args.name c.args.own
+    (keys ∙ ap (λ b. if b then names else names ++ c.args.name ∷ []) new) items c.requires.empty

@@ -5,6 +5,7 @@ use Rattle.versions.specs.Words.{Text}
 use Rattle.registry.specs.Rooms.{names_in}
 use Rattle.registry.proofs.GrowthLemmas.{lists_of-set_same}
 use Rattle.registry.proofs.ReadyLemmas.{on_ok}
+use Rattle.registry.proofs.PlaceLemmas.{extends-none, extends-set}
 use Rattle.registry.proofs.ready.add_need.Goals as goal
 
 pub index_mut-list-requires : goal.index_mut-list-requires
@@ -28,3 +29,11 @@ pub returns-in-None-clause-added : goal.returns-in-None-clause-added
 returns-in-None-clause-added c =
     let added = names_in c.args.named.now.added.items in
     IfOk-equal c.add_new.result _ _ _ c.add_new.ensures.added (sym (ap (λ b. added ++ (if b then [] else c.args.need.now.0 ∷ [])) (sym c.in-None.ensures.there)))
+
+pub returns-in-Some-clause-extends : goal.returns-in-Some-clause-extends
+returns-in-Some-clause-extends c =
+    extends-set c.args.names.now.keys c.args.lists.now.items c.in-Some.index c.index_mut-list.result.now c.add_known.new.list
+    (omega (arith, c.in-Some.ensures.within, c.requires.paired)) c.index_mut-list.ensures.value c.add_known.ensures.grown
+
+pub returns-in-None-clause-extends : goal.returns-in-None-clause-extends
+returns-in-None-clause-extends c = extends-none c.args.names.now.keys c.args.lists.now.items

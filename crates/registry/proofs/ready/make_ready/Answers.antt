@@ -1,10 +1,12 @@
-use Rattle.std.proofs.Common.{◌∙◌, List, [], ap, arith, sym}
+use Rattle.std.proofs.Common.{◌∙◌, List, [], ap, arith, subst, sym}
 use Rattle.std.specs.Prelude.{Some, position}
 use Rattle.std.proofs.lemmas.List.Quantifiers.{position-Some}
 use Rattle.versions.specs.Words.{Text}
 use Rattle.std.specs.List.{list_any}
 use Rattle.std.specs.Str.{bytes_eq}
+use Rattle.registry.specs.Places.{Extends}
 use Rattle.registry.specs.Rooms.{unknown_names}
+use Rattle.registry.proofs.PlaceLemmas.{extends-then}
 use Rattle.registry.proofs.ready.make_ready.Goals as goal
 
 pub make_room-requires : goal.make_room-requires
@@ -52,3 +54,15 @@ returns-in-Ok-clause-keys c = c.make_room.ensures.keys
 
 pub returns-in-Err-clause-keys : goal.returns-in-Err-clause-keys
 returns-in-Err-clause-keys c = c.make_room.ensures.keys
+
+pub returns-in-Err-clause-extends : goal.returns-in-Err-clause-extends
+returns-in-Err-clause-extends c =
+    let names = c.args.names.now.keys in
+    subst (λ ks. Extends names c.args.lists.now.items ks c.make_room.new.lists.items) (sym c.make_room.ensures.keys)
+    (extends-then names names names c.args.lists.now.items c.named_needs.new.lists.items c.make_room.new.lists.items c.named_needs.ensures.extends (c.make_room.ensures.extends names))
+
+pub returns-in-Ok-clause-extends : goal.returns-in-Ok-clause-extends
+returns-in-Ok-clause-extends c =
+    let names = c.args.names.now.keys in
+    subst (λ ks. Extends names c.args.lists.now.items ks c.make_room.new.lists.items) (sym c.make_room.ensures.keys)
+    (extends-then names names names c.args.lists.now.items c.named_needs.new.lists.items c.make_room.new.lists.items c.named_needs.ensures.extends (c.make_room.ensures.extends names))

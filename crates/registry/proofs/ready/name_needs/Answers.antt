@@ -4,6 +4,7 @@ use Rattle.std.specs.List.{list_any}
 use Rattle.std.specs.Str.{bytes_eq}
 use Rattle.registry.specs.Rooms.{names_in}
 use Rattle.registry.proofs.ReadyLemmas.{taken-push, unknown-more}
+use Rattle.registry.proofs.PlaceLemmas.{extends-then}
 use Rattle.registry.proofs.ready.name_needs.Goals as goal
 
 pub loop-need-preserved : goal.loop-need-preserved
@@ -16,6 +17,8 @@ loop-need-preserved c = record {
       c.loop-need.named.added.items c.add_need.new.named.added.items c.in_ok-add_need.ensures.added c.loop-need.invariant.named;
   empty = c.in_ok-add_need.ensures.empty c.loop-need.invariant.empty;
   lists = c.add_need.ensures.lists ∙ c.loop-need.invariant.lists;
+  extends = extends-then c.args.names.now.keys c.args.names.now.keys c.args.names.now.keys c.args.lists.now.items c.loop-need.lists.items c.add_need.new.lists.items
+      c.loop-need.invariant.extends c.add_need.ensures.extends;
   count = c.add_need.ensures.length ∙ c.loop-need.invariant.count;
 }
 
@@ -34,3 +37,8 @@ pub returns-clause-named : goal.returns-clause-named
 returns-clause-named c =
     let none : drop c.loop-need.need-index c.args.needs.now ≡ [] = drop_all c.loop-need.need-index c.args.needs.now (omega arith) in
     sym (append-nil (names_in c.loop-need.named.added.items)) ∙ (rw none at c.loop-need.invariant.named)
+
+pub returns-in_err-add_need-clause-extends : goal.returns-in_err-add_need-clause-extends
+returns-in_err-add_need-clause-extends c =
+    extends-then c.args.names.now.keys c.args.names.now.keys c.args.names.now.keys c.args.lists.now.items c.loop-need.lists.items c.add_need.new.lists.items
+    c.loop-need.invariant.extends c.add_need.ensures.extends

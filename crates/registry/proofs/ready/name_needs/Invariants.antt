@@ -1,6 +1,7 @@
 use Rattle.std.proofs.Common.{◌≡◌, ◌++◌, drop, length, take}
 use Rattle.std.specs.List.{list_any}
 use Rattle.std.specs.Str.{bytes_eq}
+use Rattle.registry.specs.Places.{Extends}
 use Rattle.registry.specs.Publications.{lists_of}
 use Rattle.registry.specs.Rooms.{AreEmpty, names_in, unknown_names}
 use Rattle.registry.proofs.ready.name_needs.Given as goal
@@ -11,5 +12,6 @@ invariant-loop-need l = record {
   named : names_in l.named.added.items ++ unknown_names (λ name. list_any (bytes_eq name) l.names.keys) (drop l.need-index l.needs) ≡ unknown_names (λ name. list_any (bytes_eq name) l.names.keys) l.needs;
   empty : AreEmpty l.named.added.items;
   lists : lists_of l.lists.items ≡ lists_of l.initial.lists.items;
+  extends : Extends l.names.keys l.initial.lists.items l.names.keys l.lists.items;
   count : length l.lists.items ≡ length l.initial.lists.items;
 }

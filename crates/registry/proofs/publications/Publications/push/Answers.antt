@@ -1,20 +1,82 @@
-use Rattle.std.proofs.Common.{◌∙◌, ◌++◌, ◌∷◌, [], ap, arith, false, length, subst, sym}
+use Rattle.std.proofs.Common.{◌≡◌, ◌∙◌, ◌++◌, ◌∷◌, [], List, ℕ, inl, inr, ap, arith, false, length, length-append, subst, sym}
+use Rattle.std.specs.Prelude.{Some, slice_get, slice_range}
+use Rattle.std.proofs.lemmas.List.{length-map}
+use Rattle.std.proofs.lemmas.Option.{none-some}
+use Rattle.versions.specs.Words.{Text}
 use Rattle.std.proofs.lemmas.List.{length_push}
 use Rattle.releases.specs.declared.release.Release.{Release}
-use Rattle.registry.specs.Publications.{PublicationList, any_yanked, publications_of, AreAlike}
+use Rattle.registry.specs.Places.{ArePlaced, ArePlacesOf, StandBeside}
+use Rattle.registry.specs.Publications.{PublicationList, any_yanked, parts_of, publications_of, AreAlike, EndWithin}
+use Rattle.registry.specs.declared.place.Place.{Place}
 use Rattle.registry.specs.Registry.{Publication, has_version}
 use Rattle.registry.proofs.Alike.{alike-next}
+use Rattle.registry.proofs.PlaceLemmas.{beside-needs, beside-push, part-at, parts-push, slice-longer, within-at, within-push}
 use Rattle.registry.proofs.PublicationLemmas.{has_version-releases, length-publications_of, publications_of-push}
 use Rattle.registry.proofs.Yanks.{yanked-more}
 use Rattle.registry.proofs.publications.Publications.push.Goals as goal
+use Rattle.registry.proofs.publications.Publications.push.Goals.{After-unwrap-3}
 
-pub push-requires-2-clause-new : goal.push-requires-2-clause-new
-push-requires-2-clause-new c =
+-- the publications and parts that were there
+abbrev parts : After-unwrap-3 → List (List Place)
+parts c = parts_of c.self.inside.places.items c.self.inside.spans.items
+
+abbrev next : After-unwrap-3 → Publication
+next c = record { version = c.args.version; needs = c.args.needs; yanked = false }
+
+published : (c : After-unwrap-3) → publications_of c.push-3.new.self.releases c.push-4.new.self.items ≡ publications_of c.self.inside.releases.releases c.self.inside.needs.items ++ next c ∷ []
+published c =
+    let items = rw c.unwrap-3.ensures at c.push-4.ensures.items in
+    ap (λ l. publications_of l c.push-4.new.self.items) c.push-3.ensures.releases
+    ∙ ap (λ l. publications_of (c.self.inside.releases.releases ++ (record { version = c.args.version; yanked = false }) ∷ []) l) items
+    ∙ publications_of-push c.self.inside.releases.releases c.self.inside.needs.items (record { version = c.args.version; yanked = false }) c.args.needs c.self.invariant.0
+
+-- the places of the next one stand behind
+placed : (c : After-unwrap-3) → parts_of c.next_span-span.new.all.items c.push-2.new.self.items
+    ≡ parts c ++ slice_range c.next_span-span.new.all.items c.next_span-span.result.0 c.next_span-span.result.1 ∷ []
+placed c =
+    let spans = rw c.unwrap-2.ensures at c.push-2.ensures.items in
+    let old = c.self.inside.places.items in
+    let more = c.next_span-span.ensures.grown.0 in
+    let span = c.next_span-span.result in
+    ap (parts_of c.next_span-span.new.all.items) spans
+    ∙ ap (λ l. parts_of l (c.self.inside.spans.items ++ span ∷ [])) c.next_span-span.ensures.grown.1
+    ∙ parts-push old more c.self.inside.spans.items span c.self.invariant.4
+    ∙ sym (ap (λ (l : List Place). parts c ++ slice_range l span.0 span.1 ∷ []) c.next_span-span.ensures.grown.1)
+
+-- the places of the next one are right
+latest : (c : After-unwrap-3) (names : List Text) (named : List (List Text)) → ArePlacesOf names named c.args.needs c.args.places.now
+    → StandBeside names named (publications_of c.self.inside.releases.releases c.self.inside.needs.items) (parts c)
+    → ArePlacesOf names named c.args.needs (slice_range c.next_span-span.new.all.items c.next_span-span.result.0 c.next_span-span.result.1)
+latest c names named right old =
+    let P : List Place → Type 0 = ArePlacesOf names named c.args.needs in
+    elim c.next_span-span.ensures.part [
+      | inl new ↦ subst P (sym new) right
+      | inr other ↦ elim other [
+        | inl none ↦ subst P (sym none) (λ j place at. absurd (none-some place at))
+        | inr same ↦
+            let spans = c.self.inside.spans.items in
+            let ends = (rw c.deref.ensures.value at c.end_with-repeats.ensures).0 same.0 in
+            let at : slice_get spans same.1 ≡ Some c.next_span-span.result = rw c.deref-2.ensures.value at same.3 in
+            let place : same.1 ≡ ends.0 = omega (arith, same.2, ends.1, c.self.invariant.3, ap length c.deref-2.ensures.value) in
+            let own : slice_get c.self.inside.needs.items same.1 ≡ Some c.args.needs = ap (slice_get c.self.inside.needs.items) place ∙ ends.2 in
+            let paired = length-map spans (λ (span : ℕ × ℕ). slice_range c.self.inside.places.items span.0 span.1) in
+            let within = within-at (length c.self.inside.places.items) spans same.1 c.next_span-span.result c.self.invariant.4 at in
+            let part = part-at c.self.inside.places.items spans same.1 c.next_span-span.result at in
+            let stays = slice-longer c.self.inside.places.items c.next_span-span.ensures.grown.0 c.next_span-span.result.0 c.next_span-span.result.1 within in
+            let now = ap (λ (l : List Place). slice_range l c.next_span-span.result.0 c.next_span-span.result.1) c.next_span-span.ensures.grown.1 in
+            subst P (part ∙ sym stays ∙ sym now)
+            (beside-needs names named c.self.inside.releases.releases c.self.inside.needs.items (parts c) same.1 c.args.needs c.self.invariant.0
+            (omega (arith, paired, c.self.invariant.3)) own old)
+      ]
+    ]
+
+pub push-requires-3-clause-new : goal.push-requires-3-clause-new
+push-requires-3-clause-new c =
     sym (has_version-releases c.self.inside.releases.releases c.self.inside.needs.items c.args.version c.self.invariant.0)
     ∙ ap (λ (l : PublicationList). has_version l.publications c.args.version) c.self.view_is ∙ c.requires.new
 
-pub push-requires-2-clause-few : goal.push-requires-2-clause-few
-push-requires-2-clause-few c =
+pub push-requires-3-clause-few : goal.push-requires-3-clause-few
+push-requires-3-clause-few c =
     let count = length-publications_of c.self.inside.releases.releases c.self.inside.needs.items c.self.invariant.0 in
     let seen = ap (λ (l : PublicationList). length l.publications) c.self.view_is in
     omega (arith, count, seen, c.requires.few)
@@ -23,22 +85,37 @@ pub invariant_of-self : goal.invariant_of-self
 invariant_of-self c =
     let old = c.self.inside in
     let marks = rw c.unwrap.ensures at c.push.ensures.items in
-    let items = rw c.unwrap-2.ensures at c.push-3.ensures.items in
-    let ends = rw c.deref.ensures.value at c.end_with.ensures in
+    let items = rw c.unwrap-3.ensures at c.push-4.ensures.items in
+    let spans = rw c.unwrap-2.ensures at c.push-2.ensures.items in
+    let ends = rw c.deref.ensures.value at c.end_with-repeats.ensures in
     let added : Release = record { version = c.args.version; yanked = false } in
     let more = ap length items in
-    let released = ap length c.push-2.ensures.releases in (
+    let spanned = ap length spans in
+    let places = ap length c.next_span-span.ensures.grown.1 in
+    let released = ap length c.push-3.ensures.releases in (
       omega (arith, more, released, length_push old.needs.items c.args.needs, length_push old.releases.releases added, c.self.invariant.0),
-      subst (λ m. AreAlike m c.push-3.new.self.items) (sym marks)
-          (subst (AreAlike (old.repeats.items ++ c.end_with.result ∷ [])) (sym items) (alike-next old.repeats.items old.needs.items c.end_with.result c.args.needs c.self.invariant.1 ends)),
-      c.self.invariant.2 ∙ sym (ap any_yanked c.push-2.ensures.releases ∙ yanked-more old.releases.releases c.args.version),
+      subst (λ m. AreAlike m c.push-4.new.self.items) (sym marks)
+          (subst (AreAlike (old.repeats.items ++ c.end_with-repeats.result ∷ [])) (sym items)
+          (alike-next old.repeats.items old.needs.items c.end_with-repeats.result c.args.needs c.self.invariant.1 ends)),
+      c.self.invariant.2 ∙ sym (ap any_yanked c.push-3.ensures.releases ∙ yanked-more old.releases.releases c.args.version),
+      omega (arith, more, spanned, length_push old.needs.items c.args.needs, length_push old.spans.items c.next_span-span.result, c.self.invariant.3),
+      subst (EndWithin (length c.next_span-span.new.all.items)) (sym spans)
+          (within-push (length old.places.items) (length c.next_span-span.new.all.items) old.spans.items c.next_span-span.result
+          (omega (arith, places, length-append old.places.items c.next_span-span.ensures.grown.0)) c.next_span-span.ensures.within c.self.invariant.4),
     )
 
-pub returns : goal.returns
-returns c =
-    let items = rw c.unwrap-2.ensures at c.push-3.ensures.items in
-    let own : Publication = record { version = c.args.version; needs = c.args.needs; yanked = false } in
-    ap (λ l. publications_of l c.push-3.new.self.items) c.push-2.ensures.releases
-    ∙ ap (λ l. publications_of (c.self.inside.releases.releases ++ (record { version = c.args.version; yanked = false }) ∷ []) l) items
-    ∙ publications_of-push c.self.inside.releases.releases c.self.inside.needs.items (record { version = c.args.version; yanked = false }) c.args.needs c.self.invariant.0
-    ∙ ap (λ (l : PublicationList). l.publications ++ own ∷ []) c.self.view_is
+pub returns-clause-publications : goal.returns-clause-publications
+returns-clause-publications c = published c ∙ ap (λ (l : PublicationList). l.publications ++ next c ∷ []) c.self.view_is
+
+pub returns-clause-named : goal.returns-clause-named
+returns-clause-named c = c.push-3.ensures.needs ∙ ap (λ (l : PublicationList). l.named) c.self.view_is
+
+pub returns-clause-placed : goal.returns-clause-placed
+returns-clause-placed c = λ names named right before.
+    let old : StandBeside names named (publications_of c.self.inside.releases.releases c.self.inside.needs.items) (parts c)
+    = subst (λ (l : PublicationList). ArePlaced names named l) (sym c.self.view_is) before in
+    let count = length-publications_of c.self.inside.releases.releases c.self.inside.needs.items c.self.invariant.0 in
+    let paired : length (parts c) ≡ length (publications_of c.self.inside.releases.releases c.self.inside.needs.items) = omega (arith, count, c.self.invariant.0, c.self.invariant.3, length-map c.self.inside.spans.items (λ (span : ℕ × ℕ). slice_range c.self.inside.places.items span.0 span.1)) in
+    subst (λ l. StandBeside names named l (parts_of c.next_span-span.new.all.items c.push-2.new.self.items)) (sym (published c))
+    (subst (StandBeside names named (publications_of c.self.inside.releases.releases c.self.inside.needs.items ++ next c ∷ [])) (sym (placed c))
+    (beside-push names named (publications_of c.self.inside.releases.releases c.self.inside.needs.items) (parts c) (next c) _ paired (latest c names named right old) old))

@@ -6,12 +6,14 @@ use Rattle.std.specs.List.{list_any}
 use Rattle.std.specs.Str.{bytes_eq}
 use Rattle.versions.specs.Words.{Text}
 use Rattle.registry.specs.Lawful.{IsRegistry}
+use Rattle.registry.specs.Places.{AreAllPlaced, ArePlacesOf, named_of}
 use Rattle.registry.specs.Publications.{PublicationList, packages_in, rooms_of}
 use Rattle.registry.specs.Registry.{Packages, Publication, has_version, number_of, versions_of}
 use Rattle.registry.specs.Rooms.{State, names_in, publication_for, unknown_names}
 use Rattle.registry.specs.Step.{publish, publish_refusal, with_listed, with_name, with_versions}
 use Rattle.registry.proofs.GrowthLemmas.{new_names, new_names-packages_in, number_of-with_listed, packages-changed, versions_of-placed, with_named-new}
 use Rattle.registry.proofs.Lawfulness.{accepted_by, lawful-publish, versions-named}
+use Rattle.registry.proofs.PlaceLemmas.{placed-set}
 use Rattle.registry.proofs.ReadyLemmas.{ready-for, ready-taken}
 use Rattle.registry.proofs.registry.Registry.enter.Goals as goal
 use Rattle.registry.proofs.registry.Registry.enter.Goals.{After-drop-needs-inside, After-index_mut-list}
@@ -139,10 +141,21 @@ published c =
     ready.named ∙ ap (λ needs. unknown_names (λ name. list_any (bytes_eq name) c.self.inside.names.keys) needs) same.1
     ∙ sym (new_names-packages_in c.self.inside.names.keys c.self.inside.lists.items c.args.needs c.self.invariant.0) in
     let pushed : c.push.new.self.publications ≡ add c.index_mut-list.result.now.publications =
-    c.push.ensures ∙ ap (λ needs. c.index_mut-list.result.now.publications ++ (record { version = c.args.version; needs = needs; yanked = false }) ∷ []) same.1 in
+    c.push.ensures.publications ∙ ap (λ needs. c.index_mut-list.result.now.publications ++ (record { version = c.args.version; needs = needs; yanked = false }) ∷ []) same.1 in
     packages-changed c.add_names.new.names.keys c.add_names.new.lists.items c.args.name c.enter_name-index.result c.index_mut-list.result.now c.push.new.self add
     (number at) c.index_mut-list.ensures.value pushed
     ∙ ap (with_versions c.args.name add) (named at ∙ ap (λ l. with_listed (with_name (before at) c.args.name) l) added ∙ sym (with_named-new (before at) c.args.name c.args.needs))
+
+-- the places of all publications are right, those of the one that comes in too
+entered : (c : After-drop-needs-inside) → AreAllPlaced c.add_names.new.names.keys (set c.add_names.new.lists.items c.enter_name-index.result c.push.new.self)
+entered c =
+    let names = c.add_names.new.names.keys in
+    let lists = c.add_names.new.lists.items in
+    let stay = c.add_names.ensures.stay c.enter_name-index.result c.enter_name-index.ensures.place in
+    let before = c.add_names.ensures.extends.placed (c.enter_name-index.ensures.extends.placed c.self.invariant.3) in
+    placed-set names lists c.enter_name-index.result c.index_mut-list.result.now c.push.new.self c.in-Some.ready.needs c.right_places-places.result.now stay.0 c.index_mut-list.ensures.value c.push.ensures.named
+    (λ named. c.push.ensures.placed names named) (subst (λ needs. ArePlacesOf names (named_of lists) needs c.right_places-places.result.now) c.needs.ensures
+    (subst (λ (ls : List PublicationList). ArePlacesOf names (named_of ls) c.needs.result.now c.right_places-places.result.now) c.deref.ensures.value c.right_places-places.ensures)) before
 
 pub invariant_of-self : goal.invariant_of-self
 invariant_of-self c = (
@@ -150,6 +163,7 @@ invariant_of-self c = (
   subst IsRegistry (sym (published c)) (lawful-publish c.equal_precedence_is_an_equivalence.ensures.equivalence _ c.args.name c.args.version c.args.needs c.self.invariant.1
       (subst (λ (s : State). publish_refusal s.packages c.args.name c.args.version c.args.needs ≡ None) (sym c.self.view_is) c.requires.accepted)),
   rw c.take.ensures.after tt,
+  entered c,
 )
 
 pub returns-clause-packages : goal.returns-clause-packages

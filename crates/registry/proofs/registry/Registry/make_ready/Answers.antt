@@ -25,6 +25,7 @@ invariant_of-self c = (
   ap length c.make_ready.ensures.keys ∙ c.self.invariant.0 ∙ sym c.make_ready.ensures.length,
   subst IsRegistry (sym (same_packages c.self.inside.names.keys c.make_ready.new.names.keys c.self.inside.lists.items c.make_ready.new.lists.items c.make_ready.ensures.keys c.make_ready.ensures.lists)) c.self.invariant.1,
   rw c.take.ensures.after tt,
+  c.make_ready.ensures.extends.placed c.self.invariant.3,
 )
 
 pub invariant_of-self-2 : goal.invariant_of-self-2
@@ -32,4 +33,5 @@ invariant_of-self-2 c = (
   ap length c.make_ready.ensures.keys ∙ c.self.invariant.0 ∙ sym c.make_ready.ensures.length,
   subst IsRegistry (sym (same_packages c.self.inside.names.keys c.make_ready.new.names.keys c.self.inside.lists.items c.make_ready.new.lists.items c.make_ready.ensures.keys c.make_ready.ensures.lists)) c.self.invariant.1,
   rw c.replace.ensures.after c.in_ok-ready.ensures.ready,
+  c.make_ready.ensures.extends.placed c.self.invariant.3,
 )

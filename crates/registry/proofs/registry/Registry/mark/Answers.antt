@@ -8,4 +8,5 @@ invariant_of-self c = (
   c.set_yanked_in.ensures.paired,
   subst IsRegistry (sym c.set_yanked_in.ensures.packages) (lawful-mark _ c.args.name.now c.args.version.now c.args.yanked c.self.invariant.1),
   rw c.take.ensures.after tt,
+  c.set_yanked_in.ensures.extends.placed c.self.invariant.3,
 )
