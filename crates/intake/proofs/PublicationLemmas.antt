@@ -16,14 +16,12 @@ use Rattle.serde_json.specs.Data as kept
 use Rattle.serde_json.specs.Data.{Data}
 use Rattle.serde_json.specs.Read.{max_depth, of_items, of_json, read}
 use Rattle.serde_json.proofs.OnLiterals.{serde_json_on_literals}
-use Rattle.versions.specs.Readings.{version_in}
-use Rattle.versions.specs.declared.refusal.Refusal.TheVariants.{BadLine, BadVersion}
+use Rattle.versions.specs.declared.refusal.Refusal.TheVariants.{BadLine}
 use Rattle.versions.specs.Words.{Text, is_name, is_requirement, is_version}
 use Rattle.registry.specs.Step.{Publish}
 use Rattle.lines.specs.Unread.{line_limit}
 use Rattle.wire.specs.Requests.{request_of, request_of_text}
 use Rattle.wire.specs.Shapes.{command, pairs_of, shape_of}
-use Rattle.intake.proofs.WrittenLemmas.{version_is}
 use Rattle.intake.specs.Publications.{AreNeeds, pair_tokens, publication_tokens}
 
 -- ---- what stands before the needs, and a need
@@ -44,9 +42,9 @@ need_told all second third rest first other name need one two three named requir
 -- the tokens of a line, and the texts that were read of it
 pub line_tokens : (all reader list end : List Token) (first name second version : Text) (listed needs : List (Text × Text)) → reader ≡ all
     → reader ≡ begin_object ∷ key (codes "op") ∷ string (codes "publish") ∷ key (codes "name") ∷ string first ∷ key (codes "version") ∷ string second ∷ key (codes "needs") ∷ begin_array ∷ list
-    → list ≡ pair_tokens listed (end_array ∷ end) → end ≡ Token.end_object ∷ [] → name ≡ first → version_in second ≡ Ok version → needs ≡ listed → all ≡ publication_tokens name version needs
-line_tokens all reader list end first name second version listed needs whole head middle last named read are =
-    sym whole ∙ rw (head, middle, last, named, are, version_is (is_version second) second version BadVersion read) refl
+    → list ≡ pair_tokens listed (end_array ∷ end) → end ≡ Token.end_object ∷ [] → name ≡ first → version ≡ second → needs ≡ listed → all ≡ publication_tokens name version needs
+line_tokens all reader list end first name second version listed needs whole head middle last named versioned are =
+    sym whole ∙ rw (head, middle, last, named, versioned, are) refl
 
 -- ---- one need more
 

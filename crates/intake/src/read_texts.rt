@@ -1,12 +1,12 @@
-//! Names and requirements that were read before, found by their texts.
+//! Names, versions and requirements that were read before, found by their texts.
 //!
 //! Of a table nothing has to be known: each entry's own type says what its text reads as. A text that is not found, or
 //! whose place another has taken, is read again.
 ghost use Rattle.std.specs.Prelude.{◌≡◌, IfSome, IsTrue};
-ghost use Rattle.versions.specs.Words.{is_name, is_requirement};
+ghost use Rattle.versions.specs.Words.{is_name, is_requirement, is_version};
 
 use std::alloc::Global;
-use versions::{Name, Need};
+use versions::{Name, Need, Published};
 
 /// How many bits the number of a place has.
 /// Measured at half and at twice this value: docs/BENCHMARKS.md, Constants.
@@ -15,16 +15,17 @@ const PLACE_BITS: u32 = 13;
 /// How many places a table has.
 const PLACES: usize = 1 << PLACE_BITS;
 
-/// The bytes of the longest requirement that is kept. One of 256 bytes can say more than a hundred things, each of which
-/// takes memory. A session that publishes 9,000 different ones of 64 bytes takes 19.3 MB with this limit and with 16,
-/// since the registry shares what is kept.
+/// The bytes of the longest version or requirement that is kept. A requirement of 256 bytes can say more than a hundred
+/// things, each of which takes memory. A session that publishes 9,000 different ones of 64 bytes takes 19.3 MB with this
+/// limit and with 16, since the registry shares what is kept.
 /// Measured at half and at twice this value: docs/BENCHMARKS.md, Constants.
 const KEPT_LIMIT: usize = 64;
 
-/// Names and requirements that were read before. A later text takes the place of an earlier one.
+/// Names, versions and requirements that were read before. A later text takes the place of an earlier one.
 #[derive(Drop)]
 pub struct ReadTexts {
     names: Vec<Option<Name>>,
+    versions: Vec<Option<Published>>,
     needs: Vec<Option<Need>>,
 }
 
@@ -33,6 +34,7 @@ impl ReadTexts {
     pub fn new(alloc: Global) -> ReadTexts {
         ReadTexts {
             names: Vec::new(alloc),
+            versions: Vec::new(alloc),
             needs: Vec::new(alloc),
         }
     }
@@ -52,6 +54,25 @@ impl ReadTexts {
             keep(&mut self.names, place, copy);
         }
         Some(name)
+    }
+
+    /// The version that a text is. None where it is none, or where there is no memory.
+    pub fn version(&mut self, alloc: Global, text: &str) -> Option<Published>
+        ensures { IfSome result (λ version. (version ≡ text.now) × IsTrue (is_version text.now)) }
+    {
+        let place = place_of(text.as_bytes());
+        if let Some(version) = version_at(self.versions.as_slice(), place, text) {
+            return version.copy().ok();
+        }
+        let Ok(version) = Published::read(alloc, text) else {
+            return None;
+        };
+        if text.len() <= KEPT_LIMIT {
+            if let Ok(copy) = version.copy() {
+                keep(&mut self.versions, place, copy);
+            }
+        }
+        Some(version)
     }
 
     /// The requirement that a text is. None where it is none, or where there is no memory.
@@ -99,6 +120,24 @@ fn name_at<'a>(names: &'a [Option<Name>], place: usize, text: &str) -> Option<&'
     match names.get(place) {
         Some(Some(name)) => if name.text() == text {
             Some(name)
+        } else {
+            None
+        },
+        _ => None,
+    }
+}
+
+/// The version at a place, where it has this text.
+fn version_at<'a>(
+    versions: &'a [Option<Published>],
+    place: usize,
+    text: &str,
+) -> Option<&'a Published>
+    ensures { IfSome result (λ version. (version.now ≡ text.now) × IsTrue (is_version text.now)) }
+{
+    match versions.get(place) {
+        Some(Some(version)) => if version.text() == text {
+            Some(version)
         } else {
             None
         },
