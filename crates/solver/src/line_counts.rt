@@ -41,15 +41,13 @@ pub(crate) struct LineCounts {
     causes: Vec<u32>,
     /// Those of the next record, so far.
     next: Lines,
-    /// How many records are still to be counted. Those behind them are passed over.
-    left: usize,
     /// What the next record, or the last one that was ended, says before it rests on what the request says.
     source: Option<Conclusion>,
 }
 
 impl LineCounts {
-    /// None yet, of so many records.
-    pub fn new(alloc: Global, count: usize) -> LineCounts {
+    /// None yet.
+    pub fn new(alloc: Global) -> LineCounts {
         LineCounts {
             records: Vec::new(alloc),
             causes: Vec::new(alloc),
@@ -58,14 +56,8 @@ impl LineCounts {
                 first: 0,
                 is_asked: false,
             },
-            left: count,
             source: None,
         }
-    }
-
-    /// Whether the next record is counted.
-    pub fn is_open(&self) -> bool {
-        self.left > 0
     }
 
     /// What the last record says before it rests on what the request says, if it doesn't begin with that.
@@ -101,11 +93,8 @@ impl LineCounts {
         Ok(())
     }
 
-    /// Begins the next record, if it is counted.
+    /// Begins the next record.
     pub fn begin_record(&mut self, task: &Task<'_>, record: Record) -> Result<(), AllocError> {
-        if !self.is_open() {
-            return Ok(());
-        }
         match record {
             Record::Follows { from, .. } => self.begin_from(from),
             Record::Need(_) | Record::NotAllowed(_) => {
@@ -143,10 +132,6 @@ impl LineCounts {
 
     /// Ends the next record.
     pub fn end(&mut self) -> Result<(), AllocError> {
-        if self.left == 0 {
-            return Ok(());
-        }
-        self.left -= 1;
         self.records.push(self.next)?;
         self.next = Lines {
             own: 0,

@@ -4,7 +4,6 @@
 
 use crate::line_counts::{LineCounts, TooLong, member_lines};
 use crate::part::mark_causes;
-use crate::replaying::{first_records, is_short};
 use crate::task::Task;
 use chains::{Conclusion, Place, terms_at};
 use derivations::{CausedIncompatibility, DERIVATION_LINE_LIMIT};
@@ -39,8 +38,6 @@ enum Source {
     /// What the store doesn't have. Room is kept for it.
     New(Incompat),
     Stored,
-    /// None: of a long trace the last record is not learnt from.
-    Beyond,
     Unknown,
 }
 
@@ -75,10 +72,7 @@ fn incompat_of(alloc: Global, terms: &[(Pkg, Term)]) -> Result<Option<Incompat>,
 }
 
 /// What a refusal follows from by what the request says.
-fn source_of(task: &Task<'_>, shown: &Shown<'_>, trace: &Trace) -> Result<Source, AllocError> {
-    if !is_short(trace) {
-        return Ok(Source::Beyond);
-    }
+fn source_of(task: &Task<'_>, shown: &Shown<'_>) -> Result<Source, AllocError> {
     let Some(source) = shown.counts.source() else {
         return Ok(Source::Unknown);
     };
@@ -122,7 +116,7 @@ fn offer_by_lines(
         Source::Unknown => Ok(Offer::Unknown),
         // The lines of one of both are offered.
         Source::New(source) if source.is_same(&said) => Ok(Offer::Unknown),
-        Source::New(_) | Source::Stored | Source::Beyond => Ok(Offer::Lines(lines)),
+        Source::New(_) | Source::Stored => Ok(Offer::Lines(lines)),
     }
 }
 
@@ -219,7 +213,7 @@ fn last_left_out(
     match source {
         // That is offered last.
         Source::New(_) => Ok(None),
-        Source::Stored | Source::Beyond | Source::Unknown => {
+        Source::Stored | Source::Unknown => {
             if is_any_new_behind(task, shown, trace, record, offered.marks.len())? {
                 Ok(None)
             } else {
@@ -258,14 +252,14 @@ pub(crate) fn is_learnt_whole(task: &Task<'_>, trace: &Trace) -> bool {
     lines <= DERIVATION_LINE_LIMIT
 }
 
-/// What is offered of so many records of a trace; none where that can't be said without lines.
+/// What is offered of a trace, by record; none where that can't be said without lines.
 fn find_offered(
     task: &Task<'_>,
     shown: &Shown<'_>,
     trace: &Trace,
-    count: usize,
 ) -> Result<Option<Vec<bool>>, AllocError> {
-    let source = source_of(task, shown, trace)?;
+    let count = trace.records.len();
+    let source = source_of(task, shown)?;
     let mut too_long = TooLong::new(task.alloc, count)?;
     let mut offered = Offered {
         lines: 0,
@@ -296,8 +290,7 @@ pub(crate) fn find_learnable(
     if task.store.len() >= STORE_LIMIT {
         return Ok(Learnable::Marked(Vec::new(task.alloc)));
     }
-    let count = first_records(trace).len();
-    let Some(mut marks) = find_offered(task, shown, trace, count)? else {
+    let Some(mut marks) = find_offered(task, shown, trace)? else {
         return Ok(Learnable::Unknown);
     };
     mark_causes(trace, marks.as_mut_slice());

@@ -28,9 +28,10 @@ use registry::ordinals_are_below_the_count;
 use std::alloc::{AllocError, Global};
 use terms::{Pkg, Relation, VSet, relation};
 
-/// By how many of its first steps what may be learnt of a trace follows. All offers together have no more lines.
+/// A refusal whose trace has more steps than these teaches nothing: to find what it teaches would take as long as the
+/// search, and the next search would gain little by it.
 /// Measured at half and at twice this value: docs/BENCHMARKS.md, Constants.
-const LEARNT_STEPS: u32 = 1024;
+const LEARNT_STEPS: usize = 1024;
 
 /// What is derived from the trace of a selection has at most so many terms together, and so many more for each of its
 /// steps. Each incompatibility can name each package that was decided before: without a limit their memory would grow
@@ -423,22 +424,9 @@ pub(crate) struct ReplayedLearnt {
     pub learnt: Vec<usize>,
 }
 
-/// Whether a trace has few steps.
+/// Whether the trace of a refusal has so few steps that something may be learnt of it.
 pub(crate) fn is_short(trace: &Trace) -> bool {
-    trace.steps.len() <= LEARNT_STEPS as usize
-}
-
-/// The records of a trace before one that follows by later steps than the first ones.
-pub(crate) fn first_records(trace: &Trace) -> &[Record] {
-    let records = trace.records.as_slice();
-    for at in 0..records.len() {
-        if let Record::Follows { end, .. } = records[at] {
-            if end > LEARNT_STEPS {
-                return &records[..at];
-            }
-        }
-    }
-    records
+    trace.steps.len() <= LEARNT_STEPS
 }
 
 /// Derives again what a trace says.
@@ -458,13 +446,8 @@ pub(crate) fn replay_marked(
     requires { StoreStands task.now }
     ensures { IfOk result (λ replayed. AreLines task.now.registry.now.packages task.now.request.now replayed.known.items) }
 {
-    let room = if is_short(trace) {
-        usize::MAX
-    } else {
-        terms_room(trace)
-    };
     let part = part_of(task.alloc, trace, marks)?;
-    let replayed = replay_in_room(task, &part, room);
+    let replayed = replay_in_room(task, &part, usize::MAX);
     drop(part);
     replayed
 }

@@ -15,7 +15,7 @@ ghost use Rattle.solver.specs.Showing.{AreConcluded};
 
 use crate::line_counts::LineCounts;
 use crate::novelty::{Learnable, Shown, find_learnable};
-use crate::replaying::{first_records, push_fact_of};
+use crate::replaying::{is_short, push_fact_of};
 use crate::reusing::member_of;
 use crate::search::Search;
 use crate::starting::begin;
@@ -119,10 +119,8 @@ fn take_step(
         return Err(Stop::Unknown);
     };
     match counts {
-        Some(counts) if counts.is_open() => {
-            step_as_lines(alloc, known, made, chain, counts, with, step)
-        }
-        Some(_) | None => chain.resolve(alloc, known, made, with, step.on),
+        Some(counts) => step_as_lines(alloc, known, made, chain, counts, with, step),
+        None => chain.resolve(alloc, known, made, with, step.on),
     }
 }
 
@@ -284,7 +282,7 @@ fn is_end(
     Ok(end.terms().is_empty())
 }
 
-/// What may be learnt of what is shown of a trace.
+/// What may be learnt of what is shown of a trace: nothing where its lines aren't counted.
 fn learnable_of(
     task: &Task<'_>,
     search: &Search,
@@ -292,7 +290,7 @@ fn learnable_of(
     trace: &Trace,
 ) -> Result<Learnable, AllocError> {
     let Some(counts) = &showing.counts else {
-        return Ok(Learnable::Unknown);
+        return Ok(Learnable::Marked(Vec::new(task.alloc)));
     };
     let shown = Shown {
         known: &search.known,
@@ -338,8 +336,9 @@ pub(crate) fn show_refusal(task: &Task<'_>, trace: &Trace) -> Result<Option<Lear
     ensures { IfOk result (λ shown. IfSome shown (λ _. IsRefuted task.now.registry.now.packages task.now.request.now)) }
 {
     let mut showing = Showing::new(task, usize::MAX)?;
-    let counted = first_records(trace).len();
-    showing.counts = Some(LineCounts::new(task.alloc, counted));
+    if is_short(trace) {
+        showing.counts = Some(LineCounts::new(task.alloc));
+    }
     // Facts alone become lines.
     let mut search = begin(task, trace.records.len() / 2)?;
     let shown = show_refusal_in(task, &mut search, &mut showing, trace);

@@ -9,7 +9,7 @@ ghost use Rattle.registry.specs.Selections.{Choices, IsSelection};
 ghost use Rattle.walk.specs.Choosing.{choice_of};
 ghost use Rattle.walk.specs.Preferring.{IfPreferredServes};
 ghost use Rattle.solver.specs.Answering.{EndsBy};
-ghost use Rattle.solver.specs.Finding.{Finds, IsFound};
+ghost use Rattle.solver.specs.Finding.{Finds, IsFound, IsValidated};
 ghost use Rattle.solver.specs.Outcomes.{told, SelectsNewest, Answers, IsLawful, MayStop, Tells};
 ghost use Rattle.solver.specs.Reusing.{StoreStands};
 ghost use Rattle.solver.specs.Searching.{IsSearch, MayRefuse};
@@ -33,7 +33,10 @@ use std::mem;
 use store::Store;
 use terms::Pkg;
 use versions::{Name, Published, Refusal};
-use walk::{Reached, choose_newest, reach_preferred, sort_by_name, the_preferred_is_the_newest};
+use walk::{
+    NewestChoice, Reached, choose_newest, choose_newest_by_propagation, reach_preferred,
+    sort_by_name, the_preferred_is_the_newest,
+};
 
 /// What a request is answered, and what may be learnt of it.
 #[derive(Drop)]
@@ -237,6 +240,23 @@ fn search_alone(
     Ok(search_fully(task, room, conflicts)?)
 }
 
+/// The newest selection, where it is asked for and chosen by propagation. Nothing is learnt then, and no conflict is
+/// counted: so a request with a budget is not answered by it.
+fn found_by_propagation(task: &Task<'_>) -> Result<Option<Found>, AllocError>
+    ensures { IfOk result (IsValidated task.now) }
+{
+    if task.budget.is_some() {
+        return Ok(None);
+    }
+    match choose_newest_by_propagation(task.alloc, task.registry, task.request)? {
+        None => Ok(None),
+        Some(choice) => {
+            let NewestChoice { list, .. } = choice;
+            Ok(Some(Found::Selected(list, Vec::new(task.alloc))))
+        }
+    }
+}
+
 /// Finds what answers a task that the preferred selection doesn't: the newest selection, where that is asked for
 /// and it is chosen without a search; else by searches, for the newest one first by what an oracle says.
 fn search_for<O: Oracle>(
@@ -256,6 +276,9 @@ fn search_for<O: Oracle>(
             Some(found) => Ok(found),
             None => Ok(search_alone(task, obstacle, oracle.conflicts())?),
         };
+    }
+    if let Some(found) = found_by_propagation(task)? {
+        return Ok(found);
     }
     match validate(task, oracle)? {
         Some(found) => Ok(found),
@@ -325,8 +348,8 @@ fn outcome_of(task: &Task<'_>, found: Found) -> Result<Outcome, Refusal>
 /// lines, so that a derivation carries them. It asks as many members as its own size allows, and what
 /// the store says of other packages costs it nothing. What is offered to be learnt, the last part of
 /// an outcome, is what conflicts led to, where it rests on premises alone, by the lines of members too.
-/// Nothing is offered that the store has, nor to a store that is full; and for lack of memory nothing
-/// is offered, where there is enough for the answer.
+/// Nothing is offered that the store has, nor to a store that is full, nor of a refusal for which the engine needs many
+/// steps; and for lack of memory nothing is offered, where there is enough for the answer.
 pub fn solve_with(
     alloc: Global,
     registry: &Registry,

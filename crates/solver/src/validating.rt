@@ -14,7 +14,7 @@ use crate::novelty::{Learnable, is_learnt_whole};
 use crate::offering::offered_of;
 use crate::oracle::Oracle;
 use crate::over_trace::search_over;
-use crate::replaying::{first_records, is_short, replay, replay_learnt, replay_marked};
+use crate::replaying::{is_short, replay, replay_learnt, replay_marked};
 use crate::showing::show_refusal;
 use crate::task::Task;
 use crate::turns::Ended;
@@ -163,24 +163,7 @@ fn offered_of_marked(task: &Task<'_>, trace: &Trace, marks: &[bool]) -> Vec<Lear
     }
 }
 
-/// Marks of all the first records of a trace.
-fn first_marks(task: &Task<'_>, trace: &Trace) -> Result<Vec<bool>, AllocError> {
-    vec![in task.alloc; true; first_records(trace).len()]
-}
-
-/// What may be learnt of the first records of a trace; nothing for lack of memory.
-fn offered_first(task: &Task<'_>, trace: &Trace) -> Vec<Learnt>
-    requires { StoreStands task.now }
-    ensures { All (AllStand task.now.registry.now.packages) result.items }
-{
-    match first_marks(task, trace) {
-        Ok(marks) => offered_of_marked(task, trace, &marks),
-        Err(_) => Vec::new(task.alloc),
-    }
-}
-
-/// The refusal that a trace shows by lines, if it does. Where it has many steps, its first records are what is
-/// offered of, as where no lines are made.
+/// The refusal that a trace shows by lines, if it does. Where the trace has many steps nothing is offered.
 fn refusal_by_lines(task: &Task<'_>, trace: &Trace) -> Result<Option<Found>, AllocError>
     requires { StoreStands task.now }
     ensures { IfOk result (IsValidated task.now) }
@@ -192,21 +175,8 @@ fn refusal_by_lines(task: &Task<'_>, trace: &Trace) -> Result<Option<Found>, All
         let ended = Ended::Refused(replayed.end);
         return Ok(Some(found_of(task, ended, replayed.known, &replayed.learnt)));
     }
-    let offered = offered_first(task, trace);
+    let offered = Vec::new(task.alloc);
     Ok(Some(Found::Refused(replayed.known, replayed.end, offered)))
-}
-
-/// Of which records of a trace lines are made for what may be learnt, where no line is made for the rest.
-fn marks_of(
-    task: &Task<'_>,
-    trace: &Trace,
-    learnable: Learnable,
-) -> Result<Option<Vec<bool>>, AllocError> {
-    match learnable {
-        Learnable::Marked(marks) => Ok(Some(marks)),
-        Learnable::Unknown if is_short(trace) => Ok(None),
-        Learnable::Unknown => Ok(Some(first_marks(task, trace)?)),
-    }
 }
 
 /// The refusal that a trace shows, if it does. Where it is not asked to be explained it is shown by chains, and lines
@@ -216,11 +186,9 @@ fn validate_refusal(task: &Task<'_>, trace: &Trace) -> Result<Option<Found>, All
     ensures { IfOk result (IsValidated task.now) }
 {
     if !task.explain && !is_learnt_whole(task, trace) {
-        if let Some(learnable) = show_refusal(task, trace)? {
-            if let Some(marks) = marks_of(task, trace, learnable)? {
-                let offered = offered_of_marked(task, trace, &marks);
-                return Ok(Some(Found::Unexplained(offered)));
-            }
+        if let Some(Learnable::Marked(marks)) = show_refusal(task, trace)? {
+            let offered = offered_of_marked(task, trace, &marks);
+            return Ok(Some(Found::Unexplained(offered)));
         }
     }
     refusal_by_lines(task, trace)

@@ -1,14 +1,16 @@
 -- What a list of chosen versions selects, where each package stands once.
-use Rattle.std.proofs.Common.{arith, length, take, ◌≡◌, ◌∙◌, ℕ, suc, zero, List, [], ◌∷◌, ◌++◌, inl, inr, ap, subst, sym, refl, nat_eq, false, true≢false, if◌then◌else◌}
+use Rattle.std.proofs.Common.{arith, drop, length, take, Contains, ◌≡◌, ◌∙◌, ℕ, suc, zero, List, [], ◌∷◌, ◌++◌, inl, inr, ap, subst, sym, refl, nat_eq, false, true≢false, if◌then◌else◌}
 use Rattle.std.proofs.lemmas.Bool.{cases_Bool, eq-eqb, eqb-true}
 use Rattle.std.proofs.lemmas.Cmp.{nat_eq_equiv}
-use Rattle.std.proofs.lemmas.List.{length_push, take-take, take_at}
+use Rattle.std.proofs.lemmas.List.{length_push, take-append-drop, take-take, take_at}
+use Rattle.std.proofs.lemmas.List.Elements.{Contains-append_left, Contains-append_right}
 use Rattle.std.proofs.lemmas.Map.Keys.{IsDistinct-push}
 use Rattle.std.proofs.lemmas.Option.{none-some, same_Some}
 use Rattle.std.specs.List.{AllByRecursion, IsDistinct, list_any}
 use Rattle.std.specs.Map.{keys_of}
 use Rattle.std.specs.Prelude.{None, Some, slice_get}
 use Rattle.walk.specs.Choosing.{choice_of}
+use Rattle.walk.proofs.Lists.{contains_at}
 
 -- a package of which nothing is chosen is none of the keys
 unchosen_key : (xs : List (ℕ × ℕ)) (p : ℕ) → choice_of xs p ≡ None → list_any (nat_eq p) (keys_of xs) ≡ false
@@ -84,6 +86,15 @@ entry_chosen (x ∷ xs) zero e once at =
 entry_chosen (x ∷ xs) (suc i) e once at =
     let apart : nat_eq e.0 x.0 ≡ false = nat_eq_equiv.symm e.0 x.0 ∙ all_at (λ y. nat_eq x.0 y ≡ false) xs i e once.0 at in
     rw apart (entry_chosen xs i e once.1 at)
+
+-- and so is what is among a part of the list
+pub part_chosen : (part xs : List (ℕ × ℕ)) (a b p k : ℕ) → part ≡ xs → IsDistinct nat_eq (keys_of xs) → Contains (take a (drop b part)) (p, k) → choice_of xs p ≡ Some k
+part_chosen part xs a b p k is once h =
+    let behind : Contains (drop b part) (p, k) =
+    subst (λ (l : List (ℕ × ℕ)). Contains l (p, k)) (take-append-drop a (drop b part)) (Contains-append_left (take a (drop b part)) (drop a (drop b part)) (p, k) h) in
+    let among : Contains part (p, k) = subst (λ (l : List (ℕ × ℕ)). Contains l (p, k)) (take-append-drop b part) (Contains-append_right (take b part) (drop b part) (p, k) behind) in
+    let at = contains_at xs (p, k) (subst (λ (l : List (ℕ × ℕ)). Contains l (p, k)) is among) in
+    entry_chosen xs at.0 (p, k) once at.1
 
 -- a front of a list that loses its last one is a front still
 pub front_popped : (xs ys zs : List (ℕ × ℕ)) (e : ℕ × ℕ) → xs ≡ take (length xs) ys → xs ≡ zs ++ e ∷ [] → zs ≡ take (length zs) ys

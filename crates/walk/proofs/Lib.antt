@@ -1,4 +1,5 @@
 -- Lemmas.
+pub mod Allowed
 pub mod Lists
 pub mod Choices
 pub mod Paging
@@ -17,3 +18,4 @@ pub mod OneListing
 pub mod Orders
 pub mod Bests
 pub mod PreferredNewest
+pub mod Settling

@@ -79,3 +79,13 @@ no_value (Some x) e = absurd (true≢false e)
 -- where two lists grow one after the other, the first grows to the last
 pub grown-grown : (old found new : List (ℕ × ℕ)) → Grows old found → Grows found new → Grows old new
 grown-grown old found new g h = (g.0 ++ h.0, h.1 ∙ ap (λ xs. xs ++ h.0) g.1 ∙ append_assoc old g.0 h.0)
+
+-- ---- one list behind another
+
+-- what is selected by both is selected by the first, or is among the second
+pub choice-append_cases : (found more : List (ℕ × ℕ)) (p k : ℕ) → choice_of (found ++ more) p ≡ Some k → (choice_of found p ≡ Some k) ⊎ Contains more (p, k)
+choice-append_cases [] more p k h = let at = choice-entry more p k h in inr (get-contains more at.0 (p, k) at.1)
+choice-append_cases (e ∷ found) more p k h = elim (cases_Bool (nat_eq p e.0)) [
+  | inl t ↦ inl (rw t (rw t at h))
+  | inr f ↦ rw f (choice-append_cases found more p k (rw f at h))
+]

@@ -1,6 +1,8 @@
 -- The walk: what it keeps, that it ends in a selection that meets the request, and that an obstacle stands in the way of each.
-use Rattle.std.proofs.Common.{◌≡◌, ◌<◌, ◌≤◌, ◌+◌, ◌∙◌, ℕ, sym, ap, subst, arith, Bool, true, false, true≢false, List, [], ◌∷◌, ◌++◌, length, inl, inr, nat_eq}
+use Rattle.std.proofs.Common.{◌≡◌, ◌<◌, ◌≤◌, ◌+◌, ◌∙◌, ℕ, sym, ap, subst, arith, Bool, true, false, true≢false, List, [], ◌∷◌, ◌++◌, drop, length, Contains, ◌⊎◌, inl, inr, nat_eq}
+use Rattle.std.proofs.Math.Seq.{drop-append_seam}
 use Rattle.std.proofs.lemmas.Bool.{cases_eq, OnFalse_at, OnFalse_from, OnTrue_at, OnTrue_from}
+use Rattle.std.proofs.lemmas.List.Elements.{Contains-append_cases, Contains-append_left, Contains-append_right, Contains-push, Contains-push_cases}
 use Rattle.std.proofs.lemmas.Option.{none-some, same_Some, slice_get_within}
 use Rattle.std.specs.Prelude.{Err, IfOk, None, Ok, Result, Some, slice_get}
 use Rattle.std.specs.Bool.{OnFalse, OnTrue}
@@ -13,7 +15,7 @@ use Rattle.registry.specs.Selections.{Choices, IsMet, IsReached, Meets, along, n
 use Rattle.registry.specs.Laws.{AllowedIsPublished}
 use Rattle.walk.specs.Choosing.{Follows, IsUnmet, choice_of}
 use Rattle.walk.specs.Walks.{AreMet, ComeFrom, ComesAs, Grows, IsChecked, IsChosen, IsMetAt, IsSelected, IsUnmetAt, IsWalk, NoneFollows}
-use Rattle.walk.proofs.Lists.{choice-entry, choice-left, choice-push_cases, contains_at, get-before, get-contains, get-left}
+use Rattle.walk.proofs.Lists.{choice-append_cases, choice-entry, choice-left, choice-push_cases, contains_at, get-contains}
 
 -- ---- what stays as the list grows
 
@@ -124,55 +126,74 @@ met_all packages s needs i all met name need among =
 
 -- ---- the start, and a turn
 
-pub walk_start : (packages : Packages) (wanted : Wanted) (chooses : Choices) (old found : List (ℕ × ℕ)) → old ≡ []
+pub walk_start : (packages : Packages) (wanted : Wanted) (chooses : Choices) (old found left : List (ℕ × ℕ)) → old ≡ []
     → Follows chooses (choice_of found) → ComeFrom packages wanted.needs (choice_of old) (choice_of found) → AreMet packages (choice_of found) wanted.needs
-    → IsWalk packages wanted chooses found 0
-walk_start packages wanted chooses old found empty follows come met = record {
+    → left ≡ found → ((p k : ℕ) → Contains left (p, k) → choice_of found p ≡ Some k) → IsWalk packages wanted chooses found left
+walk_start packages wanted chooses old found left empty follows come met all among = record {
   follows = follows;
   reached = λ p k h. elim (come p k h) [
     | inl before ↦ absurd (none-some k (rw empty at before))
     | inr d ↦ needed p d.name d.need d.among d.numbered
   ];
   needs = met;
-  checked = λ j e lt at. absurd (omega arith);
+  among = among;
+  checked = λ p k h. let at = choice-entry found p k h in inl (subst (λ (l : List (ℕ × ℕ)). Contains l (p, k)) (sym all) (get-contains found at.0 (p, k) at.1));
 }
 
-pub walk_more : (packages : Packages) (wanted : Wanted) (chooses : Choices) (found new : List (ℕ × ℕ)) (i p v : ℕ)
-    → IsWalk packages wanted chooses found i → slice_get found i ≡ Some (p, v) → choice_of found p ≡ Some v → is_allowed packages wanted p v ≡ true
-    → Follows chooses (choice_of new) → Grows found new → ComeFrom packages (needs_of packages p v) (choice_of found) (choice_of new)
-    → AreMet packages (choice_of new) (needs_of packages p v) → IsWalk packages wanted chooses new (i + 1)
-walk_more packages wanted chooses found new i p v w at here allowed follows grown come met = record {
-  follows = follows;
-  reached = λ q k h. elim (come q k h) [
-    | inl before ↦ w.reached q k before
-    | inr d ↦ along p v q d.name d.need (w.reached p v here) (w.follows p v here) d.among d.numbered
-  ];
-  needs = are_met_grown packages found new wanted.needs grown w.needs;
-  checked = λ j e lt at_j. elim (cases_eq j i) [
-    | inl same ↦
-        let is : (p, v) ≡ e = same_Some (p, v) e (sym stays ∙ ap (slice_get new) (sym same) ∙ at_j) in
-        subst (λ (x : ℕ × ℕ). IsChecked packages wanted (choice_of new) x.0 x.1) is (record { allowed = allowed; met = met })
-    | inr apart ↦
-        let low : j < i = omega (arith, lt, apart) in
-        checked_grown packages wanted found new e.0 e.1 grown (w.checked j e low (get-before found grown.0 i j e (p, v) at low (rw grown.1 at at_j)))
-  ];
-}
-  where
-    stays : slice_get new i ≡ Some (p, v)
-    stays = rw grown.1 (get-left found grown.0 i (p, v) at)
+pub walk_chosen : (packages : Packages) (wanted : Wanted) (chooses : Choices) (found rest : List (ℕ × ℕ)) (p v : ℕ) → IsWalk packages wanted chooses found (rest ++ (p, v) ∷ [])
+    → IsChosen packages wanted chooses p v
+walk_chosen packages wanted chooses found rest p v w =
+    let here = w.among p v (Contains-push rest (p, v)) in
+    record { reached = w.reached p v here; chosen = w.follows p v here }
 
-pub walk_chosen : (packages : Packages) (wanted : Wanted) (chooses : Choices) (found : List (ℕ × ℕ)) (i p v : ℕ) → IsWalk packages wanted chooses found i
-    → choice_of found p ≡ Some v → IsChosen packages wanted chooses p v
-walk_chosen packages wanted chooses found i p v w here = record { reached = w.reached p v here; chosen = w.follows p v here }
+module _ (packages : Packages) (wanted : Wanted) (chooses : Choices) (found new rest later : List (ℕ × ℕ)) (p v : ℕ) (w : IsWalk packages wanted chooses found (rest ++ (p, v) ∷ []))
+    (grown : Grows found new) (later_is : later ≡ drop (length found) new) (among : (q k : ℕ) → Contains later (q, k) → choice_of new q ≡ Some k)
+    (here : IsChecked packages wanted (choice_of new) p v) where
+  more_is : later ≡ grown.0
+  more_is = later_is ∙ ap (drop (length found)) grown.1 ∙ drop-append_seam found grown.0
+
+  more_among : (q k : ℕ) → Contains (rest ++ later) (q, k) → choice_of new q ≡ Some k
+  more_among q k h = elim (Contains-append_cases rest later (q, k) h) [
+    | inl before ↦ rw grown.1 (choice-left found grown.0 q k (w.among q k (Contains-append_left rest ((p, v) ∷ []) (q, k) before)))
+    | inr after ↦ among q k after
+  ]
+
+  -- what was found before is left, or was followed now, or is checked
+  before_checked : (q k : ℕ) → choice_of found q ≡ Some k → Contains (rest ++ later) (q, k) ⊎ IsChecked packages wanted (choice_of new) q k
+  before_checked q k h = elim (w.checked q k h) [
+    | inl left ↦ elim (Contains-push_cases rest (p, v) (q, k) left) [
+      | inl still ↦ inl (Contains-append_left rest later (q, k) still)
+      | inr same ↦ inr (subst (λ (e : ℕ × ℕ). IsChecked packages wanted (choice_of new) e.0 e.1) same here)
+    ]
+    | inr done ↦ inr (checked_grown packages wanted found new q k grown done)
+  ]
+
+  more_checked : (q k : ℕ) → choice_of new q ≡ Some k → Contains (rest ++ later) (q, k) ⊎ IsChecked packages wanted (choice_of new) q k
+  more_checked q k h = elim (choice-append_cases found grown.0 q k (subst (λ (l : List (ℕ × ℕ)). choice_of l q ≡ Some k) grown.1 h)) [
+    | inl before ↦ before_checked q k before
+    | inr after ↦ inl (Contains-append_right rest later (q, k) (subst (λ (l : List (ℕ × ℕ)). Contains l (q, k)) (sym more_is) after))
+  ]
+
+  pub walk_more : Follows chooses (choice_of new) → ComeFrom packages (needs_of packages p v) (choice_of found) (choice_of new) → IsWalk packages wanted chooses new (rest ++ later)
+  walk_more follows come = record {
+    follows = follows;
+    reached = λ q k h. elim (come q k h) [
+      | inl before ↦ w.reached q k before
+      | inr d ↦ let chosen = walk_chosen packages wanted chooses found rest p v w in along p v q d.name d.need chosen.reached chosen.chosen d.among d.numbered
+    ];
+    needs = are_met_grown packages found new wanted.needs grown w.needs;
+    among = more_among;
+    checked = more_checked;
+  }
 
 -- ---- the end
 
-module _ (packages : Packages) (wanted : Wanted) (chooses : Choices) (found : List (ℕ × ℕ)) (i : ℕ) (w : IsWalk packages wanted chooses found i) (all : length found ≤ i) where
+module _ (packages : Packages) (wanted : Wanted) (chooses : Choices) (found left : List (ℕ × ℕ)) (w : IsWalk packages wanted chooses found left) (none : length left ≡ 0) where
   check : (p k : ℕ) → choice_of found p ≡ Some k → IsChecked packages wanted (choice_of found) p k
-  check p k chosen =
-      let entry = choice-entry found p k chosen in
-      let within = slice_get_within found entry.0 (p, k) entry.1 in
-      w.checked entry.0 (p, k) (omega (arith, within, all)) entry.1
+  check p k chosen = elim (w.checked p k chosen) [
+    | inl among ↦ let within = among.1 in absurd (omega (arith, within, none))
+    | inr done ↦ done
+  ]
 
   -- what the choices reach is found, and reached by what is found
   walked : (p : ℕ) → IsReached packages wanted.needs chooses p → ((k : ℕ) × (choice_of found p ≡ Some k)) × IsReached packages wanted.needs (choice_of found) p

@@ -110,9 +110,10 @@ pub record IsChecked (packages : Packages) (wanted : Wanted) (s : Choices) (p k 
   pub allowed : is_allowed packages wanted p k ≡ true
   pub met : AreMet packages s (needs_of packages p k)
 
--- what was found is chosen and reached, the request's needs are met, and the first i that were found are checked
-pub record IsWalk (packages : Packages) (wanted : Wanted) (chooses : Choices) (found : List (ℕ × ℕ)) (i : ℕ) : Type 0 where
+-- what was found is chosen and reached, and the request's needs are met; each version that was found is checked, or is left to be followed
+pub record IsWalk (packages : Packages) (wanted : Wanted) (chooses : Choices) (found left : List (ℕ × ℕ)) : Type 0 where
   pub follows : Follows chooses (choice_of found)
   pub reached : (p k : ℕ) → choice_of found p ≡ Some k → IsReached packages wanted.needs chooses p
   pub needs : AreMet packages (choice_of found) wanted.needs
-  pub checked : (j : ℕ) (e : ℕ × ℕ) → j < i → slice_get found j ≡ Some e → IsChecked packages wanted (choice_of found) e.0 e.1
+  pub among : (p k : ℕ) → Contains left (p, k) → choice_of found p ≡ Some k
+  pub checked : (p k : ℕ) → choice_of found p ≡ Some k → Contains left (p, k) ⊎ IsChecked packages wanted (choice_of found) p k

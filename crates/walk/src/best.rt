@@ -4,6 +4,7 @@ ghost use Rattle.std.specs.Prelude.{◌≡◌, ◌<◌, true, length, IfSome};
 ghost use Rattle.std.specs.Bool.{OnFalse};
 ghost use Rattle.terms.specs.Terms.{true_of};
 ghost use Rattle.registry.specs.Registry.{needs_of};
+ghost use Rattle.registry.specs.Requests.{Wanted};
 ghost use Rattle.walk.specs.Best.{Holds, IsBest, IsOut, OfEach};
 
 use crate::choosing::Choosing;
@@ -17,16 +18,14 @@ use versions::precedence_is_a_total_preorder;
 impl Choosing {
     /// Whether a version depends, at an index, on a version that is not chosen of a package, or on none of those
     /// that are left. Where memory is short, it is not seen.
-    fn is_at_odds_by(
+    pub(crate) fn is_at_odds_by(
         &self,
         registry: &Registry,
-        request: &Request,
         version: (Pkg, u32),
         index: usize,
     ) -> bool
-        requires within { index < length (needs_of registry.now.packages version.0 version.1) }
-        requires holds { Holds registry.now.packages request.now self.now }
-        ensures { result ≡ true → IsOut registry.now.packages request.now self.now.found.entries version.0 version.1 }
+        requires { index < length (needs_of registry.now.packages version.0 version.1) }
+        ensures { result ≡ true → (wanted : Wanted) → Holds registry.now.packages wanted self.now → IsOut registry.now.packages wanted self.now.found.entries version.0 version.1 }
     {
         let Ok((target, matching)) = registry.dependency(version.0, version.1, index) else {
             return false;
@@ -47,7 +46,7 @@ impl Choosing {
     {
         let count = needs_count(registry, version);
         for index in 0..count {
-            if self.is_at_odds_by(registry, request, version, index) {
+            if self.is_at_odds_by(registry, version, index) {
                 return true;
             }
         }

@@ -1,6 +1,6 @@
 //! Chosen versions, in the order in which they were chosen.
 
-ghost use Rattle.std.specs.Prelude.{◌≡◌, ◌<◌, ◌++◌, ◌∷◌, ℕ, [], length, nat_eq, slice_get, take, is_some, None, Some, IfOk, OnOk};
+ghost use Rattle.std.specs.Prelude.{◌≡◌, ◌<◌, ◌≤◌, ◌^◌, ◌++◌, ◌∷◌, ℕ, [], drop, length, Contains, nat_eq, slice_get, take, is_some, None, Some, IfOk, OnOk};
 ghost use Rattle.std.specs.List.{IsDistinct};
 ghost use Rattle.std.specs.Map.{keys_of};
 ghost use Rattle.walk.specs.Choosing.{choice_of};
@@ -88,6 +88,16 @@ impl ChoiceMap {
         ensures chosen { choice_of self.now.entries result.0 ≡ Some result.1 }
     {
         self.entries[place]
+    }
+
+    /// Those from a place on.
+    pub(crate) fn since(&self, place: usize) -> &[(Pkg, u32)]
+        requires { place ≤ length self.now.entries }
+        ensures since { result.now ≡ drop place self.now.entries }
+        ensures chosen { (p k : ℕ) → Contains result.now (p, k) → choice_of self.now.entries p ≡ Some k }
+        ensures count { length self.now.entries < 2 ^ 64 }
+    {
+        &self.entries[place..]
     }
 
     /// All of them, as a list.

@@ -12,6 +12,7 @@ ghost use Rattle.walk.specs.Best.{Holds, Narrows, OfEach, Pushes};
 ghost use Rattle.walk.specs.declared.choosing.Needed.{Needed};
 
 use crate::choice_map::{ChoiceMap, WALK_ROOM};
+use crate::dependents::Dependents;
 use crate::package_table::PackageTable;
 use crate::versions_left::{has_all, is_some, only_of};
 use registry::{Matching, Pkg};
@@ -45,6 +46,8 @@ pub(crate) struct Choosing {
     /// How much of what is left was taken back, and by how many versions. Nothing rests on them.
     pub(crate) taken: usize,
     pub(crate) ruled_out: usize,
+    /// Which versions depend on packages, if versions are taken away by what is left of these. Nothing rests on it.
+    pub(crate) dependents: Option<Dependents>,
 }
 
 impl Choosing {
@@ -60,6 +63,7 @@ impl Choosing {
             fresh: Vec::with_capacity(alloc, WALK_ROOM)?,
             taken: 0,
             ruled_out: 0,
+            dependents: None,
         })
     }
 

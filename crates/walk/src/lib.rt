@@ -6,10 +6,12 @@
 //! the preferred versions it answers the preferred selection, wherever that meets the request.
 #![tactic(auto)]
 
+mod backward;
 mod best;
 mod choice_map;
 mod chooser;
 mod choosing;
+mod dependents;
 mod evidence;
 mod laws;
 mod listing;
@@ -36,7 +38,7 @@ pub use laws::{
 pub use listing::{NextPackage, WalkListing, list_in_order};
 pub use names::sort_by_name;
 pub use newest::{is_newest_by, is_plainly_newest};
-pub use newest_choice::{NewestChoice, choose_newest};
+pub use newest_choice::{NewestChoice, choose_newest, choose_newest_by_propagation};
 pub use order::Order;
 pub use preferred::{Preferred, locked_ordinal, preferred_version, reach_preferred};
 pub use reached::{Asker, Reached};

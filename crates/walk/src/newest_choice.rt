@@ -11,6 +11,7 @@ ghost use Rattle.walk.specs.Choosing.{choice_of};
 ghost use Rattle.walk.specs.Newest.{next_package, IsNewest};
 
 use crate::choosing::Choosing;
+use crate::dependents::Dependents;
 use crate::reached::Reached;
 use crate::trial::Tried;
 use crate::walking::reach;
@@ -114,10 +115,41 @@ fn choose_from_needs(
     if !choosing.meet_needs(alloc, registry, request)? {
         return Ok(false);
     }
-    if !choosing.meet_alike(alloc, registry)? {
+    if !choosing.settle(alloc, registry)? {
         return Ok(false);
     }
     Ok(choosing.choose_all(alloc, registry, request)?)
+}
+
+/// Chooses each package in its turn, by what is left of packages, and by which versions depend on them where that is
+/// given.
+fn choose_with(
+    alloc: Global,
+    registry: &Registry,
+    request: &Request,
+    dependents: Option<Dependents>,
+) -> Result<Option<NewestChoice>, AllocError>
+    ensures newest { IfOk result (λ chosen. IfSome chosen (λ choice. IsNewest registry.now.packages request.now (choice_of choice.list.items))) }
+    ensures once { IfOk result (λ chosen. IfSome chosen (λ choice. IsDistinct nat_eq (keys_of choice.list.items))) }
+{
+    let mut choosing = Choosing::new(alloc)?;
+    choosing.dependents = dependents;
+    let whole = choose_from_needs(alloc, registry, request, &mut choosing);
+    let Choosing {
+        found,
+        ruled_out,
+        ..
+    } = choosing;
+    if !whole? {
+        drop(found);
+        return Ok(None);
+    }
+    let reached = reach(alloc, registry, request, &found);
+    drop(found);
+    match reached? {
+        Reached::Selection(list) => Ok(Some(NewestChoice { list, ruled_out })),
+        Reached::Unmet(_, _) | Reached::NotAllowed(_, _) => Ok(None),
+    }
 }
 
 /// The newest selection, where each package can be decided in its turn: for the best version that is left by what
@@ -135,21 +167,22 @@ pub fn choose_newest(
     ensures newest { IfOk result (λ chosen. IfSome chosen (λ choice. IsNewest registry.now.packages request.now (choice_of choice.list.items))) }
     ensures once { IfOk result (λ chosen. IfSome chosen (λ choice. IsDistinct nat_eq (keys_of choice.list.items))) }
 {
-    let mut choosing = Choosing::new(alloc)?;
-    let whole = choose_from_needs(alloc, registry, request, &mut choosing);
-    let Choosing {
-        found,
-        ruled_out,
-        ..
-    } = choosing;
-    if !whole? {
-        drop(found);
-        return Ok(None);
-    }
-    let reached = reach(alloc, registry, request, &found);
-    drop(found);
-    match reached? {
-        Reached::Selection(list) => Ok(Some(NewestChoice { list, ruled_out })),
-        Reached::Unmet(_, _) | Reached::NotAllowed(_, _) => Ok(None),
-    }
+    Ok(choose_with(alloc, registry, request, None)?)
+}
+
+/// As [`choose_newest`], which is to be asked first. It also takes versions away that depend on a package by a
+/// requirement that nothing left of it meets, and so it answers some requests for which that one answers none.
+///
+/// The cost is linear in the dependencies of the versions of packages that are needed, of which so many are looked at,
+/// beside that of `choose_newest`.
+pub fn choose_newest_by_propagation(
+    alloc: Global,
+    registry: &Registry,
+    request: &Request,
+) -> Result<Option<NewestChoice>, AllocError>
+    ensures newest { IfOk result (λ chosen. IfSome chosen (λ choice. IsNewest registry.now.packages request.now (choice_of choice.list.items))) }
+    ensures once { IfOk result (λ chosen. IfSome chosen (λ choice. IsDistinct nat_eq (keys_of choice.list.items))) }
+{
+    let dependents = Dependents::new(alloc)?;
+    Ok(choose_with(alloc, registry, request, Some(dependents))?)
 }

@@ -15,7 +15,6 @@ use crate::meeting::are_alike;
 use crate::versions_left::is_some;
 use registry::{Pkg, Registry, Request};
 use std::alloc::{AllocError, Global};
-use terms::{Term, VSet};
 
 /// Versions are tried as long as what was taken back is at most so many times what is kept ..
 /// Measured at half and at twice this value: docs/BENCHMARKS.md, Constants.
@@ -77,7 +76,7 @@ impl Choosing {
         if !self.meet(alloc, registry, version, true, is_met)? {
             return Ok(false);
         }
-        Ok(self.meet_alike(alloc, registry)?)
+        Ok(self.settle(alloc, registry)?)
     }
 
     /// Whether it was seen last that a package has no version left.
@@ -118,6 +117,9 @@ impl Choosing {
         self.asked.truncate(kept.asked);
         self.found.truncate(kept.found);
         self.fresh.clear();
+        if let Some(dependents) = &mut self.dependents {
+            dependents.passed = dependents.passed.min(kept.needed);
+        }
     }
 
     /// Leaves all versions of a package but one. Answers no where none is left of a package then, or what is left of it
@@ -132,18 +134,10 @@ impl Choosing {
         ensures asked { IfOk result (λ whole. whole ≡ true → self.new.asked.items ≡ self.old.asked.items) }
         ensures holds { OnOk result ((wanted : Wanted) → IsOut registry.now.packages wanted self.old.found.entries version.0 version.1 → Holds registry.now.packages wanted self.old → Holds registry.now.packages wanted self.new) }
     {
-        let Some(place) = self.place_of(version.0) else {
-            return Ok(false);
-        };
-        let set = VSet::single(alloc, version.1)?;
-        let (some, _) = self.lessen(alloc, version.0, place, &Term::NotIn(set))?;
-        if !some {
+        if !self.take_away(alloc, registry, version)? {
             return Ok(false);
         }
-        if !self.meet_only(alloc, registry, version.0)? {
-            return Ok(false);
-        }
-        Ok(self.meet_alike(alloc, registry)?)
+        Ok(self.settle(alloc, registry)?)
     }
 
     /// Whether too much was taken back to go on so: a search is faster then.

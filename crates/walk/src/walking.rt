@@ -5,10 +5,11 @@ ghost use Rattle.std.specs.Bool.{OnFalse, OnTrue};
 ghost use Rattle.std.specs.List.{IsDistinct};
 ghost use Rattle.std.specs.Map.{keys_of};
 ghost use Rattle.registry.specs.Registry.{meets_at, needs_of};
+ghost use Rattle.registry.specs.Requests.{is_allowed};
 ghost use Rattle.walk.specs.Choosing.{choice_of, Follows};
 ghost use Rattle.walk.specs.Walks.{asked_by, AreMet, ComeFrom, ComesAs, FoundFrom, FoundMeets, Grows, IsMetAt, IsUnmetAt, IsUnmetOf, ReachesBy};
 
-use crate::choice_map::ChoiceMap;
+use crate::choice_map::{ChoiceMap, WALK_ROOM};
 use crate::chooser::Chooser;
 use crate::reached::{Asker, Reached};
 use registry::{Pkg, Registry, Request, allowed_is_published};
@@ -23,6 +24,17 @@ fn meets(registry: &Registry, pkg: Pkg, ordinal: u32, need: &Need) -> bool
         None => false,
         Some(facts) => need.admits(facts.version),
     }
+}
+
+/// Whether a version is allowed to a request. Where no version of the package is yanked, as a note says, its row
+/// is not looked at.
+fn is_allowed(registry: &Registry, request: &Request, pkg: Pkg, ordinal: u32) -> bool
+    ensures { result ≡ is_allowed registry.now.packages request.now pkg ordinal }
+{
+    if registry.has_yanks(pkg) {
+        return registry.allowed(request, pkg, ordinal);
+    }
+    (ordinal as usize) < registry.versions(pkg)
 }
 
 /// Adds the chosen version of a package, unless the package is found already. Answers whether the
@@ -150,7 +162,9 @@ fn follow_all<C: Chooser>(
     Ok(None)
 }
 
-/// Walks from the needs of the request along dependencies, by the versions that the chooser gives.
+/// Walks from the needs of the request along dependencies, by the versions that the chooser gives: of the
+/// packages that are found, the dependencies of the last are followed next, so that what was looked at to find
+/// it is still near.
 ///
 /// The chooser is asked once for each package that is reached. The cost is linear in the needs and
 /// dependencies that are looked at, whatever the size of the registry: each costs a look-up of its
@@ -182,17 +196,18 @@ fn reach_into<C: Chooser>(
     if let Some(index) = follow_all(registry, request, chooser, Asker::Request, found)? {
         return Ok(Reached::Unmet(Asker::Request, index));
     }
-    let mut next = 0;
-    'walk: while next < found.len() {
-        let (pkg, ordinal) = found.at(next);
-        if !registry.allowed(request, pkg, ordinal) {
+    let mut left = Vec::with_capacity(alloc, WALK_ROOM)?;
+    left.extend_from_slice(found.since(0))?;
+    'walk: while let Some((pkg, ordinal)) = left.pop() {
+        if !is_allowed(registry, request, pkg, ordinal) {
             return Ok(Reached::NotAllowed(pkg, ordinal));
         }
         let asker = Asker::Version(pkg, ordinal);
+        let before = found.len();
         if let Some(index) = follow_all(registry, request, chooser, asker, found)? {
             return Ok(Reached::Unmet(asker, index));
         }
-        next += 1;
+        left.extend_from_slice(found.since(before))?;
     }
     allowed_is_published();
     Ok(Reached::Selection(found.list(alloc)?))

@@ -10,5 +10,5 @@ returns c =
     let pkg = c.args.pkg in
     let old = c.args.self.now in
     let mid = c.push_left.new.self in
-    let new : Choosing = record { found = mid.found; asked = mid.asked; needed = mid.needed; numbers = mid.numbers; fresh = c.push.new.self; taken = mid.taken; ruled_out = mid.ruled_out } in
+    let new : Choosing = record { found = mid.found; asked = mid.asked; needed = mid.needed; numbers = mid.numbers; fresh = c.push.new.self; taken = mid.taken; ruled_out = mid.ruled_out; dependents = mid.dependents } in
     narrows_both (In set) pkg old mid new (narrows_pushed (In set) (In set) pkg old mid c.in_ok-push_left.ensures (λ packages wanted each h. each)) (narrows_again set pkg mid new refl refl refl c.in_ok-push.ensures.items)

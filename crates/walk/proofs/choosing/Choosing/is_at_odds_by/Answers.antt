@@ -4,8 +4,8 @@ use Rattle.walk.proofs.Bests.{left_read, odds_chosen, odds_left}
 use Rattle.walk.proofs.choosing.Choosing.is_at_odds_by.Goals as goal
 
 pub returns-in-Some : goal.returns-in-Some
-returns-in-Some c = λ odds.
-    odds_chosen c.args.registry.now.packages c.args.request.now c.args.self.now.found.entries c.args.version.0 c.args.version.1 c.args.index c.in-Ok.target c.in-Some.chosen _ c.in-Ok.ensures (search rules) (search rules)
+returns-in-Some c = λ odds wanted h.
+    odds_chosen c.args.registry.now.packages wanted c.args.self.now.found.entries c.args.version.0 c.args.version.1 c.args.index c.in-Ok.target c.in-Some.chosen _ c.in-Ok.ensures (search rules) (search rules)
 
 pub index-requires : goal.index-requires
 index-requires c =
@@ -14,7 +14,7 @@ index-requires c =
     omega (arith, within, c.args.self.now.needed.ok.0)
 
 pub returns : goal.returns
-returns c = λ apart.
+returns c = λ apart wanted h.
     let here = c.in-Some-place_of.ensures in
-    odds_left c.args.registry.now.packages c.args.request.now c.args.self.now.found.entries c.args.version.0 c.args.version.1 c.args.index c.in-Ok.target _ c.index.result.now.left c.in-Ok.ensures
-    (left_read c.args.registry.now.packages c.args.request.now c.args.self.now c.in-Some-place_of.place c.in-Ok.target here.0 c.index.result.now c.requires.holds here.1 here.2 c.index.ensures) (c.is_apart.ensures apart)
+    odds_left c.args.registry.now.packages wanted c.args.self.now.found.entries c.args.version.0 c.args.version.1 c.args.index c.in-Ok.target _ c.index.result.now.left c.in-Ok.ensures
+    (left_read c.args.registry.now.packages wanted c.args.self.now c.in-Some-place_of.place c.in-Ok.target here.0 c.index.result.now h here.1 here.2 c.index.ensures) (c.is_apart.ensures apart)

@@ -9,4 +9,4 @@ returns-then-not-is_wanted c = λ set. narrows_same (In set) c.args.pkg c.args.s
 pub returns : goal.returns
 returns c = λ set.
     let old = c.args.self.now in
-    narrows_again set c.args.pkg old (record { found = old.found; asked = old.asked; needed = old.needed; numbers = old.numbers; fresh = c.push.new.self; taken = old.taken; ruled_out = old.ruled_out }) refl refl refl c.in_ok-push.ensures.items
+    narrows_again set c.args.pkg old (record { found = old.found; asked = old.asked; needed = old.needed; numbers = old.numbers; fresh = c.push.new.self; taken = old.taken; ruled_out = old.ruled_out; dependents = old.dependents }) refl refl refl c.in_ok-push.ensures.items

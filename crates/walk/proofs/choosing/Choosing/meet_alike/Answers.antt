@@ -11,7 +11,7 @@ pub returns-then-not-branch-clause-holds : goal.returns-then-not-branch-clause-h
 returns-then-not-branch-clause-holds c = λ wanted h.
     let packages = c.args.registry.now.packages in
     let old = c.loop.self in
-    let mid : Choosing = record { found = old.found; asked = old.asked; needed = old.needed; numbers = old.numbers; fresh = c.pop.new.self; taken = old.taken; ruled_out = old.ruled_out } in
+    let mid : Choosing = record { found = old.found; asked = old.asked; needed = old.needed; numbers = old.numbers; fresh = c.pop.new.self; taken = old.taken; ruled_out = old.ruled_out; dependents = old.dependents } in
     let here = c.loop.invariant.holds wanted h in
     c.in_ok-meet_if_alike.ensures.holds wanted (popped_needed packages wanted old c.pop.new.self.items c.in-Some.pkg (rw c.in-Some.is at c.pop.ensures.items) here) (holds_popped packages wanted old mid _ refl refl c.pop.ensures.items here)
 
@@ -19,7 +19,7 @@ pub loop-preserved : goal.loop-preserved
 loop-preserved c =
     let packages = c.args.registry.now.packages in
     let old = c.loop.self in
-    let mid : Choosing = record { found = old.found; asked = old.asked; needed = old.needed; numbers = old.numbers; fresh = c.pop.new.self; taken = old.taken; ruled_out = old.ruled_out } in
+    let mid : Choosing = record { found = old.found; asked = old.asked; needed = old.needed; numbers = old.numbers; fresh = c.pop.new.self; taken = old.taken; ruled_out = old.ruled_out; dependents = old.dependents } in
     record {
       found = c.in_ok-meet_if_alike.ensures.found ∙ c.loop.invariant.found;
       asked = c.in_ok-meet_if_alike.ensures.asked (search rules) ∙ c.loop.invariant.asked;
@@ -40,11 +40,11 @@ loop-init c = record {
 pub returns-in_default-clause-grown : goal.returns-in_default-clause-grown
 returns-in_default-clause-grown c =
     let old = c.loop.self in
-    let mid : Choosing = record { found = old.found; asked = old.asked; needed = old.needed; numbers = old.numbers; fresh = c.pop.new.self; taken = old.taken; ruled_out = old.ruled_out } in
+    let mid : Choosing = record { found = old.found; asked = old.asked; needed = old.needed; numbers = old.numbers; fresh = c.pop.new.self; taken = old.taken; ruled_out = old.ruled_out; dependents = old.dependents } in
     grown_both c.args.self.now old mid c.loop.invariant.grown (grown_of old mid refl refl)
 
 pub returns-then-not-branch-clause-grown : goal.returns-then-not-branch-clause-grown
 returns-then-not-branch-clause-grown c =
     let old = c.loop.self in
-    let mid : Choosing = record { found = old.found; asked = old.asked; needed = old.needed; numbers = old.numbers; fresh = c.pop.new.self; taken = old.taken; ruled_out = old.ruled_out } in
+    let mid : Choosing = record { found = old.found; asked = old.asked; needed = old.needed; numbers = old.numbers; fresh = c.pop.new.self; taken = old.taken; ruled_out = old.ruled_out; dependents = old.dependents } in
     grown_both c.args.self.now mid c.meet_if_alike.new.self (grown_both c.args.self.now old mid c.loop.invariant.grown (grown_of old mid refl refl)) c.in_ok-meet_if_alike.ensures.grown

@@ -1,7 +1,7 @@
 use Rattle.std.proofs.Common.{rules}
 use Rattle.walk.specs.Choosing.{choice_of}
 use Rattle.walk.proofs.Bests.{best_newest, own_choice}
-use Rattle.walk.proofs.newest_choice.choose_newest.Goals as goal
+use Rattle.walk.proofs.newest_choice.choose_with.Goals as goal
 
 pub returns-in-Selection-clause-newest : goal.returns-in-Selection-clause-newest
 returns-in-Selection-clause-newest c =
