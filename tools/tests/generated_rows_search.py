@@ -148,6 +148,8 @@ def pigeons(count):
 
 @rows_of("high")
 def a_line_that_is_cited_again_counts_once():
-    rows, needs = pigeons(8)
-    rows.append({"of": "solver", "call": "solve", "needs": needs, "lock": [], "by": _beyond_the_most, "gives": [True, False]})
+    # a refusal after so long a search teaches nothing, so there is a version that asks for no pigeon
+    pigeons_needed = [f"pigeon{pigeon} *" for pigeon in range(8)]
+    rows = _published(*_pigeons(8), ("top", "1.0.0"), ("top", "2.0.0", *pigeons_needed))
+    rows.append(_asked("solver", "solve", [True, False], "top *", by=_beyond_the_most))
     yield f"What takes more than {MOST} lines as they are cited, and no more where each counts once, is offered", rows

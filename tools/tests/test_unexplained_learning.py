@@ -1,5 +1,6 @@
 """Sessions that ask why there is no selection, and sessions that don't, learn the same, also of requests that are asked again and again:
-lines are made of all steps of an explained refusal, and of another one only where something may be learnt."""
+lines are made of all steps of an explained refusal, and of another one only where something may be learnt. A refusal by many
+steps teaches nothing."""
 import json
 import os
 import random
@@ -15,6 +16,8 @@ import workloads
 
 # So often each request is asked for.
 ASKED = 6
+# So many conflicts are never met.
+MANY = 1_000_000
 SEEDS = range(40)
 
 
@@ -25,6 +28,13 @@ def pigeons(holes):
         lines += [workloads.publish(f"hole{hole}", (1, pigeon, 0), []) for pigeon in numbers]
         lines += [workloads.publish(f"pigeon{pigeon}", (1, hole, 0), [[f"hole{hole}", f"~1.{pigeon}.0"]]) for pigeon in numbers]
     return lines, [workloads.resolve([[f"pigeon{pigeon}", "*"] for pigeon in numbers])]
+
+
+def unless_all(lines, requests):
+    """What asks for as much as a request, if that can be had; else for nothing. It has a budget, so that it is searched for."""
+    needs = json.loads(requests[0])["needs"]
+    tops = [workloads.publish("top", (1, 0, 0), []), workloads.publish("top", (2, 0, 0), needs)]
+    return [*lines, *tops], [json.dumps({"op": "resolve", "needs": [["top", "*"]], "budget": MANY})]
 
 
 def hard():
@@ -65,6 +75,15 @@ class UnexplainedLearning(unittest.TestCase):
         refused, learnt = self.alike(hard())
         self.assertGreater(refused, 30)
         self.assertGreater(learnt, 60)
+
+    def test_a_long_refusal_teaches_nothing(self):
+        # it takes hundreds of conflicts, and each takes several steps
+        self.assertEqual(self.alike([pigeons(7)]), (ASKED, 0))
+
+    def test_a_selection_after_as_long_a_search_teaches(self):
+        refused, learnt = self.alike([unless_all(*pigeons(7))])
+        self.assertEqual(refused, 0)
+        self.assertGreater(learnt, 20)
 
     def test_small_registries(self):
         refused, learnt = self.alike(small())
