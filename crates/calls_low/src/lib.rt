@@ -11,6 +11,7 @@ mod derivation_calls;
 mod held_calls;
 mod incompat_calls;
 mod learnt_calls;
+mod low_set_calls;
 mod package_calls;
 mod partial_calls;
 mod refusal_calls;

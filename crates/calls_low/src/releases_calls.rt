@@ -1,5 +1,6 @@
 //! Calls of the releases of one package, which a session's rows change.
 
+use crate::low_set_calls::low_set_told;
 use releases::{Matching, Release, Releases};
 use rows::{AnswerText, CallResult, Shows, Unread, at, done, given_if, shown, whole, whole_at};
 use serde_json::Value;
@@ -144,7 +145,16 @@ fn matching(
         ("matching" | "matching_at", _) => given_if(alloc, matching.set(alloc)),
         ("matching_has", Ok(below)) => given_if(alloc, those_below(alloc, matching, below)),
         ("is_kept", _) => Ok(CallResult::Bool(is_kept(matching))),
+        ("as_low", _) => as_low(alloc, matching),
         _ => Err(Unread::Row),
+    }
+}
+
+/// The matching set, where it is had in a word.
+fn as_low(alloc: Global, matching: &Matching<'_>) -> Result<CallResult, Unread> {
+    match matching.as_low() {
+        None => Ok(CallResult::None),
+        Some(set) => low_set_told(alloc, &set),
     }
 }
 

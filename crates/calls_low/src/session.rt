@@ -6,6 +6,7 @@ use crate::derivation_calls::derivation_call;
 use crate::held_calls::{growing_set_call, held_set_call};
 use crate::incompat_calls::incompat_call;
 use crate::learnt_calls::learnt_call;
+use crate::low_set_calls::low_set_call;
 use crate::partial_calls::partial_call;
 use crate::refusal_calls::refusal_call;
 use crate::registry_calls::registry_call;
@@ -119,6 +120,7 @@ fn call_for(
         "need" => need_call(alloc, name, row),
         "refusal" => refusal_call(alloc, name, row),
         "set" => set_call(alloc, name, row),
+        "low_set" => low_set_call(alloc, name, row),
         "term" => term_call(alloc, name, row),
         "incompat" => incompat_call(alloc, name, row),
         "dependencies" => dependencies_call(alloc, name, row),

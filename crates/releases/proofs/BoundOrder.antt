@@ -1,10 +1,8 @@
 -- The bounds of a requirement beside the order of versions.
-use Rattle.std.proofs.Common.{◌≡◌, ◌∙◌, ◌<◌, ◌≤◌, ℕ, List, Option, Some, None, arith, refl, sym, ap, true, false}
-use Rattle.std.specs.Prelude.{Ok}
-use Rattle.std.specs.Ordering.{nat_cmp}
+use Rattle.std.proofs.Common.{◌≡◌, ◌∙◌, ℕ, List, Option, Some, None, arith, refl, ap, true, false}
 use Rattle.std.specs.declared.cmp.Ordering.TheVariants.{Less}
 use Rattle.std.proofs.lemmas.Bool.Decides.{nat_tests}
-use Rattle.versions.specs.Bounds.{has, is_before, is_within, numbers_in, numbers_of, IsBounded, IsPlain, Reach}
+use Rattle.versions.specs.Bounds.{has, is_before, is_within, numbers_in, IsBounded, IsPlain, Reach}
 use Rattle.versions.specs.Words.{Text, meets, parts_of_text, parts_or_zero, parts_precedence, precedence}
 use Rattle.versions.specs.declared.bounds.Numbers.{Numbers}
 

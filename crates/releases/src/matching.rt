@@ -1,6 +1,6 @@
 //! The releases that meet a requirement.
 
-ghost use Rattle.std.specs.Prelude.{◌≡◌, ◌<◌, ◌≤◌, ◌^◌, ◌∷◌, ◌++◌, [], ℕ, length, slice_index_or, IfOk, IsOk, OnErr, OnOk};
+ghost use Rattle.std.specs.Prelude.{◌≡◌, ◌<◌, ◌≤◌, ◌^◌, ◌∷◌, ◌++◌, [], ℕ, length, slice_index_or, IfOk, IfSome, IsOk, OnErr, OnOk};
 ghost use Rattle.terms.specs.Growing.{Growing};
 ghost use Rattle.terms.specs.Sets.{has, IsAscending};
 ghost use Rattle.releases.specs.Kept.{AreBounds, AreMatching, IsKeptNext, IsMatching};
@@ -12,7 +12,7 @@ use crate::ranked::Ranked;
 use crate::release::Release;
 use crate::tested::Tested;
 use std::alloc::{AllocError, Global};
-use terms::{GrowingSet, VSet};
+use terms::{GrowingSet, LowSet, VSet};
 use versions::{Bounds, Need, Published};
 
 /// For how many requirements of a package the matching sets are kept: those that were named first. So
@@ -37,6 +37,17 @@ impl Matching<'_> {
             Matching::Known(set) => set.has(ordinal),
             Matching::Computed(set) => set.has(ordinal),
             Matching::Tested(tested) => tested.has(ordinal),
+        }
+    }
+
+    /// The same set in a word, where it is not a tested one and a word has room for it.
+    pub fn as_low(&self) -> Option<LowSet>
+        ensures { IfSome result (λ low. low ≡ ordinals_of self.now) }
+    {
+        match self {
+            Matching::Known(set) => set.as_low(),
+            Matching::Computed(set) => set.as_low(),
+            Matching::Tested(_) => None,
         }
     }
 

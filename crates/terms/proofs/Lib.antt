@@ -11,3 +11,4 @@ pub mod Cursor
 pub mod SameWords
 pub mod TermLists
 pub mod WordsTogether
+pub mod LowSets

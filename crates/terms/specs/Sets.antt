@@ -1,5 +1,5 @@
 -- Finite sets of ordinals, as ascending lists.
-use Rattle.std.specs.Prelude.{◌≡◌, ◌≤◌, ◌||◌, ℕ, suc, Bool, true, false, List, [], ◌∷◌, nat_eq}
+use Rattle.std.specs.Prelude.{◌≡◌, ◌≤◌, ◌||◌, ℕ, suc, Bool, true, List, [], ◌∷◌, nat_eq}
 use Rattle.std.specs.List.{list_any}
 
 -- whether k is in the set

@@ -1,9 +1,10 @@
 //! Sets that grow, with room made beforehand.
 
-ghost use Rattle.std.specs.Prelude.{◌≡◌, ◌<◌, ◌≤◌, ◌+◌, [], IfOk, IsOk, OnErr, OnOk};
+ghost use Rattle.std.specs.Prelude.{◌≡◌, ◌<◌, ◌≤◌, ◌+◌, [], IfOk, IfSome, IsOk, OnErr, OnOk};
 ghost use Rattle.terms.specs.Sets.{has, AddsOrdinal, HasExactly, IsAscending};
 ghost use Rattle.terms.specs.Words.{AreLowBits};
 
+use crate::low::LowSet;
 use crate::sets::VSet;
 use crate::words::{Words, bits_of, has_ordinal, insert_ordinal, words_of};
 use smallvec::SmallVec;
@@ -86,6 +87,17 @@ impl GrowingSet {
         ensures { AreLowBits result (has self.now.ordinals) }
     {
         bits_of(&self.words, 0)
+    }
+
+    /// The set as it is now, if a word has room for it.
+    pub fn as_low(&self) -> Option<LowSet>
+        ensures { IfSome result (λ low. low ≡ self.now.ordinals) }
+    {
+        match self.words.as_slice() {
+            [] => Some(LowSet::from_bits(0)),
+            [word] if word.number == 0 => Some(LowSet::from_bits(word.bits)),
+            _ => None,
+        }
     }
 
     /// The set as it is now.

@@ -8,6 +8,7 @@
 mod growing;
 mod incompat;
 mod laws;
+mod low;
 mod merging;
 mod ordinals;
 mod relations;
@@ -20,6 +21,7 @@ mod words;
 pub use growing::GrowingSet;
 pub use incompat::{Incompat, Pkg};
 pub use laws::{same_incompat, same_resolvent, same_set, same_term};
+pub use low::LowSet;
 pub use ordinals::Ordinals;
 pub use relations::Relation;
 pub use resolving::resolve;

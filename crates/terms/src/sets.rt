@@ -3,7 +3,7 @@
 ghost use Rattle.std.specs.Prelude.{◌≡◌, ◌↔◌, ◌∷◌, [], count_by, find, length, reverse, true, IfNone, IfOk, IfSome, IsTrue, OnErr, OnOk};
 ghost use Rattle.terms.specs.Merges.{keeps, IsKept, IsWithinFirst};
 ghost use Rattle.terms.specs.Sets.{has, AddsOrdinal, HasExactly, IsAscending, IsSubset};
-ghost use Rattle.terms.specs.Words.{AreWords, ordinals_of};
+ghost use Rattle.terms.specs.Words.{AreWords, bits_from, ordinals_of};
 
 use crate::merging::{Rule, combined, count_kept, first_kept};
 use crate::ordinals::{Ordinals, ordinals_in};
@@ -154,6 +154,16 @@ impl VSet {
         ensures ascending { IsAscending result }
     {
         VSet { words }
+    }
+
+    /// The set of ordinals below 64, a bit each.
+    pub(crate) fn of_first_word(alloc: Global, bits: u64) -> VSet
+        ensures { result ≡ bits_from 64 0 bits }
+    {
+        if bits == 0 {
+            return VSet::new(alloc);
+        }
+        VSet::from_words(SmallVec::from_buf(alloc, [Word { number: 0, bits }]))
     }
 
     /// The set of these words.

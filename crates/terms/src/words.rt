@@ -25,7 +25,7 @@ pub type Words = SmallVec<Word, 1>;
 
 /// The word that has one ordinal.
 #[inline(always)]
-fn word_of(ordinal: u32) -> Word
+pub(crate) fn word_of(ordinal: u32) -> Word
     ensures number { result.number ≡ ordinal / WORD_BITS }
     ensures bits { result.bits ≡ 2 ^ (ordinal % WORD_BITS) }
 {
