@@ -7,6 +7,7 @@ use Rattle.std.proofs.lemmas.List.{append_assoc, append-nil, take_all, take-appe
 use Rattle.std.specs.Prelude.{None, Option, Some, Contains, is_some, slice_get}
 use Rattle.versions.specs.Words.{Text, precedence}
 use Rattle.terms.specs.Sets.{has}
+use Rattle.terms.specs.Sets.{has as has_in}
 use Rattle.terms.specs.Terms.{true_of}
 use Rattle.terms.specs.declared.term.Term.{Term}
 use Rattle.terms.specs.declared.term.Term.TheVariants.{In, NotIn}
@@ -17,8 +18,9 @@ use Rattle.std.specs.Option.{option_and_then}
 use Rattle.registry.specs.Registry.{Package, Packages, Publication, is_published, meets_at, needs_of, number_of, package_at, publication_at, versions_or_none}
 use Rattle.registry.specs.Requests.{Wanted}
 use Rattle.registry.specs.Selections.{Choices, Meets}
-use Rattle.walk.specs.Best.{AreAlike, AreBest, ArePassed, AreTargets, AskAlike, AsksOf, AsksOne, Holds, IsBest, IsChoosing, IsGrown, IsOf, IsOut, MeetsOf, Narrows, OfEach, Pushes}
+use Rattle.walk.specs.Best.{AreAlike, AreBest, ArePassed, AreTargets, AskAlike, AsksAt, AsksOf, AsksOne, HasNone, Holds, IsBest, IsChoosing, IsGrown, IsOf, IsOut, MeetsOf, NamesAt, Narrows, OfEach, Pushes}
 use Rattle.walk.specs.Choosing.{Follows, choice_of}
+use Rattle.walk.specs.Left.{term_of}
 use Rattle.walk.specs.PlainlyNewest.{IsLocked, NoneLocked}
 use Rattle.walk.specs.Newest.{IsAhead, IsNewest, dependencies_of, first_new, in_name_order, new_or_later, next_package}
 use Rattle.walk.specs.declared.choosing.Choosing.{Choosing}
@@ -71,8 +73,8 @@ module _ (packages : Packages) (wanted : Wanted) where
   pub holds_more : (old new : Choosing) (more : List (ℕ × ℕ)) → new.found.entries ≡ old.found.entries ++ more → new.needed ≡ old.needed → new.fresh ≡ old.fresh → Holds packages wanted old → Holds packages wanted new
   holds_more old new more grown needed fresh h = record {
     left = λ i e at.
-        subst (λ (xs : List (ℕ × ℕ)). OfEach packages wanted xs (λ t. true_of e.left (t e.pkg) ≡ true)) (sym grown)
-        (each_more old.found.entries more (λ t. true_of e.left (t e.pkg) ≡ true) (h.left i e (ap (λ v. slice_get v.items i) (sym needed) ∙ at)));
+        subst (λ (xs : List (ℕ × ℕ)). OfEach packages wanted xs (λ t. true_of (term_of e.left) (t e.pkg) ≡ true)) (sym grown)
+        (each_more old.found.entries more (λ t. true_of (term_of e.left) (t e.pkg) ≡ true) (h.left i e (ap (λ v. slice_get v.items i) (sym needed) ∙ at)));
     fresh = λ i q at.
         subst (λ (xs : List (ℕ × ℕ)). OfEach packages wanted xs (λ t. (k : ℕ) × (t q ≡ Some k))) (sym grown)
         (each_more old.found.entries more (λ t. (k : ℕ) × (t q ≡ Some k)) (h.fresh i q (ap (λ v. slice_get v.items i) (sym fresh) ∙ at)));
@@ -112,11 +114,11 @@ narrows_pushed term left p old new push gives = record {
   needed = (push.entry ∷ [], push.needed);
   holds = λ packages wanted each h. record {
     left = λ i e at.
-        subst (λ m. OfEach packages wanted m.entries (λ t. true_of e.left (t e.pkg) ≡ true)) (sym push.found)
+        subst (λ m. OfEach packages wanted m.entries (λ t. true_of (term_of e.left) (t e.pkg) ≡ true)) (sym push.found)
         (elim (get-cases old.needed.items push.entry i e (ap (λ xs. slice_get xs i) (sym push.needed) ∙ at)) [
           | inl before ↦ h.left i e before
           | inr last ↦ λ t meets has.
-              subst (λ (x : Needed). true_of x.left (t x.pkg) ≡ true) last (ap (λ l. true_of l (t push.entry.pkg)) push.is ∙ ap (λ q. true_of left (t q)) push.of ∙ gives packages wanted each h t meets has)
+              subst (λ (x : Needed). true_of (term_of x.left) (t x.pkg) ≡ true) last (ap (λ l. true_of l (t push.entry.pkg)) push.is ∙ ap (λ q. true_of left (t q)) push.of ∙ gives packages wanted each h t meets has)
         ]);
     fresh = λ i q at. subst (λ m. OfEach packages wanted m.entries (λ t. (k : ℕ) × (t q ≡ Some k))) (sym push.found) (h.fresh i q (ap (λ v. slice_get v.items i) (sym push.fresh) ∙ at));
   };
@@ -133,7 +135,7 @@ narrows_again set p old new found asked needed fresh = record {
   asked = ap (λ v. v.items) asked;
   needed = ([], ap (λ v. v.items) needed ∙ sym (append-nil old.needed.items));
   holds = λ packages wanted each h. record {
-    left = λ i e at. subst (λ m. OfEach packages wanted m.entries (λ t. true_of e.left (t e.pkg) ≡ true)) (sym found) (h.left i e (ap (λ v. slice_get v.items i) (sym needed) ∙ at));
+    left = λ i e at. subst (λ m. OfEach packages wanted m.entries (λ t. true_of (term_of e.left) (t e.pkg) ≡ true)) (sym found) (h.left i e (ap (λ v. slice_get v.items i) (sym needed) ∙ at));
     fresh = λ i q at.
         subst (λ m. OfEach packages wanted m.entries (λ t. (k : ℕ) × (t q ≡ Some k))) (sym found)
         (elim (get-cases old.fresh.items p i q (ap (λ xs. slice_get xs i) (sym fresh) ∙ at)) [
@@ -153,9 +155,16 @@ narrows_both term p old mid new one two = record {
 }
 
 -- where those of before are left of which the term is true
-pub narrows_less : (term both : Term) (p place : ℕ) (e : Needed) (old new : Choosing) → slice_get old.needed.items place ≡ Some e → e.pkg ≡ p → ((c : Option ℕ) → true_of both c ≡ (true_of e.left c && true_of term c)) → Pushes both p old new → Narrows term p old new
+pub narrows_less : (term both : Term) (p place : ℕ) (e : Needed) (old new : Choosing) → slice_get old.needed.items place ≡ Some e → e.pkg ≡ p → ((c : Option ℕ) → true_of both c ≡ (true_of (term_of e.left) c && true_of term c)) → Pushes both p old new → Narrows term p old new
 narrows_less term both p place e old new at own exact push = narrows_pushed term both p old new push (λ packages wanted each h t meets has.
-    exact (t p) ∙ and_from (true_of e.left (t p)) (true_of term (t p)) (ap (λ q. true_of e.left (t q)) (sym own) ∙ h.left place e at t meets has) (each t meets has))
+    exact (t p) ∙ and_from (true_of (term_of e.left) (t p)) (true_of term (t p)) (ap (λ q. true_of (term_of e.left) (t q)) (sym own) ∙ h.left place e at t meets has) (each t meets has))
+
+-- the same of what is left as it is read
+pub narrows_left : (term both : Term) (p place : ℕ) (e x : Needed) (old new : Choosing) → slice_get old.needed.items place ≡ Some e → e.pkg ≡ p → x ≡ get_or old.needed.items place x
+    → ((c : Option ℕ) → true_of both c ≡ (true_of (term_of x.left) c && true_of term c)) → Pushes both p old new → Narrows term p old new
+narrows_left term both p place e x old new at own read exact push =
+    let same : x ≡ e = read ∙ get_or_from_slice_get old.needed.items place e x at in
+    narrows_less term both p place e old new at own (λ c. exact c ∙ ap (λ (y : Needed). true_of (term_of y.left) c && true_of term c) same) push
 
 -- ---- what is added
 
@@ -211,8 +220,34 @@ meets_more packages p k index target ordinals old mid asked new d before found n
       (λ t meets has. is_of-true ordinals (t target) (dependency_of packages wanted old.found.entries p k index target ordinals asks d t meets has))) there;
 }
 
+-- where a package is asked for, and nothing else
+pub meets_asked : (packages : Packages) (p k : ℕ) (old new : Choosing) → new.found ≡ old.found → new.needed ≡ old.needed → new.fresh ≡ old.fresh → MeetsOf packages p k old new
+meets_asked packages p k old new found needed fresh = record {
+  found = found;
+  holds = λ wanted asks h. holds_more packages wanted old new [] (ap (λ m. m.entries) found ∙ sym (append-nil old.found.entries)) needed fresh h;
+}
+
+-- one after the other
+pub meets_both : (packages : Packages) (p k : ℕ) (old mid new : Choosing) → MeetsOf packages p k old mid → MeetsOf packages p k mid new → MeetsOf packages p k old new
+meets_both packages p k old mid new one two = record {
+  found = two.found ∙ one.found;
+  holds = λ wanted asks h. two.holds wanted (subst (λ m. AskAlike packages wanted m.entries p k) (sym one.found) asks) (one.holds wanted asks h);
+}
+
+-- the package of one more line is asked for
+pub asks_line : (packages : Packages) (p k index : ℕ) (is_chosen : Bool) (old mid new : List ℕ) → AsksOf packages (take index (needs_of packages p k)) is_chosen old mid → AsksAt packages p k index is_chosen mid new → AsksOf packages (take (index + 1) (needs_of packages p k)) is_chosen old new
+asks_line packages p k index is_chosen old mid new before one = asks_more packages (needs_of packages p k) index one.0 one.1.0 is_chosen old mid new one.1.1 one.1.2 before one.2
+
+pub names_dependency : (packages : Packages) (p k index target : ℕ) (ordinals : List ℕ) → IsDependency packages p k index target ordinals → NamesAt packages p k index target
+names_dependency packages p k index target ordinals d = ((d.name, d.need), d.at, d.number)
+
 pub meets_none : (packages : Packages) (p k : ℕ) (c : Choosing) → MeetsOf packages p k c c
 meets_none packages p k c = record { found = refl; holds = λ wanted asks h. h }
+
+-- one line of what each selection depends on
+pub meets_one : (packages : Packages) (p k index target : ℕ) (ordinals : List ℕ) (old asked new : Choosing) → IsDependency packages p k index target ordinals → asked.found ≡ old.found → asked.needed ≡ old.needed → asked.fresh ≡ old.fresh
+    → Narrows (In ordinals) target asked new → MeetsOf packages p k old new
+meets_one packages p k index target ordinals old asked new d found needed fresh narrows = meets_more packages p k index target ordinals old old asked new d (meets_none packages p k old) found needed fresh narrows
 
 -- ---- versions that are not to be had
 
@@ -235,6 +270,23 @@ module _ (packages : Packages) (wanted : Wanted) (found : List (ℕ × ℕ)) whe
       let chosen : t target ≡ Some met.ordinal = ap t (sym same) ∙ met.selected in
       apart met.ordinal (meets.selection target met.ordinal chosen) (ap (true_of left) (sym chosen) ∙ each t meets has) (d.members met.ordinal ∙ ap (λ q. meets_at packages q met.ordinal d.need) (sym same) ∙ met.meeting)
 
+  -- where no selection has a version that the dependency may have
+  pub odds_none : (p k index target : ℕ) (ordinals : List ℕ) → IsDependency packages p k index target ordinals → HasNone packages wanted found target ordinals → IsOut packages wanted found p k
+  odds_none p k index target ordinals d none t meets has is =
+      let met = meets.closed p k d.name d.need is (get-contains _ index (d.name, d.need) d.at) in
+      let same : met.target ≡ target = same_Some met.target target (sym met.numbered ∙ d.number) in
+      none met.ordinal (d.members met.ordinal ∙ ap (λ q. meets_at packages q met.ordinal d.need) (sym same) ∙ met.meeting) t meets has (ap t (sym same) ∙ met.selected)
+
+  -- where the version that is chosen is another
+  pub none_chosen : (p chosen : ℕ) (set : List ℕ) → choice_of found p ≡ Some chosen → has_in set chosen ≡ false → HasNone packages wanted found p set
+  none_chosen p chosen set there out j member t meets has is =
+      let same : j ≡ chosen = same_Some j chosen (sym is ∙ has p chosen there) in
+      true≢false (sym member ∙ ap (λ n. has_in set n) same ∙ out)
+
+  -- where none of those that are left is in the set
+  pub none_both : (p : ℕ) (left : Term) (set : List ℕ) → OfEach packages wanted found (λ t. true_of left (t p) ≡ true) → ((j : ℕ) → true_of left (Some j) ≡ true → has_in set j ≡ true → ⊥) → HasNone packages wanted found p set
+  none_both p left set each apart j member t meets has is = apart j (ap (true_of left) (sym is) ∙ each t meets has) member
+
 -- ---- packages that are newly needed
 
 left_of : {A : Type 0} (xs ys : List A) (i : ℕ) (x : A) → slice_get xs i ≡ Some x → slice_get (xs ++ ys) i ≡ Some x
@@ -244,7 +296,7 @@ left_of (z ∷ xs) ys (suc i) x h = left_of xs ys i x h
 
 pub holds_popped : (packages : Packages) (wanted : Wanted) (old new : Choosing) (rest : List ℕ) → new.found ≡ old.found → new.needed ≡ old.needed → old.fresh.items ≡ new.fresh.items ++ rest → Holds packages wanted old → Holds packages wanted new
 holds_popped packages wanted old new rest found needed fresh h = record {
-  left = λ i e at. subst (λ m. OfEach packages wanted m.entries (λ t. true_of e.left (t e.pkg) ≡ true)) (sym found) (h.left i e (ap (λ v. slice_get v.items i) (sym needed) ∙ at));
+  left = λ i e at. subst (λ m. OfEach packages wanted m.entries (λ t. true_of (term_of e.left) (t e.pkg) ≡ true)) (sym found) (h.left i e (ap (λ v. slice_get v.items i) (sym needed) ∙ at));
   fresh = λ i q at.
       subst (λ m. OfEach packages wanted m.entries (λ t. (k : ℕ) × (t q ≡ Some k))) (sym found)
       (h.fresh i q (ap (λ xs. slice_get xs i) fresh ∙ left_of new.fresh.items rest i q at));
@@ -361,10 +413,10 @@ best_newest packages wanted found s h own follows meets = record {
 
 -- what is left of a package, as it is read
 pub left_read : (packages : Packages) (wanted : Wanted) (c : Choosing) (place p : ℕ) (e x : Needed) → Holds packages wanted c → slice_get c.needed.items place ≡ Some e → e.pkg ≡ p → x ≡ get_or c.needed.items place x
-    → OfEach packages wanted c.found.entries (λ t. true_of x.left (t p) ≡ true)
+    → OfEach packages wanted c.found.entries (λ t. true_of (term_of x.left) (t p) ≡ true)
 left_read packages wanted c place p e x h at own read t meets has =
     let same : e ≡ x = sym (get_or_from_slice_get c.needed.items place e x at) ∙ sym read in
-    subst (λ (y : Needed). true_of y.left (t p) ≡ true) same (ap (λ q. true_of e.left (t q)) (sym own) ∙ h.left place e at t meets has)
+    subst (λ (y : Needed). true_of (term_of y.left) (t p) ≡ true) same (ap (λ q. true_of (term_of e.left) (t q)) (sym own) ∙ h.left place e at t meets has)
 
 -- the only version that is left
 pub only_true : (k : ℕ) (choice : Option ℕ) → true_of (In (k ∷ [])) choice ≡ true → choice ≡ Some k
@@ -375,7 +427,7 @@ only_true k (Some j) h = elim (cases_Bool (nat_eq k j)) [
 ]
 
 -- each selection has the only version that is left of a package
-pub only_left : (packages : Packages) (wanted : Wanted) (c : Choosing) (place p k : ℕ) (e x : Needed) → Holds packages wanted c → slice_get c.needed.items place ≡ Some e → e.pkg ≡ p → x ≡ get_or c.needed.items place x → x.left ≡ In (k ∷ [])
+pub only_left : (packages : Packages) (wanted : Wanted) (c : Choosing) (place p k : ℕ) (e x : Needed) → Holds packages wanted c → slice_get c.needed.items place ≡ Some e → e.pkg ≡ p → x ≡ get_or c.needed.items place x → term_of x.left ≡ In (k ∷ [])
     → OfEach packages wanted c.found.entries (λ t. t p ≡ Some k)
 only_left packages wanted c place p k e x h at own read only t meets has =
     only_true k (t p) (subst (λ (l : Term). true_of l (t p) ≡ true) only (left_read packages wanted c place p e x h at own read t meets has))
@@ -420,12 +472,12 @@ taken_same xs more ys n is count = ap (λ m. take m ys) count ∙ ap (take (leng
 pub holds_taken : (packages : Packages) (wanted : Wanted) (old new : Choosing) → new.found.entries ≡ old.found.entries → new.needed.items ≡ old.needed.items → new.fresh.items ≡ [] → Holds packages wanted old → Holds packages wanted new
 holds_taken packages wanted old new found needed fresh h = record {
   left = λ i e at.
-      subst (λ (xs : List (ℕ × ℕ)). OfEach packages wanted xs (λ t. true_of e.left (t e.pkg) ≡ true)) (sym found) (h.left i e (ap (λ xs. slice_get xs i) (sym needed) ∙ at));
+      subst (λ (xs : List (ℕ × ℕ)). OfEach packages wanted xs (λ t. true_of (term_of e.left) (t e.pkg) ≡ true)) (sym found) (h.left i e (ap (λ xs. slice_get xs i) (sym needed) ∙ at));
   fresh = λ i q at. absurd (none-some q (sym (ap (λ (xs : List ℕ). slice_get xs i) fresh) ∙ at));
 }
 
 -- a package of which nothing is left
-pub none_left : (packages : Packages) (wanted : Wanted) (c : Choosing) (at : ℕ) (e : Needed) → slice_get c.needed.items at ≡ Some e → ((choice : Option ℕ) → true_of e.left choice ≡ true → ⊥) → Holds packages wanted c → OfEach packages wanted c.found.entries (λ t. ⊥)
+pub none_left : (packages : Packages) (wanted : Wanted) (c : Choosing) (at : ℕ) (e : Needed) → slice_get c.needed.items at ≡ Some e → ((choice : Option ℕ) → true_of (term_of e.left) choice ≡ true → ⊥) → Holds packages wanted c → OfEach packages wanted c.found.entries (λ t. ⊥)
 none_left packages wanted c at e here none h t meets has = none (t e.pkg) (h.left at e here t meets has)
 
 -- where no selection has a version beside those before, it is out

@@ -1,5 +1,5 @@
 -- Versions that are preferred to a selected one, and what shows that they are not to be had.
-use Rattle.std.proofs.Common.{◌≡◌, ◌∙◌, ℕ, refl, sym, ap, subst, ◌⊎◌, inl, inr, List, [], ◌∷◌, ◌&&◌, ◌||◌, not, Bool, true, false, true≢false}
+use Rattle.std.proofs.Common.{◌≡◌, ◌∙◌, ℕ, refl, sym, ap, subst, ◌⊎◌, inl, inr, List, ◌&&◌, ◌||◌, not, Bool, true, false, true≢false}
 use Rattle.std.specs.Prelude.{IfNone, IfSome, None, Option, Some}
 use Rattle.std.specs.Option.{option_map}
 use Rattle.std.specs.Ordering.{is_lt}

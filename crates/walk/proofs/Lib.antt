@@ -17,5 +17,7 @@ pub mod Wholes
 pub mod OneListing
 pub mod Orders
 pub mod Bests
+pub mod Lows
+pub mod Checked
 pub mod PreferredNewest
 pub mod Settling

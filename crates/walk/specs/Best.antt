@@ -8,6 +8,7 @@ use Rattle.registry.specs.Registry.{Packages, is_published, needs_of, number_of}
 use Rattle.registry.specs.Requests.{Wanted}
 use Rattle.registry.specs.Selections.{Choices, Meets}
 use Rattle.walk.specs.Choosing.{choice_of}
+use Rattle.walk.specs.Left.{term_of}
 use Rattle.walk.specs.Newest.{Has, IsAhead, dependencies_of, in_name_order, next_package}
 use Rattle.walk.specs.declared.choosing.Choosing.{Choosing}
 use Rattle.walk.specs.declared.choosing.Needed.{Needed}
@@ -21,6 +22,10 @@ OfEach packages wanted found P = (t : Choices) → Meets packages wanted t → H
 -- it is a version of this set
 abbrev pub IsOf : List ℕ → Option ℕ → Type 0
 IsOf set choice = (k : ℕ) × (choice ≡ Some k) × (has set k ≡ true)
+
+-- no such selection has a version of the package that is in this set
+abbrev pub HasNone : Packages → Wanted → List (ℕ × ℕ) → ℕ → List ℕ → Type 0
+HasNone packages wanted found p set = (j : ℕ) → has set j ≡ true → OfEach packages wanted found (λ t. t p ≡ Some j → ⊥)
 
 -- no such selection has this version of the package
 abbrev pub IsOut : Packages → Wanted → List (ℕ × ℕ) → ℕ → ℕ → Type 0
@@ -41,7 +46,7 @@ AreTargets packages lines asked = map (λ (line : Text × Text). number_of packa
 
 -- each of these selections has a version of the package that is left
 abbrev pub AreLeft : Packages → Wanted → List (ℕ × ℕ) → List Needed → Type 0
-AreLeft packages wanted found needed = (i : ℕ) (e : Needed) → slice_get needed i ≡ Some e → OfEach packages wanted found (λ t. true_of e.left (t e.pkg) ≡ true)
+AreLeft packages wanted found needed = (i : ℕ) (e : Needed) → slice_get needed i ≡ Some e → OfEach packages wanted found (λ t. true_of (term_of e.left) (t e.pkg) ≡ true)
 
 -- each of these selections has a version of the package of which this is true
 abbrev pub IsLeft : Packages → Wanted → List (ℕ × ℕ) → ℕ → Term → Type 0
@@ -65,7 +70,7 @@ pub record IsGrown (old new : Choosing) : Type 0 where
 pub record Pushes (left : Term) (p : ℕ) (old new : Choosing) : Type 0 where
   pub entry : Needed
   pub of : entry.pkg ≡ p
-  pub is : entry.left ≡ left
+  pub is : term_of entry.left ≡ left
   pub found : new.found ≡ old.found
   pub asked : new.asked ≡ old.asked
   pub needed : new.needed.items ≡ old.needed.items ++ entry ∷ []
@@ -104,6 +109,14 @@ AsksFor packages p k asks old new = AsksOf packages (needs_of packages p k) asks
 -- all versions of the package depend on what its first one does
 abbrev pub AreAlike : Packages → ℕ → Type 0
 AreAlike packages p = (k : ℕ) → is_published packages p k ≡ true → needs_of packages p k ≡ needs_of packages p 0
+
+-- the version depends at this index on the package of this number
+abbrev pub NamesAt : Packages → ℕ → ℕ → ℕ → ℕ → Type 0
+NamesAt packages p k index target = (line : Text × Text) × (slice_get (needs_of packages p k) index ≡ Some line) × (number_of packages line.0 ≡ Some target)
+
+-- the package that the version names at an index is asked for, where that is wanted
+abbrev pub AsksAt : Packages → ℕ → ℕ → ℕ → Bool → List ℕ → List ℕ → Type 0
+AsksAt packages p k index asks old new = (target : ℕ) × NamesAt packages p k index target × AsksOne target asks old new
 
 -- the package of the need at an index is asked for
 abbrev pub AsksNeed : Packages → List (Text × Text) → ℕ → List ℕ → List ℕ → Type 0

@@ -7,4 +7,5 @@ pub mod Names
 pub mod Newest
 pub mod PlainlyNewest
 pub mod Best
+pub mod Left
 pub mod Listing

@@ -1,9 +1,11 @@
 -- What a walk answers, and what it keeps on its way.
-use Rattle.std.specs.Prelude.{◌≡◌, ◌<◌, ◌++◌, ◌⊎◌, ℕ, true, false, Contains, List, slice_get, Some, nat_eq}
+use Rattle.std.specs.Prelude.{◌≡◌, ◌++◌, ◌⊎◌, ℕ, true, false, Contains, List, slice_get, Some, nat_eq}
 use Rattle.std.specs.List.{IsDistinct}
 use Rattle.std.specs.Map.{keys_of}
 use Rattle.versions.specs.Words.{Text}
-use Rattle.registry.specs.Registry.{Packages, needs_of, number_of}
+use Rattle.registry.specs.Places.{named_on}
+use Rattle.registry.specs.Registry.{Packages, meets_at, needs_of, number_of}
+use Rattle.registry.specs.declared.place.Place.{Place}
 use Rattle.registry.specs.Requests.{Wanted, is_allowed}
 use Rattle.registry.specs.Selections.{Choices, IsMet, IsReached, Meets}
 use Rattle.walk.specs.Choosing.{Follows, IsUnmet, choice_of}
@@ -109,6 +111,17 @@ IsUnmetOf packages wanted chooses asker index = IsUnmetAt packages chooses (aske
 pub record IsChecked (packages : Packages) (wanted : Wanted) (s : Choices) (p k : ℕ) : Type 0 where
   pub allowed : is_allowed packages wanted p k ≡ true
   pub met : AreMet packages s (needs_of packages p k)
+
+-- the version of the package meets the requirement that is named at the place
+pub record MeetsNamed (packages : Packages) (named : List (List Text)) (place : Place) (ordinal : ℕ) : Type 0 where
+  pub need : Text
+  pub stands : slice_get (named_on named place.target) place.need ≡ Some need
+  pub meeting : meets_at packages place.target ordinal need ≡ true
+
+-- the needs of the request are met, and each version that is chosen is checked
+pub record AreAllChecked (packages : Packages) (wanted : Wanted) (s : Choices) : Type 0 where
+  pub needs : AreMet packages s wanted.needs
+  pub checked : (p k : ℕ) → s p ≡ Some k → IsChecked packages wanted s p k
 
 -- what was found is chosen and reached, and the request's needs are met; each version that was found is checked, or is left to be followed
 pub record IsWalk (packages : Packages) (wanted : Wanted) (chooses : Choices) (found left : List (ℕ × ℕ)) : Type 0 where

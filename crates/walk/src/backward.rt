@@ -8,13 +8,11 @@ ghost use Rattle.registry.specs.Requests.{Wanted};
 ghost use Rattle.walk.specs.Best.{Holds, IsGrown, IsOut};
 
 use crate::choosing::Choosing;
-use crate::dependents::{Line, bits_left};
+use crate::dependents::Line;
 use crate::listing::needs_count;
 use crate::meeting::are_alike;
-use crate::versions_left::only_of;
 use registry::{Pkg, Registry};
 use std::alloc::{AllocError, Global};
-use terms::{Term, VSet};
 
 impl Choosing {
     /// Takes a version away from what is left of its package, and meets what the only one depends on that is left then.
@@ -33,8 +31,7 @@ impl Choosing {
         let Some(place) = self.place_of(version.0) else {
             return Ok(false);
         };
-        let set = VSet::single(alloc, version.1)?;
-        let (some, _) = self.lessen(alloc, version.0, place, &Term::NotIn(set))?;
+        let (some, _) = self.leave_out(alloc, version, place)?;
         if !some {
             return Ok(false);
         }
@@ -47,7 +44,7 @@ impl Choosing {
             return false;
         };
         let left = &self.needed[place].left;
-        left.allows(version.1) && only_of(left).is_none()
+        left.allows(version.1) && left.only().is_none()
     }
 
     /// Whether a version that is left may depend on none of those that are left, as far as is known without a look at them.
@@ -55,7 +52,7 @@ impl Choosing {
         let Some(place) = self.place_of(line.target) else {
             return false;
         };
-        bits_left(&self.needed[place].left) & line.bits == 0 && self.is_one_of_several(line.version)
+        self.needed[place].left.low_bits() & line.bits == 0 && self.is_one_of_several(line.version)
     }
 
     /// Takes the version of a line away, where it depends on none of those that are left.
@@ -87,7 +84,7 @@ impl Choosing {
     fn bits_of(&self, pkg: Pkg) -> u64 {
         match self.place_of(pkg) {
             None => u64::MAX,
-            Some(place) => bits_left(&self.needed[place].left),
+            Some(place) => self.needed[place].left.low_bits(),
         }
     }
 

@@ -3,16 +3,18 @@
 ghost use Rattle.std.specs.Prelude.{◌≡◌, ◌<◌, true, length, IfSome};
 ghost use Rattle.std.specs.Bool.{OnFalse};
 ghost use Rattle.terms.specs.Terms.{true_of};
-ghost use Rattle.registry.specs.Registry.{needs_of};
+ghost use Rattle.registry.specs.Registry.{Packages, needs_of};
 ghost use Rattle.registry.specs.Requests.{Wanted};
-ghost use Rattle.walk.specs.Best.{Holds, IsBest, IsOut, OfEach};
+ghost use Rattle.walk.specs.Best.{HasNone, Holds, IsBest, IsOut, OfEach};
+ghost use Rattle.walk.specs.Left.{term_of};
 
 use crate::choosing::Choosing;
+use crate::left::{Left, is_apart};
 use crate::listing::needs_count;
+use crate::low_dependency::low_dependency;
 use crate::preferred::locked_ordinal;
-use crate::versions_left::{is_apart, only_of};
 use registry::{Pkg, Registry, Request};
-use terms::Term;
+use terms::LowSet;
 use versions::precedence_is_a_total_preorder;
 
 impl Choosing {
@@ -27,6 +29,11 @@ impl Choosing {
         requires { index < length (needs_of registry.now.packages version.0 version.1) }
         ensures { result ≡ true → (wanted : Wanted) → Holds registry.now.packages wanted self.now → IsOut registry.now.packages wanted self.now.found.entries version.0 version.1 }
     {
+        if let Some((target, set)) = low_dependency(registry, version, index) {
+            if let Some(apart) = self.is_apart_from(target, &set) {
+                return apart;
+            }
+        }
         let Ok((target, matching)) = registry.dependency(version.0, version.1, index) else {
             return false;
         };
@@ -36,6 +43,23 @@ impl Choosing {
         match self.place_of(target) {
             None => false,
             Some(place) => is_apart(registry, target, &self.needed[place].left, &matching),
+        }
+    }
+
+    /// Whether the version that is chosen of a package is not in a set, or none is of those that are left. None where what
+    /// is left of it is no word.
+    fn is_apart_from(&self, pkg: Pkg, set: &LowSet) -> Option<bool>
+        ensures { IfSome result (λ apart. apart ≡ true → (packages : Packages) (wanted : Wanted) → Holds packages wanted self.now → HasNone packages wanted self.now.found.entries pkg set.now) }
+    {
+        if let Some(chosen) = self.found.get(pkg) {
+            return Some(!set.has(chosen));
+        }
+        let Some(place) = self.place_of(pkg) else {
+            return Some(false);
+        };
+        match &self.needed[place].left {
+            Left::Low(left) => Some(left.both(set).is_empty()),
+            Left::Any(_) => None,
         }
     }
 
@@ -59,12 +83,12 @@ impl Choosing {
         &self,
         registry: &Registry,
         request: &Request,
-        left: &Term,
+        left: &Left,
         is_only: bool,
         version: (Pkg, u32),
     ) -> bool
         requires holds { Holds registry.now.packages request.now self.now }
-        requires left { OfEach registry.now.packages request.now self.now.found.entries (λ t. true_of left.now (t version.0) ≡ true) }
+        requires left { OfEach registry.now.packages request.now self.now.found.entries (λ t. true_of (term_of left.now) (t version.0) ≡ true) }
         ensures { OnFalse result (IsOut registry.now.packages request.now self.now.found.entries version.0 version.1) }
     {
         left.allows(version.1)
@@ -73,13 +97,13 @@ impl Choosing {
     }
 
     /// The best version that may be had of a package, of which these are left.
-    fn best_of(&self, registry: &Registry, request: &Request, left: &Term, pkg: Pkg) -> Option<u32>
+    fn best_of(&self, registry: &Registry, request: &Request, left: &Left, pkg: Pkg) -> Option<u32>
         requires holds { Holds registry.now.packages request.now self.now }
-        requires left { OfEach registry.now.packages request.now self.now.found.entries (λ t. true_of left.now (t pkg) ≡ true) }
+        requires left { OfEach registry.now.packages request.now self.now.found.entries (λ t. true_of (term_of left.now) (t pkg) ≡ true) }
         ensures { IfSome result (IsBest registry.now.packages request.now self.now.found.entries pkg) }
     {
         precedence_is_a_total_preorder();
-        let is_only = only_of(left).is_some();
+        let is_only = left.only().is_some();
         let highest = registry.highest_where(pkg, |other| {
             self.is_open(registry, request, left, is_only, (pkg, other))
         });

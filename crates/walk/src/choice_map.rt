@@ -108,6 +108,15 @@ impl ChoiceMap {
         Vec::from_slice(alloc, &self.entries)
     }
 
+    /// The list itself.
+    pub(crate) fn into_list(self) -> Vec<(Pkg, u32)>
+        ensures list { result.items ≡ self.entries }
+        ensures once { IsDistinct nat_eq (keys_of self.entries) }
+    {
+        let ChoiceMap { entries, .. } = self;
+        entries
+    }
+
     /// Puts a version behind the others, of a package that has none.
     pub fn push(&mut self, pkg: Pkg, ordinal: u32) -> Result<(), AllocError>
         requires { choice_of self.old.entries pkg ≡ None }

@@ -3,28 +3,33 @@
 // Of each package that is needed it is kept which of its versions are left: each selection that meets the
 // request and has the versions that are chosen has one of these.
 
-ghost use Rattle.std.specs.Prelude.{◌≡◌, ℕ, slice_get, List, [], ◌∷◌, Some, IfOk, IfSome, OnOk};
+ghost use Rattle.std.specs.Prelude.{◌≡◌, ℕ, List, [], ◌∷◌, slice_get, Some, IfOk, IfSome, OnOk};
 ghost use Rattle.releases.specs.Matching.{ordinals_of};
-ghost use Rattle.terms.specs.declared.term.Term.TheVariants.{In};
+ghost use Rattle.terms.specs.declared.term.Term.TheVariants.{In, NotIn};
 ghost use Rattle.registry.specs.Registry.{Packages};
 ghost use Rattle.registry.specs.Requests.{Wanted};
 ghost use Rattle.walk.specs.Best.{Holds, Narrows, OfEach, Pushes};
+ghost use Rattle.walk.specs.Left.{term_of};
 ghost use Rattle.walk.specs.declared.choosing.Needed.{Needed};
 
 use crate::choice_map::{ChoiceMap, WALK_ROOM};
 use crate::dependents::Dependents;
+use crate::left::Left;
 use crate::package_table::PackageTable;
-use crate::versions_left::{has_all, is_some, only_of};
 use registry::{Matching, Pkg};
 use std::alloc::{AllocError, Global};
-use terms::{Term, VSet};
+use terms::{LowSet, Term};
+
+/// For how much of what is left room is made at first.
+/// Measured at half and at twice this value: docs/BENCHMARKS.md, Constants.
+const NEEDED_ROOM: usize = 512;
 
 /// A package that is needed.
 #[derive(Drop)]
 pub(crate) struct Needed {
     pub(crate) pkg: Pkg,
     /// The versions of it that are left.
-    pub(crate) left: Term,
+    pub(crate) left: Left,
     /// The index of the package before. Nothing rests on it.
     pub(crate) before: Option<u32>,
 }
@@ -58,7 +63,7 @@ impl Choosing {
         Ok(Choosing {
             found: ChoiceMap::new(alloc)?,
             asked: Vec::with_capacity(alloc, WALK_ROOM)?,
-            needed: Vec::with_capacity(alloc, WALK_ROOM)?,
+            needed: Vec::with_capacity(alloc, NEEDED_ROOM)?,
             numbers: PackageTable::new(alloc)?,
             fresh: Vec::with_capacity(alloc, WALK_ROOM)?,
             taken: 0,
@@ -80,8 +85,8 @@ impl Choosing {
     }
 
     /// Keeps what is left of a package.
-    fn push_left(&mut self, pkg: Pkg, left: Term) -> Result<(), AllocError>
-        ensures { OnOk result (Pushes left pkg self.old self.new) }
+    fn push_left(&mut self, pkg: Pkg, left: Left) -> Result<(), AllocError>
+        ensures { OnOk result (Pushes (term_of left) pkg self.old self.new) }
     {
         let before = self.numbers.get(pkg);
         let index = self.needed.len().min(u32::MAX as usize) as u32;
@@ -91,17 +96,27 @@ impl Choosing {
     }
 
     /// Begins to keep what is left of a package: the versions of a set.
-    fn add_needed(&mut self, pkg: Pkg, set: VSet) -> Result<(), AllocError>
-        ensures { OnOk result (Narrows (In set) pkg self.old self.new) }
+    fn add_needed(&mut self, pkg: Pkg, left: Left) -> Result<(), AllocError>
+        ensures { OnOk result ((set : List ℕ) → term_of left ≡ In set → Narrows (In set) pkg self.old self.new) }
     {
-        self.push_left(pkg, Term::In(set))?;
+        self.push_left(pkg, left)?;
         self.fresh.push(pkg)?;
         Ok(())
     }
 
+    /// Leaves of a package only these versions. Answers whether some are left, and whether one is.
+    fn leave(&mut self, pkg: Pkg, left: Left) -> Result<(bool, bool), AllocError>
+        ensures { OnOk result (Pushes (term_of left) pkg self.old self.new) }
+    {
+        let some = left.is_some();
+        let one = left.only().is_some();
+        self.push_left(pkg, left)?;
+        Ok((some, one))
+    }
+
     /// Leaves of a package, at the index of what is left of it, only versions of which a term is true. Answers
     /// whether some are left, and whether one is.
-    pub(crate) fn lessen(
+    fn lessen(
         &mut self,
         alloc: Global,
         pkg: Pkg,
@@ -112,10 +127,36 @@ impl Choosing {
         ensures { OnOk result (Narrows term.now pkg self.old self.new) }
     {
         let both = self.needed[place].left.and(alloc, term)?;
-        let some = is_some(&both);
-        let one = only_of(&both).is_some();
-        self.push_left(pkg, both)?;
-        Ok((some, one))
+        Ok(self.leave(pkg, both)?)
+    }
+
+    /// As [`Choosing::lessen`]: only versions of a set.
+    fn lessen_low(
+        &mut self,
+        alloc: Global,
+        pkg: Pkg,
+        place: usize,
+        set: &LowSet,
+    ) -> Result<(bool, bool), AllocError>
+        requires { (e : Needed) × (slice_get self.old.needed.items place ≡ Some e) × (e.pkg ≡ pkg) }
+        ensures { OnOk result (Narrows (In set.now) pkg self.old self.new) }
+    {
+        let both = self.needed[place].left.among(alloc, set)?;
+        Ok(self.leave(pkg, both)?)
+    }
+
+    /// As [`Choosing::lessen`]: all versions but one.
+    pub(crate) fn leave_out(
+        &mut self,
+        alloc: Global,
+        version: (Pkg, u32),
+        place: usize,
+    ) -> Result<(bool, bool), AllocError>
+        requires { (e : Needed) × (slice_get self.old.needed.items place ≡ Some e) × (e.pkg ≡ version.0) }
+        ensures { OnOk result (Narrows (NotIn (version.1 ∷ [])) version.0 self.old self.new) }
+    {
+        let left = self.needed[place].left.without(alloc, version.1)?;
+        Ok(self.leave(version.0, left)?)
     }
 
     /// Has a package looked at once more, where that is wanted.
@@ -138,15 +179,55 @@ impl Choosing {
     ) -> Result<bool, AllocError>
         ensures { OnOk result (Narrows (In (ordinals_of matching.now)) pkg self.old self.new) }
     {
+        match matching.as_low() {
+            Some(set) => Ok(self.narrow_low(alloc, pkg, &set)?),
+            None => Ok(self.narrow_any(alloc, pkg, matching)?),
+        }
+    }
+
+    /// As [`Choosing::narrow`], of a set for which a word has room.
+    pub(crate) fn narrow_low(
+        &mut self,
+        alloc: Global,
+        pkg: Pkg,
+        set: &LowSet,
+    ) -> Result<bool, AllocError>
+        ensures { OnOk result (Narrows (In set.now) pkg self.old self.new) }
+    {
+        match self.place_of(pkg) {
+            None => {
+                self.add_needed(pkg, Left::Low(set.copy()))?;
+                Ok(!set.is_empty())
+            }
+            Some(place) => {
+                if self.needed[place].left.is_within(set) {
+                    return Ok(true);
+                }
+                let (some, one) = self.lessen_low(alloc, pkg, place, set)?;
+                self.look_again(one, pkg)?;
+                Ok(some)
+            }
+        }
+    }
+
+    /// As [`Choosing::narrow`], of any set.
+    fn narrow_any(
+        &mut self,
+        alloc: Global,
+        pkg: Pkg,
+        matching: &Matching<'_>,
+    ) -> Result<bool, AllocError>
+        ensures { OnOk result (Narrows (In (ordinals_of matching.now)) pkg self.old self.new) }
+    {
         match self.place_of(pkg) {
             None => {
                 let set = matching.set(alloc)?;
                 let some = !set.is_empty();
-                self.add_needed(pkg, set)?;
+                self.add_needed(pkg, Left::Any(Term::In(set)))?;
                 Ok(some)
             }
             Some(place) => {
-                if has_all(matching, &self.needed[place].left) {
+                if self.needed[place].left.is_in(matching) {
                     return Ok(true);
                 }
                 let set = matching.set(alloc)?;
@@ -157,28 +238,12 @@ impl Choosing {
         }
     }
 
-    /// As [`Choosing::narrow`], unless it was done before.
-    pub(crate) fn narrow_unless(
-        &mut self,
-        is_met: bool,
-        alloc: Global,
-        pkg: Pkg,
-        matching: &Matching<'_>,
-    ) -> Result<bool, AllocError>
-        ensures { OnOk result (Narrows (In (ordinals_of matching.now)) pkg self.old self.new) }
-    {
-        if is_met {
-            return Ok(true);
-        }
-        self.narrow(alloc, pkg, matching)
-    }
-
     /// The only version that is left of a package, if one is.
     pub(crate) fn only(&self, pkg: Pkg) -> Option<u32>
         ensures { IfSome result (λ k. (packages : Packages) (wanted : Wanted) → Holds packages wanted self.now → OfEach packages wanted self.now.found.entries (λ t. t pkg ≡ Some k)) }
     {
         let place = self.place_of(pkg)?;
-        only_of(&self.needed[place].left)
+        self.needed[place].left.only()
     }
 
     /// Leaves of a package the version that is chosen, unless it was the only one.
@@ -193,8 +258,8 @@ impl Choosing {
         if is_only {
             return Ok(());
         }
-        let set = VSet::single(alloc, version.1)?;
-        self.push_left(version.0, Term::In(set))?;
+        let left = Left::single(alloc, version.1)?;
+        self.push_left(version.0, left)?;
         Ok(())
     }
 }

@@ -3,10 +3,10 @@
 // Nothing rests on what is listed here: a version is taken away only where what it depends on is looked up, and
 // nothing that is left meets it.
 
+use crate::low_dependency::low_set_at;
 use crate::package_table::PackageTable;
 use registry::{Pkg, Place, Registry};
 use std::alloc::{AllocError, Global};
-use terms::Term;
 
 /// How many dependencies are read at most. Those of packages that come later are not seen. This and the next two bound
 /// what a request costs where a registry has many dependencies; they were not tuned.
@@ -17,9 +17,6 @@ const LOOK_SHARE: usize = 64;
 
 /// .. and so much more.
 const LOOK_ROOM: usize = 1024;
-
-/// How many versions a word has room for, a bit each.
-const WORD_BITS: u32 = 64;
 
 /// A dependency of a version.
 #[derive(Clone, Copy)]
@@ -48,29 +45,6 @@ pub(crate) struct Dependents {
     /// How many dependencies were read, and how often a line was looked at.
     read: usize,
     looks: usize,
-}
-
-/// The versions of a package that meet the requirement at a place, a bit each, where they are known and a word has room
-/// for all.
-fn bits_at(registry: &Registry, place: Place) -> Option<u64> {
-    if registry.version_count(place.target) > WORD_BITS {
-        return None;
-    }
-    registry.low_bits(place.target, place.need)
-}
-
-/// The versions below the size of a word that are left, a bit each.
-pub(crate) fn bits_left(left: &Term) -> u64 {
-    let Term::In(versions) = left else {
-        return u64::MAX;
-    };
-    let mut bits = 0;
-    for ordinal in versions.iter() {
-        if ordinal < WORD_BITS {
-            bits |= 1 << ordinal;
-        }
-    }
-    bits
 }
 
 impl Dependents {
@@ -102,9 +76,10 @@ impl Dependents {
         place: Place,
     ) -> Result<(), AllocError> {
         let target = place.target;
-        let Some(bits) = bits_at(registry, place) else {
+        let Some(set) = low_set_at(registry, &place) else {
             return Ok(());
         };
+        let bits = set.bits();
         let before = self.last.get(target);
         let number = self.next_number();
         self.lines.push(Line {

@@ -8,13 +8,16 @@
 
 mod backward;
 mod best;
+mod checking;
 mod choice_map;
 mod chooser;
 mod choosing;
 mod dependents;
 mod evidence;
 mod laws;
+mod left;
 mod listing;
+mod low_dependency;
 mod meeting;
 mod names;
 mod newest;
@@ -24,7 +27,6 @@ mod package_table;
 mod preferred;
 mod reached;
 mod trial;
-mod versions_left;
 mod walking;
 
 pub use choice_map::ChoiceMap;

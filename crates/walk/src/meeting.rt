@@ -4,12 +4,14 @@
 // package depend on, or the only one that is left.
 
 ghost use Rattle.std.specs.Prelude.{◌≡◌, ◌<◌, ℕ, true, length, [], Some, IfOk, OnOk};
+ghost use Rattle.registry.specs.Registry.{needs_of};
 ghost use Rattle.registry.specs.Requests.{Wanted};
-ghost use Rattle.walk.specs.Best.{AreAlike, AreTargets, AsksFor, AsksNeed, AsksOne, Holds, IsGrown, MeetsOf, OfEach};
+ghost use Rattle.walk.specs.Best.{AreAlike, AreTargets, AsksAt, AsksFor, AsksNeed, AsksOne, Holds, IsGrown, MeetsOf, OfEach};
 ghost use Rattle.walk.specs.Newest.{in_name_order};
 
 use crate::choosing::Choosing;
 use crate::listing::{needs_count, places_in_order};
+use crate::low_dependency::{low_dependency, target_at};
 use registry::{Pkg, Registry, Request};
 use std::alloc::{AllocError, Global};
 
@@ -54,12 +56,59 @@ impl Choosing {
     {
         let count = needs_count(registry, version);
         for index in 0..count {
-            let (target, matching) = registry.dependency(version.0, version.1, index)?;
-            self.ask(is_chosen, target)?;
-            if !self.narrow_unless(is_met, alloc, target, &matching)? {
+            if !self.meet_at(alloc, registry, version, index, is_chosen, is_met)? {
                 return Ok(false);
             }
         }
+        Ok(true)
+    }
+
+    /// Meets the dependency of a version at an index, as [`Choosing::meet`].
+    fn meet_at(
+        &mut self,
+        alloc: Global,
+        registry: &Registry,
+        version: (Pkg, u32),
+        index: usize,
+        is_chosen: bool,
+        is_met: bool,
+    ) -> Result<bool, AllocError>
+        requires { index < length (needs_of registry.now.packages version.0 version.1) }
+        ensures meets { OnOk result (MeetsOf registry.now.packages version.0 version.1 self.old self.new) }
+        ensures asks { OnOk result (AsksAt registry.now.packages version.0 version.1 index is_chosen self.old.asked.items self.new.asked.items) }
+        ensures grown { OnOk result (IsGrown self.old self.new) }
+    {
+        if is_met {
+            return Ok(self.ask_at(registry, version, index, is_chosen)?);
+        }
+        match low_dependency(registry, version, index) {
+            Some((target, set)) => {
+                self.ask(is_chosen, target)?;
+                Ok(self.narrow_low(alloc, target, &set)?)
+            }
+            None => {
+                let (target, matching) = registry.dependency(version.0, version.1, index)?;
+                self.ask(is_chosen, target)?;
+                Ok(self.narrow(alloc, target, &matching)?)
+            }
+        }
+    }
+
+    /// Asks for the package of a dependency, which is met already, where that is wanted.
+    fn ask_at(
+        &mut self,
+        registry: &Registry,
+        version: (Pkg, u32),
+        index: usize,
+        is_wanted: bool,
+    ) -> Result<bool, AllocError>
+        requires { index < length (needs_of registry.now.packages version.0 version.1) }
+        ensures meets { OnOk result (MeetsOf registry.now.packages version.0 version.1 self.old self.new) }
+        ensures asks { OnOk result (AsksAt registry.now.packages version.0 version.1 index is_wanted self.old.asked.items self.new.asked.items) }
+        ensures grown { OnOk result (IsGrown self.old self.new) }
+    {
+        let target = target_at(registry, version, index)?;
+        self.ask(is_wanted, target)?;
         Ok(true)
     }
 

@@ -5,15 +5,16 @@ ghost use Rattle.std.specs.Bool.{OnFalse};
 ghost use Rattle.registry.specs.Requests.{Wanted};
 ghost use Rattle.walk.specs.Best.{AreBest, ArePassed, AsksFor, Holds, IsBest, IsChoosing, IsGrown, IsLeft, IsOut};
 ghost use Rattle.walk.specs.Choosing.{choice_of, Follows};
+ghost use Rattle.walk.specs.Left.{term_of};
 ghost use Rattle.walk.specs.PlainlyNewest.{AreHigherOut, IsNewestIfMet, ShowsWhatIsOut};
 
 use crate::choice_map::ChoiceMap;
 use crate::choosing::Choosing;
 use crate::evidence::{Evidence, NoEvidence};
+use crate::left::Left;
 use crate::preferred::locked_ordinal;
 use registry::{Pkg, Registry, Request};
 use std::alloc::{AllocError, Global};
-use terms::Term;
 use versions::precedence_is_a_total_preorder;
 
 // ---- versions than which no better one is to be had
@@ -25,7 +26,7 @@ struct Prefix<'a> {
     request: &'a Request,
     choosing: &'a Choosing,
     /// The versions of the package that are left.
-    left: &'a Term,
+    left: &'a Left,
 }
 
 /// Whether a version is seen not to be had with those before: it is not left or not allowed, or it depends on a
@@ -33,7 +34,7 @@ struct Prefix<'a> {
 fn is_out<E: Evidence>(prefix: &Prefix<'_>, evidence: &E, pkg: Pkg, ordinal: u32) -> bool
     requires shows { ShowsWhatIsOut prefix.now.registry.now.packages prefix.now.request.now (E.shows evidence.now) }
     requires holds { Holds prefix.now.registry.now.packages prefix.now.request.now prefix.now.choosing.now }
-    requires left { IsLeft prefix.now.registry.now.packages prefix.now.request.now prefix.now.choosing.now.found.entries pkg prefix.now.left.now }
+    requires left { IsLeft prefix.now.registry.now.packages prefix.now.request.now prefix.now.choosing.now.found.entries pkg (term_of prefix.now.left.now) }
     ensures { result ≡ true → IsOut prefix.now.registry.now.packages prefix.now.request.now prefix.now.choosing.now.found.entries pkg ordinal }
 {
     let (registry, request) = (prefix.registry, prefix.request);
@@ -54,7 +55,7 @@ fn is_left<E: Evidence>(
 ) -> bool
     requires shows { ShowsWhatIsOut prefix.now.registry.now.packages prefix.now.request.now (E.shows evidence.now) }
     requires holds { Holds prefix.now.registry.now.packages prefix.now.request.now prefix.now.choosing.now }
-    requires left { IsLeft prefix.now.registry.now.packages prefix.now.request.now prefix.now.choosing.now.found.entries pkg prefix.now.left.now }
+    requires left { IsLeft prefix.now.registry.now.packages prefix.now.request.now prefix.now.choosing.now.found.entries pkg (term_of prefix.now.left.now) }
     ensures { OnFalse result (IsOut prefix.now.registry.now.packages prefix.now.request.now prefix.now.choosing.now.found.entries pkg other) }
 {
     other == ordinal || !is_out(prefix, evidence, pkg, other)
@@ -64,7 +65,7 @@ fn is_left<E: Evidence>(
 fn is_highest_left<E: Evidence>(prefix: &Prefix<'_>, evidence: &E, pkg: Pkg, ordinal: u32) -> bool
     requires shows { ShowsWhatIsOut prefix.now.registry.now.packages prefix.now.request.now (E.shows evidence.now) }
     requires holds { Holds prefix.now.registry.now.packages prefix.now.request.now prefix.now.choosing.now }
-    requires left { IsLeft prefix.now.registry.now.packages prefix.now.request.now prefix.now.choosing.now.found.entries pkg prefix.now.left.now }
+    requires left { IsLeft prefix.now.registry.now.packages prefix.now.request.now prefix.now.choosing.now.found.entries pkg (term_of prefix.now.left.now) }
     ensures { result ≡ true → AreHigherOut prefix.now.registry.now.packages prefix.now.request.now prefix.now.choosing.now.found.entries pkg ordinal }
 {
     let registry = prefix.registry;
@@ -78,7 +79,7 @@ fn is_highest_left<E: Evidence>(prefix: &Prefix<'_>, evidence: &E, pkg: Pkg, ord
 fn is_best_left<E: Evidence>(prefix: &Prefix<'_>, evidence: &E, pkg: Pkg, ordinal: u32) -> bool
     requires shows { ShowsWhatIsOut prefix.now.registry.now.packages prefix.now.request.now (E.shows evidence.now) }
     requires holds { Holds prefix.now.registry.now.packages prefix.now.request.now prefix.now.choosing.now }
-    requires left { IsLeft prefix.now.registry.now.packages prefix.now.request.now prefix.now.choosing.now.found.entries pkg prefix.now.left.now }
+    requires left { IsLeft prefix.now.registry.now.packages prefix.now.request.now prefix.now.choosing.now.found.entries pkg (term_of prefix.now.left.now) }
     ensures { result ≡ true → IsBest prefix.now.registry.now.packages prefix.now.request.now prefix.now.choosing.now.found.entries pkg ordinal }
 {
     precedence_is_a_total_preorder();

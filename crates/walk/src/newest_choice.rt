@@ -10,12 +10,11 @@ ghost use Rattle.walk.specs.Best.{AreBest, ArePassed, IsChoosing};
 ghost use Rattle.walk.specs.Choosing.{choice_of};
 ghost use Rattle.walk.specs.Newest.{next_package, IsNewest};
 
+use crate::checking::is_met_by;
 use crate::choosing::Choosing;
 use crate::dependents::Dependents;
-use crate::reached::Reached;
 use crate::trial::Tried;
-use crate::walking::reach;
-use registry::{Pkg, Registry, Request};
+use registry::{Pkg, Registry, Request, allowed_is_published};
 use std::alloc::{AllocError, Global};
 
 /// The newest selection, as it was chosen.
@@ -141,15 +140,14 @@ fn choose_with(
         ..
     } = choosing;
     if !whole? {
-        drop(found);
         return Ok(None);
     }
-    let reached = reach(alloc, registry, request, &found);
-    drop(found);
-    match reached? {
-        Reached::Selection(list) => Ok(Some(NewestChoice { list, ruled_out })),
-        Reached::Unmet(_, _) | Reached::NotAllowed(_, _) => Ok(None),
+    if !is_met_by(registry, request, &found)? {
+        return Ok(None);
     }
+    allowed_is_published();
+    let list = found.into_list();
+    Ok(Some(NewestChoice { list, ruled_out }))
 }
 
 /// The newest selection, where each package can be decided in its turn: for the best version that is left by what

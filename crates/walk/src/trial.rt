@@ -12,7 +12,6 @@ ghost use Rattle.walk.specs.Newest.{next_package};
 
 use crate::choosing::Choosing;
 use crate::meeting::are_alike;
-use crate::versions_left::is_some;
 use registry::{Pkg, Registry, Request};
 use std::alloc::{AllocError, Global};
 
@@ -87,7 +86,7 @@ impl Choosing {
         if count == 0 {
             return false;
         }
-        !is_some(&self.needed[count - 1].left)
+        !self.needed[count - 1].left.is_some()
     }
 
     /// Gives the packages of what is left from an index on the indexes back that they had before.

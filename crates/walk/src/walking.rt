@@ -17,7 +17,7 @@ use std::alloc::{AllocError, Global};
 use versions::Need;
 
 /// Whether a version of a package is published and meets a requirement.
-fn meets(registry: &Registry, pkg: Pkg, ordinal: u32, need: &Need) -> bool
+pub(crate) fn meets(registry: &Registry, pkg: Pkg, ordinal: u32, need: &Need) -> bool
     ensures { result ≡ meets_at registry.now.packages pkg ordinal need.now }
 {
     match registry.facts_at(pkg, ordinal) {
@@ -28,7 +28,7 @@ fn meets(registry: &Registry, pkg: Pkg, ordinal: u32, need: &Need) -> bool
 
 /// Whether a version is allowed to a request. Where no version of the package is yanked, as a note says, its row
 /// is not looked at.
-fn is_allowed(registry: &Registry, request: &Request, pkg: Pkg, ordinal: u32) -> bool
+pub(crate) fn is_allowed(registry: &Registry, request: &Request, pkg: Pkg, ordinal: u32) -> bool
     ensures { result ≡ is_allowed registry.now.packages request.now pkg ordinal }
 {
     if registry.has_yanks(pkg) {

@@ -1,13 +1,10 @@
 use Rattle.std.proofs.Common.{rules}
-use Rattle.walk.specs.Choosing.{choice_of}
-use Rattle.walk.proofs.Bests.{best_newest, own_choice}
+use Rattle.walk.proofs.Checked.{checked_newest}
 use Rattle.walk.proofs.newest_choice.choose_with.Goals as goal
 
-pub returns-in-Selection-clause-newest : goal.returns-in-Selection-clause-newest
-returns-in-Selection-clause-newest c =
+pub returns-clause-newest : goal.returns-clause-newest
+returns-clause-newest c =
     let packages = c.args.registry.now.packages in
     let wanted = c.args.request.now in
     let found = c.choose_from_needs-whole.new.choosing.found.entries in
-    let best = c.in_ok-whole.ensures (search rules) in
-    let reached = rw c.in-Selection.is at c.in_ok-list.ensures in
-    best_newest packages wanted found (choice_of c.in-Selection.list.items) best (own_choice packages wanted found best) reached.follows reached.meets
+    rw c.into_list-list.ensures.list (checked_newest packages wanted found (c.in_ok-whole.ensures (search rules)) c.allowed_is_published.ensures (c.in_ok-is_met_by.ensures (search rules)))

@@ -1,4 +1,4 @@
-use Rattle.std.proofs.Common.{◌≡◌, ◌∙◌, ◌++◌, [], ◌∷◌, ap, nat_eq, refl, rules}
+use Rattle.std.proofs.Common.{◌≡◌, ◌∙◌, ◌++◌, [], ◌∷◌, ap, refl, rules}
 use Rattle.registry.specs.Registry.{needs_of}
 use Rattle.walk.specs.declared.choosing.Choosing.{Choosing}
 use Rattle.walk.proofs.Bests.{asks_between, chosen_holds, grown_both, grown_narrows, grown_of}

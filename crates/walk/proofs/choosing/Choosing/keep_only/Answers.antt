@@ -1,4 +1,5 @@
-use Rattle.std.proofs.Common.{◌∷◌, ℕ, [], List, subst}
+use Rattle.std.proofs.Common.{◌∷◌, [], subst}
+use Rattle.terms.specs.declared.term.Term.{Term}
 use Rattle.terms.specs.declared.term.Term.TheVariants.{In}
 use Rattle.walk.specs.Best.{Pushes}
 use Rattle.walk.proofs.Bests.{narrows_pushed, narrows_same}
@@ -10,5 +11,5 @@ returns-then-is_only c = narrows_same (In (c.args.version.1 ∷ [])) c.args.vers
 pub returns : goal.returns
 returns c =
     let only = In (c.args.version.1 ∷ []) in
-    let push = subst (λ (s : List ℕ). Pushes (In s) c.args.version.0 c.args.self.now c.push_left.new.self) c.in_ok-set.ensures c.in_ok-push_left.ensures in
+    let push = subst (λ (s : Term). Pushes s c.args.version.0 c.args.self.now c.push_left.new.self) c.in_ok-left.ensures c.in_ok-push_left.ensures in
     narrows_pushed only only c.args.version.0 c.args.self.now c.push_left.new.self push (λ packages wanted each h. each)

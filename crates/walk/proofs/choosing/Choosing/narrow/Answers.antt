@@ -1,15 +1,7 @@
 use Rattle.std.proofs.Common.{ℕ, List, subst}
-use Rattle.releases.specs.Matching.{ordinals_of}
 use Rattle.terms.specs.declared.term.Term.TheVariants.{In}
 use Rattle.walk.specs.Best.{Narrows}
-use Rattle.walk.proofs.Bests.{narrows_both, narrows_same}
 use Rattle.walk.proofs.choosing.Choosing.narrow.Goals as goal
 
-pub returns-then-has_all : goal.returns-then-has_all
-returns-then-has_all c = narrows_same (In (ordinals_of c.args.matching.now)) c.args.pkg c.args.self.now
-
-pub returns-in_ok-look_again-in-Some : goal.returns-in_ok-look_again-in-Some
-returns-in_ok-look_again-in-Some c =
-    let set = ordinals_of c.args.matching.now in
-    let less = subst (λ (s : List ℕ). Narrows (In s) c.args.pkg c.args.self.now c.lessen.new.self) c.in_ok-set-in-Some.ensures.same c.in_ok-some-in-Some.ensures in
-    narrows_both (In set) c.args.pkg c.args.self.now c.lessen.new.self c.look_again.new.self less (c.in_ok-look_again-in-Some.ensures set)
+pub returns-in_ok-narrow_low-in-Some : goal.returns-in_ok-narrow_low-in-Some
+returns-in_ok-narrow_low-in-Some c = subst (λ (s : List ℕ). Narrows (In s) c.args.pkg c.args.self.now c.narrow_low.new.self) c.in-Some.ensures c.in_ok-narrow_low-in-Some.ensures

@@ -1,4 +1,3 @@
-use Rattle.std.proofs.Common.{rules}
 use Rattle.walk.proofs.choosing.Choosing.test_line.Goals as goal
 
 pub returns-clause-holds : goal.returns-clause-holds

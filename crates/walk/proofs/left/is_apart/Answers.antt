@@ -1,6 +1,6 @@
 use Rattle.std.proofs.Common.{arith}
 use Rattle.walk.proofs.Bests.{published_within}
-use Rattle.walk.proofs.versions_left.is_apart.Goals as goal
+use Rattle.walk.proofs.left.is_apart.Goals as goal
 
 pub returns : goal.returns
 returns c = λ yes k published said there.
