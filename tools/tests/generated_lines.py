@@ -71,6 +71,23 @@ def needs_past_the_most_of_a_request():
     yield line(more, "B", "none"), '{"error":1,"name":"BadName","revision":0}'
 
 
+def each_count_of_needs_up_to_the_most():
+    """A request of each count of needs that it may have selects them all, in whatever order they come, and one that repeats its
+    first need is refused."""
+    names = [f"n{number:02}" for number in range(MOST_NEEDS)]
+    yield from accepted([publish(name, "1.0.0").encode() for name in names])
+    for count in range(MOST_NEEDS + 1):
+        needs = [[name, "^1"] for name in names[:count]]
+        reply = compact({"revision": MOST_NEEDS, "selected": [[name, "1.0.0"] for name in names[:count]]}).decode()
+        for listed in (needs, needs[::-1]):
+            yield compact({"op": "resolve", "needs": listed}), reply
+        if needs:
+            twice = compact({"op": "resolve", "needs": [*needs, ["n00", "*"]]})
+            yield twice, f'{{"error":4,"name":"RepeatedDependency","revision":{MOST_NEEDS}}}'
+    more = compact({"op": "resolve", "needs": [[name, "^1"] for name in [*names, "more"]]})
+    yield more, f'{{"error":6,"name":"TooManyDependencies","revision":{MOST_NEEDS}}}'
+
+
 def a_selection_longer_than_the_room_of_replies():
     """A selection of 270 packages, each with a long version, is told whole."""
     names = [f"a{number}" for number in range(270)]
@@ -159,8 +176,9 @@ def budgets_in_other_words():
 
 SESSIONS = [
     lines_at_the_limit_of_their_length, values_in_one_another, needs_past_the_most_of_a_publication,
-    needs_past_the_most_of_a_request, a_selection_longer_than_the_room_of_replies, a_listing_longer_than_the_room_of_replies,
-    the_most_versions_and_dependencies, the_most_names_of_packages, the_most_commands_of_a_session, budgets_in_other_words,
+    needs_past_the_most_of_a_request, each_count_of_needs_up_to_the_most, a_selection_longer_than_the_room_of_replies,
+    a_listing_longer_than_the_room_of_replies, the_most_versions_and_dependencies, the_most_names_of_packages,
+    the_most_commands_of_a_session, budgets_in_other_words,
 ]
 
 

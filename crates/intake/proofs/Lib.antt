@@ -1,2 +1,6 @@
+mod NeedLemmas
+mod LineLemmas
 mod PublicationLemmas
+mod ResolutionLemmas
+mod UsualLineLemmas
 mod WrittenLemmas

@@ -1,3 +1,4 @@
 -- The definitions that contracts cite.
-pub mod Publications
+pub mod Needs
+pub mod UsualLines
 pub mod Written
