@@ -144,7 +144,7 @@ class Searches(unittest.TestCase):
     def test_a_tool_that_runs_the_program(self):
         code = f"import sys; sys.path.insert(0, {os.path.join(TOOLS, 'tests')!r}); import program; " \
                f"program.run([*program.SERVE, '--load', {self.path!r}], {LONG.encode()!r})"
-        with begun(code, env={**os.environ, "REGISTRYD": PROGRAM}) as tool:
+        with begun(code, env={**os.environ, "REGISTRYD": PROGRAM, "PROBE": program.PROBE}) as tool:
             child = child_of(tool.pid)
             self.assertFalse(is_idle(child))
             tool.kill()
