@@ -1,11 +1,11 @@
 //! The releases that meet a requirement.
 
-ghost use Rattle.std.specs.Prelude.{◌≡◌, ◌<◌, ◌≤◌, ◌^◌, ◌∷◌, ◌++◌, [], ℕ, length, slice_index_or, IfOk, IfSome, IsOk, OnErr, OnOk};
+ghost use Rattle.std.specs.Prelude.{◌≡◌, ◌<◌, ◌≤◌, ◌^◌, ◌∷◌, ◌++◌, [], ℕ, length, slice_index_or, IfNone, IfOk, IfSome, IsOk, OnErr, OnOk};
 ghost use Rattle.terms.specs.Growing.{Growing};
 ghost use Rattle.terms.specs.Sets.{has, IsAscending};
 ghost use Rattle.releases.specs.Kept.{AreBounds, AreMatching, IsKeptNext, IsMatching};
 ghost use Rattle.releases.specs.Releases.{versions_of};
-ghost use Rattle.releases.specs.Matching.{ordinals_of};
+ghost use Rattle.releases.specs.Matching.{HasNoWord, ordinals_of};
 ghost use Rattle.versions.specs.Bounds.{IsBounded};
 
 use crate::ranked::Ranked;
@@ -42,7 +42,8 @@ impl Matching<'_> {
 
     /// The same set in a word, where it is not a tested one and a word has room for it.
     pub fn as_low(&self) -> Option<LowSet>
-        ensures { IfSome result (λ low. low ≡ ordinals_of self.now) }
+        ensures some { IfSome result (λ low. low ≡ ordinals_of self.now) }
+        ensures none { IfNone result (HasNoWord self.now) }
     {
         match self {
             Matching::Known(set) => set.as_low(),

@@ -1,16 +1,17 @@
 -- Sets of ordinals below 64, a bit each.
-use Rattle.std.proofs.Common.{◌≡◌, ◌<◌, ◌≤◌, ◌+◌, ◌^◌, ◌∙◌, ◌⊎◌, inl, inr, ℕ, List, [], ◌∷◌, get_or, length, refl, sym, ap, arith, Bool, true, false, not, ◌&&◌, true≢false, nat_eq, bit_and}
+use Rattle.std.proofs.Common.{◌≡◌, ◌<◌, ◌≤◌, ◌+◌, ◌^◌, ◌∙◌, ◌*◌, ◌||◌, ◌⊎◌, inl, inr, ℕ, suc, List, [], ◌∷◌, get_or, length, refl, sym, ap, subst, arith, Bool, true, false, not, ◌&&◌, true≢false, nat_eq, bit_and}
 use Rattle.std.specs.Int.{bit_not, trailing_zeros, w64}
 use Rattle.std.proofs.lemmas.Bool.{cases_lt, ne_eqb}
 use Rattle.std.proofs.lemmas.List.{append-nil}
+use Rattle.std.proofs.lemmas.List.Folds.{list_any-append}
 use Rattle.terms.specs.Merges.{keeps}
 use Rattle.terms.specs.Sets.{has}
-use Rattle.terms.specs.Words.{bits_from, is_bit, ordinals_of}
+use Rattle.terms.specs.Words.{AreWords, WordsFrom, bits_from, is_bit, ordinals_of}
 use Rattle.terms.specs.declared.merging.Rule.TheVariants as rule
 use Rattle.terms.specs.declared.words.Word.{Word}
 use Rattle.terms.proofs.Ascending.{absent-past, or-false}
 use Rattle.terms.proofs.SameSets.{same_members}
-use Rattle.terms.proofs.WordLists.{nil_ordinals}
+use Rattle.terms.proofs.WordLists.{nil_ordinals, word_ordinal}
 use Rattle.terms.proofs.WordBits.{bits_from-ascending, bits_from-ends, bits_from-next, bits_from-none, has-bits_from, is_bit-pow, kept_bits-keeps, lowest_bit, without_lowest}
 
 abbrev pub low_ordinals : ℕ → List ℕ
@@ -109,3 +110,35 @@ one_word items slice same some short first = ap ordinals_of (sym same) ∙ one s
     one [] ge lt e = absurd (omega (arith, ge))
     one (w ∷ []) ge lt e = ap (λ n. ordinals_of (record { number = n; bits = w.bits } ∷ [])) e ∙ first_word w.bits
     one (w ∷ v ∷ rest) ge lt e = absurd (omega (arith, lt))
+
+-- a word from the second on has an ordinal that is beyond the first word
+pub beyond_word : (low : ℕ) (w : Word) (rest : List Word) → WordsFrom low (w ∷ rest) → 1 ≤ w.number → (k : ℕ) × (has (ordinals_of (w ∷ rest)) k ≡ true) × (64 ≤ k)
+beyond_word low w rest h later = (64 * w.number + trailing_zeros w64 w.bits, word_ordinal low w rest h, omega (arith, later))
+
+has-rest : (w : Word) (rest : List Word) (k : ℕ) → has (ordinals_of rest) k ≡ true → has (ordinals_of (w ∷ rest)) k ≡ true
+unfolding ordinals_of
+has-rest w rest k there =
+    list_any-append (λ x. nat_eq x k) (bits_from 64 (64 * w.number) w.bits) (ordinals_of rest) ∙ ap (λ b. has (bits_from 64 (64 * w.number) w.bits) k || b) there ∙ or-true (has (bits_from 64 (64 * w.number) w.bits) k)
+  where
+    or-true : (b : Bool) → (b || true) ≡ true
+    or-true true = refl
+    or-true false = refl
+
+-- there is one where the first word has a later number
+pub later_word : (items slice : List Word) → slice ≡ items → AreWords items → 1 ≤ length slice → ((get_or slice 0 (record { number = 0; bits = 0 })).number ≡ 0 → ⊥) → (k : ℕ) × (has (ordinals_of items) k ≡ true) × (64 ≤ k)
+later_word items slice same words some later = beyond items words (subst (λ (ws : List Word). 1 ≤ length ws) same some) (subst (λ (ws : List Word). (get_or ws 0 (record { number = 0; bits = 0 })).number ≡ 0 → ⊥) same later)
+  where
+    beyond : (ws : List Word) → AreWords ws → 1 ≤ length ws → ((get_or ws 0 (record { number = 0; bits = 0 })).number ≡ 0 → ⊥) → (k : ℕ) × (has (ordinals_of ws) k ≡ true) × (64 ≤ k)
+    beyond [] h ge not_first = absurd (omega (arith, ge))
+    beyond (w ∷ rest) h ge not_first = beyond_word 0 w rest h (omega (arith, not_first))
+
+-- and where there are several words
+pub several_words : (items slice : List Word) → slice ≡ items → AreWords items → 2 ≤ length slice → (k : ℕ) × (has (ordinals_of items) k ≡ true) × (64 ≤ k)
+several_words items slice same words several = beyond items words (subst (λ (ws : List Word). 2 ≤ length ws) same several)
+  where
+    beyond : (ws : List Word) → AreWords ws → 2 ≤ length ws → (k : ℕ) × (has (ordinals_of ws) k ≡ true) × (64 ≤ k)
+    beyond [] h ge = absurd (omega (arith, ge))
+    beyond (w ∷ []) h ge = absurd (omega (arith, ge))
+    beyond (w ∷ v ∷ rest) h ge =
+        let found = beyond_word (suc w.number) v rest h.4 (omega (arith, h.4.0)) in
+        (found.0, has-rest w (v ∷ rest) found.0 found.1, found.2)

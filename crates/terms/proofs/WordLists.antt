@@ -74,14 +74,17 @@ low-bits ws h k lt =
 pub bits_of-first : (w : Word) (rest : List Word) → bits_of (w ∷ rest) w.number ≡ w.bits
 bits_of-first w rest = rw (nat_eq-itself w.number) refl
 
+-- a word has an ordinal
+pub word_ordinal : (low : ℕ) (w : Word) (rest : List Word) → WordsFrom low (w ∷ rest) → has (ordinals_of (w ∷ rest)) (64 * w.number + trailing_zeros w64 w.bits) ≡ true
+word_ordinal low w rest h =
+    let b = lowest_bit w.bits h.2 h.3 in
+    let i = trailing_zeros w64 w.bits in
+    has-ordinals_of low (w ∷ rest) h (64 * w.number + i) ∙ has_bit-at (w ∷ rest) w.number i b.0 ∙ ap (λ n. is_bit n i) (bits_of-first w rest) ∙ b.1
+
 -- words that are there have an ordinal
 pub ordinals_of-some : (low : ℕ) (w : Word) (rest : List Word) → WordsFrom low (w ∷ rest) → ordinals_of (w ∷ rest) ≡ [] → ⊥
 ordinals_of-some low w rest h none =
-    let b = lowest_bit w.bits h.2 h.3 in
-    let i = trailing_zeros w64 w.bits in
-    let there : has (ordinals_of (w ∷ rest)) (64 * w.number + i) ≡ true =
-    has-ordinals_of low (w ∷ rest) h (64 * w.number + i) ∙ has_bit-at (w ∷ rest) w.number i b.0 ∙ ap (λ n. is_bit n i) (bits_of-first w rest) ∙ b.1 in
-    true≢false (sym there ∙ ap (λ l. has l (64 * w.number + i)) none)
+    true≢false (sym (word_ordinal low w rest h) ∙ ap (λ l. has l (64 * w.number + trailing_zeros w64 w.bits)) none)
 
 pub nil_ordinals : ordinals_of [] ≡ []
 unfolding ordinals_of

@@ -1,6 +1,6 @@
 //! Sets that grow, with room made beforehand.
 
-ghost use Rattle.std.specs.Prelude.{◌≡◌, ◌<◌, ◌≤◌, ◌+◌, [], IfOk, IfSome, IsOk, OnErr, OnOk};
+ghost use Rattle.std.specs.Prelude.{◌≡◌, ◌<◌, ◌≤◌, ◌+◌, ℕ, [], true, IfNone, IfOk, IfSome, IsOk, OnErr, OnOk};
 ghost use Rattle.terms.specs.Sets.{has, AddsOrdinal, HasExactly, IsAscending};
 ghost use Rattle.terms.specs.Words.{AreLowBits};
 
@@ -91,12 +91,14 @@ impl GrowingSet {
 
     /// The set as it is now, if a word has room for it.
     pub fn as_low(&self) -> Option<LowSet>
-        ensures { IfSome result (λ low. low ≡ self.now.ordinals) }
+        ensures some { IfSome result (λ low. low ≡ self.now.ordinals) }
+        ensures none { IfNone result ((k : ℕ) × (has self.now.ordinals k ≡ true) × (64 ≤ k)) }
     {
         match self.words.as_slice() {
             [] => Some(LowSet::from_bits(0)),
             [word] if word.number == 0 => Some(LowSet::from_bits(word.bits)),
-            _ => None,
+            [_] => None,
+            [_, _, ..] => None,
         }
     }
 

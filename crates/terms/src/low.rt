@@ -37,7 +37,7 @@ impl LowSet {
         LowSet::from_bits(bits)
     }
 
-    /// As [`LowSet::of_bits`], said by the list.
+    /// As [`LowSet::of_bits`]. The clause gives the list itself.
     pub(crate) fn from_bits(bits: u64) -> LowSet
         ensures { result ≡ bits_from 64 0 bits }
     {
@@ -86,7 +86,7 @@ impl LowSet {
         }
     }
 
-    /// The other ordinals of the set, which may have this one or not.
+    /// What is left of the set once an ordinal is taken out, if it is there.
     pub fn without(&self, ordinal: u32) -> LowSet
         ensures { (k : ℕ) → has result k ≡ (has self.now k && not (nat_eq ordinal k)) }
     {

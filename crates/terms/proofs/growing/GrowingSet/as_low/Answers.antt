@@ -1,9 +1,15 @@
 use Rattle.std.proofs.Common.{◌∙◌, sym}
-use Rattle.terms.proofs.LowSets.{no_word, none-low, one_word}
+use Rattle.terms.proofs.LowSets.{later_word, no_word, none-low, one_word, several_words}
 use Rattle.terms.proofs.growing.GrowingSet.as_low.Goals as goal
 
-pub returns-in-empty : goal.returns-in-empty
-returns-in-empty c = rw (← c.self.view_is) (c.from_bits.ensures ∙ none-low ∙ sym (no_word c.self.inside.words.items c.as_slice.result.now c.as_slice.ensures c.in-empty.len_below))
+pub returns-in-empty-clause-some : goal.returns-in-empty-clause-some
+returns-in-empty-clause-some c = rw (← c.self.view_is) (c.from_bits.ensures ∙ none-low ∙ sym (no_word c.self.inside.words.items c.as_slice.result.now c.as_slice.ensures c.in-empty.len_below))
 
-pub returns-in-len1 : goal.returns-in-len1
-returns-in-len1 c = rw (← c.self.view_is) (c.from_bits-in-len1.ensures ∙ sym (one_word c.self.inside.words.items c.as_slice.result.now c.as_slice.ensures c.in-len1.len_at_least c.in-len1.len_below c.if-word-eq0.true))
+pub returns-in-len1-clause-some : goal.returns-in-len1-clause-some
+returns-in-len1-clause-some c = rw (← c.self.view_is) (c.from_bits-in-len1.ensures ∙ sym (one_word c.self.inside.words.items c.as_slice.result.now c.as_slice.ensures c.in-len1.len_at_least c.in-len1.len_below c.if-word-eq0.true))
+
+pub returns-in-len1-2-clause-none : goal.returns-in-len1-2-clause-none
+returns-in-len1-2-clause-none c = rw (← c.self.view_is) (later_word c.self.inside.words.items c.as_slice.result.now c.as_slice.ensures c.self.invariant c.in-len1.len_at_least c.if-word-eq0.false)
+
+pub returns-in-len2-up-clause-none : goal.returns-in-len2-up-clause-none
+returns-in-len2-up-clause-none c = rw (← c.self.view_is) (several_words c.self.inside.words.items c.as_slice.result.now c.as_slice.ensures c.self.invariant c.in-len2-up.len_at_least)
