@@ -6,7 +6,7 @@ member `by` is to give of that."""
 import os
 import sys
 
-from generated_rows import rows_of
+from generated_rows import KEPT_SETS, rows_of
 
 sys.path.insert(0, os.path.join(os.path.dirname(os.path.abspath(__file__)), ".."))
 from limits import MOST_DERIVATION_LINES as MOST, MOST_OFFERED_LINES
@@ -61,6 +61,18 @@ def a_long_chain_is_walked():
         reached = sorted([f"p{n}", "1.0.0"] for n in range(start, count))
         rows.append(_asked("walk", "reach_preferred", {"selected": reached}, f"p{start} *"))
     yield "A chain of 10,000 packages is walked to its end, which is published last", rows
+
+
+@rows_of("search")
+def two_packages_that_need_each_other_are_chosen_by_any_requirement():
+    """The sets of the first `KEPT_SETS` requirements of a package are kept, and each version is tested by the others."""
+    rows = _published(("a", "1.0.0", "b ^1.0.0"), ("b", "1.0.0", "a ^1.0.0"),
+                      *((f"user{n}", "1.0.0", f"a >=0.{n}.0", f"b >=0.{n}.0") for n in range(KEPT_SETS + 2)))
+    for number in (0, KEPT_SETS - 2, KEPT_SETS - 1, KEPT_SETS, KEPT_SETS + 1):
+        chosen = [["a", "1.0.0"], ["b", "1.0.0"], [f"user{number}", "1.0.0"]]
+        rows += [_asked("walk", call, {"selected": chosen}, f"user{number} *")
+                 for call in ("choose_newest", "choose_newest_by_propagation")]
+    yield "Two packages that need each other are chosen, whether the set of who asks for them is kept or not", rows
 
 
 # ---- solver

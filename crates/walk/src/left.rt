@@ -109,14 +109,17 @@ impl Left {
     pub(crate) fn is_within(&self, set: &LowSet) -> bool {
         match self {
             Left::Low(left) => left.bits() & !set.bits() == 0,
-            Left::Any(_) => false,
+            Left::Any(Term::In(versions)) => versions.iter().all(|ordinal| set.has(ordinal)),
+            Left::Any(Term::NotIn(_)) => false,
         }
     }
 
     /// Whether all versions that are left are in a matching set. Nothing rests on it.
     pub(crate) fn is_in(&self, matching: &Matching<'_>) -> bool {
         match self {
-            Left::Low(_) => false,
+            Left::Low(left) => {
+                (0..u64::BITS).all(|ordinal| !left.has(ordinal) || matching.has(ordinal))
+            }
             Left::Any(Term::In(versions)) => versions.iter().all(|ordinal| matching.has(ordinal)),
             Left::Any(Term::NotIn(_)) => false,
         }
