@@ -3,7 +3,7 @@ use Rattle.std.specs.Prelude.{◌≡◌, ◌++◌, ◌⊎◌, ℕ, true, false, 
 use Rattle.std.specs.List.{IsDistinct}
 use Rattle.std.specs.Map.{keys_of}
 use Rattle.versions.specs.Words.{Text}
-use Rattle.registry.specs.Places.{named_on}
+use Rattle.registry.specs.Places.{IsPlace, named_on}
 use Rattle.registry.specs.Registry.{Packages, meets_at, needs_of, number_of}
 use Rattle.registry.specs.declared.place.Place.{Place}
 use Rattle.registry.specs.Requests.{Wanted, is_allowed}
@@ -34,6 +34,15 @@ IsAsking packages wanted chooses (asker.Version p k) = IsChosen packages wanted 
 abbrev pub asked_by : Packages → Wanted → Asker → List (Text × Text)
 asked_by packages wanted asker.Request = wanted.needs
 asked_by packages wanted (asker.Version p k) = needs_of packages p k
+
+-- these places, each at its index, tell what the version depends on
+abbrev pub ArePlaces : Packages → List (List Text) → ℕ → ℕ → List Place → Type 0
+ArePlaces packages named p k places = (at : ℕ) (place : Place) → slice_get places at ≡ Some place → IsPlace packages named p k at place
+
+-- these places tell what is asked, as far as a version asks
+abbrev pub AreAskedAt : Packages → List (List Text) → Asker → List Place → Type 0
+AreAskedAt packages named asker.Request places = Unit {0}
+AreAskedAt packages named (asker.Version p k) places = ArePlaces packages named p k places
 
 -- the line at this place is not met by the choices
 pub record IsUnmetAt (packages : Packages) (chooses : Choices) (needs : List (Text × Text)) (index : ℕ) : Type 0 where

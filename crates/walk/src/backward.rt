@@ -74,7 +74,8 @@ impl Choosing {
         if index >= needs_count(registry, version) {
             return Ok(true);
         }
-        if !self.is_at_odds_by(registry, version, index) {
+        let places = registry.places(version.0, version.1);
+        if !self.is_at_odds_by(registry, version, places, index) {
             return Ok(true);
         }
         Ok(self.take_away(alloc, registry, version)?)

@@ -7,13 +7,14 @@ ghost use Rattle.registry.specs.Registry.{Packages, needs_of};
 ghost use Rattle.registry.specs.Requests.{Wanted};
 ghost use Rattle.walk.specs.Best.{HasNone, Holds, IsBest, IsOut, OfEach};
 ghost use Rattle.walk.specs.Left.{term_of};
+ghost use Rattle.walk.specs.Walks.{ArePlaces};
 
 use crate::choosing::Choosing;
 use crate::left::{Left, is_apart};
 use crate::listing::needs_count;
-use crate::low_dependency::low_dependency;
+use crate::low_dependency::{dependency_at, low_dependency};
 use crate::preferred::locked_ordinal;
-use registry::{Pkg, Registry, Request};
+use registry::{Pkg, Place, Registry, Request};
 use terms::LowSet;
 use versions::precedence_is_a_total_preorder;
 
@@ -24,17 +25,19 @@ impl Choosing {
         &self,
         registry: &Registry,
         version: (Pkg, u32),
+        places: &[Place],
         index: usize,
     ) -> bool
-        requires { index < length (needs_of registry.now.packages version.0 version.1) }
+        requires within { index < length (needs_of registry.now.packages version.0 version.1) }
+        requires places { ArePlaces registry.now.packages registry.now.named version.0 version.1 places.now }
         ensures { result ≡ true → (wanted : Wanted) → Holds registry.now.packages wanted self.now → IsOut registry.now.packages wanted self.now.found.entries version.0 version.1 }
     {
-        if let Some((target, set)) = low_dependency(registry, version, index) {
+        if let Some((target, set)) = low_dependency(registry, version, places, index) {
             if let Some(apart) = self.is_apart_from(target, &set) {
                 return apart;
             }
         }
-        let Ok((target, matching)) = registry.dependency(version.0, version.1, index) else {
+        let Ok((target, matching)) = dependency_at(registry, version, places, index) else {
             return false;
         };
         if let Some(chosen) = self.found.get(target) {
@@ -68,9 +71,10 @@ impl Choosing {
         requires { Holds registry.now.packages request.now self.now }
         ensures { result ≡ true → IsOut registry.now.packages request.now self.now.found.entries version.0 version.1 }
     {
+        let places = registry.places(version.0, version.1);
         let count = needs_count(registry, version);
         for index in 0..count {
-            if self.is_at_odds_by(registry, version, index) {
+            if self.is_at_odds_by(registry, version, places, index) {
                 return true;
             }
         }

@@ -1,13 +1,11 @@
 //! Whether what is chosen meets a request, where it stands.
 
-ghost use Rattle.std.specs.Prelude.{◌≡◌, ◌<◌, ℕ, true, length, slice_get, Some, IfOk, IfSome};
-ghost use Rattle.registry.specs.Places.{IsPlace};
+ghost use Rattle.std.specs.Prelude.{◌≡◌, ◌<◌, ℕ, true, length, Some, IfOk, IfSome};
 ghost use Rattle.registry.specs.Registry.{needs_of};
-ghost use Rattle.registry.specs.declared.place.Place.{Place};
 ghost use Rattle.releases.specs.Matching.{ordinals_of};
 ghost use Rattle.walk.specs.Best.{IsOf};
 ghost use Rattle.walk.specs.Choosing.{choice_of};
-ghost use Rattle.walk.specs.Walks.{AreAllChecked, AreMet, IsChecked, IsMetAt, MeetsNamed};
+ghost use Rattle.walk.specs.Walks.{AreAllChecked, AreMet, ArePlaces, IsChecked, IsMetAt, MeetsNamed};
 
 use crate::choice_map::ChoiceMap;
 use crate::listing::needs_count;
@@ -96,8 +94,7 @@ fn is_dependency_met(
     index: usize,
 ) -> Result<bool, AllocError>
     requires within { index < length (needs_of registry.now.packages version.0 version.1) }
-    requires places { (at : ℕ) (place : Place) → slice_get places.now at ≡ Some place
-        → IsPlace registry.now.packages registry.now.named version.0 version.1 at place }
+    requires places { ArePlaces registry.now.packages registry.now.named version.0 version.1 places.now }
     ensures { IfOk result (λ met. met ≡ true → IsMetAt registry.now.packages (choice_of found.now.entries) (needs_of registry.now.packages version.0 version.1) index) }
 {
     if let Some(place) = places.get(index) {

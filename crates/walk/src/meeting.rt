@@ -8,11 +8,12 @@ ghost use Rattle.registry.specs.Registry.{needs_of};
 ghost use Rattle.registry.specs.Requests.{Wanted};
 ghost use Rattle.walk.specs.Best.{AreAlike, AreTargets, AsksAt, AsksFor, AsksNeed, AsksOne, Holds, IsGrown, MeetsOf, OfEach};
 ghost use Rattle.walk.specs.Newest.{in_name_order};
+ghost use Rattle.walk.specs.Walks.{ArePlaces};
 
 use crate::choosing::Choosing;
 use crate::listing::{needs_count, places_in_order};
-use crate::low_dependency::{low_dependency, target_at};
-use registry::{Pkg, Registry, Request};
+use crate::low_dependency::{dependency_at, low_dependency, target_at};
+use registry::{Pkg, Place, Registry, Request};
 use std::alloc::{AllocError, Global};
 
 /// Whether all versions of a package depend on the same.
@@ -54,9 +55,10 @@ impl Choosing {
         ensures asks { IfOk result (λ whole. whole ≡ true → AsksFor registry.now.packages version.0 version.1 is_chosen self.old.asked.items self.new.asked.items) }
         ensures grown { OnOk result (IsGrown self.old self.new) }
     {
+        let places = registry.places(version.0, version.1);
         let count = needs_count(registry, version);
         for index in 0..count {
-            if !self.meet_at(alloc, registry, version, index, is_chosen, is_met)? {
+            if !self.meet_at(alloc, registry, version, places, index, is_chosen, is_met)? {
                 return Ok(false);
             }
         }
@@ -69,25 +71,27 @@ impl Choosing {
         alloc: Global,
         registry: &Registry,
         version: (Pkg, u32),
+        places: &[Place],
         index: usize,
         is_chosen: bool,
         is_met: bool,
     ) -> Result<bool, AllocError>
-        requires { index < length (needs_of registry.now.packages version.0 version.1) }
+        requires within { index < length (needs_of registry.now.packages version.0 version.1) }
+        requires places { ArePlaces registry.now.packages registry.now.named version.0 version.1 places.now }
         ensures meets { OnOk result (MeetsOf registry.now.packages version.0 version.1 self.old self.new) }
         ensures asks { OnOk result (AsksAt registry.now.packages version.0 version.1 index is_chosen self.old.asked.items self.new.asked.items) }
         ensures grown { OnOk result (IsGrown self.old self.new) }
     {
         if is_met {
-            return Ok(self.ask_at(registry, version, index, is_chosen)?);
+            return Ok(self.ask_at(registry, version, places, index, is_chosen)?);
         }
-        match low_dependency(registry, version, index) {
+        match low_dependency(registry, version, places, index) {
             Some((target, set)) => {
                 self.ask(is_chosen, target)?;
                 Ok(self.narrow_low(alloc, target, &set)?)
             }
             None => {
-                let (target, matching) = registry.dependency(version.0, version.1, index)?;
+                let (target, matching) = dependency_at(registry, version, places, index)?;
                 self.ask(is_chosen, target)?;
                 Ok(self.narrow(alloc, target, &matching)?)
             }
@@ -99,15 +103,17 @@ impl Choosing {
         &mut self,
         registry: &Registry,
         version: (Pkg, u32),
+        places: &[Place],
         index: usize,
         is_wanted: bool,
     ) -> Result<bool, AllocError>
-        requires { index < length (needs_of registry.now.packages version.0 version.1) }
+        requires within { index < length (needs_of registry.now.packages version.0 version.1) }
+        requires places { ArePlaces registry.now.packages registry.now.named version.0 version.1 places.now }
         ensures meets { OnOk result (MeetsOf registry.now.packages version.0 version.1 self.old self.new) }
         ensures asks { OnOk result (AsksAt registry.now.packages version.0 version.1 index is_wanted self.old.asked.items self.new.asked.items) }
         ensures grown { OnOk result (IsGrown self.old self.new) }
     {
-        let target = target_at(registry, version, index)?;
+        let target = target_at(registry, version, places, index)?;
         self.ask(is_wanted, target)?;
         Ok(true)
     }

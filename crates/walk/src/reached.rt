@@ -1,9 +1,9 @@
 //! What a walk answers.
 
 ghost use Rattle.std.specs.Prelude.{◌≡◌};
-ghost use Rattle.walk.specs.Walks.{asked_by};
+ghost use Rattle.walk.specs.Walks.{AreAskedAt, asked_by};
 
-use registry::{Pkg, Registry, Request};
+use registry::{Pkg, Place, Registry, Request};
 use versions::{Name, Need};
 
 /// Who asks for packages: the request by its needs, or a version by its dependencies.
@@ -24,6 +24,16 @@ impl Asker {
                 None => &[],
                 Some(facts) => facts.needs,
             },
+        }
+    }
+
+    /// Where the registry keeps what is asked, in order, as far as a version asks.
+    pub(crate) fn places(self, registry: &Registry) -> &[Place]
+        ensures { AreAskedAt registry.now.packages registry.now.named self result.now }
+    {
+        match self {
+            Asker::Request => &[],
+            Asker::Version(pkg, ordinal) => registry.places(pkg, ordinal),
         }
     }
 }

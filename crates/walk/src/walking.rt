@@ -7,12 +7,13 @@ ghost use Rattle.std.specs.Map.{keys_of};
 ghost use Rattle.registry.specs.Registry.{meets_at, needs_of};
 ghost use Rattle.registry.specs.Requests.{is_allowed};
 ghost use Rattle.walk.specs.Choosing.{choice_of, Follows};
-ghost use Rattle.walk.specs.Walks.{asked_by, AreMet, ComeFrom, ComesAs, FoundFrom, FoundMeets, Grows, IsMetAt, IsUnmetAt, IsUnmetOf, ReachesBy};
+ghost use Rattle.walk.specs.Walks.{asked_by, AreAskedAt, AreMet, ArePlaces, ComeFrom, ComesAs, FoundFrom, FoundMeets, Grows, IsMetAt, IsUnmetAt, IsUnmetOf, ReachesBy};
 
 use crate::choice_map::{ChoiceMap, WALK_ROOM};
 use crate::chooser::Chooser;
+use crate::low_dependency::{dependency_at, low_dependency};
 use crate::reached::{Asker, Reached};
-use registry::{Pkg, Registry, Request, allowed_is_published};
+use registry::{Pkg, Place, Registry, Request, allowed_is_published};
 use std::alloc::{AllocError, Global};
 use versions::Need;
 
@@ -96,10 +97,12 @@ fn follow_dependency<C: Chooser>(
     chooser: &C,
     pkg: Pkg,
     ordinal: u32,
+    places: &[Place],
     index: usize,
     found: &mut ChoiceMap,
 ) -> Result<bool, AllocError>
     requires within { index < length (needs_of registry.now.packages pkg ordinal) }
+    requires places { ArePlaces registry.now.packages registry.now.named pkg ordinal places.now }
     requires follows { Follows (C.chooses chooser.now) (choice_of found.old.entries) }
     ensures follows { OnOk result (Follows (C.chooses chooser.now) (choice_of found.new.entries)) }
     ensures grown { OnOk result (Grows found.old.entries found.new.entries) }
@@ -107,7 +110,12 @@ fn follow_dependency<C: Chooser>(
     ensures met { IfOk result (λ met. OnTrue met (FoundMeets registry.now.packages (needs_of registry.now.packages pkg ordinal) index found.new.entries)) }
     ensures unmet { IfOk result (λ met. OnFalse met (IsUnmetAt registry.now.packages (C.chooses chooser.now) (needs_of registry.now.packages pkg ordinal) index)) }
 {
-    let (target, matching) = registry.dependency(pkg, ordinal, index)?;
+    let version = (pkg, ordinal);
+    if let Some((target, set)) = low_dependency(registry, version, places, index) {
+        let is_low = |ordinal| set.has(ordinal);
+        return follow_to(chooser, target, is_low, found);
+    }
+    let (target, matching) = dependency_at(registry, version, places, index)?;
     let meets_need = |ordinal| matching.has(ordinal);
     follow_to(chooser, target, meets_need, found)
 }
@@ -119,10 +127,12 @@ fn follow_at<C: Chooser>(
     request: &Request,
     chooser: &C,
     asker: Asker,
+    places: &[Place],
     index: usize,
     found: &mut ChoiceMap,
 ) -> Result<bool, AllocError>
     requires within { index < length (asked_by registry.now.packages request.now asker) }
+    requires places { AreAskedAt registry.now.packages registry.now.named asker places.now }
     requires follows { Follows (C.chooses chooser.now) (choice_of found.old.entries) }
     ensures follows { OnOk result (Follows (C.chooses chooser.now) (choice_of found.new.entries)) }
     ensures grown { OnOk result (Grows found.old.entries found.new.entries) }
@@ -133,7 +143,7 @@ fn follow_at<C: Chooser>(
     match asker {
         Asker::Request => follow_need(registry, request, chooser, index, found),
         Asker::Version(pkg, ordinal) => {
-            follow_dependency(registry, chooser, pkg, ordinal, index, found)
+            follow_dependency(registry, chooser, pkg, ordinal, places, index, found)
         }
     }
 }
@@ -153,9 +163,10 @@ fn follow_all<C: Chooser>(
     ensures met { IfOk result (λ at. IfNone at (AreMet registry.now.packages (choice_of found.new.entries) (asked_by registry.now.packages request.now asker))) }
     ensures unmet { IfOk result (λ at. IfSome at (IsUnmetOf registry.now.packages request.now (C.chooses chooser.now) asker)) }
 {
+    let places = asker.places(registry);
     let count = asker.needs(registry, request).len();
     for index in 0..count {
-        if !follow_at(registry, request, chooser, asker, index, found)? {
+        if !follow_at(registry, request, chooser, asker, places, index, found)? {
             return Ok(Some(index));
         }
     }
