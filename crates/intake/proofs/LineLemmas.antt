@@ -1,9 +1,11 @@
 -- A line is read as the value whose tokens it has, and asks what this value's shape says.
-use Rattle.std.proofs.Common.{◌≡◌, ◌<◌, ◌≤◌, ℕ, List, [], ◌++◌, length, true, false, nat_le, Option, Some, Err, rules, option_and_then, refl, ap, ◌∙◌}
-use Rattle.std.specs.Str.{IsUtf8}
+use Rattle.std.proofs.Common.{◌≡◌, ◌<◌, ◌≤◌, ℕ, List, [], ◌++◌, length, true, false, nat_le, Bool, Option, Some, Err, rules, option_and_then, refl, ap, ◌∙◌, if◌then◌else◌}
+use Rattle.std.specs.Str.{IsUtf8, is_utf8}
+use Rattle.std.proofs.lemmas.List.{nil_from_length}
 use Rattle.std.proofs.lemmas.Str.{is_utf8-from_IsUtf8}
 use Rattle.json.specs.Json as json
-use Rattle.json.specs.Lex.{tokens}
+use Rattle.json.specs.Json.{value}
+use Rattle.json.specs.Lex.{lex, punctuate, tokens}
 use Rattle.json.specs.Token.{Token}
 use Rattle.json.specs.Tree as tree
 use Rattle.json.specs.Tree.{json_tokens}
@@ -19,6 +21,18 @@ use Rattle.wire.specs.Shapes.{Request, shape_of}
 pub asked_long : (line : List ℕ) → line_limit < length line → request_of line ≡ Err BadLine
 unfolding request_of
 asked_long line long = let over : nat_le (length line) line_limit ≡ false = search rules in rw over refl
+
+either : {X : Type 0} (b : Bool) (x : X) → (if b then x else x) ≡ x
+either true x = refl
+either false x = refl
+
+-- an empty line asks nothing: it has no token
+asked_nothing : request_of [] ≡ Err BadLine
+unfolding request_of lex punctuate value
+asked_nothing = either (is_utf8 []) (Err BadLine)
+
+pub asked_empty : (line : List ℕ) → length line ≡ 0 → request_of line ≡ Err BadLine
+asked_empty line none = ap request_of (nil_from_length line none) ∙ asked_nothing
 
 asked_short : (line : List ℕ) → length line ≤ line_limit → request_of line ≡ request_of_text line
 unfolding request_of

@@ -14,6 +14,10 @@ use std::marker::Model;
 /// Measured at half and at twice this value: docs/BENCHMARKS.md, Constants.
 const OUTBOX_ROOM: usize = 65_536;
 
+/// Up to how many bytes a text is short.
+/// Measured at half and at twice this value: docs/BENCHMARKS.md, Constants.
+const SHORT: usize = 8;
+
 /// Holds text that waits to be written. A contract sees the text that waits.
 ///
 /// Its room, 65,536 bytes, is made once, by `new`. A longer text is written without waiting.
@@ -103,12 +107,28 @@ fn write_flushed<W: Write>(writer: &mut W, text: &[u8]) -> io::Result<()>
     flush(writer)
 }
 
+/// Copies a short text behind what waits, where there is room for it: byte by byte, which takes less time than a call that
+/// copies memory.
+fn append_short(waiting: &mut Vec<u8>, text: &[u8])
+    requires { vec_len waiting.old + length text.now ≤ vec_capacity waiting.old }
+    ensures items { waiting.new.items ≡ waiting.old.items ++ text.now }
+    ensures capacity { vec_capacity waiting.old ≤ vec_capacity waiting.new }
+{
+    for index in 0..text.len() {
+        waiting.push_reserved(text[index]);
+    }
+}
+
 /// Copies a text behind what waits, where there is room for it.
 fn append(waiting: &mut Vec<u8>, text: &[u8])
     requires { vec_len waiting.old + length text.now ≤ vec_capacity waiting.old }
     ensures items { waiting.new.items ≡ waiting.old.items ++ text.now }
     ensures capacity { vec_capacity waiting.old ≤ vec_capacity waiting.new }
 {
+    if text.len() <= SHORT {
+        append_short(waiting, text);
+        return;
+    }
     let Ok(()) = waiting.extend_from_slice(text) else {
         unreachable!()
     };
