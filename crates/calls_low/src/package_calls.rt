@@ -38,10 +38,12 @@ fn about(
         ("versions", _) => Ok(CallResult::Number(registry.versions(pkg))),
         ("version_count", _) => Ok(CallResult::Number(registry.version_count(pkg) as usize)),
         ("repeats", _) => repeats(alloc, registry, pkg),
+        ("is_alike", _) => Ok(CallResult::Bool(registry.is_alike(pkg))),
         ("has_yanks", _) => Ok(CallResult::Bool(registry.has_yanks(pkg))),
         ("facts", Ok(k)) => facts(alloc, registry, pkg, k),
         ("facts_at", Ok(k)) => facts_at(alloc, registry, pkg, k),
         ("places", Ok(k)) => places(alloc, registry.places(pkg, k)),
+        ("needs_count", Ok(k)) => Ok(CallResult::Number(registry.needs_count(pkg, k))),
         ("low_bits", Ok(place)) => low_bits(alloc, registry.low_bits(pkg, place)),
         _ => Err(Unread::Row),
     }

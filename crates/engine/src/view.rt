@@ -81,10 +81,9 @@ pub(crate) fn choices_of(versions: &VSet) -> Bits {
 
 /// Whether several versions of a package, which are all, depend on the same, and on something.
 pub(crate) fn several_depend_alike(registry: &Registry, pkg: Pkg) -> bool {
-    let repeats = registry.repeats(pkg);
-    repeats.len() >= SEVERAL
+    registry.versions(pkg) >= SEVERAL
         && !registry.places(pkg, 0).is_empty()
-        && repeats.iter().skip(1).all(|repeats| *repeats)
+        && registry.is_alike(pkg)
 }
 
 impl View {

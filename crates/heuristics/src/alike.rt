@@ -1,7 +1,6 @@
 //! Packages whose versions all depend on the same.
 
 use crate::question::{Question, needs};
-use registry::Registry;
 use terms::Pkg;
 
 /// From how many versions on the dependencies of a package are put among the lines before one is
@@ -9,14 +8,9 @@ use terms::Pkg;
 /// Measured at half and at twice this value: docs/BENCHMARKS.md, Constants.
 const SEVERAL: usize = 2;
 
-/// Whether all versions of a package depend on the same. It costs a look at each of them at most.
-pub(crate) fn are_alike(registry: &Registry, pkg: Pkg) -> bool {
-    registry.repeats(pkg).iter().skip(1).all(|repeats| *repeats)
-}
-
 /// Whether all versions of a package have the same dependencies, and some.
 pub(crate) fn depend_alike(question: &Question<'_>, pkg: Pkg) -> bool {
-    !needs(question.registry, pkg, 0).is_empty() && are_alike(question.registry, pkg)
+    !needs(question.registry, pkg, 0).is_empty() && question.registry.is_alike(pkg)
 }
 
 /// Whether several versions of a package, which are all, have the same dependencies, and some.

@@ -1,6 +1,5 @@
 //! What stands in the way of the preferred selection.
 
-use crate::alike::are_alike;
 use crate::question::{Question, needs};
 use std::alloc::AllocError;
 use terms::{Pkg, Term};
@@ -23,7 +22,7 @@ pub fn obstacle_at(
     ordinal: u32,
     index: usize,
 ) -> Result<Option<Obstacle>, AllocError> {
-    if index >= needs(question.registry, pkg, ordinal).len() || !are_alike(question.registry, pkg) {
+    if index >= needs(question.registry, pkg, ordinal).len() || !question.registry.is_alike(pkg) {
         return Ok(None);
     }
     let (target, matching) = question.registry.dependency(pkg, ordinal, index)?;

@@ -1,13 +1,14 @@
 -- Publications that need what the one before them does.
-use Rattle.std.proofs.Common.{◌≡◌, ◌<◌, ◌+◌, ◌∙◌, inl, inr, ℕ, zero, suc, List, [], ◌∷◌, ◌++◌, length, refl, sym, ap, arith, Bool, true}
-use Rattle.std.specs.Prelude.{◌↔◌, IsTrue, Option, None, Some, slice_get}
+use Rattle.std.proofs.Common.{◌≡◌, ◌<◌, ◌≤◌, ◌+◌, ◌∙◌, ◌⊎◌, inl, inr, ℕ, zero, suc, List, [], ◌∷◌, ◌++◌, drop, get_or, length, refl, sym, ap, arith, Bool, true}
+use Rattle.std.specs.Prelude.{◌↔◌, IsTrue, Option, None, Some, map, slice_get}
 use Rattle.std.proofs.lemmas.Bool.{cases_eq, cases_lt}
 use Rattle.std.proofs.lemmas.Option.{none-some, same_Some}
-use Rattle.std.proofs.lemmas.List.{length_push}
+use Rattle.std.proofs.lemmas.List.{length_push, map_push}
 use Rattle.releases.specs.declared.release.Release.{Release}
 use Rattle.versions.specs.Words.{Text}
-use Rattle.registry.specs.Publications.{publications_of, AreAlike, EndsWith, IsAlike}
+use Rattle.registry.specs.Publications.{publications_of, AreAlike, AreCounted, AreSame, EndsWith, IsAlike}
 use Rattle.registry.specs.Registry.{needs_or_none}
+use Rattle.registry.specs.declared.span.Span.{Span}
 
 abbrev Needs : Type 0
 Needs = List (Text × Text)
@@ -85,14 +86,58 @@ alike-next marks needs mark next alike ends = (
   λ k. (marked-alike marks needs mark next alike ends k, alike-marked marks needs mark next alike ends k),
 )
 
+-- ---- needs that are all the same, with one more
+
+same-longer : (needs : List Needs) (next : Needs) → AreSame needs → (needs ≡ []) ⊎ EndsWith needs next → AreSame (needs ++ next ∷ [])
+same-longer needs next same ends k j e lt = elim (cases_lt k (length needs)) [
+  | inl below ↦ get-front needs next k below ∙ same k j e below ∙ sym (get-front needs next j (omega (arith, e, below)))
+  | inr ge ↦
+      let last : k ≡ length needs = omega (arith, length_push needs next, ge, lt) in
+      elim ends [
+        | inl none ↦ absurd (omega (arith, ap length none, last, e))
+        | inr own ↦
+            let place : own.0 ≡ j = omega (arith, own.1, last, e) in
+            get-last needs next k last ∙ sym own.2 ∙ ap (slice_get needs) place ∙ sym (get-front needs next j (omega (arith, last, e)))
+      ]
+]
+
+same-shorter : (needs : List Needs) (next : Needs) → AreSame (needs ++ next ∷ []) → AreSame needs
+same-shorter needs next same k j e lt =
+    sym (get-front needs next k lt) ∙ same k j e (omega (arith, length_push needs next, lt)) ∙ get-front needs next j (omega (arith, e, lt))
+
+same-ends : (needs : List Needs) (next : Needs) → AreSame (needs ++ next ∷ []) → (needs ≡ []) ⊎ EndsWith needs next
+same-ends [] next same = inl refl
+same-ends (n ∷ ns) next same = inr (
+  length ns,
+  omega arith,
+  sym (get-front (n ∷ ns) next (length ns) (omega arith))
+      ∙ sym (same (length ns + 1) (length ns) refl (omega (arith, length_push (n ∷ ns) next)))
+      ∙ get-last (n ∷ ns) next (length ns + 1) (omega arith),
+)
+
+pub same-next : (are mark : Bool) (needs : List Needs) (next : Needs) → IsTrue are ↔ AreSame needs → IsTrue mark ↔ EndsWith needs next
+    → (IsTrue are × ((needs ≡ []) ⊎ IsTrue mark)) ↔ AreSame (needs ++ next ∷ [])
+same-next are mark needs next same ends = (
+  λ yes. same-longer needs next (same.0 yes.0) (elim yes.1 [ inl none ↦ inl none | inr marked ↦ inr (ends.0 marked) ]),
+  λ all. (same.1 (same-shorter needs next all), elim (same-ends needs next all) [ inl none ↦ inl none | inr own ↦ inr (ends.1 own) ]),
+)
+
+-- ---- how many needs there are
+
+pub counted-next : (spans : List Span) (needs : List Needs) (span : Span) (next : Needs) → AreCounted spans needs → span.needs ≡ length next
+    → AreCounted (spans ++ span ∷ []) (needs ++ next ∷ [])
+counted-next spans needs span next counted own =
+    map_push (λ (s : Span). s.needs) spans span ∙ ap (λ (l : List ℕ). l ++ span.needs ∷ []) counted
+    ∙ ap (λ n. map (λ (d : Needs). length d) needs ++ n ∷ []) own ∙ sym (map_push (λ (d : Needs). length d) needs next)
+
 -- ---- what is marked, of publications
 
 -- what one of these needs, nothing where there is none
-abbrev or_nothing : Option Needs → Needs
+abbrev pub or_nothing : Option Needs → Needs
 or_nothing None = []
 or_nothing (Some needs) = needs
 
-needs-releases : (releases : List Release) (needs : List Needs) (k : ℕ) → length needs ≡ length releases
+pub needs-releases : (releases : List Release) (needs : List Needs) (k : ℕ) → length needs ≡ length releases
     → needs_or_none (slice_get (publications_of releases needs) k) ≡ or_nothing (slice_get needs k)
 needs-releases [] [] k e = refl
 needs-releases [] (n ∷ ns) k e = absurd (omega (arith, e))
@@ -117,3 +162,17 @@ pub publications-alike : (releases : List Release) (needs : List Needs) (k j : �
     → slice_get needs k ≡ slice_get needs j
 publications-alike releases needs k j e k-lt j-lt same =
     there needs k k-lt ∙ ap Some (sym (needs-releases releases needs k e) ∙ same ∙ needs-releases releases needs j e) ∙ sym (there needs j j-lt)
+
+-- how many needs the one at a place has
+pub counted-at : (spans : List Span) (needs : List Needs) (k : ℕ) (span : Span) → AreCounted spans needs → slice_get spans k ≡ Some span
+    → span.needs ≡ length (or_nothing (slice_get needs k))
+counted-at [] needs k span counted at = absurd (none-some span at)
+counted-at (s ∷ ss) [] k span counted at = absurd (omega (arith, ap length counted))
+counted-at (s ∷ ss) (n ∷ ns) zero span counted at =
+    sym (ap (λ (t : Span). t.needs) (same_Some s span at)) ∙ ap (λ (l : List ℕ). get_or l 0 0) counted
+counted-at (s ∷ ss) (n ∷ ns) (suc k) span counted at = counted-at ss ns k span (ap (λ (l : List ℕ). drop 1 l) counted) at
+
+pub nothing-past : (needs : List Needs) (k : ℕ) → length needs ≤ k → length (or_nothing (slice_get needs k)) ≡ 0
+nothing-past [] k past = refl
+nothing-past (n ∷ ns) zero past = absurd (omega (arith, past))
+nothing-past (n ∷ ns) (suc k) past = nothing-past ns k (omega (arith, past))

@@ -1,8 +1,7 @@
 -- Places stay right while names, requirements and publications come in behind.
 use Rattle.std.proofs.Common.{◌≡◌, ◌<◌, ◌≤◌, ◌+◌, ◌-◌, ◌∙◌, ◌⊎◌, inl, inr, ℕ, zero, suc, List, [], ◌∷◌, ◌++◌, length, refl, sym, subst, ap, arith, get_or, set, drop, take}
-use Rattle.std.specs.Prelude.{All, Bool, true, false, Err, Ok, OnErr, OnOk, Result, None, Some, if◌then◌else◌, slice_get, slice_range}
-use Rattle.std.proofs.lemmas.Bool.{cases_lt}
-use Rattle.std.proofs.lemmas.Option.{none-some, same_Some, slice_get_within}
+use Rattle.std.specs.Prelude.{All, Bool, true, false, Err, Ok, OnErr, OnOk, Result, Some, if◌then◌else◌, slice_get, slice_range}
+use Rattle.std.proofs.lemmas.Option.{none-some, same_Some}
 use Rattle.std.proofs.lemmas.List.{get_or-map}
 use Rattle.std.proofs.lemmas.List.Elements.{All-get_or, All-head, All-push, All-set, All-tail, All-weaker}
 use Rattle.releases.specs.declared.release.Release.{Release}
@@ -13,6 +12,7 @@ use Rattle.registry.specs.Publications.{PublicationList, parts_of, publications_
 use Rattle.registry.specs.Registry.{Publication}
 use Rattle.registry.specs.Step.{set_yanked}
 use Rattle.registry.specs.declared.place.Place.{Place}
+use Rattle.registry.specs.declared.span.Span.{Span}
 
 -- ---- what stands at a place stands there in a longer list
 
@@ -229,33 +229,33 @@ part-longer (x ∷ xs) more (suc a) (suc n) h = let within = h (omega arith) in 
 pub slice-longer : {X : Type 0} (xs more : List X) (a b : ℕ) → b ≤ length xs → slice_range (xs ++ more) a b ≡ slice_range xs a b
 slice-longer xs more a b within = part-longer xs more a (b - a) (λ pos. omega (arith, within, pos))
 
-pub parts-push : (places more : List Place) (spans : List (ℕ × ℕ)) (span : ℕ × ℕ) → EndWithin (length places) spans
-    → parts_of (places ++ more) (spans ++ span ∷ []) ≡ parts_of places spans ++ slice_range (places ++ more) span.0 span.1 ∷ []
+pub parts-push : (places more : List Place) (spans : List Span) (span : Span) → EndWithin (length places) spans
+    → parts_of (places ++ more) (spans ++ span ∷ []) ≡ parts_of places spans ++ slice_range (places ++ more) span.from span.to ∷ []
 parts-push places more [] span within = refl
 parts-push places more (s ∷ spans) span within =
-    let P : ℕ × ℕ → Type 0 = λ t. t.1 ≤ length places in
-    ap (λ (part : List Place). part ∷ parts_of (places ++ more) (spans ++ span ∷ [])) (slice-longer places more s.0 s.1 (All-head P s spans within))
-    ∙ ap (λ (l : List (List Place)). slice_range places s.0 s.1 ∷ l) (parts-push places more spans span (All-tail P s spans within))
+    let P : Span → Type 0 = λ t. t.to ≤ length places in
+    ap (λ (part : List Place). part ∷ parts_of (places ++ more) (spans ++ span ∷ [])) (slice-longer places more s.from s.to (All-head P s spans within))
+    ∙ ap (λ (l : List (List Place)). slice_range places s.from s.to ∷ l) (parts-push places more spans span (All-tail P s spans within))
 
-pub within-push : (count larger : ℕ) (spans : List (ℕ × ℕ)) (span : ℕ × ℕ) → count ≤ larger → span.1 ≤ larger → EndWithin count spans → EndWithin larger (spans ++ span ∷ [])
+pub within-push : (count larger : ℕ) (spans : List Span) (span : Span) → count ≤ larger → span.to ≤ larger → EndWithin count spans → EndWithin larger (spans ++ span ∷ [])
 within-push count larger spans span more last within =
-    let P : ℕ × ℕ → Type 0 = λ t. t.1 ≤ count in
-    let Q : ℕ × ℕ → Type 0 = λ t. t.1 ≤ larger in
+    let P : Span → Type 0 = λ t. t.to ≤ count in
+    let Q : Span → Type 0 = λ t. t.to ≤ larger in
     All-push Q spans span (All-weaker P Q (λ t h. omega (arith, h, more)) spans within) last
 
-pub within-at : (count : ℕ) (spans : List (ℕ × ℕ)) (j : ℕ) (span : ℕ × ℕ) → EndWithin count spans → slice_get spans j ≡ Some span → span.1 ≤ count
+pub within-at : (count : ℕ) (spans : List Span) (j : ℕ) (span : Span) → EndWithin count spans → slice_get spans j ≡ Some span → span.to ≤ count
 within-at count [] j span within at = absurd (none-some span at)
 within-at count (s ∷ spans) zero span within at =
-    let P : ℕ × ℕ → Type 0 = λ t. t.1 ≤ count in subst P (same_Some s span at) (All-head P s spans within)
+    let P : Span → Type 0 = λ t. t.to ≤ count in subst P (same_Some s span at) (All-head P s spans within)
 within-at count (s ∷ spans) (suc j) span within at =
-    let P : ℕ × ℕ → Type 0 = λ t. t.1 ≤ count in within-at count spans j span (All-tail P s spans within) at
+    let P : Span → Type 0 = λ t. t.to ≤ count in within-at count spans j span (All-tail P s spans within) at
 
-pub part-at : (places : List Place) (spans : List (ℕ × ℕ)) (j : ℕ) (span : ℕ × ℕ) → slice_get spans j ≡ Some span → get_or (parts_of places spans) j [] ≡ slice_range places span.0 span.1
+pub part-at : (places : List Place) (spans : List Span) (j : ℕ) (span : Span) → slice_get spans j ≡ Some span → get_or (parts_of places spans) j [] ≡ slice_range places span.from span.to
 part-at places [] j span at = absurd (none-some span at)
-part-at places (s ∷ spans) zero span at = ap (λ (t : ℕ × ℕ). slice_range places t.0 t.1) (same_Some s span at)
+part-at places (s ∷ spans) zero span at = ap (λ (t : Span). slice_range places t.from t.to) (same_Some s span at)
 part-at places (s ∷ spans) (suc j) span at = part-at places spans j span at
 
-pub part-past : (places : List Place) (spans : List (ℕ × ℕ)) (j : ℕ) → length spans ≤ j → get_or (parts_of places spans) j [] ≡ []
+pub part-past : (places : List Place) (spans : List Span) (j : ℕ) → length spans ≤ j → get_or (parts_of places spans) j [] ≡ []
 part-past places [] j past = refl
 part-past places (s ∷ spans) zero past = absurd (omega (arith, past))
 part-past places (s ∷ spans) (suc j) past = part-past places spans j (omega (arith, past))
@@ -273,14 +273,14 @@ beside-needs names named (r ∷ rs) (n ∷ ns) (q ∷ qs) (suc k) own e f at h =
     beside-needs names named rs ns qs k own (omega (arith, e)) (omega (arith, f)) at h.1
 
 -- a part that is read
-pub part-read : (places : List Place) (spans : List (ℕ × ℕ)) (j : ℕ) (span : ℕ × ℕ) → j < length spans → span ≡ get_or spans j span
-    → get_or (parts_of places spans) j [] ≡ slice_range places span.0 span.1
+pub part-read : (places : List Place) (spans : List Span) (j : ℕ) (span : Span) → j < length spans → span ≡ get_or spans j span
+    → get_or (parts_of places spans) j [] ≡ slice_range places span.from span.to
 part-read places spans j span lt is =
-    get_or-map (λ (t : ℕ × ℕ). slice_range places t.0 t.1) spans j span [] lt ∙ ap (λ (t : ℕ × ℕ). slice_range places t.0 t.1) (sym is)
+    get_or-map (λ (t : Span). slice_range places t.from t.to) spans j span [] lt ∙ ap (λ (t : Span). slice_range places t.from t.to) (sym is)
 
-pub within-read : (count : ℕ) (spans : List (ℕ × ℕ)) (j : ℕ) (span : ℕ × ℕ) → j < length spans → span ≡ get_or spans j span → EndWithin count spans → span.1 ≤ count
+pub within-read : (count : ℕ) (spans : List Span) (j : ℕ) (span : Span) → j < length spans → span ≡ get_or spans j span → EndWithin count spans → span.to ≤ count
 within-read count spans j span lt is within =
-    let P : ℕ × ℕ → Type 0 = λ t. t.1 ≤ count in subst P (sym is) (All-get_or P spans j span lt within)
+    let P : Span → Type 0 = λ t. t.to ≤ count in subst P (sym is) (All-get_or P spans j span lt within)
 
 -- a publication comes into a list, with right places
 pub placed-set : (names : List Text) (lists : List PublicationList) (i : ℕ) (list changed : PublicationList) (needs : List (Text × Text)) (places : List Place) → i < length lists

@@ -1,14 +1,14 @@
 -- A place that is kept tells what a version depends on.
-use Rattle.std.proofs.Common.{◌≡◌, ◌<◌, ◌≤◌, ◌+◌, ◌-◌, ◌∙◌, inl, inr, ℕ, zero, suc, List, [], ◌∷◌, length, refl, sym, subst, ap, arith, get_or}
-use Rattle.std.specs.Prelude.{None, Option, Some, slice_get}
+use Rattle.std.proofs.Common.{◌≡◌, ◌<◌, ◌≤◌, ◌+◌, ◌-◌, ◌∙◌, inl, inr, ℕ, zero, suc, List, [], ◌∷◌, length, refl, sym, ap, arith, get_or}
+use Rattle.std.specs.Prelude.{Some, slice_get}
 use Rattle.std.proofs.lemmas.Bool.{cases_lt}
 use Rattle.std.proofs.lemmas.List.{get_or-map}
 use Rattle.std.proofs.lemmas.Option.{none-some, slice_get_within}
 use Rattle.versions.specs.Words.{Text}
 use Rattle.registry.specs.Lawful.{IsRegistry}
-use Rattle.registry.specs.Places.{ArePlacesOf, IsPlace, StandBeside, StandsAt, named_of, named_on}
+use Rattle.registry.specs.Places.{IsPlace, StandBeside, StandsAt, named_of, named_on}
 use Rattle.registry.specs.Publications.{PublicationList, packages_in}
-use Rattle.registry.specs.Registry.{Packages, Publication, needs_of, needs_or_none, number_of, package_at, versions_or_none}
+use Rattle.registry.specs.Registry.{Packages, Publication, needs_of, needs_or_none, package_at, versions_or_none}
 use Rattle.registry.specs.declared.place.Place.{Place}
 use Rattle.registry.proofs.PackageLemmas.{package_at-next, publication_at-versions, versions-placed}
 use Rattle.registry.proofs.RegistryLaws.{number-stands}

@@ -5,6 +5,7 @@ use Rattle.releases.specs.declared.release.Release.{Release}
 use Rattle.versions.specs.Words.{Text}
 use Rattle.registry.specs.Registry.{Packages, Publication}
 use Rattle.registry.specs.declared.place.Place.{Place}
+use Rattle.registry.specs.declared.span.Span.{Span}
 
 -- the publications of a package in order, the requirements that are named on it, where what each publication depends on
 -- is kept, and how many more fit
@@ -33,13 +34,21 @@ EndsWith needs next = (j : ℕ) × (j + 1 ≡ length needs) × (slice_get needs 
 abbrev pub AreAlike : List Bool → List (List (Text × Text)) → Type 0
 AreAlike marks needs = (length marks ≡ length needs) × ((k : ℕ) → slice_get marks k ≡ Some true ↔ IsAlike needs k)
 
+-- all of these needs are the same
+abbrev pub AreSame : List (List (Text × Text)) → Type 0
+AreSame needs = (k j : ℕ) → j + 1 ≡ k → k < length needs → slice_get needs k ≡ slice_get needs j
+
 -- the parts of a list of places, each with its beginning and its end
-abbrev pub parts_of : List Place → List (ℕ × ℕ) → List (List Place)
-parts_of places spans = map (λ (span : ℕ × ℕ). slice_range places span.0 span.1) spans
+abbrev pub parts_of : List Place → List Span → List (List Place)
+parts_of places spans = map (λ (span : Span). slice_range places span.from span.to) spans
 
 -- each part ends within so many
-abbrev pub EndWithin : ℕ → List (ℕ × ℕ) → Type 0
-EndWithin count spans = All (λ (span : ℕ × ℕ). span.1 ≤ count) spans
+abbrev pub EndWithin : ℕ → List Span → Type 0
+EndWithin count spans = All (λ (span : Span). span.to ≤ count) spans
+
+-- beside each stands how many needs it has
+abbrev pub AreCounted : List Span → List (List (Text × Text)) → Type 0
+AreCounted spans needs = map (λ (span : Span). span.needs) spans ≡ map (λ (own : List (Text × Text)). length own) needs
 
 -- whether one of the releases is yanked
 abbrev pub any_yanked : List Release → Bool

@@ -13,6 +13,7 @@ mod publications;
 mod ready;
 mod registry;
 mod requests;
+mod span;
 
 pub use commands::Command;
 pub use dependencies::Dependencies;

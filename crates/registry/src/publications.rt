@@ -9,13 +9,14 @@ ghost use Rattle.versions.specs.Words.{Text};
 ghost use Rattle.registry.specs.declared.registry.TheConstants.{VERSION_LIMIT};
 ghost use Rattle.registry.specs.Highest.{IsHighest};
 ghost use Rattle.registry.specs.Places.{ArePlaced, ArePlacesOf, IsGrown};
-ghost use Rattle.registry.specs.Publications.{any_yanked, publications_in, EndsWith, EndWithin};
+ghost use Rattle.registry.specs.Publications.{any_yanked, publications_in, AreSame, EndsWith};
 ghost use Rattle.registry.specs.declared.place.Place.{Place};
 ghost use Rattle.registry.specs.Registry.{has_version, has_yank, needs_or_none, publication_equals, publication_meets};
 ghost use Rattle.registry.specs.Step.{set_yanked, unyank_refusal, yank_of, yank_refusal};
 
 use crate::dependencies::{Dependencies, are_same};
 use crate::place::Place;
+use crate::span::{Span, next_span, part_of};
 use releases::{Matching, Release, Releases};
 use std::alloc::{AllocError, Global};
 use std::marker::Model;
@@ -27,24 +28,29 @@ use versions::{Need, Published, Refusal};
 const SHORT: usize = 8;
 
 /// The publications of a package, in order: its releases, and beside each what it depends on.
+//
+// What a walk looks at stands side by side, from the end of the releases on: in a large registry each look is a load from
+// memory.
 #[derive(Drop)]
 pub struct Publications {
-    releases: Releases,
     needs: Vec<Dependencies>,
     /// Whether each publication needs what the one before it does.
     repeats: Vec<bool>,
+    releases: Releases,
     /// Where the names and the requirements of them stand in the registry: those of one that needs what the one before it
     /// does are kept once.
     places: Vec<Place>,
-    /// Where the places of each begin and end.
-    spans: Vec<(u32, u32)>,
+    /// Where the places of each begin and end, and how many needs it has.
+    spans: Vec<Span>,
+    /// Whether all of them need the same.
+    is_alike: bool,
     /// Whether one of them is yanked.
     yanks: bool,
 }
 
 impl Model for Publications {
-    ghost use Rattle.std.specs.Prelude.{◌≡◌, ◌-◌, length, min, vec_capacity, vec_len};
-    ghost use Rattle.registry.specs.Publications.{PublicationList, parts_of, publications_of, any_yanked, AreAlike, EndWithin};
+    ghost use Rattle.std.specs.Prelude.{◌≡◌, ◌↔◌, ◌-◌, length, min, vec_capacity, vec_len, IsTrue};
+    ghost use Rattle.registry.specs.Publications.{PublicationList, parts_of, publications_of, any_yanked, AreAlike, AreCounted, AreSame, EndWithin};
 
     ghost Value = { PublicationList };
 
@@ -61,7 +67,9 @@ impl Model for Publications {
         × AreAlike p.repeats.items p.needs.items
         × (p.yanks ≡ any_yanked p.releases.releases)
         × (length p.spans.items ≡ length p.needs.items)
-        × EndWithin (length p.places.items) p.spans.items };
+        × EndWithin (length p.places.items) p.spans.items
+        × AreCounted p.spans.items p.needs.items
+        × (IsTrue p.is_alike ↔ AreSame p.needs.items) };
 }
 
 impl Publications {
@@ -70,11 +78,12 @@ impl Publications {
         ensures { result.publications ≡ [] }
     {
         Publications {
-            releases: Releases::new(alloc),
             needs: Vec::new(alloc),
             repeats: Vec::new(alloc),
+            releases: Releases::new(alloc),
             places: Vec::new(alloc),
             spans: Vec::new(alloc),
+            is_alike: true,
             yanks: false,
         }
     }
@@ -83,7 +92,7 @@ impl Publications {
     pub fn len(&self) -> usize
         ensures { result ≡ length self.now.publications }
     {
-        self.needs.len()
+        self.spans.len()
     }
 
     /// The release with this ordinal, and what it depends on.
@@ -106,6 +115,24 @@ impl Publications {
             × (needs_or_none (slice_get self.now.publications k) ≡ needs_or_none (slice_get self.now.publications j))) }
     {
         &self.repeats
+    }
+
+    /// Whether all of them need the same.
+    pub fn is_alike(&self) -> bool
+        ensures { IsTrue result ↔ ((k j : ℕ) → j + 1 ≡ k → k < length self.now.publications
+            → needs_or_none (slice_get self.now.publications k) ≡ needs_or_none (slice_get self.now.publications j)) }
+    {
+        self.is_alike
+    }
+
+    /// How many needs the one with this ordinal has; none where it is not published.
+    pub fn needs_count(&self, ordinal: u32) -> usize
+        ensures { result ≡ length (needs_or_none (slice_get self.now.publications ordinal)) }
+    {
+        match self.spans.get(ordinal as usize) {
+            None => 0,
+            Some(span) => span.needs,
+        }
     }
 
     /// Whether one of them is yanked.
@@ -259,7 +286,9 @@ impl Publications {
             → ArePlaced names named self.old → ArePlaced names named self.new }
     {
         let repeats = end_with(&self.needs, &needs);
-        let span = next_span(&mut self.places, &self.spans, repeats, places);
+        let count = needs.needs().len();
+        let span = next_span(&mut self.places, &self.spans, repeats, places, count);
+        self.is_alike = stay_alike(self.is_alike, &self.needs, repeats);
         self.repeats.push(repeats).unwrap();
         self.spans.push(span).unwrap();
         self.releases.push(version);
@@ -308,47 +337,13 @@ fn end_with(needs: &[Dependencies], next: &Dependencies) -> bool
     }
 }
 
-/// A part of the places.
-fn part_of(places: &[Place], span: (u32, u32)) -> &[Place]
-    requires { span.1 ≤ length places.now }
-    ensures { result.now ≡ slice_range places.now span.0 span.1 }
+/// Whether these needs and the next ones are all the same, where it is known whether these are, and whether the last of
+/// them are the same as the next ones.
+fn stay_alike(are_alike: bool, needs: &[Dependencies], repeats: bool) -> bool
+    ensures { (next : List (Text × Text)) → IsTrue are_alike ↔ AreSame needs.now → IsTrue repeats ↔ EndsWith needs.now next
+        → IsTrue result ↔ AreSame (needs.now ++ next ∷ []) }
 {
-    match places.get(span.0 as usize..span.1 as usize) {
-        Some(part) => part,
-        None => &[],
-    }
-}
-
-/// Puts places at the end, and answers where they begin and end. Where there is no room, none are kept.
-fn add_places(all: &mut Vec<Place>, places: &[Place]) -> (u32, u32)
-    ensures grown { (more : List Place) × (all.new.items ≡ all.old.items ++ more) }
-    ensures within { result.1 ≤ length all.new.items }
-    ensures part { (slice_range all.new.items result.0 result.1 ≡ places.now) ⊎ (slice_range all.new.items result.0 result.1 ≡ []) }
-{
-    let from = all.len();
-    if all.extend_from_slice(places).is_err() || all.len() > u32::MAX as usize {
-        return (0, 0);
-    }
-    (from as u32, all.len() as u32)
-}
-
-/// Where the places of the next one begin and end: where those of the last do if it needs the same, else at the end.
-fn next_span(
-    all: &mut Vec<Place>,
-    spans: &[(u32, u32)],
-    repeats: bool,
-    places: &[Place],
-) -> (u32, u32)
-    requires { EndWithin (length all.old.items) spans.now }
-    ensures grown { (more : List Place) × (all.new.items ≡ all.old.items ++ more) }
-    ensures within { result.1 ≤ length all.new.items }
-    ensures part { (slice_range all.new.items result.0 result.1 ≡ places.now) ⊎ (slice_range all.new.items result.0 result.1 ≡ [])
-        ⊎ (IsTrue repeats × (j : ℕ) × (j + 1 ≡ length spans.now) × (slice_get spans.now j ≡ Some result)) }
-{
-    match spans {
-        [.., last] if repeats => *last,
-        _ => add_places(all, places),
-    }
+    are_alike && (repeats || needs.is_empty())
 }
 
 /// Whether one of the releases is yanked.

@@ -207,6 +207,27 @@ impl Registry {
         }
     }
 
+    /// Whether all versions of a package depend on the same, by a look at a note.
+    pub fn is_alike(&self, pkg: Pkg) -> bool
+        ensures { IsTrue result ↔ ((k j : ℕ) → j + 1 ≡ k → k < length (versions_or_none (package_at self.now.packages pkg))
+            → needs_of self.now.packages pkg k ≡ needs_of self.now.packages pkg j) }
+    {
+        match self.publications_at(pkg) {
+            None => true,
+            Some(publications) => publications.is_alike(),
+        }
+    }
+
+    /// How many packages a version depends on, by a look at a note; none where it is not published.
+    pub fn needs_count(&self, pkg: Pkg, ordinal: u32) -> usize
+        ensures { result ≡ length (needs_of self.now.packages pkg ordinal) }
+    {
+        match self.publications_at(pkg) {
+            None => 0,
+            Some(publications) => publications.needs_count(ordinal),
+        }
+    }
+
     /// Whether some version of a package is yanked, by a look at a note. Else each is allowed to every
     /// request.
     pub fn has_yanks(&self, pkg: Pkg) -> bool

@@ -28,16 +28,18 @@ use versions::{
 ///
 /// Contracts speak of the list of releases, of the requirements that are named, and of the room: how
 /// many more releases can come in without memory. It keeps the allocator that it was made with.
+//
+// What a walk looks at stands at the end, side by side: in a large registry each look is a load from memory.
 #[derive(Drop)]
 pub struct Releases {
     releases: Vec<Release>,
-    rising: Vec<u32>,
     needs: IndexSet<Need>,
-    sets: Vec<GrowingSet>,
     bounds: Vec<Bounds>,
     /// Whether none has a pre-release.
     is_plain: bool,
     alloc: Global,
+    rising: Vec<u32>,
+    sets: Vec<GrowingSet>,
 }
 
 impl Model for Releases {
@@ -63,12 +65,12 @@ impl Releases {
     {
         Releases {
             releases: Vec::new(alloc),
-            rising: Vec::new(alloc),
             needs: IndexSet::new(alloc),
-            sets: Vec::new(alloc),
             bounds: Vec::new(alloc),
             is_plain: true,
             alloc,
+            rising: Vec::new(alloc),
+            sets: Vec::new(alloc),
         }
     }
 

@@ -51,6 +51,12 @@ take_one xs i x at = let s : i + 1 ≡ suc i = omega arith in ap (λ n. take n x
 
 -- ---- versions that depend alike
 
+-- where each version needs what the one before it does, each needs what the first does
+pub all_alike : (packages : Packages) (p : ℕ) → ((k j : ℕ) → j + 1 ≡ k → k < length (versions_or_none (package_at packages p)) → needs_of packages p k ≡ needs_of packages p j)
+    → (k : ℕ) → k < length (versions_or_none (package_at packages p)) → needs_of packages p k ≡ needs_of packages p 0
+all_alike packages p alike zero lt = refl
+all_alike packages p alike (suc j) lt = alike (suc j) j (omega arith) lt ∙ all_alike packages p alike j (omega (arith, lt))
+
 pub published_within : (packages : Packages) (p k : ℕ) → is_published packages p k ≡ true → k < length (versions_or_none (package_at packages p))
 unfolding publication_at
 published_within packages p k e = by (package_at packages p) e

@@ -1,10 +1,10 @@
 -- The preferred version, as it is found; and that there is one preferred selection, which is what follows the preferred versions and meets the request.
-use Rattle.std.proofs.Common.{◌≡◌, ◌<◌, ◌+◌, ◌∙◌, ℕ, zero, suc, refl, sym, ap, subst, arith, Bool, true, false, true≢false, not, ◌&&◌, ◌||◌, cond, List, [], ◌∷◌, length, filter, inl, inr}
-use Rattle.std.proofs.lemmas.Bool.{cases_Bool, and_parts}
+use Rattle.std.proofs.Common.{Bor, ◌≡◌, ◌<◌, ◌+◌, ◌∙◌, ℕ, zero, suc, refl, sym, ap, subst, arith, Bool, true, false, true≢false, not, ◌&&◌, ◌||◌, cond, List, [], ◌∷◌, length, filter, inl, inr}
+use Rattle.std.proofs.lemmas.Bool.{cases_Bool, and_parts, or_parts}
 use Rattle.std.proofs.lemmas.Option.{none-some, same_Some, slice_get_within}
 use Rattle.std.specs.Prelude.{Option, IfNone, IfSome, None, Some, find, slice_get}
 use Rattle.std.specs.List.{enumerate_from, list_all}
-use Rattle.std.specs.Option.{option_and_then, option_map, option_or}
+use Rattle.std.specs.Option.{is_some, option_and_then, option_copied, option_map, option_or}
 use Rattle.std.specs.Ordering.{is_lt}
 use Rattle.std.specs.declared.cmp.Ordering.{Ordering}
 use Rattle.std.specs.declared.cmp.Ordering.TheVariants.{Less, Equal, Greater}
@@ -12,7 +12,7 @@ use Rattle.versions.specs.Words.{Text, precedence, same_precedence}
 use Rattle.registry.specs.Laws.{HighestIsOne, OnePreferredSelection}
 use Rattle.registry.specs.Lawful.{IsRegistry}
 use Rattle.registry.specs.Preference.{IsPreferredSelection, admits, candidates, highest_candidate, is_candidate, locked_candidate, meets_needs, preferred, preferred_in}
-use Rattle.registry.specs.Registry.{Package, Packages, Publication, equals_at, package_at, publication_at, publication_equals, versions_or_none}
+use Rattle.registry.specs.Registry.{Package, Packages, Publication, equals_at, has_yank, package_at, publication_at, publication_equals, versions_or_none}
 use Rattle.registry.specs.Requests.{Wanted, is_locked, locks}
 use Rattle.registry.specs.Selections.{Choices, Meets}
 use Rattle.walk.specs.Choosing.{Follows}
@@ -80,6 +80,26 @@ module _ {A : Type 0} where
 pub IfNone_then : {X P Q : Type 0} (o : Option X) → IfNone o P → (P → Q) → IfNone o Q
 IfNone_then None h f = f h
 IfNone_then (Some x) h f = tt
+
+-- where nothing is asked of a package of which nothing is yanked, each of its versions is open
+open_in : (versions : List Publication) (k : ℕ) → has_yank versions ≡ false → k < length versions → is_open_at None None (slice_get versions k) ≡ true
+open_in [] k none lt = absurd (omega (arith, lt))
+open_in (v ∷ versions) zero none lt = ap (λ b. (not b || false) && true) (or_parts v.yanked (has_yank versions) none).0
+open_in (v ∷ versions) (suc k) none lt = open_in versions k (or_parts v.yanked (has_yank versions) none).1 (omega (arith, lt))
+
+pub all_open : (packages : Packages) (p k : ℕ) → has_yank (versions_or_none (package_at packages p)) ≡ false → k < length (versions_or_none (package_at packages p))
+    → is_open_at None None (publication_at packages p k) ≡ true
+unfolding publication_at
+all_open packages p k none lt = by (package_at packages p) none lt
+  where
+    by : (o : Option Package) → has_yank (versions_or_none o) ≡ false → k < length (versions_or_none o)
+        → is_open_at None None (option_and_then (λ (pack : Package). slice_get pack.versions k) o) ≡ true
+    by None none lt = absurd (omega (arith, lt))
+    by (Some pack) none lt = open_in pack.versions k none lt
+
+pub copied_none : {T : Type 0} (o : Option (Bor T)) → is_some o ≡ false → option_copied o ≡ None
+copied_none None none = refl
+copied_none (Some x) none = absurd (true≢false none)
 
 pub none_left : {X P : Type 0} (o : Option X) → P → IfNone o P
 none_left None p = p

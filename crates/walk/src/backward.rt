@@ -9,7 +9,6 @@ ghost use Rattle.walk.specs.Best.{Holds, IsGrown, IsOut};
 
 use crate::choosing::Choosing;
 use crate::dependents::Line;
-use crate::listing::needs_count;
 use crate::meeting::are_alike;
 use registry::{Pkg, Registry};
 use std::alloc::{AllocError, Global};
@@ -71,7 +70,7 @@ impl Choosing {
             return Ok(true);
         }
         let (version, index) = (line.version, line.index);
-        if index >= needs_count(registry, version) {
+        if index >= registry.needs_count(version.0, version.1) {
             return Ok(true);
         }
         let places = registry.places(version.0, version.1);

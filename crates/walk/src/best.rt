@@ -10,9 +10,8 @@ ghost use Rattle.walk.specs.Left.{term_of};
 ghost use Rattle.walk.specs.Walks.{ArePlaces};
 
 use crate::choosing::Choosing;
+use crate::dependency::{dependency_at, low_dependency};
 use crate::left::{Left, is_apart};
-use crate::listing::needs_count;
-use crate::low_dependency::{dependency_at, low_dependency};
 use crate::preferred::locked_ordinal;
 use registry::{Pkg, Place, Registry, Request};
 use terms::LowSet;
@@ -72,7 +71,7 @@ impl Choosing {
         ensures { result ≡ true → IsOut registry.now.packages request.now self.now.found.entries version.0 version.1 }
     {
         let places = registry.places(version.0, version.1);
-        let count = needs_count(registry, version);
+        let count = registry.needs_count(version.0, version.1);
         for index in 0..count {
             if self.is_at_odds_by(registry, version, places, index) {
                 return true;

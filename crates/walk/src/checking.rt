@@ -8,7 +8,6 @@ ghost use Rattle.walk.specs.Choosing.{choice_of};
 ghost use Rattle.walk.specs.Walks.{AreAllChecked, AreMet, ArePlaces, IsChecked, IsMetAt, MeetsNamed};
 
 use crate::choice_map::ChoiceMap;
-use crate::listing::needs_count;
 use crate::walking::{is_allowed, meets};
 use registry::{Matching, Pkg, Place, Registry, Request};
 use std::alloc::AllocError;
@@ -113,7 +112,7 @@ fn are_dependencies_met(
     ensures { IfOk result (λ met. met ≡ true → AreMet registry.now.packages (choice_of found.now.entries) (needs_of registry.now.packages version.0 version.1)) }
 {
     let places = registry.places(version.0, version.1);
-    let count = needs_count(registry, version);
+    let count = registry.needs_count(version.0, version.1);
     for index in 0..count {
         if !is_dependency_met(registry, found, version, places, index)? {
             return Ok(false);

@@ -3,7 +3,7 @@
 // Nothing rests on what is listed here: a version is taken away only where what it depends on is looked up, and
 // nothing that is left meets it.
 
-use crate::low_dependency::low_set_at;
+use crate::dependency::low_set_at;
 use crate::package_table::PackageTable;
 use registry::{Pkg, Place, Registry};
 use std::alloc::{AllocError, Global};

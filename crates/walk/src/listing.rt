@@ -180,7 +180,7 @@ pub(crate) fn pass_dependencies<C: Chooser>(
     ensures next { IfOk result (λ next. IfSome next (IsNext registry.now.packages request.now.needs (C.chooses chooser.now) found.new.entries)) }
 {
     let version = entry_at(found, place);
-    let count = needs_count(registry, version);
+    let count = registry.needs_count(version.0, version.1);
     for index in 0..count {
         if let Some(pkg) = pass_dependency(registry, chooser, version, index, found)? {
             let asker = Asker::Version(version.0, version.1);
@@ -188,16 +188,6 @@ pub(crate) fn pass_dependencies<C: Chooser>(
         }
     }
     Ok(None)
-}
-
-/// How many dependencies a version has; none if it is not published.
-pub(crate) fn needs_count(registry: &Registry, version: (Pkg, u32)) -> usize
-    ensures { result ≡ length (needs_of registry.now.packages version.0 version.1) }
-{
-    match registry.facts_at(version.0, version.1) {
-        None => 0,
-        Some(facts) => facts.needs.len(),
-    }
 }
 
 /// The package that was found at a place, with its version's ordinal.

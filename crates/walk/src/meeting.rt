@@ -11,8 +11,8 @@ ghost use Rattle.walk.specs.Newest.{in_name_order};
 ghost use Rattle.walk.specs.Walks.{ArePlaces};
 
 use crate::choosing::Choosing;
-use crate::listing::{needs_count, places_in_order};
-use crate::low_dependency::{dependency_at, low_dependency, target_at};
+use crate::dependency::{dependency_at, low_dependency, target_at};
+use crate::listing::places_in_order;
 use registry::{Pkg, Place, Registry, Request};
 use std::alloc::{AllocError, Global};
 
@@ -20,13 +20,7 @@ use std::alloc::{AllocError, Global};
 pub(crate) fn are_alike(registry: &Registry, pkg: Pkg) -> bool
     ensures { result ≡ true → AreAlike registry.now.packages pkg }
 {
-    let repeats = registry.repeats(pkg);
-    for at in 1..repeats.len() {
-        if !repeats[at] {
-            return false;
-        }
-    }
-    true
+    registry.is_alike(pkg)
 }
 
 impl Choosing {
@@ -56,7 +50,7 @@ impl Choosing {
         ensures grown { OnOk result (IsGrown self.old self.new) }
     {
         let places = registry.places(version.0, version.1);
-        let count = needs_count(registry, version);
+        let count = registry.needs_count(version.0, version.1);
         for index in 0..count {
             if !self.meet_at(alloc, registry, version, places, index, is_chosen, is_met)? {
                 return Ok(false);

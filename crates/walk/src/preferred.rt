@@ -109,6 +109,10 @@ fn highest_open(
     ensures some { IfSome result (Highest registry.now.packages pkg (is_open_at (option_copied need.entry) (option_copied locked.entry))) }
     ensures none { IfNone result (Fails registry.now.packages pkg (is_open_at (option_copied need.entry) (option_copied locked.entry))) }
 {
+    if need.is_none() && locked.is_none() && !registry.has_yanks(pkg) {
+        // Each is open, so none is looked at.
+        return registry.highest_where(pkg, |_ordinal| true);
+    }
     registry.highest_where(pkg, |ordinal| is_open(registry, pkg, ordinal, need, locked))
 }
 

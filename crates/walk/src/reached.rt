@@ -1,6 +1,6 @@
 //! What a walk answers.
 
-ghost use Rattle.std.specs.Prelude.{◌≡◌};
+ghost use Rattle.std.specs.Prelude.{◌≡◌, length};
 ghost use Rattle.walk.specs.Walks.{AreAskedAt, asked_by};
 
 use registry::{Pkg, Place, Registry, Request};
@@ -24,6 +24,16 @@ impl Asker {
                 None => &[],
                 Some(facts) => facts.needs,
             },
+        }
+    }
+
+    /// How much is asked; nothing by a version that is not published.
+    pub(crate) fn needs_count(self, registry: &Registry, request: &Request) -> usize
+        ensures { result ≡ length (asked_by registry.now.packages request.now self) }
+    {
+        match self {
+            Asker::Request => request.needs().len(),
+            Asker::Version(pkg, ordinal) => registry.needs_count(pkg, ordinal),
         }
     }
 

@@ -11,7 +11,7 @@ ghost use Rattle.walk.specs.Walks.{asked_by, AreAskedAt, AreMet, ArePlaces, Come
 
 use crate::choice_map::{ChoiceMap, WALK_ROOM};
 use crate::chooser::Chooser;
-use crate::low_dependency::{dependency_at, low_dependency};
+use crate::dependency::{dependency_at, low_dependency};
 use crate::reached::{Asker, Reached};
 use registry::{Pkg, Place, Registry, Request, allowed_is_published};
 use std::alloc::{AllocError, Global};
@@ -164,7 +164,7 @@ fn follow_all<C: Chooser>(
     ensures unmet { IfOk result (λ at. IfSome at (IsUnmetOf registry.now.packages request.now (C.chooses chooser.now) asker)) }
 {
     let places = asker.places(registry);
-    let count = asker.needs(registry, request).len();
+    let count = asker.needs_count(registry, request);
     for index in 0..count {
         if !follow_at(registry, request, chooser, asker, places, index, found)? {
             return Ok(Some(index));

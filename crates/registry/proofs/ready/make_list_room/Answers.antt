@@ -2,7 +2,7 @@ use Rattle.std.proofs.Common.{◌<◌, sym, subst, rules, length, set}
 use Rattle.registry.proofs.GrowthLemmas.{lists_of-set_same, room-grown}
 use Rattle.registry.specs.Publications.{rooms_of}
 use Rattle.registry.specs.Rooms.{room_where}
-use Rattle.registry.proofs.PlaceLemmas.{extends-none, extends-set}
+use Rattle.registry.proofs.PlaceLemmas.{extends-set}
 use Rattle.registry.proofs.ready.make_list_room.Goals as goal
 
 pub returns-in_err-reserve-in-Some-clause-lists : goal.returns-in_err-reserve-in-Some-clause-lists

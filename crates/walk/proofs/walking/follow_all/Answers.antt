@@ -1,4 +1,4 @@
-use Rattle.std.proofs.Common.{◌≤◌, ap, arith, length, [], inl, sym}
+use Rattle.std.proofs.Common.{◌≤◌, arith, length, [], inl, sym}
 use Rattle.std.proofs.lemmas.List.{append-nil}
 use Rattle.std.proofs.lemmas.Result.{IfOk-from_err}
 use Rattle.walk.specs.Choosing.{choice_of}
@@ -8,7 +8,7 @@ use Rattle.walk.proofs.Steps.{come_more, met_all, met_more}
 use Rattle.walk.proofs.walking.follow_all.Goals as goal
 
 pub follow_at-requires-clause-within : goal.follow_at-requires-clause-within
-follow_at-requires-clause-within g c = omega (arith, ap length c.needs-count.ensures, c.loop-index-test.true)
+follow_at-requires-clause-within g c = omega (arith, c.needs_count-count.ensures, c.loop-index-test.true)
 
 pub returns-then-not-branch-clause-come : goal.returns-then-not-branch-clause-come
 returns-then-not-branch-clause-come g c =
@@ -35,7 +35,7 @@ pub returns-clause-met : goal.returns-clause-met
 returns-clause-met g c =
     let packages = c.args.registry.now.packages in
     let needs = asked_by packages c.args.request.now c.args.asker in
-    let all : length needs ≤ c.loop-index.index = omega (arith, ap length c.needs-count.ensures, c.loop-index-test.false) in
+    let all : length needs ≤ c.loop-index.index = omega (arith, c.needs_count-count.ensures, c.loop-index-test.false) in
     met_all packages (choice_of c.loop-index.found.entries) needs c.loop-index.index all c.loop-index.invariant.met
 
 pub loop-index-init : goal.loop-index-init

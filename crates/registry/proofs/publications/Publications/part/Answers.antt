@@ -1,7 +1,7 @@
 use Rattle.std.proofs.Common.{◌<◌, ◌∙◌, [], ap, arith, get_or, length, rules, sym}
 use Rattle.std.specs.Prelude.{slice_range}
 use Rattle.registry.specs.Publications.{PublicationList}
-use Rattle.registry.proofs.PlaceLemmas.{part-past, part-read, within-read}
+use Rattle.registry.proofs.PlaceLemmas.{part-read, within-read}
 use Rattle.registry.proofs.PublicationLemmas.{length-publications_of}
 use Rattle.registry.proofs.publications.Publications.part.Goals as goal
 
@@ -14,7 +14,7 @@ part_of-requires c =
 pub returns-clause-kept : goal.returns-clause-kept
 returns-clause-kept c =
     let lt : c.args.index < length c.self.inside.spans.items = search rules in
-    c.part_of.ensures ∙ ap (λ l. slice_range l c.index.result.now.0 c.index.result.now.1) c.deref.ensures.value
+    c.part_of.ensures ∙ ap (λ l. slice_range l c.index.result.now.from c.index.result.now.to) c.deref.ensures.value
     ∙ sym (part-read c.self.inside.places.items c.self.inside.spans.items c.args.index c.index.result.now lt c.index.ensures)
     ∙ ap (λ (l : PublicationList). get_or l.places c.args.index []) c.self.view_is
 

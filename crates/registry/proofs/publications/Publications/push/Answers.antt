@@ -1,15 +1,16 @@
-use Rattle.std.proofs.Common.{◌≡◌, ◌∙◌, ◌++◌, ◌∷◌, [], List, ℕ, inl, inr, ap, arith, false, length, length-append, subst, sym}
-use Rattle.std.specs.Prelude.{Some, slice_get, slice_range}
+use Rattle.std.proofs.Common.{◌≡◌, ◌∙◌, ◌++◌, ◌∷◌, [], List, inl, inr, ap, arith, false, length, length-append, subst, sym}
+use Rattle.std.specs.Prelude.{◌↔◌, IsTrue, Some, slice_get, slice_range}
 use Rattle.std.proofs.lemmas.List.{length-map}
 use Rattle.std.proofs.lemmas.Option.{none-some}
 use Rattle.versions.specs.Words.{Text}
 use Rattle.std.proofs.lemmas.List.{length_push}
 use Rattle.releases.specs.declared.release.Release.{Release}
 use Rattle.registry.specs.Places.{ArePlaced, ArePlacesOf, StandBeside}
-use Rattle.registry.specs.Publications.{PublicationList, any_yanked, parts_of, publications_of, AreAlike, EndWithin}
+use Rattle.registry.specs.Publications.{PublicationList, any_yanked, parts_of, publications_of, AreAlike, AreCounted, AreSame, EndWithin, EndsWith}
 use Rattle.registry.specs.declared.place.Place.{Place}
+use Rattle.registry.specs.declared.span.Span.{Span}
 use Rattle.registry.specs.Registry.{Publication, has_version}
-use Rattle.registry.proofs.Alike.{alike-next}
+use Rattle.registry.proofs.Alike.{alike-next, counted-next}
 use Rattle.registry.proofs.PlaceLemmas.{beside-needs, beside-push, part-at, parts-push, slice-longer, within-at, within-push}
 use Rattle.registry.proofs.PublicationLemmas.{has_version-releases, length-publications_of, publications_of-push}
 use Rattle.registry.proofs.Yanks.{yanked-more}
@@ -32,7 +33,7 @@ published c =
 
 -- the places of the next one stand behind
 placed : (c : After-unwrap-3) → parts_of c.next_span-span.new.all.items c.push-2.new.self.items
-    ≡ parts c ++ slice_range c.next_span-span.new.all.items c.next_span-span.result.0 c.next_span-span.result.1 ∷ []
+    ≡ parts c ++ slice_range c.next_span-span.new.all.items c.next_span-span.result.from c.next_span-span.result.to ∷ []
 placed c =
     let spans = rw c.unwrap-2.ensures at c.push-2.ensures.items in
     let old = c.self.inside.places.items in
@@ -41,12 +42,12 @@ placed c =
     ap (parts_of c.next_span-span.new.all.items) spans
     ∙ ap (λ l. parts_of l (c.self.inside.spans.items ++ span ∷ [])) c.next_span-span.ensures.grown.1
     ∙ parts-push old more c.self.inside.spans.items span c.self.invariant.4
-    ∙ sym (ap (λ (l : List Place). parts c ++ slice_range l span.0 span.1 ∷ []) c.next_span-span.ensures.grown.1)
+    ∙ sym (ap (λ (l : List Place). parts c ++ slice_range l span.from span.to ∷ []) c.next_span-span.ensures.grown.1)
 
 -- the places of the next one are right
 latest : (c : After-unwrap-3) (names : List Text) (named : List (List Text)) → ArePlacesOf names named c.args.needs c.args.places.now
     → StandBeside names named (publications_of c.self.inside.releases.releases c.self.inside.needs.items) (parts c)
-    → ArePlacesOf names named c.args.needs (slice_range c.next_span-span.new.all.items c.next_span-span.result.0 c.next_span-span.result.1)
+    → ArePlacesOf names named c.args.needs (slice_range c.next_span-span.new.all.items c.next_span-span.result.from c.next_span-span.result.to)
 latest c names named right old =
     let P : List Place → Type 0 = ArePlacesOf names named c.args.needs in
     elim c.next_span-span.ensures.part [
@@ -55,16 +56,19 @@ latest c names named right old =
         | inl none ↦ subst P (sym none) (λ j place at. absurd (none-some place at))
         | inr same ↦
             let spans = c.self.inside.spans.items in
+            let last : Span = same.2 in
             let ends = (rw c.deref.ensures.value at c.end_with-repeats.ensures).0 same.0 in
-            let at : slice_get spans same.1 ≡ Some c.next_span-span.result = rw c.deref-2.ensures.value at same.3 in
-            let place : same.1 ≡ ends.0 = omega (arith, same.2, ends.1, c.self.invariant.3, ap length c.deref-2.ensures.value) in
+            let at : slice_get spans same.1 ≡ Some last = rw c.deref-2.ensures.value at same.4 in
+            let place : same.1 ≡ ends.0 = omega (arith, same.3, ends.1, c.self.invariant.3, ap length c.deref-2.ensures.value) in
             let own : slice_get c.self.inside.needs.items same.1 ≡ Some c.args.needs = ap (slice_get c.self.inside.needs.items) place ∙ ends.2 in
-            let paired = length-map spans (λ (span : ℕ × ℕ). slice_range c.self.inside.places.items span.0 span.1) in
-            let within = within-at (length c.self.inside.places.items) spans same.1 c.next_span-span.result c.self.invariant.4 at in
-            let part = part-at c.self.inside.places.items spans same.1 c.next_span-span.result at in
-            let stays = slice-longer c.self.inside.places.items c.next_span-span.ensures.grown.0 c.next_span-span.result.0 c.next_span-span.result.1 within in
-            let now = ap (λ (l : List Place). slice_range l c.next_span-span.result.0 c.next_span-span.result.1) c.next_span-span.ensures.grown.1 in
-            subst P (part ∙ sym stays ∙ sym now)
+            let paired = length-map spans (λ (span : Span). slice_range c.self.inside.places.items span.from span.to) in
+            let within = within-at (length c.self.inside.places.items) spans same.1 last c.self.invariant.4 at in
+            let part = part-at c.self.inside.places.items spans same.1 last at in
+            let stays = slice-longer c.self.inside.places.items c.next_span-span.ensures.grown.0 last.from last.to within in
+            let now = ap (λ (l : List Place). slice_range l last.from last.to) c.next_span-span.ensures.grown.1 in
+            let ends-alike = ap (λ n. slice_range c.next_span-span.new.all.items n c.next_span-span.result.to) same.5
+            ∙ ap (λ n. slice_range c.next_span-span.new.all.items last.from n) same.6 in
+            subst P (part ∙ sym stays ∙ sym now ∙ sym ends-alike)
             (beside-needs names named c.self.inside.releases.releases c.self.inside.needs.items (parts c) same.1 c.args.needs c.self.invariant.0
             (omega (arith, paired, c.self.invariant.3)) own old)
       ]
@@ -92,7 +96,12 @@ invariant_of-self c =
     let more = ap length items in
     let spanned = ap length spans in
     let places = ap length c.next_span-span.ensures.grown.1 in
-    let released = ap length c.push-3.ensures.releases in (
+    let released = ap length c.push-3.ensures.releases in
+    let counted : c.next_span-span.result.needs ≡ length c.args.needs = c.next_span-span.ensures.counted ∙ ap length c.needs-count.ensures in
+    let stays : IsTrue old.is_alike ↔ AreSame old.needs.items → IsTrue c.end_with-repeats.result ↔ EndsWith old.needs.items c.args.needs
+    → IsTrue c.stay_alike-self-inside.result ↔ AreSame (old.needs.items ++ c.args.needs ∷ [])
+    = rw c.deref-3.ensures.value at c.stay_alike-self-inside.ensures c.args.needs in
+    let alike = stays c.self.invariant.6 ends in (
       omega (arith, more, released, length_push old.needs.items c.args.needs, length_push old.releases.releases added, c.self.invariant.0),
       subst (λ m. AreAlike m c.push-4.new.self.items) (sym marks)
           (subst (AreAlike (old.repeats.items ++ c.end_with-repeats.result ∷ [])) (sym items)
@@ -102,6 +111,10 @@ invariant_of-self c =
       subst (EndWithin (length c.next_span-span.new.all.items)) (sym spans)
           (within-push (length old.places.items) (length c.next_span-span.new.all.items) old.spans.items c.next_span-span.result
           (omega (arith, places, length-append old.places.items c.next_span-span.ensures.grown.0)) c.next_span-span.ensures.within c.self.invariant.4),
+      subst (λ l. AreCounted l c.push-4.new.self.items) (sym spans)
+          (subst (AreCounted (old.spans.items ++ c.next_span-span.result ∷ [])) (sym items)
+          (counted-next old.spans.items old.needs.items c.next_span-span.result c.args.needs c.self.invariant.5 counted)),
+      subst (λ l. IsTrue c.stay_alike-self-inside.result ↔ AreSame l) (sym items) alike,
     )
 
 pub returns-clause-publications : goal.returns-clause-publications
@@ -115,7 +128,7 @@ returns-clause-placed c = λ names named right before.
     let old : StandBeside names named (publications_of c.self.inside.releases.releases c.self.inside.needs.items) (parts c)
     = subst (λ (l : PublicationList). ArePlaced names named l) (sym c.self.view_is) before in
     let count = length-publications_of c.self.inside.releases.releases c.self.inside.needs.items c.self.invariant.0 in
-    let paired : length (parts c) ≡ length (publications_of c.self.inside.releases.releases c.self.inside.needs.items) = omega (arith, count, c.self.invariant.0, c.self.invariant.3, length-map c.self.inside.spans.items (λ (span : ℕ × ℕ). slice_range c.self.inside.places.items span.0 span.1)) in
+    let paired : length (parts c) ≡ length (publications_of c.self.inside.releases.releases c.self.inside.needs.items) = omega (arith, count, c.self.invariant.0, c.self.invariant.3, length-map c.self.inside.spans.items (λ (span : Span). slice_range c.self.inside.places.items span.from span.to)) in
     subst (λ l. StandBeside names named l (parts_of c.next_span-span.new.all.items c.push-2.new.self.items)) (sym (published c))
     (subst (StandBeside names named (publications_of c.self.inside.releases.releases c.self.inside.needs.items ++ next c ∷ [])) (sym (placed c))
     (beside-push names named (publications_of c.self.inside.releases.releases c.self.inside.needs.items) (parts c) (next c) _ paired (latest c names named right old) old))

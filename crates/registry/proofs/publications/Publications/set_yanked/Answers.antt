@@ -17,6 +17,8 @@ invariant_of-self c = (
       (omega (arith, c.in-Some.ensures.found.0, length-map c.self.inside.releases.releases (λ (r : Release). r.version)))),
   c.self.invariant.3,
   c.self.invariant.4,
+  c.self.invariant.5,
+  c.self.invariant.6,
 )
 
 pub invariant_of-self-else-yanked : goal.invariant_of-self-else-yanked
@@ -26,6 +28,8 @@ invariant_of-self-else-yanked c = (
   c.any_yanked-self-inside.ensures ∙ ap any_yanked c.as_slice.ensures,
   c.self.invariant.3,
   c.self.invariant.4,
+  c.self.invariant.5,
+  c.self.invariant.6,
 )
 
 pub returns-in_default-clause-publications : goal.returns-in_default-clause-publications

@@ -1,7 +1,7 @@
 use Rattle.std.proofs.Common.{◌≡◌, ◌<◌, length, nat_lt, refl, rules, sym, true}
 use Rattle.std.proofs.lemmas.Option.{slice_get_read}
 use Rattle.walk.proofs.Lows.{place_names}
-use Rattle.walk.proofs.low_dependency.target_at.Goals as goal
+use Rattle.walk.proofs.dependency.target_at.Goals as goal
 
 pub returns-in-Some : goal.returns-in-Some
 returns-in-Some c =

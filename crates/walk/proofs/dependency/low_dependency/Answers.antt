@@ -1,6 +1,6 @@
 use Rattle.std.proofs.Common.{◌≡◌, ◌<◌, length, nat_lt, refl, rules, sym, true}
 use Rattle.std.proofs.lemmas.Option.{slice_get_read}
-use Rattle.walk.proofs.low_dependency.low_dependency.Goals as goal
+use Rattle.walk.proofs.dependency.low_dependency.Goals as goal
 
 pub returns : goal.returns
 returns c =

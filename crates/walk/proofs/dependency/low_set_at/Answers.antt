@@ -2,7 +2,7 @@ use Rattle.std.proofs.Common.{◌∙◌, ap, ℕ, List}
 use Rattle.std.proofs.lemmas.Option.{IfSome_then}
 use Rattle.terms.specs.Sets.{has}
 use Rattle.walk.proofs.Lows.{low_is_dependency}
-use Rattle.walk.proofs.low_dependency.low_set_at.Goals as goal
+use Rattle.walk.proofs.dependency.low_set_at.Goals as goal
 
 pub returns : goal.returns
 returns c =

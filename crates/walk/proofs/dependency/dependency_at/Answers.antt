@@ -2,7 +2,7 @@ use Rattle.std.proofs.Common.{◌≡◌, ◌<◌, length, nat_lt, refl, rules, s
 use Rattle.std.proofs.lemmas.Option.{slice_get_read}
 use Rattle.releases.specs.Matching.{ordinals_of}
 use Rattle.walk.proofs.Lows.{low_is_dependency}
-use Rattle.walk.proofs.low_dependency.dependency_at.Goals as goal
+use Rattle.walk.proofs.dependency.dependency_at.Goals as goal
 
 pub returns-in-Some-matching_named : goal.returns-in-Some-matching_named
 returns-in-Some-matching_named c =
