@@ -8,9 +8,12 @@ use crate::outcomes::{budget_at, offered, options_at, put_outcome};
 use derivations::{Learnt, check};
 use heuristics::Question;
 use registry::{Registry, Request};
-use rows::{AnswerText, CallResult, Shows, Unread, request_at, shown};
+use rows::{AnswerText, CallResult, Shows, Unread, request_at, shown, whole_at};
 use serde_json::Value;
-use solver::{Options, Outcome, Workspace, solve, solve_by, solve_in, solve_with, solve_within};
+use solver::{
+    Options, Outcome, Workspace, solve, solve_at_first, solve_by, solve_in, solve_with,
+    solve_within,
+};
 use std::alloc::Global;
 use store::Store;
 use versions::Refusal;
@@ -40,6 +43,10 @@ fn answered(
     }
     if name == "solve_in" {
         return solved_again(alloc, registry, request, options_at(row)?);
+    }
+    if name == "solve_at_first" {
+        let conflicts = whole_at(row, "conflicts")?;
+        return solved_at_first(alloc, registry, request, options_at(row)?, conflicts);
     }
     if name == "solve_by" {
         return solved_by(alloc, registry, request, options_at(row)?, lie_at(row)?);
@@ -124,6 +131,30 @@ fn solved_again(
     let store = Store::new(alloc);
     let mut workspace = Workspace::new(alloc);
     let outcome = asked_twice(alloc, registry, request, &store, options, &mut workspace);
+    drop(workspace);
+    drop(store);
+    conclusions_told(alloc, outcome?)
+}
+
+/// As [`solved_with`], at first: with few conflicts.
+fn solved_at_first(
+    alloc: Global,
+    registry: &Registry,
+    request: &Request,
+    options: Options,
+    conflicts: u32,
+) -> Result<CallResult, Unread> {
+    let store = Store::new(alloc);
+    let mut workspace = Workspace::new(alloc);
+    let outcome = solve_at_first(
+        alloc,
+        registry,
+        request,
+        &store,
+        options,
+        conflicts,
+        &mut workspace,
+    );
     drop(workspace);
     drop(store);
     conclusions_told(alloc, outcome?)

@@ -7,7 +7,7 @@ ghost use Rattle.pool.specs.Answering.{IsAnswerTo};
 use crate::query::{Answered, Query};
 use crate::work::{Finder, RequestWithOptions, SolveResult, answer};
 use registry::Registry;
-use solver::{Options, Outcome, Workspace, solve_in};
+use solver::{Outcome, Workspace, solve_at_first};
 use std::alloc::Global;
 use store::Store;
 use versions::Refusal;
@@ -105,12 +105,15 @@ pub fn try_answer(
     {
         return Some(answer(alloc, registry, store, asked, workspace));
     }
-    let few = Options {
-        budget: Some(CONFLICTS_WITHOUT_THREADS),
-        explain: options.explain,
-        newest: options.newest,
-    };
-    match solve_in(alloc, registry, request, store, few, workspace) {
+    match solve_at_first(
+        alloc,
+        registry,
+        request,
+        store,
+        *options,
+        CONFLICTS_WITHOUT_THREADS,
+        workspace,
+    ) {
         Ok(outcome) => Some(Ok(outcome)),
         Err(Refusal::NoMemory) => Some(Err(Refusal::NoMemory)),
         Err(_) => None,

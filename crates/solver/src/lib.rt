@@ -69,4 +69,6 @@ mod worklist;
 pub use engine::Workspace;
 pub use laws::there_is_one_newest_list;
 pub use oracle::{EngineOracle, Oracle};
-pub use solving::{Options, Outcome, solve, solve_by, solve_in, solve_with, solve_within};
+pub use solving::{
+    Options, Outcome, solve, solve_at_first, solve_by, solve_in, solve_with, solve_within,
+};

@@ -241,11 +241,11 @@ fn search_alone(
 }
 
 /// The newest selection, where it is asked for and chosen by propagation. Nothing is learnt then, and no conflict is
-/// counted: so a request with a budget is not answered by it.
-fn found_by_propagation(task: &Task<'_>) -> Result<Option<Found>, AllocError>
+/// counted: so a request that names a budget is not answered by it.
+fn found_by_propagation(task: &Task<'_>, has_budget: bool) -> Result<Option<Found>, AllocError>
     ensures { IfOk result (IsValidated task.now) }
 {
-    if task.budget.is_some() {
+    if has_budget {
         return Ok(None);
     }
     match choose_newest_by_propagation(task.alloc, task.registry, task.request)? {
@@ -261,6 +261,7 @@ fn found_by_propagation(task: &Task<'_>) -> Result<Option<Found>, AllocError>
 /// and it is chosen without a search; else by searches, for the newest one first by what an oracle says.
 fn search_for<O: Oracle>(
     task: &Task<'_>,
+    has_budget: bool,
     oracle: &mut O,
     obstacle: Option<Obstacle>,
 ) -> Result<Found, Refusal>
@@ -272,12 +273,12 @@ fn search_for<O: Oracle>(
         return Ok(search_for_any(task, oracle, obstacle)?);
     }
     if let Some(choice) = choose_newest(task.alloc, task.registry, task.request)? {
-        return match validate_choice(task, oracle, choice)? {
+        return match validate_choice(task, has_budget, oracle, choice)? {
             Some(found) => Ok(found),
             None => Ok(search_alone(task, obstacle, oracle.conflicts())?),
         };
     }
-    if let Some(found) = found_by_propagation(task)? {
+    if let Some(found) = found_by_propagation(task, has_budget)? {
         return Ok(found);
     }
     match validate(task, oracle)? {
@@ -287,7 +288,7 @@ fn search_for<O: Oracle>(
 }
 
 /// Finds what answers a task: the preferred selection where it serves, else by a search.
-fn find<O: Oracle>(task: &Task<'_>, oracle: &mut O) -> Result<Found, Refusal>
+fn find<O: Oracle>(task: &Task<'_>, has_budget: bool, oracle: &mut O) -> Result<Found, Refusal>
     requires { StoreStands task.now }
     ensures found { IfOk result (IsFound task.now) }
     ensures preferred { IfPreferredServes task.now.registry.now.packages task.now.request.now (λ s. IfOk result (Finds s)) }
@@ -301,9 +302,9 @@ fn find<O: Oracle>(task: &Task<'_>, oracle: &mut O) -> Result<Found, Refusal>
         Reached::Selection(list) => Ok(Found::Selected(list, Vec::new(task.alloc))),
         Reached::Unmet(asker, index) => {
             let obstacle = obstacle_in(task, asker, index)?;
-            Ok(search_for(task, oracle, obstacle)?)
+            Ok(search_for(task, has_budget, oracle, obstacle)?)
         }
-        Reached::NotAllowed(_, _) => Ok(search_for(task, oracle, None)?),
+        Reached::NotAllowed(_, _) => Ok(search_for(task, has_budget, oracle, None)?),
     }
 }
 
@@ -370,6 +371,77 @@ pub fn solve_with(
     outcome
 }
 
+/// As [`solve_by`], of a request that names a budget or not, whatever the options say.
+fn solve_with_oracle<O: Oracle>(
+    alloc: Global,
+    registry: &Registry,
+    request: &Request,
+    store: &Store,
+    options: Options,
+    has_budget: bool,
+    oracle: &mut O,
+) -> Result<Outcome, Refusal>
+    requires stored { All (AllStand registry.now.packages) store.now.members }
+    ensures lawful { IfOk result (IsLawful registry.now.packages request.now options.explain) }
+    ensures preferred { IfPreferredServes registry.now.packages request.now (λ s. IfOk result (Answers registry.now.packages s)) }
+    ensures newest { options.newest ≡ true → IfOk result (SelectsNewest registry.now.packages request.now) }
+    ensures unspent { IfPreferredServes registry.now.packages request.now (λ s. IfErr result (λ e. e ≡ Refusal.NoMemory)) }
+    ensures only { IfErr result (MayStop registry.now.packages request.now options.budget) }
+{
+    let task = Task {
+        alloc,
+        registry,
+        request,
+        store,
+        budget: options.budget,
+        newest: options.newest,
+        explain: options.explain,
+    };
+    let found = find(&task, has_budget, oracle)?;
+    outcome_of(&task, found)
+}
+
+/// As [`solve_with_oracle`], by the engine, in the workspace of earlier calls. After [`Refusal::NoMemory`] that is empty.
+fn solve_with_engine(
+    alloc: Global,
+    registry: &Registry,
+    request: &Request,
+    store: &Store,
+    options: Options,
+    has_budget: bool,
+    workspace: &mut Workspace,
+) -> Result<Outcome, Refusal>
+    requires stored { All (AllStand registry.now.packages) store.now.members }
+    ensures lawful { IfOk result (IsLawful registry.now.packages request.now options.explain) }
+    ensures preferred { IfPreferredServes registry.now.packages request.now (λ s. IfOk result (Answers registry.now.packages s)) }
+    ensures newest { options.newest ≡ true → IfOk result (SelectsNewest registry.now.packages request.now) }
+    ensures unspent { IfPreferredServes registry.now.packages request.now (λ s. IfErr result (λ e. e ≡ Refusal.NoMemory)) }
+    ensures only { IfErr result (MayStop registry.now.packages request.now options.budget) }
+{
+    let question = Question {
+        alloc,
+        registry,
+        request,
+    };
+    let taken = mem::replace(workspace, Workspace::new(alloc));
+    let mut oracle = EngineOracle::in_workspace(question, store, options.budget, taken);
+    let outcome = solve_with_oracle(
+        alloc,
+        registry,
+        request,
+        store,
+        options,
+        has_budget,
+        &mut oracle,
+    );
+    *workspace = oracle.into_workspace();
+    if let Err(Refusal::NoMemory) = &outcome {
+        // Its memory is what the next request may lack.
+        *workspace = Workspace::new(alloc);
+    }
+    outcome
+}
+
 /// As [`solve_with`], in the workspace of earlier calls, which asked this registry, before it grew or since. A hard request
 /// takes less time so. What is answered is the same, and so are the errors. After [`Refusal::NoMemory`] the workspace is empty.
 pub fn solve_in(
@@ -387,20 +459,37 @@ pub fn solve_in(
     ensures unspent { IfPreferredServes registry.now.packages request.now (λ s. IfErr result (λ e. e ≡ Refusal.NoMemory)) }
     ensures only { IfErr result (MayStop registry.now.packages request.now options.budget) }
 {
-    let question = Question {
-        alloc,
-        registry,
-        request,
+    let has_budget = options.budget.is_some();
+    solve_with_engine(
+        alloc, registry, request, store, options, has_budget, workspace,
+    )
+}
+
+/// As [`solve_in`], for a look at what may take long: at the next conflict after so many the answer is
+/// [`Refusal::BudgetSpent`]. The budget of the options says only whether the request names one.
+pub fn solve_at_first(
+    alloc: Global,
+    registry: &Registry,
+    request: &Request,
+    store: &Store,
+    options: Options,
+    conflicts: u32,
+    workspace: &mut Workspace,
+) -> Result<Outcome, Refusal>
+    requires stored { All (AllStand registry.now.packages) store.now.members }
+    ensures lawful { IfOk result (IsLawful registry.now.packages request.now options.explain) }
+    ensures preferred { IfPreferredServes registry.now.packages request.now (λ s. IfOk result (Answers registry.now.packages s)) }
+    ensures newest { options.newest ≡ true → IfOk result (SelectsNewest registry.now.packages request.now) }
+    ensures unspent { IfPreferredServes registry.now.packages request.now (λ s. IfErr result (λ e. e ≡ Refusal.NoMemory)) }
+    ensures only { IfErr result (MayStop registry.now.packages request.now (Some conflicts)) }
+{
+    let few = Options {
+        budget: Some(conflicts),
+        explain: options.explain,
+        newest: options.newest,
     };
-    let taken = mem::replace(workspace, Workspace::new(alloc));
-    let mut oracle = EngineOracle::in_workspace(question, store, options.budget, taken);
-    let outcome = solve_by(alloc, registry, request, store, options, &mut oracle);
-    *workspace = oracle.into_workspace();
-    if let Err(Refusal::NoMemory) = &outcome {
-        // Its memory is what the next request may lack.
-        *workspace = Workspace::new(alloc);
-    }
-    outcome
+    let has_budget = options.budget.is_some();
+    solve_with_engine(alloc, registry, request, store, few, has_budget, workspace)
 }
 
 /// As [`solve_with`], with an oracle in place of the engine: it is asked where the request is hard. Whatever it says,
@@ -421,17 +510,8 @@ pub fn solve_by<O: Oracle>(
     ensures unspent { IfPreferredServes registry.now.packages request.now (λ s. IfErr result (λ e. e ≡ Refusal.NoMemory)) }
     ensures only { IfErr result (MayStop registry.now.packages request.now options.budget) }
 {
-    let task = Task {
-        alloc,
-        registry,
-        request,
-        store,
-        budget: options.budget,
-        newest: options.newest,
-        explain: options.explain,
-    };
-    let found = find(&task, oracle)?;
-    outcome_of(&task, found)
+    let has_budget = options.budget.is_some();
+    solve_with_oracle(alloc, registry, request, store, options, has_budget, oracle)
 }
 
 /// As [`solve_with`], without a budget; a refusal comes with its derivation.

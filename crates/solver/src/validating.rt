@@ -207,17 +207,18 @@ pub(crate) fn validate<O: Oracle>(task: &Task<'_>, oracle: &mut O) -> Result<Opt
     }
 }
 
-/// Whether a choice for which so many versions were taken back is answered without asking the oracle. Under a budget
-/// its conflicts count.
-fn is_answered_at_once(task: &Task<'_>, taken_back: usize) -> bool {
-    taken_back == 0 || (task.budget.is_none() && taken_back > MOST_TAKEN_BACK)
+/// Whether a choice for which so many versions were taken back is answered without asking the oracle. Where the request
+/// names a budget its conflicts count.
+fn is_answered_at_once(has_budget: bool, taken_back: usize) -> bool {
+    taken_back == 0 || (!has_budget && taken_back > MOST_TAKEN_BACK)
 }
 
-/// The newest selection, where it was chosen without a search. Where few choices were taken back for it, or there is a
-/// budget, the oracle is asked all the same: it counts the conflicts, and what it learns of them may be learnt. Nothing
+/// The newest selection, where it was chosen without a search. Where few choices were taken back for it, or the request
+/// names a budget, the oracle is asked all the same: it counts the conflicts, and what it learns of them may be learnt. Nothing
 /// is answered where it doesn't find a selection.
 pub(crate) fn validate_choice<O: Oracle>(
     task: &Task<'_>,
+    has_budget: bool,
     oracle: &mut O,
     choice: NewestChoice,
 ) -> Result<Option<Found>, Refusal>
@@ -227,7 +228,7 @@ pub(crate) fn validate_choice<O: Oracle>(
     ensures only { IfErr result (MayRefuse task.now.budget) }
 {
     let NewestChoice { list, ruled_out } = choice;
-    if is_answered_at_once(task, ruled_out) {
+    if is_answered_at_once(has_budget, ruled_out) {
         return Ok(Some(Found::Selected(list, Vec::new(task.alloc))));
     }
     match oracle.search() {

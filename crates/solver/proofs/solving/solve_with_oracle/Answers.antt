@@ -1,5 +1,5 @@
 use Rattle.std.proofs.lemmas.Result.{IfOk-from_err}
-use Rattle.solver.proofs.solving.solve_by.Goals as goal
+use Rattle.solver.proofs.solving.solve_with_oracle.Goals as goal
 
 pub returns-clause-preferred : goal.returns-clause-preferred
 returns-clause-preferred g c s preferred meets = c.outcome_of.ensures.answers s (c.in_ok-found.ensures.preferred s preferred meets)
