@@ -12,6 +12,7 @@ mod held_calls;
 mod incompat_calls;
 mod learnt_calls;
 mod low_set_calls;
+mod low_term_calls;
 mod package_calls;
 mod partial_calls;
 mod refusal_calls;

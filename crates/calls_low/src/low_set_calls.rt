@@ -36,14 +36,33 @@ fn about(alloc: Global, name: &str, row: &Value, set: &LowSet) -> Result<CallRes
         ("only", _) => Ok(CallResult::choice(set.only())),
         ("has", Ok(k)) => Ok(CallResult::Bool(set.has(k))),
         ("without", Ok(k)) => low_set_told(alloc, &set.without(k)),
-        _ => both(alloc, name, row, set),
+        _ => about_both(alloc, name, row, set),
     }
 }
 
-fn both(alloc: Global, name: &str, row: &Value, first: &LowSet) -> Result<CallResult, Unread> {
-    match (name, low_set_at(alloc, row, "b")?) {
-        ("both", Some(second)) => low_set_told(alloc, &first.both(&second)),
-        _ => Ok(CallResult::BadRow),
+fn about_both(
+    alloc: Global,
+    name: &str,
+    row: &Value,
+    first: &LowSet,
+) -> Result<CallResult, Unread> {
+    match low_set_at(alloc, row, "b")? {
+        None => Err(Unread::Row),
+        Some(second) => beside(alloc, name, first, &second),
+    }
+}
+
+fn beside(
+    alloc: Global,
+    name: &str,
+    first: &LowSet,
+    second: &LowSet,
+) -> Result<CallResult, Unread> {
+    match name {
+        "both" => low_set_told(alloc, &first.both(second)),
+        "either" => low_set_told(alloc, &first.either(second)),
+        "first_only" => low_set_told(alloc, &first.first_only(second)),
+        _ => Err(Unread::Row),
     }
 }
 

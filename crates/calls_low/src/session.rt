@@ -7,6 +7,7 @@ use crate::held_calls::{growing_set_call, held_set_call};
 use crate::incompat_calls::incompat_call;
 use crate::learnt_calls::learnt_call;
 use crate::low_set_calls::low_set_call;
+use crate::low_term_calls::low_term_call;
 use crate::partial_calls::partial_call;
 use crate::refusal_calls::refusal_call;
 use crate::registry_calls::registry_call;
@@ -122,6 +123,7 @@ fn call_for(
         "set" => set_call(alloc, name, row),
         "low_set" => low_set_call(alloc, name, row),
         "term" => term_call(alloc, name, row),
+        "low_term" => low_term_call(alloc, name, row),
         "incompat" => incompat_call(alloc, name, row),
         "dependencies" => dependencies_call(alloc, name, row),
         "request" => request_call(alloc, registry, name, row),

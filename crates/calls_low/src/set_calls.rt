@@ -5,6 +5,7 @@
 //! dropped by a call, since else its drop is written out at each way out, and where many calls are chosen from, what
 //! may be refused is handed on (`given_if`, `done`).
 
+use crate::low_set_calls::low_set_told;
 use rows::{CallResult, Given, Unread, at, given_if, shown, whole_at};
 use serde_json::Value;
 use std::alloc::Global;
@@ -32,6 +33,7 @@ fn about(alloc: Global, name: &str, row: &Value, set: &VSet) -> Result<CallResul
         "copy" => given_if(alloc, set.copy(alloc)),
         "copy_with" => copy_with(alloc, set, row),
         "highest" => highest(alloc, set, row),
+        "as_low" => as_low(alloc, set),
         _ => about_both(alloc, name, row, set),
     }
 }
@@ -45,6 +47,14 @@ fn highest(alloc: Global, set: &VSet, row: &Value) -> Result<CallResult, Unread>
     let highest = set.highest(&ranked);
     drop(ranked);
     Ok(CallResult::choice(highest))
+}
+
+/// The same set in a word, where a word has room for it.
+fn as_low(alloc: Global, set: &VSet) -> Result<CallResult, Unread> {
+    match set.as_low() {
+        None => Ok(CallResult::None),
+        Some(low) => low_set_told(alloc, &low),
+    }
 }
 
 fn about_both(alloc: Global, name: &str, row: &Value, first: &VSet) -> Result<CallResult, Unread> {

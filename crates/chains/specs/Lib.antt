@@ -4,3 +4,4 @@ pub mod Within
 pub mod Laws
 pub mod Tables
 pub mod Places
+pub mod Said

@@ -7,6 +7,7 @@
 
 mod chain;
 mod laws;
+mod said;
 mod stronger;
 mod table;
 

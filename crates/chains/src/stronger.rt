@@ -1,13 +1,12 @@
 //! Which of two incompatibilities says by itself what follows from both.
 
-ghost use Rattle.std.specs.Prelude.{◌≡◌, ℕ, Option, true};
-ghost use Rattle.std.specs.Option.{option_copied};
-ghost use Rattle.terms.specs.Fronts.{true_where};
+ghost use Rattle.std.specs.Prelude.{◌≡◌};
 ghost use Rattle.chains.specs.Within.{IsWithin};
 
 use crate::chain::Chain;
 use crate::table::term_on;
-use terms::{Pkg, Relation, Term, relation};
+use std::alloc::Global;
+use terms::{Pkg, Term};
 
 /// Which of two incompatibilities says at least what would follow from both on a pivot.
 #[derive(Clone, Copy, Debug, PartialEq, Eq)]
@@ -19,32 +18,25 @@ pub enum Stronger {
     Neither,
 }
 
-/// Whether the first term, which is true of all choices where it is none, is true only where the second one is.
-fn is_within(first: Option<&Term>, second: Option<&Term>) -> bool
-    ensures { result ≡ true → (choice : Option ℕ) → true_where (option_copied first.entry) choice ≡ true → true_where (option_copied second.entry) choice ≡ true }
-{
-    match (first, second) {
-        (_, None) => true,
-        (None, Some(_)) => false,
-        (Some(first), Some(second)) => relation(first, second) == Relation::Satisfies,
-    }
-}
-
 impl Chain {
     /// Whether the chain so far, or a cause, says at least what would follow from both on a pivot: that has the other
     /// terms of both, and is true on the pivot where one of both is. It looks at the cause's terms up to the pivot's.
-    pub fn stronger(&self, cause: &[(Pkg, Term)], pivot: Pkg) -> Stronger
+    pub fn stronger(&self, alloc: Global, cause: &[(Pkg, Term)], pivot: Pkg) -> Stronger
         ensures chain { result ≡ Stronger.Chain → IsWithin cause.now self.now.table pivot }
         ensures cause { result ≡ Stronger.Cause → IsWithin self.now.table cause.now pivot }
     {
-        let own = self.table.term(pivot);
-        let other = term_on(cause, pivot);
-        if is_within(other, own) {
+        let Some(own) = self.table.said(pivot) else {
             return Stronger::Chain;
-        }
-        if is_within(own, other) {
+        };
+        let Some(other) = term_on(cause, pivot) else {
             return Stronger::Cause;
+        };
+        if own.is_implied_by(alloc, other) {
+            Stronger::Chain
+        } else if own.implies(alloc, other) {
+            Stronger::Cause
+        } else {
+            Stronger::Neither
         }
-        Stronger::Neither
     }
 }

@@ -8,9 +8,10 @@ ghost use Rattle.terms.specs.Incompats.{has_term, term_on};
 ghost use Rattle.chains.specs.declared.table.Stop.TheVariants.{NoMemory};
 ghost use Rattle.chains.specs.Tables.{AreAnded, AreOnce, ArePlaced, Concludes, IsAnded, IsAt, IsOred, IsStep, SaysNothing, SaysSomething, is_always};
 
+use crate::said::Said;
 use std::alloc::{AllocError, AllocFailed, Global};
 use std::marker::Model;
-use terms::{Pkg, Relation, Term, VSet, relation};
+use terms::{Pkg, Term, VSet};
 
 /// Why no conclusion is made.
 #[derive(Clone, Copy, Debug, PartialEq, Eq)]
@@ -40,7 +41,7 @@ impl<T: Drop> From<AllocFailed<T>> for Stop {
 /// representation for sparse sets", 1993), which is emptied at once and found in without a search.
 #[derive(Drop)]
 pub struct Table {
-    terms: Vec<(Pkg, Term)>,
+    terms: Vec<(Pkg, Said)>,
     /// By package the place of its term. Where it has none, the number there says nothing.
     places: Vec<usize>,
 }
@@ -57,17 +58,6 @@ impl Model for Table {
     ghost invariant = { λ t. ArePlaced 0 t.places.items t.terms.items };
 }
 
-/// Whether the term is true of every choice.
-fn is_always(term: &Term) -> bool
-    ensures exact { result ≡ is_always term.now }
-    ensures holds { result ≡ true → (choice : Option ℕ) → true_of term.now choice ≡ true }
-{
-    match term {
-        Term::In(_) => false,
-        Term::NotIn(set) => set.is_empty(),
-    }
-}
-
 /// The term on a package, if there is one.
 pub fn term_on(terms: &[(Pkg, Term)], pkg: Pkg) -> Option<&Term>
     ensures { option_copied result ≡ term_on terms.now pkg }
@@ -81,7 +71,7 @@ pub fn term_on(terms: &[(Pkg, Term)], pkg: Pkg) -> Option<&Term>
 }
 
 /// The place of the term on a package, if there is one.
-fn place_of(terms: &[(Pkg, Term)], places: &[usize], pkg: Pkg) -> Option<usize>
+fn place_of(terms: &[(Pkg, Said)], places: &[usize], pkg: Pkg) -> Option<usize>
     requires { ArePlaced 0 places.now terms.now }
     ensures there { IfSome result (IsAt terms.now pkg) }
     ensures none { IfNone result (has_term terms.now pkg ≡ false) }
@@ -96,12 +86,12 @@ fn place_of(terms: &[(Pkg, Term)], places: &[usize], pkg: Pkg) -> Option<usize>
 }
 
 /// The term that is true where one of both is, which is everywhere where there is no other.
-fn either(alloc: Global, term: &Term, other: Option<&Term>) -> Result<Term, AllocError>
-    ensures { IfOk result (λ joined. (choice : Option ℕ) → true_of joined choice ≡ (true_of term.now choice || true_where (option_copied other.entry) choice)) }
+fn either(alloc: Global, said: &Said, other: Option<&Term>) -> Result<Said, AllocError>
+    ensures { IfOk result (λ joined. (choice : Option ℕ) → true_of joined choice ≡ (true_of said.now choice || true_where (option_copied other.entry) choice)) }
 {
     match other {
-        None => Ok(Term::NotIn(VSet::new(alloc))),
-        Some(other) => term.or(alloc, other),
+        None => Said::of(alloc, &Term::NotIn(VSet::new(alloc))),
+        Some(other) => said.or(alloc, other),
     }
 }
 
@@ -145,7 +135,7 @@ impl Table {
     }
 
     /// What is said of a package, if something is.
-    pub fn term(&self, pkg: Pkg) -> Option<&Term>
+    pub(crate) fn said(&self, pkg: Pkg) -> Option<&Said>
         ensures { option_copied result ≡ term_on self.now pkg }
     {
         match place_of(&self.terms, &self.places, pkg) {
@@ -162,25 +152,25 @@ impl Table {
     }
 
     /// Puts a term on a package that has none.
-    fn push(&mut self, pkg: Pkg, term: Term) -> Result<(), Stop>
+    fn push(&mut self, pkg: Pkg, said: Said) -> Result<(), Stop>
         requires { has_term self.old pkg ≡ false }
-        ensures { OnOk result (self.new ≡ self.old ++ (pkg, term) ∷ []) }
+        ensures { OnOk result (self.new ≡ self.old ++ (pkg, said) ∷ []) }
     {
         if pkg as usize >= self.places.len() {
             return Err(Stop::Unknown);
         }
         let place = self.terms.len();
-        self.terms.push((pkg, term))?;
+        self.terms.push((pkg, said))?;
         self.places[pkg as usize] = place;
         Ok(())
     }
 
     /// Puts another term in the place of one on a package.
-    fn replace(&mut self, place: usize, pkg: Pkg, term: Term)
+    fn replace(&mut self, place: usize, pkg: Pkg, said: Said)
         requires { IsAt self.old pkg place }
-        ensures { self.new ≡ slice_set self.old place (pkg, term) }
+        ensures { self.new ≡ slice_set self.old place (pkg, said) }
     {
-        self.terms[place] = (pkg, term);
+        self.terms[place] = (pkg, said);
     }
 
     /// Joins a term to what is said of a package: both are to be true.
@@ -188,18 +178,16 @@ impl Table {
         ensures { OnOk result (IsAnded self.old self.new pkg term.now) }
     {
         match place_of(&self.terms, &self.places, pkg) {
-            None => self.push(pkg, term.copy(alloc)?),
+            None => self.push(pkg, Said::of(alloc, term)?),
             Some(place) => {
                 let said = &self.terms[place].1;
-                match relation(said, term) {
-                    // The case of most terms of a cause.
-                    Relation::Satisfies => Ok(()),
-                    Relation::Contradicts | Relation::Inconclusive => {
-                        let joined = said.and(alloc, term)?;
-                        self.replace(place, pkg, joined);
-                        Ok(())
-                    }
+                // The case of most terms of a cause.
+                if said.implies(alloc, term) {
+                    return Ok(());
                 }
+                let joined = said.and(alloc, term)?;
+                self.replace(place, pkg, joined);
+                Ok(())
             }
         }
     }
@@ -215,7 +203,7 @@ impl Table {
         let Some(place) = place_of(&self.terms, &self.places, pkg) else {
             return Ok(false);
         };
-        if is_always(&self.terms[place].1) {
+        if self.terms[place].1.is_always() {
             return Ok(false);
         }
         let joined = either(alloc, &self.terms[place].1, other)?;
@@ -243,7 +231,7 @@ impl Table {
     {
         self.clear();
         for (pkg, term) in terms {
-            self.push(*pkg, term.copy(alloc)?)?;
+            self.push(*pkg, Said::of(alloc, term)?)?;
         }
         Ok(())
     }
@@ -265,10 +253,10 @@ impl Table {
         ensures { IfOk result (Concludes self.now) }
     {
         let terms = self.terms.as_slice();
-        let mut kept = Vec::new(alloc);
-        for (pkg, term) in terms {
-            if !is_always(term) {
-                kept.push((*pkg, term.copy(alloc)?))?;
+        let mut kept = Vec::with_capacity(alloc, terms.len())?;
+        for (pkg, said) in terms {
+            if !said.is_always() {
+                kept.push((*pkg, said.term(alloc)?))?;
             }
         }
         Ok(Conclusion { terms: kept })

@@ -87,7 +87,7 @@ fn step_as_lines(
     let Some(cause) = terms_at(known, made, with) else {
         return Err(Stop::Unknown);
     };
-    match chain.stronger(cause, step.on) {
+    match chain.stronger(alloc, cause, step.on) {
         Stronger::Chain => Ok(()),
         Stronger::Cause => {
             counts.begin_from(step.with)?;

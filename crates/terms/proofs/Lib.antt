@@ -12,3 +12,4 @@ pub mod SameWords
 pub mod TermLists
 pub mod WordsTogether
 pub mod LowSets
+pub mod LowTerms

@@ -4,9 +4,10 @@ use Rattle.std.specs.Int.{bit_not, trailing_zeros, w64}
 use Rattle.std.proofs.lemmas.Bool.{cases_lt, ne_eqb}
 use Rattle.std.proofs.lemmas.List.{append-nil}
 use Rattle.std.proofs.lemmas.List.Folds.{list_any-append}
-use Rattle.terms.specs.Merges.{keeps}
+use Rattle.terms.specs.Merges.{kept_bits, keeps}
 use Rattle.terms.specs.Sets.{has}
 use Rattle.terms.specs.Words.{AreWords, WordsFrom, bits_from, is_bit, ordinals_of}
+use Rattle.terms.specs.declared.merging.Rule.{Rule}
 use Rattle.terms.specs.declared.merging.Rule.TheVariants as rule
 use Rattle.terms.specs.declared.words.Word.{Word}
 use Rattle.terms.proofs.Ascending.{absent-past, or-false}
@@ -32,12 +33,18 @@ has-below bits k there = elim (below_or_not k) [
   | inr le ↦ absurd (true≢false (sym there ∙ absent-high bits k le))
 ]
 
-pub both-low : (a b : ℕ) → b < 2 ^ 64 → (k : ℕ) → has (low_ordinals (bit_and a b)) k ≡ keeps rule.Both (has (low_ordinals a) k) (has (low_ordinals b) k)
-both-low a b fits k = elim (below_or_not k) [
+keeps-none : (r : Rule) → keeps r false false ≡ false
+keeps-none rule.Both = refl
+keeps-none rule.Either = refl
+keeps-none rule.FirstOnly = refl
+
+pub kept-low : (r : Rule) (a b : ℕ) → b < 2 ^ 64 → (k : ℕ) → has (low_ordinals (kept_bits r a b)) k ≡ keeps r (has (low_ordinals a) k) (has (low_ordinals b) k)
+kept-low r a b fits k = elim (below_or_not k) [
   | inl lt ↦
-      has-low (bit_and a b) k lt ∙ kept_bits-keeps rule.Both a b k fits lt
-      ∙ ap (λ (x : Bool). x && is_bit b k) (sym (has-low a k lt)) ∙ ap (λ (y : Bool). has (low_ordinals a) k && y) (sym (has-low b k lt))
-  | inr le ↦ absent-high (bit_and a b) k le ∙ sym (ap (λ (x : Bool). x && has (low_ordinals b) k) (absent-high a k le))
+      has-low (kept_bits r a b) k lt ∙ kept_bits-keeps r a b k fits lt
+      ∙ ap (λ (x : Bool). keeps r x (is_bit b k)) (sym (has-low a k lt)) ∙ ap (λ (y : Bool). keeps r (has (low_ordinals a) k) y) (sym (has-low b k lt))
+  | inr le ↦ absent-high (kept_bits r a b) k le
+      ∙ sym (ap (λ (x : Bool). keeps r x (has (low_ordinals b) k)) (absent-high a k le) ∙ ap (λ (y : Bool). keeps r false y) (absent-high b k le) ∙ keeps-none r)
 ]
 
 pub without-low : (a o : ℕ) → 2 ^ o < 2 ^ 64 → (k : ℕ) → has (low_ordinals (bit_and a (bit_not w64 (2 ^ o)))) k ≡ (has (low_ordinals a) k && not (nat_eq o k))

@@ -94,12 +94,7 @@ impl GrowingSet {
         ensures some { IfSome result (λ low. low ≡ self.now.ordinals) }
         ensures none { IfNone result ((k : ℕ) × (has self.now.ordinals k ≡ true) × (64 ≤ k)) }
     {
-        match self.words.as_slice() {
-            [] => Some(LowSet::from_bits(0)),
-            [word] if word.number == 0 => Some(LowSet::from_bits(word.bits)),
-            [_] => None,
-            [_, _, ..] => None,
-        }
+        LowSet::of_words(&self.words)
     }
 
     /// The set as it is now.

@@ -1,13 +1,13 @@
 //! Sets of ordinals for which a word has room.
 
-ghost use Rattle.std.specs.Prelude.{◌≡◌, ◌↔◌, ◌<◌, ◌&&◌, ◌∷◌, ℕ, [], nat_eq, not, true, IfNone, IfSome, IsTrue};
+ghost use Rattle.std.specs.Prelude.{◌≡◌, ◌↔◌, ◌<◌, ◌≤◌, ◌&&◌, ◌∷◌, ℕ, [], nat_eq, not, true, IfNone, IfSome, IsTrue};
 ghost use Rattle.terms.specs.Merges.{IsKept};
 ghost use Rattle.terms.specs.Sets.{has};
-ghost use Rattle.terms.specs.Words.{AreLowBits, bits_from};
-ghost use Rattle.terms.specs.declared.merging.Rule.TheVariants.{Both};
+ghost use Rattle.terms.specs.Words.{AreLowBits, AreWords, bits_from, ordinals_of};
+ghost use Rattle.terms.specs.declared.merging.Rule.TheVariants.{Both, Either, FirstOnly};
 
 use crate::sets::VSet;
-use crate::words::{WORD_BITS, word_of};
+use crate::words::{WORD_BITS, Word, word_of};
 use std::alloc::Global;
 use std::marker::Model;
 
@@ -42,6 +42,21 @@ impl LowSet {
         ensures { result ≡ bits_from 64 0 bits }
     {
         LowSet { bits }
+    }
+
+    /// The set of these words, if one has room for it.
+    #[inline(always)]
+    pub(crate) fn of_words(words: &[Word]) -> Option<LowSet>
+        requires { AreWords words.now }
+        ensures some { IfSome result (λ low. low ≡ ordinals_of words.now) }
+        ensures none { IfNone result ((k : ℕ) × (has (ordinals_of words.now) k ≡ true) × (64 ≤ k)) }
+    {
+        match words {
+            [] => Some(LowSet::from_bits(0)),
+            [word] if word.number == 0 => Some(LowSet::from_bits(word.bits)),
+            [_] => None,
+            [_, _, ..] => None,
+        }
     }
 
     /// The set with this member alone, if a word has room for it.
@@ -83,6 +98,24 @@ impl LowSet {
     {
         LowSet {
             bits: self.bits & other.bits,
+        }
+    }
+
+    /// The ordinals that are in one of both sets.
+    pub fn either(&self, other: &LowSet) -> LowSet
+        ensures { IsKept Either self.now other.now result }
+    {
+        LowSet {
+            bits: self.bits | other.bits,
+        }
+    }
+
+    /// The ordinals that are in this set and not in the other.
+    pub fn first_only(&self, other: &LowSet) -> LowSet
+        ensures { IsKept FirstOnly self.now other.now result }
+    {
+        LowSet {
+            bits: self.bits & !other.bits,
         }
     }
 

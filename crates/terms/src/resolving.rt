@@ -119,8 +119,8 @@ fn resolved(
     ensures follows { IfOk result (λ terms. Follows terms.items first.now second.now pivot) }
     ensures ascending { IfOk result (λ terms. AreTerms terms.items) }
 {
-    // The pivot is mostly lost, once from each.
-    let room = (first.len() + second.len()).saturating_sub(2);
+    // The pivot is in both, and what is left of it stands there once at most.
+    let room = (first.len() + second.len()).saturating_sub(1);
     let mut kept = Vec::with_capacity(alloc, room)?;
     let mut left = first;
     let mut right = second;

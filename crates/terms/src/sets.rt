@@ -1,10 +1,11 @@
 //! Finite sets of ordinals.
 
-ghost use Rattle.std.specs.Prelude.{◌≡◌, ◌↔◌, ◌∷◌, [], count_by, find, length, reverse, true, IfNone, IfOk, IfSome, IsTrue, OnErr, OnOk};
+ghost use Rattle.std.specs.Prelude.{◌≡◌, ◌↔◌, ◌≤◌, ◌∷◌, ℕ, [], count_by, find, length, reverse, true, IfNone, IfOk, IfSome, IsTrue, OnErr, OnOk};
 ghost use Rattle.terms.specs.Merges.{keeps, IsKept, IsWithinFirst};
 ghost use Rattle.terms.specs.Sets.{has, AddsOrdinal, HasExactly, IsAscending, IsSubset};
 ghost use Rattle.terms.specs.Words.{AreWords, bits_from, ordinals_of};
 
+use crate::low::LowSet;
 use crate::merging::{Rule, combined, count_kept, first_kept};
 use crate::ordinals::{Ordinals, ordinals_in};
 use crate::words::{
@@ -139,6 +140,15 @@ impl VSet {
         ensures ascending { IfOk result IsAscending }
     {
         VSet::of_words(alloc, &self.words)
+    }
+
+    /// The set, if a word has room for it.
+    #[inline(always)]
+    pub fn as_low(&self) -> Option<LowSet>
+        ensures some { IfSome result (λ low. low ≡ self.now) }
+        ensures none { IfNone result ((k : ℕ) × (has self.now k ≡ true) × (64 ≤ k)) }
+    {
+        LowSet::of_words(&self.words)
     }
 
     /// Tells a caller that the set ascends, as each does. It does nothing when it runs.

@@ -10,31 +10,31 @@ use Rattle.chains.specs.Tables.{AreOnce, IsAnded, IsAt}
 use Rattle.chains.proofs.Joining.{and-implied, and-push, and-set, once-placed}
 use Rattle.chains.proofs.table.Table.and.Goals as goal
 
-pub returns-in_ok-copy-in-None : goal.returns-in_ok-copy-in-None
-returns-in_ok-copy-in-None c =
+pub returns-in_ok-of-in-None : goal.returns-in_ok-of-in-None
+returns-in_ok-of-in-None c =
     let old = c.args.self.now in
     let none = subst (λ (terms : Terms). has_term terms c.args.pkg ≡ false) (c.deref.ensures.value ∙ c.self.view_is) c.in-None.ensures.none in
     on_ok_weaker c.push.result (λ e. subst (λ (new : Terms). IsAnded old new c.args.pkg c.args.term.now) (sym e)
-    (subst (λ (term : Term). IsAnded old (old ++ (c.args.pkg, term) ∷ []) c.args.pkg c.args.term.now) (sym c.in_ok-copy-in-None.ensures.same) (and-push old c.args.pkg c.args.term.now none))) c.push.ensures
+    (subst (λ (term : Term). IsAnded old (old ++ (c.args.pkg, term) ∷ []) c.args.pkg c.args.term.now) (sym c.in_ok-of-in-None.ensures) (and-push old c.args.pkg c.args.term.now none))) c.push.ensures
 
-pub returns-in_ok-joined-in-Contradicts : goal.returns-in_ok-joined-in-Contradicts
-returns-in_ok-joined-in-Contradicts c =
+pub returns-in_ok-joined-in-Some : goal.returns-in_ok-joined-in-Some
+returns-in_ok-joined-in-Some c =
     let old = c.args.self.now in
-    let joined = c.in_ok-joined-in-Contradicts.joined in
+    let joined = c.in_ok-joined-in-Some.joined in
     let inner : IsAt c.self.inside.terms.items c.args.pkg c.in-Some.place = subst (λ (terms : Terms). IsAt terms c.args.pkg c.in-Some.place) c.deref.ensures.value c.in-Some.ensures.there in
     let same : c.index.result.now ≡ (c.args.pkg, inner.0) = c.index.ensures ∙ get_or_from_slice_get c.self.inside.terms.items c.in-Some.place (c.args.pkg, inner.0) c.index.result.now inner.1 in
     let at = subst (λ (terms : Terms). slice_get terms c.in-Some.place ≡ Some (c.args.pkg, inner.0)) c.self.view_is inner.1 in
     let once = subst (λ (terms : Terms). AreOnce terms) c.self.view_is (once-placed 0 c.self.inside.places.items c.self.inside.terms.items c.self.invariant) in
     subst (λ (new : Terms). IsAnded old new c.args.pkg c.args.term.now) (sym c.replace.ensures)
     (and-set old c.in-Some.place c.args.pkg inner.0 joined c.args.term.now once at
-    (λ choice. subst (λ (t : ℕ × Term). true_of joined choice ≡ (true_of t.1 choice && true_of c.args.term.now choice)) same (c.in_ok-joined-in-Contradicts.ensures.exact choice)))
+    (λ choice. subst (λ (t : ℕ × Term). true_of joined choice ≡ (true_of t.1 choice && true_of c.args.term.now choice)) same (c.in_ok-joined-in-Some.ensures choice)))
 
-pub returns-in-Satisfies : goal.returns-in-Satisfies
-returns-in-Satisfies c =
+pub returns-then-implies : goal.returns-then-implies
+returns-then-implies c =
     let old = c.args.self.now in
     let inner : IsAt c.self.inside.terms.items c.args.pkg c.in-Some.place = subst (λ (terms : Terms). IsAt terms c.args.pkg c.in-Some.place) c.deref.ensures.value c.in-Some.ensures.there in
     let same : c.index.result.now ≡ (c.args.pkg, inner.0) = c.index.ensures ∙ get_or_from_slice_get c.self.inside.terms.items c.in-Some.place (c.args.pkg, inner.0) c.index.result.now inner.1 in
     let at = subst (λ (terms : Terms). slice_get terms c.in-Some.place ≡ Some (c.args.pkg, inner.0)) c.self.view_is inner.1 in
     let once = subst (λ (terms : Terms). AreOnce terms) c.self.view_is (once-placed 0 c.self.inside.places.items c.self.inside.terms.items c.self.invariant) in
     and-implied old c.in-Some.place c.args.pkg inner.0 c.args.term.now once at
-    (λ choice. subst (λ (t : ℕ × Term). true_of t.1 choice ≡ true → true_of c.args.term.now choice ≡ true) same (c.in-Satisfies.ensures choice))
+    (λ choice. subst (λ (t : ℕ × Term). true_of t.1 choice ≡ true → true_of c.args.term.now choice ≡ true) same (c.implies.ensures c.if-implies.true choice))

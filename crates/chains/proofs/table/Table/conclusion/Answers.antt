@@ -3,14 +3,14 @@ use Rattle.terms.specs.declared.term.Term.{Term}
 use Rattle.derivations.specs.Facts.{Terms}
 use Rattle.chains.specs.Tables.{ArePlaced, Concludes}
 use Rattle.chains.proofs.Joining.{IsKeeping, drop-end, drop-item, keeping-begin, keeping-end, keeping-kept, keeping-left}
-use Rattle.chains.proofs.table.Table.conclusion.Goals.{then-not-is_always+in_ok-copy+in_ok-push, else-not-is_always}
+use Rattle.chains.proofs.table.Table.conclusion.Goals.{then-not-is_always+in_ok-term+in_ok-push, else-not-is_always}
 use Rattle.chains.proofs.table.Table.conclusion.Goals as goal
 
 pub loop-pkg-init : goal.loop-pkg-init
 loop-pkg-init c =
     let table = c.as_slice-terms.result.now in
     let placed = subst (λ (terms : Terms). ArePlaced 0 c.self.inside.places.items terms) (sym c.as_slice-terms.ensures.value) c.self.invariant in
-    subst (λ (kept : Terms). IsKeeping table kept table) (sym c.new-kept.ensures.items) (keeping-begin 0 c.self.inside.places.items table placed)
+    subst (λ (kept : Terms). IsKeeping table kept table) (sym c.in_ok-kept.ensures.items) (keeping-begin 0 c.self.inside.places.items table placed)
 
 pub loop-pkg-preserved : goal.loop-pkg-preserved
 loop-pkg-preserved c =
@@ -20,8 +20,8 @@ loop-pkg-preserved c =
     let rest = drop (c.loop-pkg.pkg-index + 1) table in
     let before = subst (λ (left : Terms). IsKeeping table kept left) (drop-item table c.loop-pkg.pkg-index item c.loop-pkg-test.true c.loop-pkg-item.is) c.loop-pkg.invariant in
     elim c.if-not-is_always.branch [
-      | then-not-is_always+in_ok-copy+in_ok-push w ↦
-          let same = w.in_ok-push.ensures.items ∙ ap (λ (term : Term). kept ++ (item.0, term) ∷ []) w.in_ok-copy.ensures.same in
+      | then-not-is_always+in_ok-term+in_ok-push w ↦
+          let same = w.in_ok-push.ensures.items ∙ ap (λ (term : Term). kept ++ (item.0, term) ∷ []) w.in_ok-term.ensures in
           rw w.kept-is (subst (λ (made : Terms). IsKeeping table made rest) (sym {A = Terms} same) (keeping-kept table kept rest item (sym {A = Bool} c.is_always.ensures.exact ∙ w.if-not-is_always.true) before))
       | else-not-is_always w ↦ rw w.kept-is (keeping-left table kept rest item (sym {A = Bool} c.is_always.ensures.exact ∙ w.if-not-is_always.false) (c.is_always.ensures.holds w.if-not-is_always.false) before)
     ]

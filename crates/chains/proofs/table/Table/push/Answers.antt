@@ -16,4 +16,4 @@ invariant_of-self-2 c =
     let none = subst (λ (terms : Terms). has_term terms c.args.pkg ≡ false) (sym c.self.view_is) c.requires in
     let within : c.args.pkg < length places = omega (arith, c.if-pkg-len.false, c.len.ensures) in
     subst (λ (terms : Terms). ArePlaced 0 (slice_set places c.args.pkg c.len-place.result) terms) (sym c.in_ok-push.ensures.items)
-    (placed-push 0 places old c.args.pkg c.len-place.result c.args.term c.self.invariant none within (omega (arith, c.len-place.ensures)))
+    (placed-push 0 places old c.args.pkg c.len-place.result c.args.said c.self.invariant none within (omega (arith, c.len-place.ensures)))

@@ -6,7 +6,7 @@ use Rattle.derivations.specs.Facts.{Terms}
 use Rattle.chains.specs.Tables.{AreOnce, IsAt}
 use Rattle.chains.proofs.Joining.{once-placed}
 use Rattle.chains.proofs.Within.{term_on-there}
-use Rattle.chains.proofs.table.Table.term.Goals as goal
+use Rattle.chains.proofs.table.Table.said.Goals as goal
 
 pub returns-in-Some : goal.returns-in-Some
 returns-in-Some c =
