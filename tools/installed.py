@@ -53,6 +53,14 @@ TOLD = {
     programs.PROVED: "The program is proved: all its sources were proved before it was built.",
     programs.COMPILED: "The program is compiled from its sources, with checks as it runs. It is not proved.",
 }
+# How the program's command asks glibc for huge pages, as `./registryd` does.
+HUGE_PAGES = """\
+# In huge pages, requests that touch much memory take less time. What the user has set stays.
+case :${GLIBC_TUNABLES-} in
+    *:glibc.malloc.hugetlb=*) ;;
+    *) GLIBC_TUNABLES=glibc.malloc.hugetlb=1${GLIBC_TUNABLES:+:$GLIBC_TUNABLES}; export GLIBC_TUNABLES ;;
+esac
+"""
 # How a command in bin finds what is installed with it, through links too.
 FIND = """\
 here=$0
@@ -98,7 +106,7 @@ def program_pieces(program):
     """The program, and the command that runs it, which alone knows its version. It starts no other process unless it is a link."""
     command = ("#!/bin/sh\n# Runs the program that is installed with it.\n"
                f'if [ "$#" = 1 ] && [ "$1" = --version ]; then\n    cat <<\\END\n{told(program.kind)}\nEND\n    exit\nfi\n'
-               f'{FIND}exec "$here/../{LIB}/{NAME}" "$@"\n')
+               f'{FIND}{HUGE_PAGES}exec "$here/../{LIB}/{NAME}" "$@"\n')
     return [Piece(f"bin/{NAME}", command.encode(), 0o755), Piece(f"{LIB}/{NAME}", program.path.read_bytes(), 0o755)]
 
 

@@ -4,7 +4,9 @@ The system sends a signal to whoever owns a pipe's end once nobody holds the oth
 made its owner, and whoever began it holds the other and closes it by ending, also by SIGKILL in the middle of a search. A process's
 death signal (`PR_SET_PDEATHSIG`) would come when the thread ends that began it, and would need code between fork and exec.
 
-A program that is begun and not yet tied has been asked nothing: it ends with its closed input."""
+A program that is begun and not yet tied has been asked nothing: it ends with its closed input.
+
+What is installed begins the program without its script, so glibc is asked here for huge pages, as `./registryd` does."""
 import contextlib
 import fcntl
 import os
@@ -13,15 +15,27 @@ import signal
 import subprocess
 import threading
 
+TUNABLES, HUGE_PAGES = "GLIBC_TUNABLES", "glibc.malloc.hugetlb="
+
+
+def environment():
+    """This environment, in which glibc is asked for huge pages, unless the user has set that."""
+    given = os.environ.get(TUNABLES, "")
+    if f":{HUGE_PAGES}" in f":{given}":
+        return {**os.environ}
+    return {**os.environ, TUNABLES: f"{HUGE_PAGES}1:{given}" if given else f"{HUGE_PAGES}1"}
+
 
 class Tied(subprocess.Popen):
-    """A program that is killed when this process ends, with all of its group where it has a group of its own."""
+    """A program that is killed when this process ends, with all of its group where it has a group of its own. Where no environment is
+    given, it has that of `environment`."""
     held = None  # the other end of the pipe that it owns
 
-    def __init__(self, words, *, pass_fds=(), process_group=None, **how):
+    def __init__(self, words, *, pass_fds=(), process_group=None, env=None, **how):
         watched, self.held = os.pipe()
         try:
-            super().__init__(words, pass_fds=[watched, *pass_fds], process_group=process_group, **how)
+            super().__init__(words, pass_fds=[watched, *pass_fds], process_group=process_group, env=environment() if env is None else env,
+                             **how)
             fcntl.fcntl(watched, fcntl.F_SETOWN, self.pid if process_group is None else -self.pid)
             fcntl.fcntl(watched, fcntl.F_SETSIG, signal.SIGKILL)
             fcntl.fcntl(watched, fcntl.F_SETFL, os.O_ASYNC)

