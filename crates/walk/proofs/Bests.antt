@@ -1,5 +1,6 @@
 -- Choosing the best versions in the order of the walk: what is kept of packages, and what is asked.
 use Rattle.std.proofs.Common.{◌≡◌, ◌<◌, ◌≤◌, ◌+◌, ◌∙◌, ◌⊎◌, ℕ, zero, suc, refl, sym, ap, subst, arith, Bool, true, false, true≢false, not, ◌&&◌, ◌||◌, if◌then◌else◌, List, [], ◌∷◌, ◌++◌, length, take, drop, map, get_or, inl, inr, nat_eq}
+use Rattle.std.specs.Cmp.{IsTotalOrder, tied_itself}
 use Rattle.std.proofs.lemmas.Bool.{cases_Bool, cases_eq, eq-eqb, eqb-true, and_from}
 use Rattle.std.proofs.Math.Seq.{take-append_seam}
 use Rattle.std.proofs.lemmas.Option.{none-some, same_Some, slice_get_within, get_or_from_slice_get}
@@ -11,7 +12,7 @@ use Rattle.terms.specs.Sets.{has as has_in}
 use Rattle.terms.specs.Terms.{true_of}
 use Rattle.terms.specs.declared.term.Term.{Term}
 use Rattle.terms.specs.declared.term.Term.TheVariants.{In, NotIn}
-use Rattle.std.specs.declared.cmp.Ordering.TheVariants.{Less}
+use Rattle.std.specs.declared.cmp.Ordering.TheVariants.{Equal, Less}
 use Rattle.registry.specs.Dependencies.{IsDependency}
 use Rattle.registry.specs.Highest.{IsHighest}
 use Rattle.std.specs.Option.{option_and_then}
@@ -358,6 +359,9 @@ first_target packages found (line ∷ lines) (q ∷ asked) (suc at) p targets he
 
 -- ---- the best version
 
+Less≢Equal : Less ≡ Equal → ⊥
+Less≢Equal e = cc e
+
 module _ (packages : Packages) (wanted : Wanted) (found : List (ℕ × ℕ)) (p : ℕ) where
   highest_open : (k : ℕ) (Gives : ℕ → Bool → Type 0) → IsHighest Gives (versions_or_none (package_at packages p)) k → ((j : ℕ) → Gives j false → IsOut packages wanted found p j)
       → (j : ℕ) (a : IsAhead packages wanted p j k) → precedence a.other.version a.one.version ≡ Less → IsOut packages wanted found p j
@@ -374,6 +378,23 @@ module _ (packages : Packages) (wanted : Wanted) (found : List (ℕ × ℕ)) (p 
   best_other k q Gives there gone h out j a = elim (ahead_cases packages wanted p k j a) [
     | inl locked ↦ subst (λ i. IsOut packages wanted found p i) (sym (there.only j locked.0)) gone
     | inr above ↦ highest_open k Gives h out j a above.1
+  ]
+
+  -- the only version that is left is the best: no version is ahead of itself, and the others are out
+  not_ahead_of_itself : IsTotalOrder precedence → (k : ℕ) → IsAhead packages wanted p k k → ⊥
+  not_ahead_of_itself ordered k a = elim (ahead_cases packages wanted p k k a) [
+    | inl locked ↦ true≢false (sym locked.0 ∙ locked.1)
+    | inr above ↦
+        let same : a.other ≡ a.one = same_Some a.other a.one (sym a.second ∙ a.first) in
+        Less≢Equal (sym above.1 ∙ ap (λ (x : Publication). precedence x.version a.one.version) same ∙ tied_itself ordered a.one.version)
+  ]
+
+  pub best_only : (k : ℕ) → IsTotalOrder precedence → OfEach packages wanted found (λ t. true_of (In (k ∷ [])) (t p) ≡ true) → IsBest packages wanted found p k
+  best_only k ordered left j a t meets has chosen = elim (cases_Bool (nat_eq k j)) [
+    | inl same ↦ not_ahead_of_itself ordered k (subst (λ i. IsAhead packages wanted p i k) (sym (eqb-true k j same)) a)
+    | inr apart ↦
+        let is : true_of (In (k ∷ [])) (Some j) ≡ true = sym (ap (true_of (In (k ∷ []))) chosen) ∙ left t meets has in
+        true≢false (sym is ∙ ap (λ (b : Bool). b || false) apart)
   ]
 
 -- ---- one more that is chosen

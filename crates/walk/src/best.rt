@@ -13,6 +13,7 @@ use crate::choosing::Choosing;
 use crate::dependency::{dependency_at, low_dependency};
 use crate::left::{Left, is_apart};
 use crate::preferred::locked_ordinal;
+use crate::walking::is_allowed;
 use registry::{Pkg, Place, Registry, Request};
 use terms::LowSet;
 use versions::precedence_is_a_total_preorder;
@@ -80,14 +81,12 @@ impl Choosing {
         false
     }
 
-    /// Whether a version of a package, of which these are left, may be had. Of the only one that is left it is seen
-    /// once it is chosen.
+    /// Whether a version of a package, of which these are left, may be had.
     pub(crate) fn is_open(
         &self,
         registry: &Registry,
         request: &Request,
         left: &Left,
-        is_only: bool,
         version: (Pkg, u32),
     ) -> bool
         requires holds { Holds registry.now.packages request.now self.now }
@@ -95,8 +94,8 @@ impl Choosing {
         ensures { OnFalse result (IsOut registry.now.packages request.now self.now.found.entries version.0 version.1) }
     {
         left.allows(version.1)
-            && registry.allowed(request, version.0, version.1)
-            && (is_only || !self.is_at_odds(registry, request, version))
+            && is_allowed(registry, request, version.0, version.1)
+            && !self.is_at_odds(registry, request, version)
     }
 
     /// The best version that may be had of a package, of which these are left.
@@ -106,14 +105,20 @@ impl Choosing {
         ensures { IfSome result (IsBest registry.now.packages request.now self.now.found.entries pkg) }
     {
         precedence_is_a_total_preorder();
-        let is_only = left.only().is_some();
+        if let Some(only) = left.only() {
+            // The others are out. What it depends on is seen once it is chosen.
+            if is_allowed(registry, request, pkg, only) {
+                return Some(only);
+            }
+            return None;
+        }
         let highest = registry.highest_where(pkg, |other| {
-            self.is_open(registry, request, left, is_only, (pkg, other))
+            self.is_open(registry, request, left, (pkg, other))
         });
         match locked_ordinal(registry, request, pkg) {
             None => highest,
             Some(locked) => {
-                if self.is_open(registry, request, left, is_only, (pkg, locked)) {
+                if self.is_open(registry, request, left, (pkg, locked)) {
                     Some(locked)
                 } else {
                     highest

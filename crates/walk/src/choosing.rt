@@ -223,7 +223,7 @@ impl Choosing {
             None => {
                 let set = matching.set(alloc)?;
                 let some = !set.is_empty();
-                self.add_needed(pkg, Left::Any(Term::In(set)))?;
+                self.add_needed(pkg, Left::any(alloc, Term::In(set))?)?;
                 Ok(some)
             }
             Some(place) => {

@@ -20,8 +20,8 @@ use terms::{LowSet, Term, VSet};
 pub(crate) enum Left {
     /// Those of a set for which a word has room.
     Low(LowSet),
-    /// Those of which a term is true.
-    Any(Term),
+    /// Those of which a term is true. It stands apart, so that the others take less room.
+    Any(Box<Term>),
 }
 
 /// The only version of a set, if it has one.
@@ -36,14 +36,32 @@ fn only_in(versions: &VSet) -> Option<u32>
     }
 }
 
+/// The versions of a set below the size of a word, a bit each. Nothing rests on it.
+fn low_bits_of(versions: &VSet) -> u64 {
+    let mut low = 0;
+    for ordinal in versions.iter() {
+        if ordinal < u64::BITS {
+            low |= 1 << ordinal;
+        }
+    }
+    low
+}
+
 impl Left {
+    /// Those of which a term is true.
+    pub(crate) fn any(alloc: Global, term: Term) -> Result<Left, AllocError>
+        ensures { IfOk result (λ left. term_of left ≡ term) }
+    {
+        Ok(Left::Any(Box::new(alloc, term)?))
+    }
+
     /// One version alone.
     pub(crate) fn single(alloc: Global, ordinal: u32) -> Result<Left, AllocError>
         ensures { IfOk result (λ left. term_of left ≡ In (ordinal ∷ [])) }
     {
         match LowSet::single(ordinal) {
             Some(set) => Ok(Left::Low(set)),
-            None => Ok(Left::Any(Term::In(VSet::single(alloc, ordinal)?))),
+            None => Ok(Left::any(alloc, Term::In(VSet::single(alloc, ordinal)?))?),
         }
     }
 
@@ -73,8 +91,10 @@ impl Left {
     {
         match self {
             Left::Low(set) => !set.is_empty(),
-            Left::Any(Term::In(versions)) => !versions.is_empty(),
-            Left::Any(Term::NotIn(_)) => true,
+            Left::Any(term) => match &**term {
+                Term::In(versions) => !versions.is_empty(),
+                Term::NotIn(_) => true,
+            },
         }
     }
 
@@ -84,33 +104,32 @@ impl Left {
     {
         match self {
             Left::Low(set) => set.only(),
-            Left::Any(Term::In(versions)) => only_in(versions),
-            Left::Any(Term::NotIn(_)) => None,
+            Left::Any(term) => match &**term {
+                Term::In(versions) => only_in(versions),
+                Term::NotIn(_) => None,
+            },
         }
     }
 
     /// The versions below the size of a word that are left, a bit each. Nothing rests on it.
     pub(crate) fn low_bits(&self) -> u64 {
-        let versions = match self {
-            Left::Low(set) => return set.bits(),
-            Left::Any(Term::In(versions)) => versions,
-            Left::Any(Term::NotIn(_)) => return u64::MAX,
-        };
-        let mut low = 0;
-        for ordinal in versions.iter() {
-            if ordinal < u64::BITS {
-                low |= 1 << ordinal;
-            }
+        match self {
+            Left::Low(set) => set.bits(),
+            Left::Any(term) => match &**term {
+                Term::In(versions) => low_bits_of(versions),
+                Term::NotIn(_) => u64::MAX,
+            },
         }
-        low
     }
 
     /// Whether all versions that are left are in a set. Nothing rests on it.
     pub(crate) fn is_within(&self, set: &LowSet) -> bool {
         match self {
             Left::Low(left) => left.bits() & !set.bits() == 0,
-            Left::Any(Term::In(versions)) => versions.iter().all(|ordinal| set.has(ordinal)),
-            Left::Any(Term::NotIn(_)) => false,
+            Left::Any(term) => match &**term {
+                Term::In(versions) => versions.iter().all(|ordinal| set.has(ordinal)),
+                Term::NotIn(_) => false,
+            },
         }
     }
 
@@ -120,8 +139,10 @@ impl Left {
             Left::Low(left) => {
                 (0..u64::BITS).all(|ordinal| !left.has(ordinal) || matching.has(ordinal))
             }
-            Left::Any(Term::In(versions)) => versions.iter().all(|ordinal| matching.has(ordinal)),
-            Left::Any(Term::NotIn(_)) => false,
+            Left::Any(term) => match &**term {
+                Term::In(versions) => versions.iter().all(|ordinal| matching.has(ordinal)),
+                Term::NotIn(_) => false,
+            },
         }
     }
 
@@ -131,7 +152,7 @@ impl Left {
             true_of (term_of both) choice ≡ (true_of (term_of self.now) choice && true_of term.now choice)) }
     {
         let own = self.term(alloc)?;
-        Ok(Left::Any(own.and(alloc, term)?))
+        Ok(Left::any(alloc, own.and(alloc, term)?)?)
     }
 
     /// Those of the versions that are in a set.

@@ -39,7 +39,7 @@ fn is_out<E: Evidence>(prefix: &Prefix<'_>, evidence: &E, pkg: Pkg, ordinal: u32
 {
     let (registry, request) = (prefix.registry, prefix.request);
     let choosing = prefix.choosing;
-    if !choosing.is_open(registry, request, prefix.left, false, (pkg, ordinal)) {
+    if !choosing.is_open(registry, request, prefix.left, (pkg, ordinal)) {
         return true;
     }
     evidence.rules_out(&choosing.found, pkg, ordinal)
