@@ -78,6 +78,7 @@ class Page(unittest.TestCase):
 @needs_library
 class Built(unittest.TestCase):
     def test_it_is_built_anew_where_anything_has_changed(self):
+        _, kind = c_library.archive()
         with tempfile.TemporaryDirectory() as folder:
             sources, made = Path(folder, "c"), Path(folder, "library")
             shutil.copytree(CLIENT, sources)
@@ -85,7 +86,7 @@ class Built(unittest.TestCase):
                 self.assertIsNone(c_library.standing())
                 self.assertEqual(c_library.built().folder, made)
                 first = (made / "libregistryd.a").stat().st_mtime_ns
-                self.assertEqual((c_library.built(), c_library.standing()), (Library(made, COMPILED),) * 2)
+                self.assertEqual((c_library.built(), c_library.standing()), (Library(made, kind),) * 2)
                 self.assertEqual((made / "libregistryd.a").stat().st_mtime_ns, first)
                 for changed in (sources / "fault.c", made / "libregistryd.a", made / "libregistryd.so.0"):
                     with open(changed, "ab") as file:
@@ -112,6 +113,14 @@ class Built(unittest.TestCase):
         with mock.patch.dict(os.environ), mock.patch.object(c_library.programs, "current", lambda _: None):
             os.environ.pop("EMBEDDED", None)
             self.assertRaisesRegex(c_library.Unbuilt, "run tools/build_library first$", c_library.built)
+
+    def test_of_which_kind_it_is(self):
+        with mock.patch.dict(os.environ), mock.patch.object(c_library.programs, "current", lambda _: Program(Path("standing"), PROVED, "")):
+            os.environ.pop("EMBEDDED", None)
+            self.assertEqual(c_library.archive(), (Path("standing"), PROVED))
+            # nobody knows what one that is named was made from
+            os.environ["EMBEDDED"] = "named"
+            self.assertEqual(c_library.archive(), (Path("named"), COMPILED))
 
     def test_the_command(self):
         self.assertEqual(called("build_library", "more")[0], 2)
