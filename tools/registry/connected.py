@@ -12,10 +12,10 @@ from collections import deque
 from . import near_limits
 from .failures import Failed, Refused
 from .journal_file import commands_in
+from .session import EMPTY
 
 PATIENCE, PAUSE = 10, 0.2  # seconds in which a service that is begun again is waited for
 SMALL = 32_768  # bytes that a socket takes at once
-EMPTY = {"op": "resolve", "needs": []}
 UNAVAILABLE = 503
 MOST_PORT = 65_535
 

@@ -15,13 +15,16 @@ import tied
 from . import near_limits
 from .failures import Failed, Refused, Usage, told
 from .program import program
+from .waiting import SECONDS, InUse, Queue
 
 DEFAULT, VARIABLE, SERVICE = "registry.journal", "REGISTRY_JOURNAL", "REGISTRY_CONNECT"
 HEAD, END = b"registry-journal 2\n", re.compile(rb"^end [0-9]+\n", re.M)
 TRIES, PAUSE = 20, 0.01  # of a file that changes while it is read
+EMPTY = {"op": "resolve", "needs": []}
+IN_USE = r"journal .*: in use by another session"
 # what the program says as it ends, and what is told of that
 REASONS = [
-    (r"journal .*: in use by another session", "{path} is in use by another session: try again once that has ended"),
+    (IN_USE, "{path} is in use by another session: try again once that has ended"),
     (r"journal (?:.*: )?line (\d+)(?: .*)?", "{path}: line {0} is at fault: `registry journal verify {path}` says more, and `registry journal "
                                              "repair {path}` keeps what stands before it"),
     (r"journal .*?: (.+?)(?: \(os error \d+\))?", "{path}: {0}: --journal FILE names another"),
@@ -48,6 +51,12 @@ def service_of(given):
     return standing.service if standing else os.environ.get(SERVICE)
 
 
+def patience_of(given):
+    """How many seconds a session waits for another one: as the words say, else those of the shell."""
+    named = getattr(given, "wait", None)
+    return named if named is not None else standing.patience if standing else SECONDS
+
+
 def selecting(given):
     """The words of the program that say which selection answers a request; none where that is left to the program."""
     newest, takes_any = (getattr(given, it, None) is True for it in ("newest", "any"))
@@ -61,13 +70,15 @@ def reading(given):
     service, path, words = service_of(given), journal_of(given), selecting(given)
     if service and words:
         raise Usage(f"{words[0]} is for a journal: a service selects as it was started")
-    return connected(service) if service else (standing and not words and standing.lent(path)) or Reading(path, words=words)
+    if service:
+        return connected(service)
+    return (standing and not words and standing.lent(path, patience=patience_of(given))) or Reading(path, words=words)
 
 
 def writing(given):
     """A session whose commands are kept."""
-    service, path = service_of(given), journal_of(given)
-    return connected(service) if service else (standing and standing.lent(path, is_writing=True)) or Writing(path)
+    service, path, patience = service_of(given), journal_of(given), patience_of(given)
+    return connected(service) if service else (standing and standing.lent(path, True, patience)) or Writing(path, patience)
 
 
 def connected(service):
@@ -171,7 +182,8 @@ class Session:
             self.process.kill()
             status = self.process.wait()
         self.hearing.join()
-        return Failed(reason(self.said, self.path) or f"the program {' '.join(program())} ended with status {status} before it had answered")
+        kind = InUse if re.fullmatch(f"registryd: {IN_USE}\n", self.said) else Failed
+        return kind(reason(self.said, self.path) or f"the program {' '.join(program())} ended with status {status} before it had answered")
 
     def close(self):
         """Ends the input and waits for the program."""
@@ -223,10 +235,32 @@ class Reading(Session):
 
 
 class Writing(Session):
-    """A session that goes on with a journal's file, or begins one."""
+    """A session that goes on with a journal's file, or begins one. Where another session has that, it waits so many seconds."""
 
-    def __init__(self, path):
+    def __init__(self, path, patience=SECONDS):
+        self.queue = Queue(path, patience)
+        try:
+            while not self.has_begun(path):
+                self.queue.again()
+        except BaseException:
+            self.queue.leave()
+            raise
+
+    def has_begun(self, path):
+        """Whether a program has the journal, which is begun here; no other session does then."""
         super().__init__(path, [f"--journal={path}"])
+        try:
+            list(Session.each(self, [EMPTY]))
+        except BaseException as fault:
+            super().leave()
+            if isinstance(fault, InUse):
+                return False
+            raise
+        return True
+
+    def leave(self):
+        super().leave()
+        self.queue.leave()
 
     def warn(self):
         near_limits.warn(self.path)

@@ -20,9 +20,9 @@ class Kept(session.Writing):
     group = 0  # its own, since Ctrl-C at the prompt ends a line and no session
     commands = session.Reading.commands
 
-    def __init__(self, standing):
+    def __init__(self, standing, patience):
         self.standing, self.waiting, self.is_writing = standing, 0, False
-        super().__init__(standing.path)
+        super().__init__(standing.path, patience)
 
     @property
     def text(self):
@@ -51,14 +51,14 @@ class Standing:
     """Lends the session to each command that asks the shell's journal. It is begun when it is first asked for, and anew where a
     command broke it off. Where the shell asks a service, each command has a connection of its own."""
 
-    def __init__(self, path, service=None):
-        self.path, self.service, self.session = path, service, None
+    def __init__(self, path, service=None, patience=session.SECONDS):
+        self.path, self.service, self.patience, self.session = path, service, patience, None
 
-    def lent(self, path, is_writing=False):
+    def lent(self, path, is_writing=False, patience=session.SECONDS):
         """The session; none on another journal, and none for what only reads where there is no journal yet."""
         if path != self.path or not (is_writing or os.path.exists(path)):
             return None
-        self.session = self.session or Kept(self)
+        self.session = self.session or Kept(self, patience)
         self.session.is_writing = is_writing
         return self.session
 
@@ -70,9 +70,9 @@ class Standing:
                 self.session.leave()
 
 
-def run(path, service=None):
+def run(path, service=None, patience=session.SECONDS):
     """Obeys lines until they end; answers the status of the last one, 0 at a terminal."""
-    session.standing = Standing(path, service)
+    session.standing = Standing(path, service, patience)
     try:
         if not service:
             near_limits.warn(path)

@@ -51,6 +51,7 @@ COMMON = (
     option("--connect", "ADDRESS", "a service in place of a journal: its socket's path, or HOST:PORT (else: REGISTRY_CONNECT)", FILE),
     flag("--json", "the answer as JSON, one line"),
 )
+WAIT = option("--wait", "SECONDS", "wait so long for another session on the journal (else: 10)", range(86_401))
 NEEDS = word("NEED", "a package and a requirement, as app@^1; app alone is app@*", NEED, "*")
 LOCK = option("--lock", "FILE", "a lock file: its versions are preferred", FILE)
 LOCK_FILE = option("--lock", "FILE", "the lock file (else: registry.lock)", FILE)
@@ -65,20 +66,21 @@ IMPORTING = (
     option("--newest", "N", "only the N newest versions of each crate", range(1, MOST_VERSIONS + 1)),
     flag("--lines", "write request lines to standard output, and publish nothing"),
     flag("--ask", "end these lines with a request for the crates of --from, or for a workspace's own packages"),
+    WAIT,
 )
 IMPORTED = ("Nothing is fetched. What is published already is passed over. What is left out, or told otherwise than it stands there, is counted "
             "on standard error, each kind with its first example.")
 
 SUBCOMMANDS = (
     Subcommand("publish", "publish", "Publish a version of a package",
-               (word("NAME", "the package", PACKAGE), word("VERSION", "the version, as 1.0.0"), NEEDS),
+               (word("NAME", "the package", PACKAGE), word("VERSION", "the version, as 1.0.0"), NEEDS, WAIT),
                ("registry publish log 1.3.0", "registry publish app 1.0.0 log@^1.2 zlib"),
                "A publication is permanent. What it needs may be published later."),
     Subcommand("yank", "yank", "Keep a version from being selected anew",
-               (word("NAME", "the package", PACKAGE), word("VERSION", "the version", VERSION)),
+               (word("NAME", "the package", PACKAGE), word("VERSION", "the version", VERSION), WAIT),
                ("registry yank log 1.3.0",), "Nothing is deleted: a lock file that names the version still has it."),
     Subcommand("unyank", "yank", "Undo a yank",
-               (word("NAME", "the package", PACKAGE), word("VERSION", "the version", VERSION)),
+               (word("NAME", "the package", PACKAGE), word("VERSION", "the version", VERSION), WAIT),
                ("registry unyank log 1.3.0",)),
     Subcommand("import crates-io", "import_index", "Publish crates from a copy of crates.io's index",
                (word("DIR", "a checkout of the index, or what Cargo keeps of it", FOLDER), *IMPORTING),
@@ -151,7 +153,7 @@ SUBCOMMANDS = (
                ("registry journal renew registry.journal new.journal --lock app.lock tools.lock", "registry journal renew old.journal new.journal --newest 1"),
                "Kept is what the lock files select, the newest versions of each package, and what those need, in the order of before. Yanks are "
                "kept, and what was learnt is not. It tells what it left out."),
-    Subcommand("shell", "shell", "Open a prompt for these subcommands, over one session that stays open", (),
+    Subcommand("shell", "shell", "Open a prompt for these subcommands, over one session that stays open", (WAIT,),
                ("registry shell", "registry shell --journal team.journal", "registry shell < some.commands"),
                "Words are quoted as a shell of the system quotes them. Ctrl-C ends a line or a search, Ctrl-D the shell. Where its input is no "
                "terminal it obeys each line, and its exit status is the last one's."),

@@ -125,8 +125,10 @@ class Journals(Folder):
             self.assertFalse(self.text("registry.journal").splitlines()[-1].startswith("end"))
             self.assertEqual(self.registry("list"), (0, "a  1.0.0  1 version\nb  1.0.0  1 version\n", ""))
             self.assertEqual(self.registry("tree", "b"), (0, "b 1.0.0\n└── a 1.0.0\n", ""))
-            self.assertEqual(self.registry("publish", "c", "1.0.0"),
-                             (3, "", "registry: registry.journal is in use by another session: try again once that has ended\n"))
+            status, shown, told = self.registry("publish", "c", "1.0.0", "--wait", "0")
+            self.assertEqual((status, shown), (3, ""))
+            self.assertRegex(told, rf'\Aregistry: registry.journal is in use by another session \(process {holder.pid}, "registryd serve --workers 1 .*"\): '
+                                   r"try again once that has ended\n\Z")
             holder.stdin.close()
             self.assertEqual(holder.wait(timeout=60), 0)
         self.assertEqual(self.registry("publish", "c", "1.0.0")[:2], (0, "published c 1.0.0 (revision 3)\n"))

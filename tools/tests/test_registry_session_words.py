@@ -52,7 +52,8 @@ class Which(unittest.TestCase):
         self.assertIs(session.reading(given(journal="j", any=True)), self.made["Reading"].return_value)
         self.assertIs(session.writing(given()), self.made["Writing"].return_value)
         session.reading(given())
-        self.assertEqual((self.made["Reading"].mock_calls, self.made["Writing"].mock_calls), ([mock.call("j", words=["--any"]), mock.call("registry.journal", words=[])], [mock.call("registry.journal")]))
+        self.assertEqual((self.made["Reading"].mock_calls, self.made["Writing"].mock_calls),
+                         ([mock.call("j", words=["--any"]), mock.call("registry.journal", words=[])], [mock.call("registry.journal", 10)]))
 
     def test_one_with_a_service(self):
         for ask in (session.reading, session.writing):
@@ -63,15 +64,15 @@ class Which(unittest.TestCase):
     def test_one_that_stays_open(self):
         kept, lent = object(), []
 
-        def lend(path, is_writing=False):
-            lent.append((path, is_writing))
+        def lend(path, is_writing=False, patience=10):
+            lent.append((path, is_writing, patience))
             return kept if path == "j" else None
-        with mock.patch.object(session, "standing", SimpleNamespace(path="j", service=None, lent=lend)):
+        with mock.patch.object(session, "standing", SimpleNamespace(path="j", service=None, patience=7, lent=lend)):
             self.assertIs(session.reading(given()), kept)
             self.assertIs(session.writing(given()), kept)
-            self.assertIs(session.reading(given(journal="k")), self.made["Reading"].return_value)
-            self.assertIs(session.writing(given(journal="k")), self.made["Writing"].return_value)
-            self.assertEqual(lent, [("j", False), ("j", True), ("k", False), ("k", True)])
+            self.assertIs(session.reading(given(journal="k", wait=None)), self.made["Reading"].return_value)
+            self.assertIs(session.writing(given(journal="k", wait=0)), self.made["Writing"].return_value)
+            self.assertEqual(lent, [("j", False, 7), ("j", True, 7), ("k", False, 7), ("k", True, 0)])
             self.assertIs(session.reading(given(newest=True)), self.made["Reading"].return_value)  # it selects in another way
             self.assertEqual((len(lent), self.made["Reading"].call_args), (4, mock.call("j", words=["--newest"])))
 
@@ -98,7 +99,8 @@ class Begun(unittest.TestCase):
         with open(self.path, "wb") as file:
             file.write(b"x" * 5)
         for fault, is_told in ((None, True), (Refused("no"), True), (ZeroDivisionError(), False)):
-            with mock.patch.object(session.near_limits, "warn") as warn:
+            with mock.patch.object(session.near_limits, "warn") as warn, \
+                    mock.patch.object(session, "program", lambda: ["sh", "-c", f"echo '{{}}'; {TELLING}", "sh"]):  # it has the journal, so it answers
                 try:
                     with session.Writing(self.path) as made:
                         self.assertEqual(made.ask({})[0]["words"], f"serve --workers 1 --journal={self.path}")

@@ -125,8 +125,10 @@ class Typed(Folder):
             self.assertEqual(shell.answer("shell"), "registry: this is the shell: Ctrl-D ends it\n")
             self.assertEqual(shell.answer(""), "")
             self.assertEqual(shell.child(), child)
-            said = subprocess.run([COMMAND, "publish", "other", "1.0.0"], cwd=self.folder, env={**os.environ, "REGISTRY_PROGRAM": PROGRAM}, stderr=subprocess.PIPE)
-            self.assertEqual((said.returncode, said.stderr), (3, b"registry: registry.journal is in use by another session: try again once that has ended\n"))
+            said = subprocess.run([COMMAND, "publish", "other", "1.0.0", "--wait", "0"], cwd=self.folder, env={**os.environ, "REGISTRY_PROGRAM": PROGRAM},
+                                  stderr=subprocess.PIPE)
+            self.assertEqual((said.returncode, said.stderr.decode()), (
+                3, f'registry: registry.journal is in use by another session (process {shell.running.pid}, "registry shell"): try again once that has ended\n'))
             self.assertEqual(shell.end(), 0)
             self.assertFalse(os.path.exists(f"/proc/{child[0]}/exe"))
         self.assertEqual(self.text("registry.journal").splitlines()[-1], "end 2")

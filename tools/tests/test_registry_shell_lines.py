@@ -187,7 +187,7 @@ class Sessions(unittest.TestCase):
                     if fault:
                         raise fault
                 self.assertEqual((lent.waiting, warn.call_count - before), (0, int(is_writing)))
-        self.assertEqual((first, lent.ask({"op": "list"}), len(self.begun)), (10, [{"ok": True, "revision": 13}], 1))
+        self.assertEqual((first, lent.ask({"op": "list"}), len(self.begun)), (11, [{"ok": True, "revision": 14}], 1))  # the first line asks whether it has begun
 
     def test_a_command_that_breaks_off(self):
         made = self.standing()
@@ -196,10 +196,10 @@ class Sessions(unittest.TestCase):
                 raise fault
             self.assertIsNone(made.session)
             self.assertIsNotNone(lent.process.poll())
-        self.assertEqual((made.lent(self.path).ask({"op": "list"}), len(self.begun)), ([{"ok": True, "revision": 1}], 3))
+        self.assertEqual((made.lent(self.path).ask({"op": "list"}), len(self.begun)), ([{"ok": True, "revision": 2}], 3))
 
     def test_a_program_that_ends_before_what_is_left(self):
-        self.script = "read x; echo '{}'"
+        self.script = "read x; echo '{}'; read x; echo '{}'"
         with self.standing().lent(self.path) as lent:
             next(lent.each([{"op": "list"}] * 3))
         self.assertEqual(lent.waiting, 2)

@@ -15,11 +15,12 @@ from registry.table import COMMON, SUBCOMMANDS, Subcommand, Word, flag, option, 
 NONE = {"journal": None, "connect": None, "json": False}
 SELECTING = {"newest": False, "any": False}
 ASKING = {"need": [], "lock": None, "budget": None, **SELECTING}
-IMPORTING = {"from": None, "newest": None, "lines": False, "ask": False}
+IMPORTING = {"from": None, "newest": None, "lines": False, "ask": False, "wait": None}
 # command lines, and the values that are read from them
 READ = [
-    ("publish log 1.3.0", {"name": "log", "version": "1.3.0", "need": []}), ("publish log 1.3.0 a@^1 b", {"name": "log", "version": "1.3.0", "need": ["a@^1", "b"]}),
-    ("yank log 1.3.0", {"name": "log", "version": "1.3.0"}), ("--json unyank log 1.3.0", {"name": "log", "version": "1.3.0", "json": True}),
+    ("publish log 1.3.0", {"name": "log", "version": "1.3.0", "need": [], "wait": None}), ("publish log 1.3.0 a@^1 --wait 0 b", {"name": "log", "version": "1.3.0", "need": ["a@^1", "b"], "wait": 0}),
+    ("yank log 1.3.0", {"name": "log", "version": "1.3.0", "wait": None}),
+    ("--json unyank log 1.3.0", {"name": "log", "version": "1.3.0", "json": True, "wait": None}),
     ("import crates-io d --from a b --newest 2", {**IMPORTING, "dir": "d", "from": ["a", "b"], "newest": 2}),
     ("import cargo d --index i --write w --lines --ask", {**IMPORTING, "dir": "d", "index": "i", "write": "w", "lines": True, "ask": True}),
     ("import debian", {**IMPORTING, "file": None}), ("import debian f", {**IMPORTING, "file": "f"}), ("show log --journal j", {"name": "log", "journal": "j"}),
@@ -32,7 +33,7 @@ READ = [
     ("outdated --lock l --budget 7", {**ASKING, "lock": "l", "budget": 7}), ("upgrade", {"name": [], "lock": None, "need": None, "budget": None, **SELECTING, "yes": False}),
     ("upgrade a b --need c d --yes", {"name": ["a", "b"], "lock": None, "need": ["c", "d"], "budget": None, **SELECTING, "yes": True}), ("diff a b", {"old": "a", "new": "b"}),
     ("check -", {"file": "-"}), ("journal verify f", {"file": "f"}), ("journal repair f --output n", {"file": "f", "output": "n"}),
-    ("journal renew a b --lock c d --newest 0", {"old": "a", "new": "b", "lock": ["c", "d"], "newest": 0}), ("shell", {}), ("page --port 0 --seconds 1 --any", {"port": 0, "seconds": 1,
+    ("journal renew a b --lock c d --newest 0", {"old": "a", "new": "b", "lock": ["c", "d"], "newest": 0}), ("shell", {"wait": None}), ("page --port 0 --seconds 1 --any", {"port": 0, "seconds": 1,
                                                                                                                                                "newest": False, "any": True}),
     ("serve", {"socket": None, "port": None, "mode": "600", "group": None, "readers": 2, "seconds": 10, "budget": None, **SELECTING, "workers": 1, "clients": 1000, "log": None,
                "metrics_port": None}),
@@ -43,7 +44,7 @@ READ = [
 EDGES = [("resolve a --budget", 0, 4_294_967_295), ("tree a --depth", 0, 4_294_967_295), ("why a --request", 1, 4_294_967_295), ("outdated --budget", 0, 4_294_967_295),
          ("import debian --newest", 1, 4096), ("journal renew a b --newest", 0, 4096), ("page --port", 0, 65_535), ("page --seconds", 1, 3600), ("serve --port", 0, 65_535),
          ("serve --metrics-port", 0, 65_535), ("serve --readers", 1, 64), ("serve --workers", 1, 64), ("serve --seconds", 1, 3600), ("serve --clients", 1, 100_000),
-         ("serve --budget", 0, 4_294_967_295), ("upgrade --budget", 0, 4_294_967_295)]
+         ("serve --budget", 0, 4_294_967_295), ("publish a 1.0.0 --wait", 0, 86_400), ("shell --wait", 0, 86_400), ("upgrade --budget", 0, 4_294_967_295)]
 WRONG = [
     (["publsh"], "there is no subcommand publsh; publish may be meant: `registry --help` has all"), (["frobnicate"], "there is no subcommand frobnicate: `registry --help` has all"),
     (["--jurnal", "x", "list"], "there is no option --jurnal before a subcommand: `registry --help` has all"), (["--json=1", "--x=2"], "there is no option --x before a subcommand: `registry --help` has all"),

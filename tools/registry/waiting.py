@@ -1,0 +1,127 @@
+"""Waiting for a journal that another session writes.
+
+Whoever waits stands in a queue: a lock of this command's own on the journal's file (`lockf`), beside the one that a session's program has
+(`flock`). So of many sessions one at a time begins its program. The system takes both locks off as soon as their process has ended."""
+import contextlib
+import fcntl
+import os
+import time
+from typing import NamedTuple
+
+from .command_line import split
+from .failures import Failed, Usage
+from .lines.fault import shown
+from .output import Output
+
+SECONDS = 10  # that a session waits
+LOOK, LONGEST, SILENT = 0.05, 0.5, 1  # seconds: between two looks, at most between two tries, and until it is told
+
+
+class InUse(Failed):
+    """Another session has the journal."""
+
+
+class Holder(NamedTuple):
+    """The process that has a journal's lock, or the command `registry` that has begun it."""
+    pid: int
+    words: list  # its command line
+
+    def __str__(self):
+        """Who it is, as far as that is known."""
+        name, *others = self.words or [""]
+        command = shown(" ".join([os.path.basename(name), *others]))
+        return f"process {self.pid}" + (f", {command}" if name else "")
+
+    @property
+    def is_service(self):
+        """Whether it has the journal until someone ends it, and answers others meanwhile."""
+        with contextlib.suppress(Usage):
+            found, _ = split(self.words[1:])
+            return self.words[:1] == ["registry"] and found is not None and found.name == "serve"
+        return False
+
+
+def holder(path):
+    """Who has the lock of a file; none where the system doesn't tell."""
+    with contextlib.suppress(OSError, ValueError):
+        found = os.stat(path)
+        place = f"{os.major(found.st_dev):02x}:{os.minor(found.st_dev):02x}:{found.st_ino}"
+        with open("/proc/locks", encoding="ascii") as file:
+            locks = [line.split() for line in file]
+        # their number, kind, two words more, the process and the file; of those who wait an arrow is before the kind
+        pid = next((int(it[4]) for it in locks if it[1] == "FLOCK" and it[5] == place), 0)
+        if pid > 0:
+            found = [Holder(it, words_of(it)) for it in (pid, parent(pid))]
+            return next((it for it in found if it.words[:1] == ["registry"]), found[0])
+    return None
+
+
+def words_of(pid):
+    """The command line of a process, that of the command `registry` without the interpreter."""
+    with open(f"/proc/{pid}/cmdline", "rb") as file:
+        words = file.read().decode(errors="replace").split("\0")[:-1]
+    at = next((at for at, it in enumerate(words[:3]) if os.path.basename(it) == "registry"), None)
+    return words if at is None else ["registry", *words[at + 1:]]
+
+
+def parent(pid):
+    with open(f"/proc/{pid}/stat", "rb") as file:
+        return int(file.read().rpartition(b")")[2].split()[1])  # behind the name, in which anything may stand
+
+
+class Queue:
+    """The queue before a journal, as one session sees it that waits so many seconds."""
+
+    def __init__(self, path, seconds):
+        self.path, self.seconds, self.begun = path, seconds, time.monotonic()
+        self.file, self.pause, self.is_told = None, LOOK, False
+        self.enter()
+
+    def enter(self):
+        """Returns at the head of the queue, or where the time is over; at once where there is no file to write: the program tells of that."""
+        if self.file is None and os.path.isfile(self.path):
+            with contextlib.suppress(OSError):
+                self.file = open(self.path, "rb+", buffering=0)
+                while not self.is_head() and self.waits(LOOK):
+                    pass
+
+    def is_head(self):
+        try:
+            fcntl.lockf(self.file, fcntl.LOCK_EX | fcntl.LOCK_NB)
+        except OSError:
+            return False
+        return True
+
+    def again(self):
+        """Waits before another try; raises where there is no time for one, or waiting is of no use."""
+        found = holder(self.path)
+        if found and found.is_service:
+            raise InUse(f"{self.path} is kept by a service ({found}): name that by --connect")
+        if not self.waits(self.pause):
+            raise InUse(f"{self.path} is in use by {self.told(found)}: try again once that has ended")
+        self.pause = min(2 * self.pause, LONGEST)
+        if found or self.file is None:
+            self.enter()
+        else:
+            self.leave()  # on a network file system the two locks may be one, and the queue's is in the way then
+
+    def waits(self, seconds):
+        """Waits, and answers whether there was time to. Once that takes long it is told."""
+        now = time.monotonic()
+        left = self.begun + self.seconds - now
+        if left <= 0:
+            return False
+        if now >= self.begun + SILENT and not self.is_told:
+            self.is_told = True
+            Output.note(f"{self.path} is in use by {self.told(holder(self.path))}: waiting up to {self.seconds:,} second{'s' * (self.seconds != 1)}")
+        time.sleep(min(seconds, left))
+        return True
+
+    @staticmethod
+    def told(found):
+        return "another session" + (f" ({found})" if found else "")
+
+    def leave(self):
+        file, self.file = self.file, None
+        if file:
+            file.close()
