@@ -5,7 +5,7 @@ import sys
 
 from . import command_line
 from .failures import DONE, FAILED, INTERRUPTED, NO_READER, USAGE, Failure, Usage, told
-from .output import Output
+from .output import Output, say
 
 
 def run(words):
@@ -57,13 +57,15 @@ def guarded(words):
         sys.stdout.flush()
         return status
     except Failure as fault:
-        sys.stdout.flush()
-        print(f"registry: {fault}", file=sys.stderr)
+        Output.note(fault)
         return fault.status
     except BrokenPipeError:
         raise
     except OSError as fault:
-        print(f"registry: {told(fault)}", file=sys.stderr)
+        say(f"registry: {told(fault)}")
+        return FAILED
+    except MemoryError:
+        Output.note("there is not enough memory")
         return FAILED
 
 

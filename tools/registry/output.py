@@ -10,35 +10,57 @@ def is_coloured(stream):
     return stream is not None and stream.isatty() and not os.environ.get("NO_COLOR") and os.environ.get("TERM") != "dumb"
 
 
+def visible(text):
+    """A text with nothing in it that a terminal obeys or nobody sees, as controls of the direction: such characters are told by their numbers."""
+    return text if text.isprintable() else "".join(it if it.isprintable() else numbered(ord(it)) for it in text)
+
+
+def numbered(code):
+    return f"\\x{code:02x}" if code < 0x100 else f"\\u{code:04x}" if code < 0x10000 else f"\\U{code:08x}"
+
+
+def say(*lines):
+    """Lines on standard error."""
+    for it in lines:
+        print(visible(it), file=sys.stderr, flush=True)
+
+
 class Output:
     """Standard output and standard error of one subcommand."""
 
     def __init__(self, is_json=False):
         self.is_json, self.is_coloured = is_json, not is_json and is_coloured(sys.stdout)
+        self.mark = os.urandom(8).hex()  # stands for the beginning of a colour's code until a line is printed: no text has it by chance
 
     def give(self, value, lines):
         """An answer: the value as one line of JSON where that is wanted, else these lines."""
         if self.is_json:
-            import json
-            print(json.dumps(value, separators=(",", ":"), ensure_ascii=False))
+            print(as_json(value))
         else:
             for line in lines:
-                print(line)
+                print(visible(line).replace(self.mark, "\x1b["))
 
     def style(self, text, *styles):
         """A text in some of the STYLES, plain where there is no colour."""
-        return f"\x1b[{';'.join(STYLES[it] for it in styles)}m{text}\x1b[0m" if self.is_coloured and text else text
+        return f"{self.mark}{';'.join(STYLES[it] for it in styles)}m{text}{self.mark}0m" if self.is_coloured and text else text
 
     @staticmethod
     def note(text):
         """One line on standard error: what is worth knowing, and no answer."""
         sys.stdout.flush()
-        print(f"registry: {text}", file=sys.stderr, flush=True)
+        say(f"registry: {text}")
 
     @staticmethod
     def ask(question):
         """Whether a person at a terminal says yes; none where nobody can be asked."""
         if not (sys.stdin and sys.stdin.isatty() and sys.stderr and sys.stderr.isatty()):
             return None
-        print(f"{question} [y/N] ", end="", file=sys.stderr, flush=True)
+        print(f"{visible(question)} [y/N] ", end="", file=sys.stderr, flush=True)
         return sys.stdin.readline().strip().lower() in ("y", "yes")
+
+
+def as_json(value):
+    """A value as JSON in one line, in letters of ASCII where it has what is not visible."""
+    import json
+    text = json.dumps(value, separators=(",", ":"), ensure_ascii=False)
+    return text if text.isprintable() else json.dumps(value, separators=(",", ":")).replace("\x7f", "\\u007f")

@@ -1,11 +1,10 @@
 """Requests to select versions, and what is told of their answers."""
-import sys
-
 from check_derivation import read_version
 
 from .failures import REFUSED, Refused
 from .locks import lock_of
 from .needs import needs_given
+from .output import say
 from .refusals import english, listed
 
 
@@ -36,7 +35,7 @@ def refused(session, request, reply, out):
     commands = session.commands()
     names = {it["name"] for it in commands if it["op"] == "publish"}
     case = Case(request, reply, lambda named: registry_of(commands, named), lambda it: session.ask(it)[0], names)
-    print(*case.answer(), sep="\n", file=sys.stderr)
+    say(*case.answer())
     return REFUSED
 
 

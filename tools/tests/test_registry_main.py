@@ -55,7 +55,7 @@ class Ends(Printed):
 
     def test_statuses(self):
         for fault, status, told in ((None, 0, ""), (Refused("no"), 1, "registry: no\n"), (Usage("no"), 2, "registry: no\n"), (Failed("no"), 3, "registry: no\n"),
-                                    (KeyboardInterrupt(), 130, ""),
+                                    (MemoryError(), 3, "registry: there is not enough memory\n"), (KeyboardInterrupt(), 130, ""),
                                     (SystemExit(), 0, ""), (SystemExit(2), 2, ""), (main.EndedBySignal(143), 143, "")):
             def run(*_):
                 print("some")

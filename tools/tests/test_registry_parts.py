@@ -97,8 +97,11 @@ class Needs(unittest.TestCase):
             with mock.patch.dict(os.environ, {"TERM": "xterm", "NO_COLOR": "", **given}):
                 self.assertEqual(bool(output.is_coloured(stream)), wanted)
                 with mock.patch.object(sys, "stdout", stream):
-                    self.assertEqual(output.Output().style("a", "red", "bold"), "\x1b[31;1ma\x1b[0m" if wanted else "a")
-                    self.assertEqual((output.Output(is_json=True).style("a", "red"), output.Output().style("", "red")), ("a", ""))
+                    out = output.Output()
+                    self.assertEqual((output.Output(is_json=True).style("a", "red"), out.style("", "red")), ("a", ""))
+                    if stream:
+                        out.give(None, [out.style("a", "red", "bold") + "\x1b[32mb"])  # a colour of its own, and a text that would set one
+                        self.assertEqual(stream.getvalue(), ("\x1b[31;1ma\x1b[0m" if wanted else "a") + "\\x1b[32mb\n")
         for streams, said, wanted in (((Terminal, Terminal), "y\n", True), ((Terminal, Terminal), " YES \n", True), ((Terminal, Terminal), "\n", False), ((Terminal, Terminal), "", False),
                                       ((Terminal, Terminal), "yesterday\n", False), ((io.StringIO, Terminal), "y\n", None), ((Terminal, io.StringIO), "y\n", None)):
             with mock.patch.object(sys, "stdin", streams[0](said)), mock.patch.object(sys, "stderr", streams[1]()) as shown:
@@ -106,8 +109,15 @@ class Needs(unittest.TestCase):
                 self.assertEqual(shown.getvalue(), "" if wanted is None else "Write it? [y/N] ")
         with contextlib.redirect_stdout(io.StringIO()) as out:
             output.Output(is_json=True).give({"a": ["é", 1]}, ["x"])
+            output.Output(is_json=True).give({"a": ["é\x1b\x7f\x9b\u202e"]}, ["x"])
             output.Output().give({"a": 1}, ["x", "y"])
-        self.assertEqual(out.getvalue(), '{"a":["é",1]}\nx\ny\n')
+        self.assertEqual(out.getvalue(), '{"a":["é",1]}\n{"a":["\\u00e9\\u001b\\u007f\\u009b\\u202e"]}\nx\ny\n')
+
+    def test_what_is_visible(self):
+        # ECMA-48: ESC begins a control function, and U+009B is the same as ESC [; U+202E turns the direction, and U+E0041 is a tag
+        for text, wanted in (("a é 日本", "a é 日本"), ("", ""), ("\x1b]0;x\x07", r"\x1b]0;x\x07"), ("\x9b31m", r"\x9b31m"), ("a\nb\x7f\xa0", r"a\x0ab\x7f\xa0"),
+                             ("\u202ea\u2066", r"\u202ea\u2066"), ("\U000e0041", r"\U000e0041"), ("\udc80", r"\udc80")):
+            self.assertEqual(output.visible(text), wanted)
 
 
 class Progress(unittest.TestCase):

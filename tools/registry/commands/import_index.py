@@ -13,6 +13,7 @@ from ..indexes.crates_io import CratesIo
 from ..indexes.debian import Debian
 from ..locks import lock_text
 from ..needs import needs_path, write_needs
+from ..output import say
 from ..refusals import english
 from ..session import writing
 from ..shelf import Shelf, choose, commands_of, counted, noted, request, roots
@@ -36,7 +37,7 @@ def run(given, out):
         for it in [*commands, *([asked] if asked else [])]:
             print(json.dumps(it, separators=(",", ":")))
         sys.stdout.flush()
-        print(f"written: {counted(chosen)}", *noted(shelf, chosen, most, index.notes), sep="\n", file=sys.stderr)
+        say(f"written: {counted(chosen)}", *noted(shelf, chosen, most, index.notes))
         return None
     status = published(given, commands, chosen, noted(shelf, chosen, most, index.notes), out)
     if lock_file:
@@ -73,7 +74,7 @@ def published(given, commands, chosen, notes, out):
              [f"imported: {counted(chosen)} (revision {reply['revision']})"])
     sys.stdout.flush()
     if not out.is_json:
-        print(*notes, sep="\n", end="\n" * bool(notes), file=sys.stderr)
+        say(*notes)
     return REFUSED if refused else None
 
 

@@ -5,7 +5,7 @@ from ..failures import REFUSED, Failed, Refused
 from ..journal_file import FAULTY, fault_line, read_journal, refuse_existing, write_new
 from ..lines.fault import shown
 
-MOST_TOLD = 10
+MOST_TOLD, MOST_SHOWN = 10, 200
 
 
 def run(given, out):
@@ -48,6 +48,6 @@ def described(line):
     """A dropped line in short."""
     try:
         said = json.loads(line)
-        return f"{said['op']} {said['name']} {said['version']}" if said["op"] != "learn" else "what was learnt"
+        return f"{said['op']} {said['name']} {said['version']}"[:MOST_SHOWN] if said["op"] != "learn" else "what was learnt"
     except (ValueError, KeyError, TypeError, RecursionError):
-        return shown(line[:200].decode(errors="replace"))
+        return shown(line[:MOST_SHOWN].decode(errors="replace"))

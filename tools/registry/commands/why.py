@@ -21,7 +21,7 @@ def run(given, out):
             lines = case.why_not(*given.version) if given.version else case.answer()
             answers.append({"request": case.request, "reply": case.reply, "told": lines})
             if not out.is_json:
-                print("\n".join([""] * (len(answers) > 1) + lines))
+                out.give(None, [""] * (len(answers) > 1) + lines)
             picture = case.draw
         if out.is_json:
             out.give(answers, [])

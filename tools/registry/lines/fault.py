@@ -1,6 +1,7 @@
 """What is wrong with a line, and how it is told."""
-import json
 from typing import NamedTuple
+
+from ..output import as_json
 
 NAMES = {1: "BadName", 2: "BadVersion", 3: "BadRequirement", 4: "RepeatedDependency", 5: "SelfDependency",
          6: "TooManyDependencies", 19: "BadLine"}
@@ -40,6 +41,6 @@ class Fault(NamedTuple):
 
 
 def shown(text):
-    """A text in quotes, cut where it is long, with nothing in it that a terminal would obey."""
+    """A text in quotes, cut where it is long, with nothing in it that a terminal obeys."""
     cut = text if len(text) <= MOST_SHOWN else text[:MOST_SHOWN - 1] + "…"
-    return json.dumps(cut, ensure_ascii=not cut.isprintable())
+    return as_json(cut)
