@@ -4,6 +4,8 @@ import tempfile
 
 from .failures import Failed, told
 
+MOST_BYTES = 2 ** 28  # of a file that is imported
+
 
 def read_file(path):
     try:
@@ -11,6 +13,22 @@ def read_file(path):
             return file.read()
     except OSError as fault:
         raise Failed(told(fault)) from None
+
+
+def read_bounded(path):
+    """The bytes of a file that has no more than MOST_BYTES: a device may have no end."""
+    with open(path, "rb") as file:
+        text = file.read(MOST_BYTES + 1)
+    if len(text) > MOST_BYTES:
+        raise Failed(f"{path} has more than {MOST_BYTES:,} bytes, which are the most that are read")
+    return text
+
+
+def read_plain(path):
+    """The same of a plain file: nothing may ever come out of a pipe."""
+    if os.path.exists(path) and not os.path.isfile(path):
+        raise Failed(f"{path} is no plain file")
+    return read_bounded(path)
 
 
 def write_file(path, text):

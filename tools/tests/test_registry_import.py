@@ -8,13 +8,15 @@ import tempfile
 import tomllib
 import unittest
 from pathlib import Path
+from unittest import mock
 
 from called import registry
-from program import LIST, PROGRAM, TOP, publish, resolve, run, serve, yank
+from program import LIST, PROGRAM, TOP, in_time, publish, resolve, run, serve, yank
 from registry_folder import Folder, at_terminal
 from test_readme import answers, blocks
 
 sys.path.insert(0, os.path.join(TOP, "tools"))
+from registry import files
 from registry.indexes.debian import BEYOND, NOTHING, comparator, joined
 from limits import MOST_COMMANDS, MOST_NEEDS, MOST_PACKAGES, MOST_VERSIONS
 
@@ -33,7 +35,7 @@ SOLITARY = [publish("solitary", "2.0.0", ["gone ^5"])]
 REACHED = [
     "left out: crates named as another one but for `-`, `_` and capitals: 1 (first: pad_left, as pad-left)",
     "left out: dev dependencies: 1 (first: io 1.1.0 needs tester)",
-    'left out: lines that are of no known form: 1 (first: fog: {"name":"fog","vers":"0.3.1","deps":)',
+    'left out: lines that are of no known form: 1 (first: 3/f/fog:2: {"name":"fog","vers":"0.3.1","deps":)',
     "left out: optional dependencies: 1 (first: io 1.1.0 needs helper)",
     'left out: versions that need another version of their own crate: 1 (first: pad-left 1.0.0 needs pad-left "^0.9")',
     'left out: versions that need what is refused as a name or a requirement: 1 (first: io 1.2.0 needs fog ">0.1 <0.4")',
@@ -143,8 +145,15 @@ class CratesIo(Imported):
             lines, told, status = made("crates-io", fill(top, {"1/a": entry("b", "1.0.0") + entry("A", "1.0.0") + entry("a", "1.1.0")}))
         self.assert_lines(lines, [publish("a", "1.0.0"), publish("a", "1.1.0")])
         left = entry("b", "1.0.0")[:60]
-        self.assertEqual((told, status), ([written(2, 1), f"left out: lines that are of no known form: 1 (first: a: {left})",
+        self.assertEqual((told, status), ([written(2, 1), f"left out: lines that are of no known form: 1 (first: 1/a:1: {left})",
                                            "told otherwise: versions of crates with capitals in their names, in small letters: 1 (first: A)"], 0))
+
+    def test_a_line_that_nests_deeply_or_has_no_texts_is_left_out(self):
+        for odd in ("[" * 100_000, '{"name":"a","vers":"1.0.0","deps":' + "[" * 100_000, entry("a", "1.0.0", "b ^1").replace('"b"', "7"), entry("a", "1.0.0", "b ^1").replace('"^1"', "[]")):
+            with tempfile.TemporaryDirectory() as top:
+                lines, told, status = made("crates-io", fill(top, {"1/a": entry("a", "1.1.0") + odd.rstrip() + "\n"}))
+            self.assert_lines(lines, [publish("a", "1.1.0")])
+            self.assertEqual((told, status), ([written(1, 1), f"left out: lines that are of no known form: 1 (first: 1/a:2: {odd[:60]})"], 0))
 
     def test_what_is_past_a_limit_is_left_out(self):
         many = [f"n{number} ^1" for number in range(MOST_NEEDS + 1)]
@@ -286,6 +295,17 @@ class Cargo(Imported):
         self.assertEqual(status, 0)
 
 
+    def test_what_nests_too_deeply(self):
+        deep = 'a = "b"\nc = ' + "[" * 5_000 + "]" * 5_000 + "\n"
+        plain = '[package]\nname = "plain"\nversion = "1.2.5"\n'
+        with tempfile.TemporaryDirectory() as top:
+            lines, told, status = made("cargo", fill(top, {"Cargo.toml": plain, "deep/Cargo.toml": deep}))
+            self.assert_lines(lines, [publish("plain", "1.2.5")])
+            self.assertEqual((told, status), ([written(1, 1), "left out: manifests that can't be read: 1 (first: deep/Cargo.toml: its values nest too deeply)"], 0))
+            fill(top, {"Cargo.lock": deep})
+            self.assertEqual(made("cargo", top), ([], [f"registry: {top}/Cargo.lock can't be read: its values nest too deeply"], 1))
+
+
 class Debian(Imported):
     def test_the_sample_gives_the_lines_and_counts_worked_by_hand(self):
         lines, told, status = made("debian", DEBIAN)
@@ -406,6 +426,29 @@ class Words(unittest.TestCase):
                 self.assertIn(told, said[-1])
         self.assertEqual(registry("import"), (2, "", "registry: import goes with one of crates-io, cargo, debian: `registry --help` has all\n"))
         self.assertEqual(registry("import", "debian", DEBIAN, "--ask"), (2, "", "registry: --ask goes with --lines: `registry resolve` asks the registry\n"))
+
+    def test_a_file_that_may_have_no_end_is_told(self):
+        places = (("crates-io", "1/a"), ("cargo", "Cargo.toml"), ("cargo", "in/Cargo.toml"), ("cargo", "Cargo.lock"))
+        for make in (os.mkfifo, lambda path: os.symlink("/dev/zero", path)):
+            for form, place in places:
+                with in_time(), tempfile.TemporaryDirectory() as top:
+                    path = os.path.join(top, place)
+                    os.makedirs(os.path.dirname(path), exist_ok=True)
+                    make(path)
+                    self.assertEqual(made(form, top), ([], [f"registry: {path} is no plain file"], 3))
+        with mock.patch.object(files, "MOST_BYTES", 4_096):
+            self.assertEqual(made("debian", "/dev/zero"), ([], ["registry: /dev/zero has more than 4,096 bytes, which are the most that are read"], 3))
+            with tempfile.TemporaryDirectory() as top:
+                path = os.path.join(fill(top, {"1/a": entry("a", "1.0.0") + " " * 4_096}), "1/a")
+                self.assertEqual(made("crates-io", top), ([], [f"registry: {path} has more than 4,096 bytes, which are the most that are read"], 3))
+
+    def test_a_pipe_that_is_named_itself_is_read(self):
+        ours, theirs = os.pipe()
+        self.addCleanup(os.close, ours)
+        with open(theirs, "w", encoding="utf-8") as pipe, open(DEBIAN, encoding="utf-8") as file:
+            pipe.write(file.read())
+        lines, _, status = made("debian", f"/dev/fd/{ours}")
+        self.assertEqual((len(lines), status), (len(PACKAGED), 0))
 
     def test_help_shows_an_example_of_each(self):
         for words in (["crates-io"], ["cargo"], ["debian"]):

@@ -1,13 +1,12 @@
 """`registry import`: crates that are on this machine, published in an order that is accepted."""
 import json
 import sys
-from pathlib import Path
 
 from limits import MOST_VERSIONS
 
 from ..bar import Bar, busy
 from ..failures import REFUSED, Usage
-from ..files import write_file
+from ..files import read_bounded, write_file
 from ..indexes.cargo import Cargo
 from ..indexes.crates_io import CratesIo
 from ..indexes.debian import Debian
@@ -51,7 +50,7 @@ def opened(given):
         return CratesIo(given.dir)
     if given.subcommand == "import cargo":
         return Cargo(given.dir, CratesIo(given.index) if given.index else None)
-    return Debian(Path(given.file).read_text(errors="replace") if given.file else Debian.of_this_machine())
+    return Debian(read_bounded(given.file).decode(errors="replace").replace("\r\n", "\n") if given.file else Debian.of_this_machine())
 
 
 def published(given, commands, chosen, notes, out):

@@ -6,7 +6,16 @@ from pathlib import Path
 
 from check_derivation import read_version
 
+from ..files import read_plain
 from .index import Crate, Index, Release, Unusable, by_precedence, need
+
+
+def read_toml(path):
+    """The table of a file; raises `ValueError` where it is no TOML, or not UTF-8."""
+    try:
+        return tomllib.loads(read_plain(path).decode())
+    except RecursionError:
+        raise ValueError("its values nest too deeply") from None
 
 
 class Cargo(Index):
@@ -35,7 +44,7 @@ class Cargo(Index):
 
     def read(self, folder):
         try:
-            self.manifests[folder] = tomllib.loads(Path(folder, "Cargo.toml").read_text(encoding="utf-8"))
+            self.manifests[folder] = read_toml(folder / "Cargo.toml")
         except ValueError as fault:  # no TOML, or not UTF-8
             self.notes.left_out("manifests that can't be read", f"{os.path.relpath(folder, self.top)}/Cargo.toml: {fault}")
 
@@ -44,7 +53,7 @@ class Cargo(Index):
         path, packages = self.top / "Cargo.lock", defaultdict(list)
         if path.exists():
             try:
-                told = tomllib.loads(path.read_text(encoding="utf-8"))
+                told = read_toml(path)
                 for it in [*told.get("package", []), *([told["root"]] if "root" in told else [])]:
                     packages[it["name"]].append({"source": None, "dependencies": [], **it, "version": it["version"]})
             except (ValueError, KeyError, TypeError, AttributeError) as fault:

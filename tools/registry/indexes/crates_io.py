@@ -3,6 +3,7 @@ import json
 import os
 from pathlib import Path
 
+from ..files import read_plain
 from .index import Crate, Index, Release, Unusable, need
 
 
@@ -13,7 +14,7 @@ class CratesIo(Index):
     def __init__(self, top):
         super().__init__()
         top = Path(top, ".cache") if Path(top, ".cache").is_dir() else Path(top)
-        self.files = {}
+        self.top, self.files = top, {}
         for folder, folders, files in os.walk(top):
             folders[:] = sorted(it for it in folders if not it.startswith("."))
             for name in sorted(files):
@@ -30,22 +31,25 @@ class CratesIo(Index):
 
     def crate(self, name):
         crate = Crate(name)
-        text = self.files[name].read_bytes()
+        text = read_plain(self.files[name])
         is_cache = not text.startswith(b"{")
-        for row in text.split(b"\0" if is_cache else b"\n"):
+        for number, row in enumerate(text.split(b"\0" if is_cache else b"\n"), 1):
             if row.startswith(b"{") or (row and not is_cache):
-                self.read(row, crate)
+                self.read(number, row, crate)
         return crate
 
-    def read(self, row, crate):
+    def read(self, number, row, crate):
         try:
             entry = json.loads(row)
             if not all(isinstance(it, str) for it in (entry["name"], entry["vers"])) or entry["name"].lower() != crate.name:
                 raise ValueError("not a line of this crate")
             needs = [it for it in entry["deps"] if self.is_needed(it, entry["vers"], crate)]
+            if not all(isinstance(text, str) for it in needs for text in (it.get("package") or it["name"], it["req"])):
+                raise ValueError("no dependency")
             release = Release(entry["vers"], [(it.get("package") or it["name"], it["req"]) for it in needs], entry["yanked"] is True)
-        except (ValueError, KeyError, TypeError, AttributeError):
-            crate.notes.left_out("lines that are of no known form", f"{crate.name}: {row[:60].decode(errors='replace')}")
+        except (ValueError, KeyError, TypeError, AttributeError, RecursionError):
+            place = f"{os.path.relpath(self.files[crate.name], self.top)}:{number}"
+            crate.notes.left_out("lines that are of no known form", f"{place}: {row[:60].decode(errors='replace')}")
             return
         if entry["name"] != crate.name:
             crate.notes.otherwise("versions of crates with capitals in their names, in small letters", entry["name"])
