@@ -87,24 +87,30 @@ def connected(service):
     return Connected(service)
 
 
+def read_steady(path):
+    """The text of a journal's file, and where its end stands. Read again where that is written over meanwhile."""
+    for _ in range(TRIES):
+        with open(path, "rb") as file:
+            text = file.read()
+        found = END.search(text)
+        if found is None or found.end() == len(text):
+            break
+        time.sleep(PAUSE)
+    return text, found
+
+
 def snapshot(path):
     """The text of a journal as it stands, up to its last whole line, with an end. While a session writes it there is none."""
-    for _ in range(TRIES):
-        try:
-            with open(path, "rb") as file:
-                text = file.read()
-        except FileNotFoundError:
-            raise Failed(f"{path}: there is no such journal: `registry publish` or `registry import` begins one, and --journal FILE "
-                         f"names another") from None
-        except OSError as fault:
-            raise Failed(told(fault)) from None
-        found = END.search(text)
-        if found is None:
-            text = text[:text.rfind(b"\n") + 1] or HEAD
-            return text + b"end %d\n" % (text.count(b"\n") - 1)
-        if found.end() == len(text):
-            return text
-        time.sleep(PAUSE)  # its end was cut off and lines were written over it meanwhile
+    try:
+        text, found = read_steady(path)
+    except FileNotFoundError:
+        raise Failed(f"{path}: there is no such journal: `registry publish` or `registry import` begins one, and --journal FILE "
+                     f"names another") from None
+    except OSError as fault:
+        raise Failed(told(fault)) from None
+    if found is None:
+        text = text[:text.rfind(b"\n") + 1] or HEAD
+        return text + b"end %d\n" % (text.count(b"\n") - 1)
     return text
 
 

@@ -14,7 +14,7 @@ from program import LIST, TOP, in_time, publish
 from test_journals import CHAIN, journal, learn
 
 sys.path.insert(0, os.path.join(TOP, "tools"))
-from registry import session
+from registry import journal_file, session
 from registry.commands import journal_renew, journal_repair
 from registry.failures import Failed, Usage
 
@@ -39,14 +39,15 @@ class Journals(unittest.TestCase):
         self.assertRaisesRegex(Failed, ": Is a directory", session.snapshot, os.path.dirname(self.path))
 
     def test_an_end_that_is_written_over(self):
-        # between two reads the end goes and another line comes
-        texts, pauses = [journal(CHAIN[:1]) + b'{"na', journal(CHAIN[:2])], []
+        # between two reads the end goes and another line comes: for who asks the program, and for who verifies, repairs or renews
+        for reader in (session.snapshot, lambda path: journal_file.read_journal(path).text):
+            texts, pauses = [journal(CHAIN[:1]) + b'{"na', journal(CHAIN[:2])], []
 
-        def read(path, mode):
-            return io.BytesIO(texts.pop(0))
-        with mock.patch("builtins.open", read), mock.patch.object(session.time, "sleep", pauses.append):
-            self.assertEqual(session.snapshot(self.path), journal(CHAIN[:2]))
-        self.assertEqual(len(pauses), 1)
+            def read(path, mode):
+                return io.BytesIO(texts.pop(0))
+            with mock.patch("builtins.open", read), mock.patch.object(session.time, "sleep", pauses.append), mock.patch.object(journal_file, "fault_line", return_value=0):
+                self.assertEqual(reader(self.path), journal(CHAIN[:2]))
+            self.assertEqual(len(pauses), 1)
 
     def test_which_journal_or_service(self):
         def given(connect=None, path=None):
