@@ -21,6 +21,10 @@ class Fault(Exception):
     """Why a front can't go on."""
 
 
+class Full(Fault):
+    """etcd holds as much as it may, and takes nothing more."""
+
+
 class Endpoint(NamedTuple):
     """Where a member is asked."""
     is_secure: bool
@@ -54,6 +58,15 @@ def endpoint(word, is_secure):
 
 def encoded(data):
     return base64.b64encode(data).decode()
+
+
+@contextlib.contextmanager
+def understood():
+    """Tells that an answer has not the form that etcd's documents say."""
+    try:
+        yield
+    except (ValueError, LookupError, TypeError, AttributeError, RecursionError) as wrong:
+        raise Fault(f"etcd's answer has another form than an answer of etcd: {wrong!r}") from wrong
 
 
 def tls_context(cacert, cert, key):
@@ -159,10 +172,12 @@ class Gateway:
         try:
             response = self.post(path, asked, min(begun + self.timeout, self.silent_since + self.patience))
             said = json.loads(response.read())
+            if not isinstance(said, dict):
+                raise ValueError(f"{str(said)[:100]!r} is no answer of etcd")
         except Fault:
             self.silent_since = None
             raise
-        except (OSError, http.client.HTTPException, ValueError) as lost:
+        except (OSError, http.client.HTTPException, ValueError, RecursionError) as lost:
             self.leave()
             raise Unanswered(str(lost)) from lost
         self.silent_since = None
@@ -170,14 +185,15 @@ class Gateway:
 
     def insist(self, path, asked):
         """Asks until a member answers: for what may be done twice. What was asked before in vain counts as waiting too."""
-        pause = 0.01
+        pause, why = 0.01, None
         while True:
             try:
                 return self.once(path, asked)
             except Unanswered as lost:
+                why = why or lost  # the last try has hardly any time
                 left = self.silent_since + self.patience - time.monotonic()
                 if left <= 0:
-                    raise Fault(f"no member of etcd answers, for {self.patience:g} seconds now: {lost}") from lost
+                    raise Fault(f"no member of etcd answers, for {self.patience:g} seconds now: {why}") from lost
                 time.sleep(min(pause, left))
                 pause = min(pause * 2, 0.5)
 
@@ -190,11 +206,42 @@ class Gateway:
             keep_alive(self.connection.sock)
             for line in iter(response.readline, b""):
                 yield json.loads(line)["result"]
-        except (OSError, http.client.HTTPException, ValueError, KeyError) as lost:
+        except (OSError, http.client.HTTPException, ValueError, KeyError, TypeError, RecursionError) as lost:
             raise Unanswered(str(lost)) from lost
         finally:
             self.leave()
         raise Unanswered("the stream has ended")
+
+    # ---- room
+
+    @understood()
+    def full_members(self):
+        """The members that hold as much as they may. Until their alarms are taken back nothing can be put."""
+        alarms = self.insist("/v3/maintenance/alarm", {"action": "GET"}).get("alarms", [])
+        return [it["memberID"] for it in alarms if it["alarm"] == "NOSPACE"]
+
+    def demand_room(self):
+        if self.full_members():
+            raise Full("etcd holds as much as it may")
+
+    def give_back(self, revision):
+        """Has the members forget what is past at a revision, give back the room of that, and take their alarms back. One that doesn't answer
+        is passed over."""
+        every = self.patient(self.members)
+        with contextlib.suppress(Fault):  # it was forgotten before
+            every.insist("/v3/kv/compaction", {"revision": revision, "physical": True})
+        every.leave()
+        for member in self.members:
+            one = self.patient([member])
+            with contextlib.suppress(Unanswered):
+                one.once("/v3/maintenance/defragment", {})
+            one.leave()
+        for number in self.full_members():
+            self.insist("/v3/maintenance/alarm", {"action": "DEACTIVATE", "memberID": number, "alarm": "NOSPACE"})
+
+    def patient(self, members):
+        """Some members, asked over a connection of its own for what takes longer than other answers."""
+        return Gateway(members, self.context, self.patience, self.patience)
 
 
 def keep_alive(connection):
@@ -212,4 +259,6 @@ def refusal(told):
         text, code = str(said.get("error")), said.get("code")
     except (ValueError, AttributeError):
         return Unanswered(repr(told[:100]))
-    return Fault(f"etcd refuses: {text}") if code in FINAL or FULL in text else Unanswered(text)
+    if FULL in text:
+        return Full(f"etcd refuses: {text}: `registryd-etcd compact` makes room")
+    return Fault(f"etcd refuses: {text}") if code in FINAL else Unanswered(text)

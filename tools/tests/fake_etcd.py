@@ -85,7 +85,10 @@ class SmallMember:
 
 
 class SmallEtcd:
-    """Keys with their revisions, in memory."""
+    """Keys with their revisions, in memory. Where it has a quota, its file takes no more bytes than that: what was deleted or written over
+    counts until it is compacted, and the file has its size until it is defragmented. Behind an alarm nothing is put, as etcd's page "Space
+    quota" says."""
+    quota, past, size, is_full = None, 0, 0, False
 
     def __init__(self):
         self.revision = 1
@@ -101,9 +104,35 @@ class SmallEtcd:
 
     def answer(self, path, asked):
         calls = {"/v3/kv/range": self.range, "/v3/kv/put": lambda it: self.write([("request_put", it)])[0],
-                 "/v3/kv/txn": self.transact, "/v3/kv/compaction": lambda it: {}}
+                 "/v3/kv/txn": self.transact, "/v3/kv/compaction": self.compact, "/v3/maintenance/defragment": self.defragment,
+                 "/v3/maintenance/alarm": self.alarm}
         with self.changed:
+            if self.has_no_room(path, asked):
+                return 429, {"error": "etcdserver: mvcc: database space exceeded", "code": 8}
             return 200, {"header": {"revision": str(self.revision)}, **calls[path](asked)}
+
+    def has_no_room(self, path, asked):
+        """Whether something is to be put for which there is no room; then there is an alarm."""
+        puts = [asked] if path == "/v3/kv/put" else [it["request_put"] for it in asked.get("success", []) if "request_put" in it]
+        more = sum(len(b64decode(it["key"])) + len(b64decode(it["value"])) for it in puts)
+        self.is_full = self.is_full or bool(self.quota and puts) and self.size + more > self.quota
+        return self.is_full and bool(puts)
+
+    def held(self):
+        return self.past + sum(len(key) + len(value) for key, (_, _, _, value) in self.kept.items())
+
+    def compact(self, asked):
+        self.past = 0
+        return {}
+
+    def defragment(self, asked):
+        self.size = self.held()
+        return {}
+
+    def alarm(self, asked):
+        if asked["action"] == "DEACTIVATE":
+            self.is_full = self.is_full and (asked["memberID"], asked["alarm"]) != ("7", "NOSPACE")
+        return {"alarms": [{"memberID": "7", "alarm": "NOSPACE"}]} if self.is_full else {}
 
     def told(self, key):
         created, changed, version, value = self.kept[key]
@@ -138,6 +167,7 @@ class SmallEtcd:
         self.revision += 1
         for kind, asked in writes:
             for key in [b64decode(asked["key"])] if kind == "request_put" else self.within(asked):
+                self.past += len(self.kept[key][3]) + len(key) if key in self.kept else 0
                 if kind == "request_put":
                     created, _, version, _ = self.kept.get(key, (self.revision, 0, 0, b""))
                     self.kept[key] = created, self.revision, version + 1, b64decode(asked["value"])
@@ -145,6 +175,7 @@ class SmallEtcd:
                 else:
                     del self.kept[key]
                     self.events.append((key, {"type": "DELETE", "kv": {"key": b64encode(key).decode()}}))
+        self.size = max(self.size, self.held())
         self.changed.notify_all()
         return [{} for _ in writes]
 

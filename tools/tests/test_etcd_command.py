@@ -115,7 +115,7 @@ class Serving(Case):
             if self.fault:
                 raise self.fault
         made = SimpleNamespace(begin=begin, serve=lambda *files: self.done.append(("serve", *files)), replica=self.replica and SimpleNamespace(end=lambda: self.done.append("ended")),
-                               stands=SimpleNamespace(text=lambda: b"a journal\n"), snapshots=SimpleNamespace(read=lambda: "what etcd has", renew=lambda *of: self.done.append(("renew", *of))))
+                               stands=SimpleNamespace(text=lambda: b"a journal\n"), snapshots=SimpleNamespace(read=lambda: "what etcd has", compact=lambda *of: self.done.append(("compact", *of))))
         self.stands = made.stands
         return made
 
@@ -140,14 +140,14 @@ class Serving(Case):
             end()
         ended.assert_called_once_with(1)
         self.assertEqual((self.serve("journal"), self.out.buffer.getvalue()), ([("begin", "what etcd has"), "ended"], b"a journal\n"))
-        self.assertEqual((self.serve("compact", keep=3), self.out.buffer.getvalue()), ([("begin", "what etcd has"), ("renew", self.stands, 3), "ended"], b""))
+        self.assertEqual((self.serve("compact", keep=3), self.out.buffer.getvalue()), ([("begin", "what etcd has"), ("compact", self.stands, 3), "ended"], b""))
 
     def test_files(self):
         self.assertEqual(self.serve("journal", load="a file")[0], ("begin", "what a file has"))
         # that it can be written is tried before, and it is written in the end
         done = self.serve("serve", save="path")
         self.assertEqual((done[0], done[-2:]), (("try_to_save", "path"), [("save", "path", self.stands), "ended"]))
-        self.assertEqual(self.serve("compact", save="path", keep=9), [("try_to_save", "path"), ("begin", "what etcd has"), ("renew", self.stands, 9), ("save", "path", self.stands), "ended"])
+        self.assertEqual(self.serve("compact", save="path", keep=9), [("try_to_save", "path"), ("begin", "what etcd has"), ("compact", self.stands, 9), ("save", "path", self.stands), "ended"])
 
     def test_a_front_that_fails(self):
         self.fault = Fault("no")

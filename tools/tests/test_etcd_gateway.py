@@ -10,7 +10,7 @@ from program import TOP
 
 sys.path.insert(0, os.path.join(TOP, "tools"))
 from etcd import gateway
-from etcd.gateway import Endpoint, Fault, Gateway, Unanswered, refusal
+from etcd.gateway import Endpoint, Fault, Full, Gateway, Unanswered, refusal
 
 # That another member, or a later try, may answer: a deadline, no resources, aborted, internal, unavailable.
 PASSING = (1, 2, 4, 5, 6, 8, 10, 13, 14, 15)
@@ -28,7 +28,7 @@ class Refusals(unittest.TestCase):
 
     def test_a_full_database_is_final(self):
         found = refusal(b'{"error":"etcdserver: mvcc: database space exceeded","code":8}')
-        self.assertEqual((type(found), str(found)), (Fault, "etcd refuses: etcdserver: mvcc: database space exceeded"))
+        self.assertEqual((type(found), str(found)), (Full, "etcd refuses: etcdserver: mvcc: database space exceeded: `registryd-etcd compact` makes room"))
 
     def test_what_is_no_answer_of_the_gateway(self):
         for told in (b"<html>", b"", b"[1]", b"5", b"\xff"):
