@@ -213,6 +213,19 @@ class Others(Keeping):
             os.symlink("there", self.kept)
             self.changed(change, left, begun)
 
+    def test_a_file_that_has_no_name_left(self):
+        # this name of an open file leads to it all the same
+        self.write(self.kept, b"")
+        with open(self.kept, "rb") as file:
+            path = f"/dev/fd/{file.fileno()}"
+            client = Client(["serve", "--workers", "1", "--journal", path], pass_fds=[file.fileno()])
+            client.send([publish("a", "1.0.0")])
+            self.assertTrue(client.read_until(1))
+            os.unlink(self.kept)
+            client.send([publish("b", "1.0.0")])
+            self.assertEqual(client.leave(), (1, f"registryd: journal {path}: changed by another program, and not gone on with\n".encode()))
+        self.assertEqual(client.read.decode(), ACCEPTED % 1)
+
     def test_a_name_that_leads_to_it_again(self):
         client = self.talking()
         os.rename(self.kept, self.there)
