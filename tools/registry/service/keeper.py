@@ -10,7 +10,8 @@ from .supervisor import Supervisor
 
 
 class Keeper(Supervisor):
-    """`followers` are called with each accepted line, in order. What is asked while the program is begun again waits for that."""
+    """`followers` are called with each accepted line, in order; `accepted` is the hash of them all. What is asked while the program is begun
+    again waits for that."""
     role = "keeper"
 
     def __init__(self, path, watch, words=()):
