@@ -14,7 +14,7 @@ enum what {
     NOT_PLAIN,
     /* A line is not a journal's. */
     WRONG_LINE,
-    /* It was removed, or is not as long as the session left it. */
+    /* Its name leads to no file or to another one, or it is not as long as the session left it. */
     CHANGED,
     /* The system refused something. */
     NOT_OPENED,

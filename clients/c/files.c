@@ -85,12 +85,17 @@ void close_locked(int file)
     close(file);
 }
 
+bool is_same_file(const struct stat *one, const struct stat *other)
+{
+    return one->st_ino == other->st_ino && one->st_dev == other->st_dev;
+}
+
 int is_named(const char *name, int file)
 {
     struct stat held, named;
     if (fstat(file, &held) || stat(name, &named))
         return -1;
-    return S_ISREG(held.st_mode) && held.st_ino == named.st_ino && held.st_dev == named.st_dev;
+    return S_ISREG(held.st_mode) && is_same_file(&held, &named);
 }
 
 /* How many bytes are left of a plain file, as far as that is known. */

@@ -34,6 +34,9 @@ int lock_file(int file);
  * runs a program of its own: so the lock is given back first. */
 void close_locked(int file);
 
+/* Whether what was found twice is one file, whatever it was found by. */
+bool is_same_file(const struct stat *one, const struct stat *other);
+
 /* Whether a name stands for this open file: 1, 0, or -1 where the system can't tell. */
 int is_named(const char *name, int file);
 

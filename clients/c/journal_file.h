@@ -6,8 +6,11 @@
 #include "files.h"
 
 struct journal_file {
-    char *name;
+    /* as the caller named it, and as that means the same wherever the process goes */
+    char *name, *path;
     int file;
+    /* what was found of it, which tells it from other files */
+    struct stat held;
     /* how long it is where nobody else writes to it */
     off_t length;
 };
@@ -20,7 +23,8 @@ struct fault open_journal(struct journal_file *it, const char *name, struct byte
  * all of that outlast a crash. */
 struct fault mend_journal(struct journal_file *it, const struct bytes *text, size_t kept);
 
-/* Puts bytes behind the end, where the file has the length still that the session left it with, and has them outlast a crash. */
+/* Puts bytes behind the end, where the name still leads to the file and that has the length that the session left it with, and has them
+ * outlast a crash. */
 struct fault append_to_journal(struct journal_file *it, const struct bytes *bytes);
 
 /* Closes the file, which frees the lock. */

@@ -1,16 +1,16 @@
 #define _GNU_SOURCE
 #include "saved_file.h"
 
+#include "links.h"
+
 #include <errno.h>
 #include <fcntl.h>
-#include <limits.h>
 #include <stdio.h>
 #include <stdlib.h>
 #include <string.h>
 #include <unistd.h>
 
-/* How many links lead from one to another at most, as Linux has it, and how many names for a new file are tried. */
-#define MOST_LINKS 40
+/* How many names for a new file are tried. */
 #define MOST_NAMES 1000
 
 static const struct fault fine = {.what = NOTHING};
@@ -29,65 +29,6 @@ struct fault read_journal(const char *name, struct bytes *text)
     struct fault fault = is_read > 0 ? fine : is_read < 0 ? refused(NOT_READ) : of(NO_MEMORY);
     close(file);
     return fault;
-}
-
-/* ---- where links lead */
-
-/* A name that means the same wherever the process goes: in memory of its own, or null. */
-static char *absolute(const char *name)
-{
-    char folder[PATH_MAX];
-    if (name[0] == '/')
-        return copy_of(name, strlen(name));
-    if (!getcwd(folder, sizeof folder))
-        return NULL;
-    size_t room = strlen(folder) + strlen(name) + 2;
-    char *path = malloc(room);
-    if (path)
-        snprintf(path, room, "%s/%s", folder, name);
-    return path;
-}
-
-/* A name with what a link of this name has, which counts from the link's folder: in memory of its own, or null. */
-static char *joined(const char *link, const char *to, size_t length)
-{
-    const char *slash = to[0] == '/' ? NULL : strrchr(link, '/');
-    size_t folder = slash ? (size_t)(slash - link) + 1 : 0;
-    char *path = malloc(folder + length + 1);
-    if (path) {
-        memcpy(path, link, folder);
-        memcpy(path + folder, to, length);
-        path[folder + length] = '\0';
-    }
-    return path;
-}
-
-/* Has the path lead on where a link stands there: 1 where one did, 0 where none stands there, -1 where that can't be told. */
-static int follow_link(struct saved_file *it)
-{
-    char to[PATH_MAX];
-    ssize_t length = readlink(it->path, to, sizeof to);
-    if (length <= 0 || length == sizeof to)
-        return 0;
-    char *path = joined(it->path, to, (size_t)length);
-    if (!path) {
-        errno = ENOMEM;
-        return -1;
-    }
-    free(it->path);
-    it->path = path;
-    return 1;
-}
-
-static bool follow_links(struct saved_file *it)
-{
-    for (int count = 0; count < MOST_LINKS; count++) {
-        int is_link = follow_link(it);
-        if (is_link <= 0)
-            return is_link == 0;
-    }
-    errno = ELOOP;
-    return false;
 }
 
 /* ---- a new file beside the old one */
@@ -171,7 +112,7 @@ static bool is_stream(const struct stat *found)
 {
     struct stat stream;
     for (int file = STDOUT_FILENO; file <= STDERR_FILENO; file++)
-        if (fstat(file, &stream) == 0 && stream.st_ino == found->st_ino && stream.st_dev == found->st_dev)
+        if (fstat(file, &stream) == 0 && is_same_file(&stream, found))
             return true;
     return false;
 }
@@ -186,7 +127,8 @@ static struct fault hold_other(struct saved_file *it, bool is_plain)
 
 static struct fault hold_place(struct saved_file *it)
 {
-    if (!follow_links(it))
+    it->path = without_links(it->name);
+    if (!it->path)
         return refused(NOT_OPENED);
     struct fault fault = hold_alone(it);
     return fault.what == NOTHING ? try_beside(it) : fault;
@@ -195,10 +137,9 @@ static struct fault hold_place(struct saved_file *it)
 struct fault hold_saved(struct saved_file *it, const char *name)
 {
     struct stat found;
-    errno = ENOMEM;
-    *it = (struct saved_file){.name = copy_of(name, strlen(name)), .path = absolute(name), .file = -1};
-    struct fault fault = refused(NOT_OPENED);
-    if (it->name && it->path) {
+    struct fault fault = of(NO_MEMORY);
+    *it = (struct saved_file){.name = copy_of(name, strlen(name)), .file = -1};
+    if (it->name) {
         bool is_there = stat(name, &found) == 0, is_plain = is_there && S_ISREG(found.st_mode);
         fault = is_there && (!is_plain || is_stream(&found)) ? hold_other(it, is_plain) : hold_place(it);
     }

@@ -7,7 +7,7 @@
 #include "files.h"
 
 struct saved_file {
-    /* as the caller named it, and where links lead from there */
+    /* as the caller named it, and, of a file that is to be replaced, where links lead from there */
     char *name, *path;
     /* the file that stands there, which no other session has, or -1; or what is no plain file, or is where
      * a standard stream goes, and is written itself */

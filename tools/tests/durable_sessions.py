@@ -101,13 +101,14 @@ def fault_of(text, lines, count, before=()):
 
 
 class Watched:
-    """A client of a program whose calls are noted, and which may be killed at one of them."""
+    """A client of a program whose calls are noted, and which may be killed at one of them, or get another signal there."""
 
-    def __init__(self, library, words, kill=0, side="", folder=None, before=()):
+    def __init__(self, library, words, kill=0, side="", folder=None, before=(), number=signal.SIGKILL):
         self.log = tempfile.TemporaryFile(buffering=0)
         # each line goes behind the others, whoever writes it
         log = os.open(f"/proc/self/fd/{self.log.fileno()}", os.O_WRONLY | os.O_APPEND)
-        env = {**os.environ, "LD_PRELOAD": " ".join([*before, library]), "WATCH_TO": str(log), "WATCH_KILL": str(kill), "WATCH_SIDE": side}
+        env = {**os.environ, "LD_PRELOAD": " ".join([*before, library]), "WATCH_TO": str(log), "WATCH_KILL": str(kill), "WATCH_SIDE": side,
+               "WATCH_SIGNAL": str(int(number))}
         try:
             self.client = Client(words, env=env, pass_fds=[log], cwd=folder)
         finally:

@@ -11,8 +11,9 @@ from unittest import mock
 
 from client_python import PYTHON, SECONDS, SOON, Case, registryd
 from library import LIBRARY, needs_library
-from program import TOP
+from program import TOP, publish
 from registryd import Accepted, Ended, List, Listing, NoSelection, Publish, Registry, Resolve
+from test_journals import journal
 from two_selections import BY_DEFAULT, FIRST_FOUND, NEEDS, NEWEST, VERSIONS
 
 CLIENT = os.path.join(TOP, "clients", "python", "registryd.py")
@@ -68,6 +69,29 @@ class Embedded(Case):
             for version in VERSIONS:
                 registry.publish(*version)
             self.assertEqual(registry.resolve(NEEDS).selected, NEWEST)
+
+    def test_a_journal_that_is_moved_or_removed(self):
+        kept, there = self.path("kept"), self.path("there")
+        for change in (lambda: os.rename(kept, there), lambda: (os.link(kept, there), os.unlink(kept)),
+                       lambda: (os.rename(kept, there), shutil.copy(there, kept))):
+            registry = self.open(journal=kept)
+            registry.publish("a", "1.0.0")
+            change()
+            for call in (lambda registry=registry: registry.publish("b", "1.0.0"), registry.close):
+                with self.assertRaisesRegex(Ended, f"journal {kept}: changed by another program, and not gone on with"):
+                    call()
+            with open(there, "rb") as file:
+                self.assertEqual(file.read(), journal([publish("a", "1.0.0")]).removesuffix(b"end 1\n"))
+            for name in os.listdir(self.folder):
+                os.unlink(self.path(name))
+
+    def test_a_name_counts_from_the_folder_in_which_the_session_began(self):
+        self.addCleanup(os.chdir, os.getcwd())
+        os.chdir(self.folder)
+        with self.open(journal="kept") as registry:
+            registry.publish("a", "1.0.0")
+            os.chdir("/")
+            self.assertEqual(registry.publish("b", "1.0.0"), 2)
 
     def test_what_cannot_be_asked_for(self):
         for options in ({"workers": 2}, {"journal": self.path("a"), "load": self.path("b")}, {"journal": self.path("a"), "save": self.path("b")}):

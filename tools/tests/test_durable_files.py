@@ -124,6 +124,10 @@ class Cuts(Keeping):
 class Others(Keeping):
     """Another session on the file, or another program."""
 
+    def setUp(self):
+        super().setUp()
+        self.there = os.path.join(self.folder, "there")
+
     def talking(self):
         """A client whose first publication is accepted."""
         client = Client(["serve", "--workers", "1", "--journal", self.kept])
@@ -155,15 +159,16 @@ class Others(Keeping):
         self.assertEqual(self.keep(), "")
         self.assertEqual(self.read(self.kept), journal([publish("a", f"1.{number}.0") for number in range(1, 6)]))
 
-    def changed(self, change, left):
-        """A session goes on with no file that someone else has changed, and tells so; nothing that rests on it is told."""
+    def changed(self, change, left, there=None):
+        """A session goes on with no file that someone else has changed, and tells so; nothing that rests on it is told. What is left stands
+        in the file of its name, and in the one that has the name `there`."""
         client = self.talking()
         change()
         client.send([publish("b", "1.0.0"), LIST])
         status, told = client.leave()
         self.assertEqual((client.read.decode(), status, told.decode()),
                          (ACCEPTED % 1, 1, f"registryd: journal {self.kept}: changed by another program, and not gone on with\n"))
-        self.assertEqual(self.read(self.kept) if os.path.exists(self.kept) else None, left)
+        self.assertEqual([self.read(path) if os.path.exists(path) else None for path in (self.kept, self.there)], [left, there])
         for path in self.beside():
             os.unlink(os.path.join(self.folder, path))
 
@@ -182,6 +187,53 @@ class Others(Keeping):
         self.changed(lambda: os.unlink(self.kept), None)
         self.changed(lambda: (self.write(other, b"other"), os.rename(other, self.kept)), b"other")
 
+    def test_a_name_that_leads_to_another_file_or_to_none(self):
+        begun, other = journal([publish("a", "1.0.0")]).removesuffix(b"end 1\n"), os.path.join(self.folder, "other")
+
+        def with_a_copy(change):
+            shutil.copy(self.kept, other)
+            change(self.kept, self.there)
+            os.replace(other, self.kept)
+
+        for change, left in ((lambda: os.rename(self.kept, self.there), None),
+                             (lambda: (os.link(self.kept, self.there), os.unlink(self.kept)), None),
+                             (lambda: with_a_copy(os.rename), begun), (lambda: with_a_copy(os.link), begun),
+                             (lambda: (os.rename(self.kept, self.there), self.keep([publish("z", "1.0.0")])), journal([publish("z", "1.0.0")]))):
+            self.changed(change, left, begun)
+
+    def test_a_link_that_leads_elsewhere(self):
+        begun, other = journal([publish("a", "1.0.0")]).removesuffix(b"end 1\n"), os.path.join(self.folder, "other")
+
+        def lead_to_a_copy():
+            shutil.copy(self.there, other)
+            os.unlink(self.kept)
+            os.symlink("other", self.kept)
+
+        for change, left in ((lead_to_a_copy, begun), (lambda: os.unlink(self.kept), None)):
+            os.symlink("there", self.kept)
+            self.changed(change, left, begun)
+
+    def test_a_file_that_has_no_name_left(self):
+        # this name of an open file leads to it all the same
+        self.write(self.kept, b"")
+        with open(self.kept, "rb") as file:
+            path = f"/dev/fd/{file.fileno()}"
+            client = Client(["serve", "--workers", "1", "--journal", path], pass_fds=[file.fileno()])
+            client.send([publish("a", "1.0.0")])
+            self.assertTrue(client.read_until(1))
+            os.unlink(self.kept)
+            client.send([publish("b", "1.0.0")])
+            self.assertEqual(client.leave(), (1, f"registryd: journal {path}: changed by another program, and not gone on with\n".encode()))
+        self.assertEqual(client.read.decode(), ACCEPTED % 1)
+
+    def test_a_name_that_leads_to_it_again(self):
+        client = self.talking()
+        os.rename(self.kept, self.there)
+        os.symlink("there", self.kept)
+        client.send([publish("b", "1.0.0")])
+        self.assertEqual((client.leave(), client.read.decode()), ((0, b""), ACCEPTED % 1 + ACCEPTED % 2))
+        self.assertEqual(self.read(self.kept), journal([publish("a", "1.0.0"), publish("b", "1.0.0")]))
+
     def test_a_request_goes_on_without_it(self):
         client = self.talking()
         os.unlink(self.kept)
@@ -191,10 +243,12 @@ class Others(Keeping):
         client.kill()
 
     def test_a_change_is_told_at_the_end_too(self):
-        client = self.talking()
-        self.append(b"x")
-        status, told = client.leave()
-        self.assertEqual((status, told.decode()), (1, f"registryd: journal {self.kept}: changed by another program, and not gone on with\n"))
+        for change in (lambda: self.append(b"x"), lambda: os.rename(self.kept, self.there)):
+            client = self.talking()
+            change()
+            status, told = client.leave()
+            self.assertEqual((status, told.decode()), (1, f"registryd: journal {self.kept}: changed by another program, and not gone on with\n"))
+            self.write(self.kept, b"")
 
 
 class Places(Keeping):

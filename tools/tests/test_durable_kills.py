@@ -2,6 +2,7 @@
 is in the file, also where the machine crashes there, and the next session goes on with it."""
 import json
 import os
+import signal
 import subprocess
 import tempfile
 import unittest
@@ -10,7 +11,7 @@ from durable_sessions import Watched, fault_of
 from plain_disk import Disk
 from plain_remnant import remnant
 from preloaded import MEMORY, WATCH_CALLS, built
-from program import LIST, journal_line, publish, resolve, run, serve, unyank, yank
+from program import LIST, in_time, journal_line, publish, resolve, run, serve, unyank, yank
 from reference import Registry
 from test_journals import CONFLICT, journal
 
@@ -67,6 +68,10 @@ class Kills(unittest.TestCase):
         self.addCleanup(folder.cleanup)
         self.folder = os.path.realpath(folder.name)
         self.path = os.path.join(self.folder, NAME)
+
+    def is_folder(self, given, folder="."):
+        """Whether a name that a session gave the system, which counts from its own folder, is that of this one."""
+        return os.path.realpath(os.path.join(self.folder, os.fsdecode(given))) == os.path.join(self.folder, folder).removesuffix("/.")
 
     def begin(self, start):
         if os.path.exists(self.path):
@@ -170,10 +175,41 @@ class Kills(unittest.TestCase):
 
     def test_a_name_that_may_be_gone_is_found(self):
         calls, _ = self.whole_session("none")
-        folder = next(call.answer for call in calls if call.name == "open" and call.given == b".")
+        folder = next(call.answer for call in calls if call.name == "open" and self.is_folder(call.given))
         wrong = [call for call in calls if call.name != "fsync" or call.number != folder]
         self.assertEqual(len(wrong), len(calls) - 1)
         self.assertRegex(crash_fault(wrong, self.folder, "none"), "what was told is not in the file")
+
+    def test_the_folder_of_what_a_link_leads_to_is_synced(self):
+        """The link leads nowhere so far, and so the file that is made has to last, by its own name."""
+        for name in ("here", "there"):
+            os.mkdir(os.path.join(self.folder, name))
+        os.symlink("../there/real", os.path.join(self.folder, "here", "link"))
+        watched = Watched(self.library, ["serve", "--workers", "1", "--journal", "here/link"], folder=self.folder)
+        _, _, calls = watched.follow([[LIST]])
+        made = next(place for place, call in enumerate(calls) if call.name == "open" and call.answer >= 0 and call.number & os.O_CREAT)
+        opened = [call.answer for call in calls[made:] if call.name == "open" and self.is_folder(call.given, "there")]
+        self.assertTrue({call.number for call in calls[made:] if call.name == "fsync"} & set(opened))
+
+    def test_a_file_that_is_moved_before_it_is_locked(self):
+        """A session that is stopped between opening and locking takes no file that its name does not lead to, and changes none."""
+        calls, _ = self.whole_session("whole")
+        lock = next(number for number, call in enumerate(calls, 1) if call.name == "flock")
+        for is_replaced, words in ((True, "in use by another session"), (False, "can't be opened: No such file or directory (os error 2)")):
+            self.begin("whole")
+            watched = Watched(self.library, ["serve", "--workers", "1", "--journal", NAME], lock, "before", self.folder, number=signal.SIGSTOP)
+            running, there = watched.client.running, os.path.join(self.folder, "there")
+            with in_time():
+                self.assertEqual(os.waitid(os.P_PID, running.pid, os.WSTOPPED | os.WEXITED | os.WNOWAIT).si_status, signal.SIGSTOP)
+            os.rename(self.path, there)
+            if is_replaced:
+                self.write(b"")
+            running.send_signal(signal.SIGCONT)
+            status, told, _ = watched.follow([[LIST]])
+            self.assertEqual((status, told.decode(), watched.client.read), (1, f"registryd: journal {NAME}: {words}\n", b""))
+            self.assertEqual(self.left(), b"")
+            with open(there, "rb") as file:
+                self.assertEqual(file.read(), STARTS["whole"][0])
 
 
 if __name__ == "__main__":

@@ -1,9 +1,10 @@
-"""A session in process is killed as the program is, at each call and under load, and crashes with its machine: with the program's own tests,
-each with the judge that it has."""
+"""A session in process is killed as the program is, at each call and under load, crashes with its machine, and has its file moved: with the
+program's own tests, each with the judge that it has."""
 import unittest
 
 import test_durable_kills
 import test_kill_sessions
+import test_move_journals
 from in_process import InProcess
 
 
@@ -12,6 +13,10 @@ class Kills(InProcess, test_durable_kills.Kills):
 
 
 class UnderLoad(InProcess, test_kill_sessions.Kills):
+    pass
+
+
+class Moves(InProcess, test_move_journals.Moves):
     pass
 
 

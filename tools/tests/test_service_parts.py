@@ -2,6 +2,7 @@
 of the journal answers, and where a service listens."""
 import asyncio
 import grp
+import hashlib
 import io
 import os
 import socket
@@ -13,13 +14,13 @@ from collections import deque
 from types import SimpleNamespace
 from unittest import mock
 
-from program import TOP, publish
+from program import TOP, journal_line, publish
 
 sys.path.insert(0, os.path.join(TOP, "tools"))
 from registry.failures import Failed
 from registry.service import child, keeper, sockets, supervisor
 
-A1, B1 = publish("a", "1.0.0").encode(), publish("b", "1.0.0").encode()
+A1, B1 = (journal_line(publish(name, "1.0.0")).encode() for name in "ab")
 OK = b'{"ok":true,"revision":%d}'
 
 
@@ -94,6 +95,10 @@ class Keeping(unittest.TestCase):
         for reply in (OK % 1, b'{"error":7}', b'{"error":19}'):
             self.keeper.answered(reply)
         self.assertEqual((self.written, self.answered, self.followed, self.keeper.revision), ([A1, A1, b"x"], [OK % 1, b'{"error":7}', b'{"error":19}'], [A1], 1))
+        # however it was sent, it is known by its line in the journal
+        self.keeper.ask(self.asked(publish("b", "1.0.0").encode()))
+        self.keeper.answered(OK % 2)
+        self.assertEqual((self.followed, self.keeper.accepted.digest()), ([A1, B1], hashlib.sha256(A1 + B1).digest()))
 
     def test_lines_wait_until_it_is_begun(self):
         self.keeper.ask(self.asked(A1))

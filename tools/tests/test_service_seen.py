@@ -1,5 +1,6 @@
 """What is seen of a service from outside, in one process: what it answers over HTTP, its counts and its log."""
 import asyncio
+import hashlib
 import io
 import os
 import socket
@@ -13,6 +14,7 @@ from program import LIST, TOP, publish
 from test_journals import CHAIN, journal, learn
 
 sys.path.insert(0, os.path.join(TOP, "tools"))
+from registry.failures import Failed
 from registry.service import http, watching
 from registry.service.journal import commands_after, text_at
 
@@ -131,7 +133,10 @@ class Texts(unittest.TestCase):
                 self.assertEqual(text_at(path, revision), journal(lines[:count]), revision)
             commands = [line.rstrip(b"\n") for line in journal([*CHAIN, lines[4]]).splitlines()[1:-1]]
             for revision in range(5):
-                self.assertEqual(commands_after(path, revision), commands[revision:])
+                self.assertEqual(commands_after(path, revision, hashlib.sha256(b"".join(commands[:revision]))), commands[revision:])
+            self.assertEqual(commands_after(path, 5, hashlib.sha256()), [])  # how many it has is judged by who asks
+            with self.assertRaisesRegex(Failed, f"\\A{path} was changed by another program: it has other commands than the 4 that were accepted\\Z"):
+                commands_after(path, 4, hashlib.sha256(b"".join(reversed(commands))))
 
 
 class Watched(unittest.TestCase):

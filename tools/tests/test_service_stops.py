@@ -3,6 +3,7 @@ import itertools
 import json
 import os
 import random
+import re
 import signal
 import threading
 import time
@@ -12,7 +13,7 @@ from unittest import mock
 
 from preloaded import built
 from processes import is_running
-from program import LIST, publish, resolve
+from program import LIST, journal_line, publish, resolve
 from registry_folder import pigeons
 from services import LONG, PATIENT, Case, Service, kill, wait_for
 
@@ -239,6 +240,27 @@ class Kills(Case):
         new = Path(self.folder, "new")
         new.write_bytes(text)
         os.replace(new, path)
+
+    def test_a_journal_that_is_moved_is_not_gone_on_with(self):
+        """No command is accepted that is not in the file of the journal's name; once the file has it again, the service goes on."""
+        service, accepted = self.begin(), 0
+        errors, there = Path(f"/proc/self/fd/{service.errors.fileno()}"), Path(self.folder, "there")
+        for change in (lambda: service.journal.rename(there), lambda: (os.link(service.journal, there), service.journal.unlink()),
+                       lambda: (service.journal.rename(there), service.journal.write_bytes(there.read_bytes()[:-20])),
+                       lambda: (service.journal.rename(there), service.journal.write_bytes(there.read_bytes().replace(b"1.2.0", b"1.9.0")))):
+            with service.client() as client:
+                accepted = client.ask(publish("log", f"1.{accepted}.0"))[0]["revision"]
+            whole = service.journal.read_bytes()
+            change()
+            with service.client() as client:
+                self.assertEqual(client.ask(publish("lost", f"1.{accepted}.0")), [{"error": 503, "name": "Unavailable", "revision": accepted}])
+            wait_for(lambda: re.search(rf"was changed by another program: .*\b{accepted}\b.* were accepted", errors.read_text()))
+            self.assertEqual((service.get("/health")[0], there.read_bytes()), (503, whole))
+            os.replace(there, service.journal)
+            wait_for(lambda: service.get("/health")[0] == 200)
+        self.assertEqual(errors.read_text().count("changed by another program, and not gone on with"), 4)
+        service.end()
+        self.assertEqual(service.commands(), [journal_line(publish("log", f"1.{minor}.0")).encode() for minor in range(4)])
 
     def test_a_journal_that_lacks_what_was_told_is_not_gone_on_with(self):
         """It is put in the journal's place while the program that keeps that can't be begun again."""

@@ -2,7 +2,7 @@
    descriptor WATCH_TO, a file that is appended to, each call has a line once it is done: its name, what it answered, and
    what it was given, numbers in decimal and bytes in hexadecimal. WATCH_KILL, if given, tells which call kills the
    program, counted from 1, and WATCH_SIDE on which side of it: `before`, `behind`, or, of a write, `amid`, when half of
-   its bytes are written. */
+   its bytes are written. It is killed by the signal of number WATCH_SIGNAL, if that is given: by SIGSTOP it is stopped. */
 #define _GNU_SOURCE
 #include <dlfcn.h>
 #include <errno.h>
@@ -58,7 +58,8 @@ static int is_killed(long at, const char *side) {
 }
 
 static void die(void) {
-    syscall(SYS_kill, syscall(SYS_getpid), SIGKILL);
+    const char *given = getenv("WATCH_SIGNAL");
+    syscall(SYS_kill, syscall(SYS_getpid), given ? atoi(given) : SIGKILL);
 }
 
 /* The number of a call that is about to be made. */

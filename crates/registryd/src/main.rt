@@ -8,6 +8,7 @@ mod folder;
 mod freed;
 mod journal_devices;
 mod journal_file;
+mod links;
 mod recovered;
 mod run_command;
 mod system;

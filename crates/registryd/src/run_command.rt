@@ -290,7 +290,9 @@ where
         };
     };
     match open_journal(rt, alloc, journal) {
-        Ok(opened) => keep_in(rt, alloc, reader, writer, workers, settings, name, opened),
+        Ok(opened) => keep_in(
+            rt, alloc, reader, writer, workers, settings, journal, name, opened,
+        ),
         Err(why) => CommandOutcome {
             end: end_without(alloc, name, why),
             writer,
@@ -316,13 +318,14 @@ fn end_without(alloc: Global, name: Vec<u8>, why: Unbegun) -> End
 }
 
 /// Serves the lines of a reader by a session that stands already, whose journal is in a file.
-fn keep_in<H: Threads + Wait + Sync, R: Read, F: Write + OpenFile + Drop, W: Write>(
+fn keep_in<H: Threads + Wait + Sync + Files, R: Read, F: Write + OpenFile + Drop, W: Write>(
     rt: &H,
     alloc: Global,
     reader: &mut R,
     writer: W,
     workers: usize,
     settings: Settings,
+    journal: &str,
     name: Vec<u8>,
     opened: Opened<F>,
 ) -> CommandOutcome<W>
@@ -343,17 +346,28 @@ fn keep_in<H: Threads + Wait + Sync, R: Read, F: Write + OpenFile + Drop, W: Wri
     ensures words { result.end ≢ End.Words }
     ensures no_journal { (line : ℕ) → result.end ≢ End.Journal line }
 {
-    let Opened { file, len, begun } = opened;
+    let Opened {
+        file,
+        held,
+        len,
+        begun,
+    } = opened;
     let mut devices = JournalDevices {
+        rt,
+        name: journal,
         file,
         replies: writer,
+        held,
         len,
         failure: None,
     };
     let ended = serve_durably(rt, alloc, reader, &mut devices, begun, workers, settings);
     let JournalDevices {
+        rt: _,
+        name: _,
         file,
         replies: writer,
+        held: _,
         len: _,
         failure,
     } = devices;

@@ -1,31 +1,37 @@
 """The one program that keeps the journal. It answers commands, and each line that is not for readers."""
 import asyncio
+import hashlib
+import json
 
+from ..connected import line_of
 from .child import ACCEPTED, Child
 from .journal import commands_after
 from .supervisor import Supervisor
 
 
 class Keeper(Supervisor):
-    """`followers` are called with each accepted line, in order. What is asked while the program is begun again waits for that."""
+    """`followers` are called with each accepted line, in order; `accepted` is the hash of them all. What is asked while the program is begun
+    again waits for that."""
     role = "keeper"
 
     def __init__(self, path, watch, words=()):
         super().__init__(path, watch)
-        self.words, self.revision, self.followers = words, 0, []
+        self.words, self.revision, self.accepted, self.followers = words, 0, hashlib.sha256(), []
 
     async def begin(self):
         """Goes on with the journal's file. What stands there and was told to nobody is accepted now."""
         self.child = Child(self.path, ["--workers=1", *self.words, f"--journal={self.path}"])
         revision = await self.child.begin()
-        for line in commands_after(self.path, self.revision):
+        for line in commands_after(self.path, self.revision, self.accepted):
             self.accept(line)
         self.begun(revision, self.revision)
         for it in self.asked:
             self.child.ask(it.line, self.answered)
 
     def accept(self, line):
+        """A command, by its line in the journal."""
         self.revision += 1
+        self.accepted.update(line)
         for it in self.followers:
             it(line)
 
@@ -37,7 +43,7 @@ class Keeper(Supervisor):
     def answered(self, reply):
         asked = self.asked.popleft()
         if reply.startswith(ACCEPTED):
-            self.accept(asked.line)
+            self.accept(line_of(json.loads(asked.line)))
         asked.answer(reply)
 
     def lost(self):
