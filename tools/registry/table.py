@@ -163,14 +163,14 @@ SUBCOMMANDS = (
                 option("--mode", "MODE", "who may use the socket, as 660 (else: 600)", MODES, default="600"),
                 option("--group", "NAME", "the group of the socket"),
                 option("--readers", "N", "how many programs answer requests (else: 2)", range(1, 65), default=2),
-                option("--seconds", "N", "end a search after N seconds (else: 10)", range(1, 3_601), default=10),
+                option("--seconds", "N", "give a request up after N seconds (else: 10)", range(1, 3_601), default=10),
                 option("--budget", "N", "the budget of conflicts of requests that name none", BUDGETS), *SELECTING,
                 option("--workers", "N", "how many threads of each program resolve (else: 1)", range(1, 65), default=1),
                 option("--clients", "N", "no more than N clients at a time (else: 1000)", range(1, 100_001), default=1_000),
                 option("--log", "FILE", "log each line that is answered; - is standard output", FILE),
                 option("--metrics-port", "N", "answer /metrics, /health and /journal over HTTP on this port, too", range(65_536))),
                ("registry serve --socket registry.socket", "registry serve --journal team.journal --port 7000 --seconds 5 --log service.log"),
-               "Clients speak the lines of registryd(1), and each has its replies in order. A search that takes too long is answered BudgetSpent. "
+               "Clients speak the lines of registryd(1), and each has its replies in order. A request that takes too long is answered BudgetSpent. "
                "SIGTERM and Ctrl-C end it within 5 seconds, with all answered that came. A first line in HTTP asks for /metrics, /health or /journal."),
     Subcommand("page", "page", "Show the journal on a page in a browser of this machine",
                (option("--port", "N", "the port (else: one that is free)", range(65_536)),

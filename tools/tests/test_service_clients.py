@@ -71,14 +71,12 @@ class Service:
     def ask(self, asked):
         self.asked.append(asked)
 
-    def answer(self, *replies, revision=4):
-        """Answers the first of what was asked, and does what is due."""
+    def answer(self, *replies):
+        """Answers what was asked, one after the other, and does what is due."""
         for reply in replies:
-            asked = self.asked.pop(0)
-            asked.revision = revision
-            asked.answer(reply)
-        while self.soon:
-            self.soon.pop(0)()
+            self.asked.pop(0).answer(reply)
+            while self.soon:
+                self.soon.pop(0)()
 
 
 class Clients(unittest.TestCase):
@@ -108,7 +106,7 @@ class Clients(unittest.TestCase):
     def test_lines_come_in_pieces(self):
         for piece in (ASK[:5], ASK[5:] + b"\n" + ASK, b"\n\n"):
             self.client.data_received(piece)
-        self.assertEqual([(it.line, it.op) for it in self.service.asked], [(ASK, "resolve"), (ASK, "resolve")])
+        self.assertEqual([(it.line, it.op, it.revision) for it in self.service.asked], [(ASK, "resolve", 4)])
         self.service.answer(b"1", b"2")
         self.assertEqual([(it.line, it.op) for it in self.service.asked], [(b"", "")])
         self.service.answer(b"3")
@@ -120,9 +118,10 @@ class Clients(unittest.TestCase):
             self.client.data_received(b"y" * 50 + b"\n")
         self.assertEqual(self.lines(), [b"x" * 10, b"", b""])
 
-    def test_commands_and_requests_wait_for_each_other(self):
+    def test_a_request_is_asked_alone(self):
+        """It waits for the lines before it, and those behind it wait for it. Commands are asked together."""
         self.client.data_received(b"\n".join([ASK, ASK, A1, B1, LIST.encode(), b""]))
-        wanted = [[ASK, ASK], [A1, B1], [LIST.encode()]]
+        wanted = [[ASK], [ASK], [A1, B1], [LIST.encode()]]
         for some in wanted:
             self.assertEqual(self.lines(), some)
             self.service.answer(*[b"x"] * (len(some) - 1))
@@ -132,39 +131,28 @@ class Clients(unittest.TestCase):
         self.assertEqual(self.transport.written, b"x\n" * 5)
 
     def test_replies_come_in_order(self):
-        self.client.data_received(b"\n".join([ASK] * 3 + [b""]))
+        self.client.data_received(b"\n".join([A1] * 3 + [b""]))
         first, second, third = self.service.asked
         for it, reply in ((third, b"3"), (second, b"2")):
-            it.revision = 4
             it.answer(reply)
         self.assertEqual((self.service.soon, self.transport.written), ([], b""))
         first.answer(b"1")
-        first.revision = 4
         self.service.soon.pop()()
         self.assertEqual(self.transport.written, b"1\n2\n3\n")
 
-    def test_a_request_of_an_earlier_revision_is_asked_again(self):
-        self.client.data_received(b"\n".join([ASK] * 2 + [b""]))
-        first, second = self.service.asked
-        second.revision = 3
-        second.answer(b"old")
-        self.service.asked.pop()
-        self.service.answer(b"new", revision=5)
-        self.assertEqual((self.transport.written, self.service.asked, second.reply), (b"new\n", [second], None))
-        self.service.answer(b"now", revision=5)
-        self.assertEqual((self.transport.written, self.client.revision), (b"new\nnow\n", 5))
-        # what a command is told is never asked again
-        self.client.data_received(A1 + b"\n")
-        self.service.answer(b"told", revision=0)
-        self.assertEqual((self.transport.written, self.client.revision), (b"new\nnow\ntold\n", 5))
-
-    def test_at_most_64_lines_are_under_way(self):
-        self.client.data_received((ASK + b"\n") * 70)
+    def test_at_most_64_commands_are_under_way(self):
+        self.client.data_received((A1 + b"\n") * 70)
         self.assertEqual((len(self.service.asked), len(self.client.lines), self.transport.is_paused), (64, 6, True))
         self.service.answer(b"x")
         self.assertEqual((len(self.service.asked), len(self.client.lines)), (64, 5))
-        self.service.answer(*[b"x"] * 64)
-        self.assertEqual((len(self.service.asked), self.transport.is_paused), (5, False))
+        self.service.answer(*[b"x"] * 5)
+        self.assertEqual((len(self.service.asked), len(self.client.lines), self.transport.is_paused), (64, 0, False))
+
+    def test_while_a_request_is_under_way_no_more_is_read_than_came(self):
+        self.client.data_received((ASK + b"\n") * 70)
+        self.assertEqual((len(self.service.asked), len(self.client.lines), self.transport.is_paused), (1, 69, True))
+        self.service.answer(*[b"x"] * 69)
+        self.assertEqual((len(self.service.asked), len(self.client.lines), self.transport.is_paused), (1, 0, False))
 
     def test_the_end_of_what_it_asks(self):
         self.client.data_received(ASK + b"\n" + A1)
@@ -185,7 +173,7 @@ class Clients(unittest.TestCase):
             self.setUp()
             self.client.data_received(line + b"\n")
             self.service.asked[0].fail()
-            self.assertEqual((self.client.takes_commands, self.service.asked[0].revision), (takes, 4))
+            self.assertEqual(self.client.takes_commands, takes)
             self.service.soon.pop()()
             self.assertEqual(self.transport.written, b'{"error":503,"name":"Unavailable","revision":4}\n')
 

@@ -46,12 +46,14 @@ class Children(unittest.TestCase):
                 made.ask(b"early", told.append)  # before there is a pipe
                 self.assertEqual(await made.begin(), 307)
                 self.assertIs(made.is_killed, False)
+                self.assertGreater(made.spent(), 0)
                 for line in (b"words", b"group", f"/dev/fd/{file.fileno()}".encode()):
                     made.ask(line, told.append)
                 made.ask(b"end", due.set_result)
                 await due
             why = await made.gone
             self.assertTrue(made.input.is_closing() and made.process.returncode == 0)
+            self.assertEqual(made.spent(), 0)
             return told, why
         with self.program(SCRIPT):
             told, why = asyncio.run(asked())
@@ -104,7 +106,7 @@ class Asker:
     """A client, who may have gone."""
 
     def __init__(self, has_gone=False):
-        self.transport = SimpleNamespace(is_closing=lambda: has_gone)
+        self.transport, self.is_slow = SimpleNamespace(is_closing=lambda: has_gone), False
 
 
 class Following(unittest.IsolatedAsyncioTestCase):
@@ -126,11 +128,11 @@ class Following(unittest.IsolatedAsyncioTestCase):
         return made
 
     async def stopped(self, made):
-        for task in (made.looking, *(it.keeping for it in made.readers)):
-            task.cancel()
+        for it in (made.looking, *(it.keeping for it in made.readers)):
+            it.cancel()
 
     def asked(self, line=b"x", of=None, op="resolve"):
-        return SimpleNamespace(line=line, op=op, client=of or Asker(), tries=0, answer=lambda reply: self.told.append((line, reply)), fail=lambda: self.told.append((line, None)))
+        return SimpleNamespace(line=line, op=op, client=of or Asker(), tries=0, since=0, answer=lambda reply: self.told.append((line, reply)), fail=lambda: self.told.append((line, None)))
 
     async def test_each_begins_with_the_journal_as_it_was_told(self):
         for more, words in (({}, ["--workers=3"]), ({"budget": 0, "any": True}, ["--workers=3", "--any", "--budget=0"]), ({"newest": True, "budget": 7}, ["--workers=3", "--newest", "--budget=7"])):
@@ -139,39 +141,42 @@ class Following(unittest.IsolatedAsyncioTestCase):
             for it in made.readers:
                 self.assertEqual((it.child.path, it.child.words[:-1], it.child.loaded), (self.path, words, journal(CHAIN[:2])))
                 self.assertRegex(it.child.words[-1], r"\A--load=/dev/fd/\d+\Z")
-                self.assertEqual((it.since, it.is_held_up, it.role), (0, False, "reader"))
+                self.assertEqual((it.seen, it.role), (None, "reader"))
+            self.assertEqual([it.is_quick for it in made.readers], [False, True])
         with mock.patch.object(StandIn, "revision", 3), self.assertRaisesRegex(Failed, "2 commands were accepted, and it has 3"):
             await self.begun()
 
-    async def test_requests_go_to_the_one_with_the_least_to_do(self):
-        made = await self.begun()
-        for number in range(70):
+    async def test_what_each_is_asked(self):
+        """One request at a time, but for the last of several: that one has four at most, and takes more once these are answered."""
+        made = await self.begun(readers=3)
+        for number in range(9):
             made.ask(self.asked(b"%d" % number))
-        one, two = made.readers
-        # in turns, and 32 at most of each
-        self.assertEqual([[line for line, _ in it.child.waiting] for it in made.readers], [[b"%d" % it for it in range(place, 64, 2)] for place in (0, 1)])
-        self.assertEqual([it.line for it in made.waiting], [b"%d" % it for it in range(64, 70)])
-        two.child.answer(b"a reply")
-        self.assertEqual((self.told, two.child.waiting[-1][0], len(one.child.waiting), len(made.waiting)), ([(b"1", b"a reply")], b"64", 32, 5))
-        self.assertEqual({it.revision for it in (*one.asked, *two.asked)}, {2})
+        lines = [[b"0"], [b"1"], [b"2"]]
+        self.assertEqual([[line for line, _ in it.child.waiting] for it in made.readers], lines)
+        made.readers[2].child.answer(b"a reply")
+        self.assertEqual(([line for line, _ in made.readers[2].child.waiting], self.told), ([b"3", b"4", b"5", b"6"], [(b"2", b"a reply")]))
+        made.readers[2].child.answer(b"a reply")
+        self.assertEqual([line for line, _ in made.readers[2].child.waiting], [b"4", b"5", b"6"])
+        made.readers[0].child.answer(b"a reply")
+        self.assertEqual([[line for line, _ in it.child.waiting] for it in made.readers], [[b"7"], [b"1"], [b"4", b"5", b"6"]])
+        self.assertEqual({it.revision for reader in made.readers for it in reader.asked}, {2})
+        one, = (await self.begun(readers=1)).readers
+        self.assertFalse(one.is_quick)
 
     async def test_who_is_not_asked(self):
         made = await self.begun()
         one, two = made.readers
-        made.ask(self.asked(of=Asker(has_gone=True)))
-        self.assertEqual((len(one.asked), len(two.asked), len(made.waiting)), (0, 0, 0))
         one.is_up = False
         self.assertEqual(made.ready(), 1)
         slow = self.asked(b"slow")
+        slow.client.is_slow = True
         made.ask(slow)
-        self.assertEqual([len(it.asked) for it in made.readers], [0, 1])
-        # what else its client asks waits, and what others ask does not; nor is one asked that is held up
-        one.is_up = two.is_held_up = True
-        for line, of in ((b"behind", slow.client), (b"other", None)):
-            made.ask(self.asked(line, of))
-        self.assertEqual(([line for line, _ in one.child.waiting], [it.line for it in made.waiting]), ([b"other"], [b"behind"]))
-        two.child.answer(b"y")
-        self.assertEqual(([line for line, _ in two.child.waiting], len(made.waiting)), ([b"behind"], 0))
+        made.ask(self.asked(b"other"))
+        # the last one is asked nothing of a client that is slow
+        self.assertEqual(([line for line, _ in two.child.waiting], [it.line for it in made.waiting]), ([b"other"], [b"slow"]))
+        one.is_up = True
+        made.share()
+        self.assertEqual(([line for line, _ in one.child.waiting], len(made.waiting)), ([b"slow"], 0))
 
     async def test_each_is_fed_what_is_accepted(self):
         made = await self.begun()
@@ -183,54 +188,54 @@ class Following(unittest.IsolatedAsyncioTestCase):
         two.child.answer(b'{"error":14,"name":"NoMemory","revision":2}')
         self.assertEqual([(it.is_up, it.child.is_killed) for it in made.readers], [(True, False), (False, True)])
         # one that was not begun so far has what is accepted with its journal
-        readers.Reader(made).feed(A1)
+        readers.Reader(made, False).feed(A1)
 
     async def test_what_one_had_that_ends_is_asked_of_another(self):
         made = await self.begun()
         one, two = made.readers
         first, second = self.asked(b"first"), self.asked(b"second")
-        one.ask(first)
-        one.ask(second)
-        one.is_up, two.is_up = False, True
-        one.lost()
-        self.assertEqual(([line for line, _ in two.child.waiting], first.tries, second.tries, len(one.asked)), ([b"first", b"second"], 1, 0, 0))
-        # with the second one that ends by itself it is given up
+        two.ask([first, second])
         one.is_up, two.is_up = True, False
         two.lost()
-        self.assertEqual((self.told, [line for line, _ in one.child.waiting[2:]], first.tries), ([(b"first", None)], [b"second"], 2))
-        # one that was killed says nothing against its request
-        one.is_up, one.child.is_killed = False, True
+        self.assertEqual(([line for line, _ in one.child.waiting], [it.line for it in made.waiting], first.tries, second.tries, len(two.asked)),
+                         ([b"first"], [b"second"], 1, 0, 0))
+        # with the second one that ends by itself it is given up
+        one.is_up, two.is_up = False, True
         one.lost()
+        self.assertEqual((self.told, [line for line, _ in two.child.waiting[2:]], first.tries), ([(b"first", None)], [b"second"], 2))
+        # one that was killed says nothing against its request
+        two.is_up, two.child.is_killed = False, True
+        two.lost()
         self.assertEqual((second.tries, [it.line for it in made.waiting]), (0, [b"second"]))
 
     async def test_what_waits_longest_is_asked_first(self):
         made = await self.begun()
-        for it in made.readers:
-            it.is_up = False
+        one, two = made.readers
+        two.ask([self.asked(b"one"), self.asked(b"two")])
+        one.is_up = two.is_up = False
         made.ask(self.asked(b"new"))
-        made.take_back([self.asked(b"one"), self.asked(b"two")])
+        two.lost()
         self.assertEqual([it.line for it in made.waiting], [b"one", b"two", b"new"])
-        made.readers[0].is_up = True
+        one.is_up = two.is_up = True
         made.share()
-        self.assertEqual([line for line, _ in made.readers[0].child.waiting], [b"one", b"two", b"new"])
+        self.assertEqual(([line for line, _ in one.child.waiting], [line for line, _ in two.child.waiting[2:]]), ([b"one"], [b"two", b"new"]))
 
     async def test_they_are_looked_at_all_the_time(self):
-        made, seen = await self.begun(seconds=4), []
-        for it in made.readers:
-            it.look = seen.append
+        made, seen = await self.begun(), []
+        for number, it in enumerate(made.readers):
+            it.look = lambda number=number: seen.append(number)
         async with asyncio.timeout(60):
-            while len(seen) < 4:
+            while len(seen) < 6:
                 await asyncio.sleep(0.01)
-        self.assertEqual(set(seen), {4})
+        self.assertEqual(seen[:6], [0, 1] * 3)
 
     async def test_they_end(self):
         made = await self.begun()
         for line in (b"one", b"two", b"three"):
             made.ask(self.asked(line))
-        made.readers[0].asked[0] = None
         made.end()
         await asyncio.sleep(0)
-        self.assertEqual((self.told, len(made.waiting), made.ready()), ([(b"three", None), (b"two", None)], 0, 0))
+        self.assertEqual((self.told, len(made.waiting), made.ready()), ([(b"three", None), (b"one", None), (b"two", None)], 0, 0))
         self.assertEqual([(it.child.is_killed, it.keeping.cancelled()) for it in made.readers], [(True, True)] * 2)
 
 
@@ -246,9 +251,9 @@ class Leaving(unittest.TestCase):
         self.assertFalse(readers.has_left(waits))
         there.close()
         self.assertTrue(readers.has_left(waits))
-        # of one that may go on asking this is not asked
+        # also where what it sent was not read to its end
         waits.is_ended = False
-        self.assertFalse(readers.has_left(waits))
+        self.assertTrue(readers.has_left(waits))
         transport.is_closing = lambda: True
         self.assertTrue(readers.has_left(waits))
 

@@ -26,7 +26,7 @@ class Http(unittest.TestCase):
         with open(self.path, "wb") as file:
             file.write(journal([*CHAIN[:2], CHAIN[2]])[:-6])
         self.service = SimpleNamespace(path=self.path, is_stopping=False, clients=[SimpleNamespace(asked=[1, 2], lines=[3]), SimpleNamespace(asked=[], lines=[])],
-                                       keeper=SimpleNamespace(is_up=True, revision=3), readers=SimpleNamespace(ready=lambda: 2), watch=watching.Watch(None))
+                                       keeper=SimpleNamespace(is_up=True, revision=3), readers=SimpleNamespace(ready=lambda: 2, are_late=lambda: False), watch=watching.Watch(None))
 
     def answer(self, head, address=("127.0.0.1", 1)):
         async def asked():
@@ -55,6 +55,8 @@ class Http(unittest.TestCase):
 
     def test_health(self):
         self.assertEqual(self.get("/health"), ("200 OK", "ok\n"))
+        self.service.readers.are_late = lambda: True
+        self.assertEqual(self.get("/health"), ("503 Service Unavailable", "no reader is free: requests wait\n"))
         self.service.readers.ready = lambda: 0
         self.assertEqual(self.get("/health"), ("503 Service Unavailable", "no reader is ready: requests wait\n"))
         self.service.keeper.is_up = False

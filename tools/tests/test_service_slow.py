@@ -39,10 +39,10 @@ class Slow(Case):
                 self.assertEqual((accepted, found), ({"ok": True, "revision": revision}, {"revision": revision, "selected": [["log", f"1.{revision - 1}.0"]]}))
                 self.assertEqual(refused, {"refused": True, "revision": revision})
             self.assertFalse(has_replies(hard))
-            # it is told at the revision at which it was asked, as is what stood behind it
+            # it is told at the revision at which it was asked, and what stood behind it is asked then
             self.assertEqual(hard.line(), SPENT % len(LINES))
             self.assertLess(time.monotonic() - begun, 20)
-            self.assertEqual(json.loads(hard.line())["revision"], len(LINES))
+            self.assertEqual(json.loads(hard.line())["revision"], revision)
             wait_for(lambda: service.get("/health") == (200, "ok\n") and "registryd_readers 2\n" in service.get("/metrics")[1])
             metrics = service.get("/metrics")[1]
             for line in ("registryd_budgets_spent_total 1", 'registryd_restarts_total{program="reader"} 1', 'registryd_refused_total{number="22",name="BudgetSpent"} 1'):

@@ -12,7 +12,7 @@ What takes lines in and keeps the journal:
 
 What stands on that:
 
-    readers.py     programs that follow the keeper: they answer requests, each within a limit of time
+    readers.py     programs that follow the keeper: they answer requests, so that no client can stop the others
     watching.py    what is counted and logged
     http.py        what is answered over HTTP: counts, health, the journal
 """

@@ -1,6 +1,7 @@
 """The program as a child of the service: what is written to it, and each line that it answers."""
 import asyncio
 import re
+import time
 from collections import deque
 from subprocess import PIPE
 
@@ -66,6 +67,10 @@ class Child(asyncio.Protocol):
         status = self.process.wait()
         self.process.let_go()
         self.gone.set_result(reason(said, self.path) or said.strip() or f"the program ended with status {status}")
+
+    def spent(self):
+        """Seconds of a processor that it has had; none where it has ended."""
+        return 0 if self.gone.done() else time.clock_gettime(~self.process.pid << 3 | 2)  # as Linux numbers the clocks of processes
 
     def kill(self):
         self.is_killed = True

@@ -10,7 +10,7 @@ from .watching import name_of
 
 READS = ("resolve", "check", "list")  # what readers answer; all else goes to the keeper, so no reader changes by itself
 COMMANDS = ("publish", "yank", "unyank")
-MOST_ASKED = 64  # lines of a client that are under way; those behind them wait in the socket
+MOST_ASKED = 64  # commands of a client that are under way; the lines behind them wait in the socket
 MOST_UNREAD = 64 << 20  # bytes of replies that wait for a client
 STALLED = 30  # seconds; then a client that doesn't read is cut off
 UNAVAILABLE = b'{"error":503,"name":"Unavailable","revision":%d}'
@@ -23,7 +23,7 @@ class Asked:
 
     def __init__(self, client, line, op):
         self.client, self.line, self.op, self.since = client, line, op, client.service.now()
-        self.reply, self.revision, self.tries = None, 0, 0
+        self.reply, self.revision, self.tries = None, client.service.keeper.revision, 0
 
     def answer(self, reply):
         service, self.reply = self.client.service, reply
@@ -34,7 +34,6 @@ class Asked:
     def fail(self):
         """A program ended, or the service does: of a command it is not known whether it was accepted, so none behind it is carried out."""
         self.client.takes_commands &= self.op in READS
-        self.revision = self.client.service.keeper.revision
         self.answer(UNAVAILABLE % self.client.service.keeper.revision)
 
 
@@ -53,8 +52,8 @@ class Client(asyncio.Protocol):
     def __init__(self, service):
         self.service, self.lines, self.asked, self.rest = service, deque(), deque(), b""
         self.is_first, self.is_ended, self.takes_commands = True, False, True
-        self.revision = 0  # of the last request that was told
         self.clock = None  # runs while replies wait to be read
+        self.is_slow = False  # whether its last request was
 
     def connection_made(self, transport):
         self.transport, self.name = transport, name_of(transport)
@@ -95,11 +94,11 @@ class Client(asyncio.Protocol):
         self.go_on()
 
     def go_on(self):
-        """Asks what may be asked now. Commands wait for the requests before them, and requests for the commands: so the replies are
-        those that one session would give."""
-        while self.lines and len(self.asked) < MOST_ASKED and not self.clock:
+        """Asks what may be asked now: one request, or commands, so the replies are those that one session would give. A client's next
+        request waits for its last one: so it holds one reader at most, and revisions never fall."""
+        while self.lines and not self.clock:
             op = op_of(self.lines[0])
-            if self.asked and (self.asked[-1].op in READS) != (op in READS):
+            if self.asked and (op in READS or self.asked[0].op in READS or len(self.asked) == MOST_ASKED):
                 break
             self.asked.append(Asked(self, self.lines.popleft(), op))
             self.service.ask(self.asked[-1])
@@ -113,16 +112,9 @@ class Client(asyncio.Protocol):
     # ---- what it is answered
 
     def tell(self):
-        """Writes the replies that are next. A request that was answered while one before it waited longer, and at an earlier revision, is
-        asked again."""
+        """Writes the replies that are next."""
         told = []
         while self.asked and self.asked[0].reply is not None:
-            first = self.asked[0]
-            if first.op in READS and first.revision < self.revision:
-                first.reply = None
-                self.service.ask(first)
-                break
-            self.revision = max(self.revision, first.revision)
             told.append(self.asked.popleft().reply)
         if told and not self.transport.is_closing():
             self.transport.write(b"\n".join([*told, b""]))

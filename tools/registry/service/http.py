@@ -75,7 +75,9 @@ def illness(service):
         return "stopping"
     if not service.keeper.is_up:
         return "the program that keeps the journal is being begun again: commands wait"
-    return "" if service.readers.ready() else "no reader is ready: requests wait"
+    if not service.readers.ready():
+        return "no reader is ready: requests wait"
+    return "no reader is free: requests wait" if service.readers.are_late() else ""
 
 
 def metrics(service):

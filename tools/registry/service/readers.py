@@ -1,15 +1,25 @@
-"""Programs that follow the keeper: each is begun with the journal, is fed every accepted line, and answers requests."""
+"""Programs that follow the keeper: each is begun with the journal, is fed every accepted line, and answers requests.
+
+No client can stop the others. Each has one request here at a time, and these wait in the order in which they came. The last of several
+readers takes no request of a client whose last one was slow; and where one is slow there while others wait, it is begun again and leaves
+that one to the other readers: so a request waits there at most a quarter of a second, and the time in which a reader begins, for each
+before it, however long the others search. One that has no reply at its limit is told so and its program ends, so no reply that nobody
+waits for stands before another.
+"""
 import asyncio
 import select
 from collections import deque
+from itertools import islice
 
 from ..session import selecting, shared
 from .child import ACCEPTED, Child
+from .client import UNAVAILABLE
 from .journal import text_at
 from .supervisor import Supervisor
 
-WINDOW = 32  # requests that a reader has at most
-PATIENCE = 0.25  # seconds; then those behind a request are asked of another reader
+WINDOW = 4  # requests that the quick reader is asked at once
+PATIENCE = 0.25  # seconds; a request that a reader is at for longer is slow,
+EFFORT = 0.025  # where it had a processor for so long: else the machine is
 MOST_TRIES = 2  # of a request with which readers ended by themselves
 TICK = 0.05
 SPENT = b'{"error":22,"name":"BudgetSpent","revision":%d}'
@@ -17,21 +27,24 @@ SPENT = b'{"error":22,"name":"BudgetSpent","revision":%d}'
 
 def has_left(client):
     """Whether nobody reads what it is answered. Who only sends no more may wait for replies."""
-    if client.transport.is_closing() or not client.is_ended:
-        return client.transport.is_closing()
+    if client.transport.is_closing():
+        return True
     other_end = select.poll()
     other_end.register(client.transport.get_extra_info("socket").fileno(), 0)  # told is what is always told: that it hung up
     return bool(other_end.poll(0))
 
 
+def give_up(asked):
+    asked.answer((SPENT if asked.op == "resolve" else UNAVAILABLE) % asked.revision)
+
+
 class Reader(Supervisor):
-    """One of them. `asked` has the requests that it is to answer, in order, and nothing in the place of one that was taken back since:
-    that one's reply here counts for nothing, since another reader may have answered it, at a later revision too."""
+    """One of them. `asked` has the requests that it is to answer, in order. `seen` is the first of these at the last look."""
     role = "reader"
 
-    def __init__(self, pool):
+    def __init__(self, pool, is_quick):
         super().__init__(pool.path, pool.watch)
-        self.pool, self.since, self.is_held_up = pool, 0, False
+        self.pool, self.is_quick, self.seen = pool, is_quick, None
         pool.keeper.followers.append(self.feed)
 
     async def begin(self):
@@ -48,115 +61,113 @@ class Reader(Supervisor):
 
     def fed(self, reply):
         """One that has no memory for what was accepted is ended."""
+        self.seen = None  # what is asked behind it has begun now
         if not reply.startswith(ACCEPTED):
             self.kill()
 
-    def ask(self, asked):
-        asked.revision = self.pool.keeper.revision
-        if not self.asked:
-            self.since = self.pool.now()
-        self.asked.append(asked)
-        self.child.ask(asked.line, self.answered)
+    def takes(self, asked):
+        """Whether it may be asked this."""
+        return not (self.is_quick and asked.client.is_slow)
+
+    def ask(self, requests):
+        self.asked, self.seen = deque(requests), None
+        for it in requests:
+            it.revision = self.pool.keeper.revision
+            self.child.ask(it.line, self.answered)
 
     def answered(self, reply):
-        asked, self.since, self.is_held_up = self.asked.popleft(), self.pool.now(), False
-        if asked:
-            asked.answer(reply)
-        self.pool.share()
+        asked = self.asked.popleft()
+        asked.client.is_slow &= asked is self.seen
+        asked.answer(reply)
+        if not self.asked:
+            self.pool.share()
 
     def kill(self):
-        self.is_up = self.is_held_up = False
+        self.is_up = False
         self.child.kill()
 
-    def look(self, limit):
-        """Ends a search that takes too long, or that nobody waits for. What waits behind one that is slow is asked of another reader."""
-        taken = self.pool.now() - self.since
-        if not self.is_up or not self.asked or taken <= PATIENCE:
+    def look(self):
+        """Ends a search that is at its limit, that nobody waits for, or for which others wait at the last reader."""
+        if not self.is_up or not self.asked:
             return
-        first = self.asked[0]
-        if taken > limit or first and has_left(first.client):
-            self.asked.popleft()
+        first, now, spent = self.asked[0], self.pool.now(), self.child.spent()
+        if first is not self.seen:
+            self.seen, self.since, self.before, first.client.is_slow = first, now, spent, False
+        if now - self.since <= PATIENCE:
+            return
+        first.client.is_slow = spent - self.before > EFFORT
+        if self.pool.is_over(first, self.pool.limit):
+            give_up(self.asked.popleft())
             self.kill()
-            if first and first.op == "resolve":
-                first.answer(SPENT % first.revision)
-            elif first:
-                first.fail()
-        elif first and first.client in self.pool.slow(but=self):
-            self.kill()  # one client may have one slow request
-        elif not self.is_held_up:
-            self.is_held_up, behind = True, self.held()[bool(first):]
-            self.asked = deque([first, *[None] * (len(self.asked) - 1)])
-            self.pool.take_back(behind)
-
-    def held(self):
-        """What was not taken back."""
-        return [it for it in self.asked if it]
+        elif self.is_quick and first.client.is_slow and (len(self.asked) > 1 or any(map(self.takes, self.pool.waiting))):
+            self.kill()
 
     def lost(self):
         """What it had is asked of another one. A request with which two ended by themselves is given up."""
-        left, self.is_held_up = self.held(), False
+        if self.asked and not self.child.is_killed:
+            self.asked[0].tries += 1
+            if self.asked[0].tries == MOST_TRIES:
+                self.asked.popleft().fail()
+        self.pool.waiting.extendleft(reversed(self.asked))
         self.asked.clear()
-        if left and not self.child.is_killed:
-            left[0].tries += 1
-            if left[0].tries == MOST_TRIES:
-                left.pop(0).fail()
-        self.pool.take_back(left)
+        self.pool.share()
 
 
 class Readers:
-    """All of them. A request waits here until a reader is free, and goes to the one with the least to do."""
+    """All of them. Requests wait here, one of each client, until a reader takes them."""
 
     def __init__(self, path, watch, keeper, given):
         self.path, self.watch, self.keeper, self.limit = path, watch, keeper, given.seconds
         self.words = [f"--workers={given.workers}", *selecting(given), *([] if given.budget is None else [f"--budget={given.budget}"])]
-        self.now, self.waiting = asyncio.get_running_loop().time, deque()
-        self.readers = [Reader(self) for _ in range(given.readers)]
+        self.loop, self.waiting = asyncio.get_running_loop(), deque()
+        self.now = self.loop.time
+        self.readers = [Reader(self, is_quick=0 < number == given.readers - 1) for number in range(given.readers)]
 
     async def start(self):
         await asyncio.gather(*(it.start() for it in self.readers))
-        self.looking = asyncio.create_task(self.look())
+        self.look()
 
-    async def look(self):
-        while True:
-            await asyncio.sleep(TICK)
-            for it in self.readers:
-                it.look(self.limit)
+    def look(self):
+        """Ends what takes too long. What waits has a little longer than a search: so it may be asked after one that took all of its time."""
+        self.looking = self.loop.call_later(TICK, self.look)
+        for it in self.readers:
+            it.look()
+        for it in [it for it in self.waiting if self.is_over(it, self.limit + PATIENCE)]:
+            self.waiting.remove(it)
+            it.client.is_slow = False  # its next request is asked of the last reader, too
+            give_up(it)
+
+    def is_over(self, asked, limit):
+        """Whether a request has had its seconds, or nobody waits for it any more."""
+        taken = self.now() - asked.since
+        return taken > limit or taken > PATIENCE and has_left(asked.client)
 
     def ask(self, asked):
         self.waiting.append(asked)
         self.share()
 
     def share(self):
-        """Hands out what waits. A client with a slow request waits for that one, so it can't hold up all readers."""
-        slow = self.slow() if self.waiting else ()
-        while self.waiting:
-            free = [it for it in self.readers if it.is_up and not it.is_held_up and len(it.asked) < WINDOW]
-            place = next((at for at, it in enumerate(self.waiting) if it.client not in slow), None)
-            if not free or place is None:
-                return
-            asked = self.waiting[place]
-            del self.waiting[place]
-            if not asked.client.transport.is_closing():
-                min(free, key=lambda it: len(it.asked)).ask(asked)
-
-    def slow(self, but=None):
-        """The clients that have a slow request with one of the readers."""
-        return {it.asked[0].client for it in self.readers if it.is_held_up and it is not but and it.asked[0]}
-
-    def take_back(self, lines):
-        """Has these wait again, before all others."""
-        self.waiting.extendleft(reversed(lines))
-        self.share()
+        """Hands out what waits to the readers that have nothing to do."""
+        for reader in self.readers:
+            if self.waiting and reader.is_up and not reader.asked:
+                taken = [*islice(filter(reader.takes, self.waiting), WINDOW if reader.is_quick else 1)]
+                for it in taken:
+                    self.waiting.remove(it)
+                reader.ask(taken)
 
     def end(self):
         """Ends all of them: what they had is told that it was not answered."""
         for it in self.readers:
             it.keeping.cancel()
             it.kill()
-            self.waiting.extend(it.held())
+            self.waiting.extend(it.asked)
         while self.waiting:
             self.waiting.popleft().fail()
 
     def ready(self):
         """How many of them can be asked."""
         return sum(it.is_up for it in self.readers)
+
+    def are_late(self):
+        """Whether a request of a client that is not slow has waited for half of its limit."""
+        return any(not it.client.is_slow and self.now() - it.since > self.limit / 2 for it in self.waiting)
