@@ -22,11 +22,12 @@ class Option:
 
 @dataclass(frozen=True)
 class Command:
-    """A command, what the program's help says of it, and what it takes."""
+    """A command, what the program's help says of it, and what it takes: options, or these words."""
     name: str
     about: str
     options: tuple[Option, ...] = ()
     takes_files: bool = False
+    words: str = ""
 
 
 SELECTIONS = (
@@ -43,6 +44,7 @@ COMMANDS = (
         *SELECTIONS,
     )),
     Command("race", "Answers the request lines of files, a thread to each", SELECTIONS, takes_files=True),
+    Command("help", "Print this message or the help of the given subcommand(s)", words="serve race"),
 )
 HELP, VERSION = "Print help", "Print the version, and whether the program is proved"
 
@@ -120,7 +122,8 @@ def bash():
             offer = BASH_FILES if option.value == FILE else f'COMPREPLY=($(compgen -W "{option.offered}" -- "$current")); return'
             values.append(f'        "{command.name} --{option.name}") {offer} ;;')
         files = f"[[ $current == -* ]] || {{ {BASH_FILES}; }}; " if command.takes_files else ""
-        commands.append(f'        {command.name}) {files}set -- {" ".join(f"--{it.name}" for it in command.options)} --help ;;')
+        words = command.words or " ".join([*(f"--{it.name}" for it in command.options), "--help"])
+        commands.append(f'        {command.name}) {files}set -- {words} ;;')
     names = [it.name for it in COMMANDS]
     return BASH.format(names="|".join(names), words=" ".join(names), values="\n".join(values), commands="\n".join(commands))
 
@@ -133,7 +136,8 @@ def zsh():
             offer = "_files" if it.value == FILE else f"({it.offered})" if it.offered else " "
             words.append(f"'--{it.name}[{it.about}]" + (f":{it.value}:{offer}'" if it.value else "'"))
         words += ["'*:file:_files'"] if command.takes_files else []
-        lines.append(f"                {command.name}) _arguments {' '.join(words)} '(- *)--help[{HELP}]' ;;")
+        words += [f"'1:command:({command.words})'" if command.words else f"'(- *)--help[{HELP}]'"]
+        lines.append(f"                {command.name}) _arguments {' '.join(words)} ;;")
     commands = " ".join(f"'{it.name}:{it.about}'" for it in COMMANDS)
     return ZSH.format(commands=commands, help=HELP, version=VERSION, words="\n".join(lines))
 
@@ -146,7 +150,7 @@ def fish():
         for it in command.options:
             offer = "-r -F " if it.value == FILE else f"-x -a '{it.offered}' " if it.value else ""
             lines.append(f"{within} -l {it.name} {offer}-d '{it.about}'")
-        lines.append(f"{within} -l help -d '{HELP}'")
+        lines.append(f"{within} -a '{command.words}'" if command.words else f"{within} -l help -d '{HELP}'")
         lines += [f"{within} -F"] if command.takes_files else []
     return FISH.format(help=HELP, version=VERSION, lines="\n".join(lines))
 

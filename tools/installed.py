@@ -80,13 +80,12 @@ class Piece:
 
 def chosen(may_be_unproved):
     """The program that is installed: the proved one of these sources, or where that may be, the compiled one with its checks."""
-    program = programs.proved(NAME) or programs.compiled(NAME)
-    kind = program and program.kind
-    if kind == programs.PROVED or kind == programs.COMPILED and may_be_unproved:
+    program = programs.current(NAME)
+    if program and (program.kind == programs.PROVED or may_be_unproved):
         return program
     if may_be_unproved:
         raise Refused("no program of these sources stands that checks as it runs: run tools/build --compiled first")
-    also = ", or take the compiled one with --unproved" if kind == programs.COMPILED else ""
+    also = ", or take the compiled one with --unproved" if program else ""
     raise Refused(f"no program stands that was proved from these sources: run ./test or tools/build --proved first{also}")
 
 
@@ -105,7 +104,7 @@ def told(kind):
 def program_pieces(program):
     """The program, and the command that runs it, which alone knows its version. It starts no other process unless it is a link."""
     command = ("#!/bin/sh\n# Runs the program that is installed with it.\n"
-               f'if [ "$#" = 1 ] && [ "$1" = --version ]; then\n    cat <<\\END\n{told(program.kind)}\nEND\n    exit\nfi\n'
+               f'case ${{1-}} in --version | -V)\n    cat <<\\END\n{told(program.kind)}\nEND\n    exit ;;\nesac\n'
                f'{FIND}{HUGE_PAGES}exec "$here/../{LIB}/{NAME}" "$@"\n')
     return [Piece(f"bin/{NAME}", command.encode(), 0o755), Piece(f"{LIB}/{NAME}", program.path.read_bytes(), 0o755)]
 
@@ -145,7 +144,7 @@ def tool_pieces():
 
 def command_pieces():
     """The command for people, with its manual page, which is made of its table of words. Of its version the program's command tells."""
-    command = (f'#!/bin/sh\n{FIND}if [ "$*" = --version ]; then exec "$here/{NAME}" --version; fi\n'
+    command = (f'#!/bin/sh\n{FIND}case $* in --version | -V) exec "$here/{NAME}" --version ;; esac\n'
                f'exec python3 -B -S "$here/../{LIB}/{COMMAND}" "$@"\n')
     text = (TOP / COMMAND).read_text(encoding="utf-8").partition("\n")[2]
     return [Piece(f"bin/{COMMAND}", command.encode(), 0o755), Piece(f"{LIB}/{COMMAND}", text.encode()),

@@ -2,8 +2,9 @@
 """Which program stands: the one that was proved of just these sources, else the one that was compiled from them.
 
 `out/proved/NAME` was built from proofs, by `./test` or `tools/build --proved`; `out/compiled/NAME` was compiled, and nothing was
-proved of it. Beside each stands `NAME.json` with what it was made from, as sums: one whose sources, kit or own bytes are others
-now is not taken. A static library, `libNAME.a`, stands in the same way. Run by itself, this prints what `./registryd --version` tells."""
+proved of it. `out/unchecked/NAME` was compiled without its checks, for measurements: it is never the one that is to be run. Beside each
+stands `NAME.json` with what it was made from, as sums: one whose sources, kit or own bytes are others now is not taken. A static
+library, `libNAME.a`, stands in the same way. Run by itself, this prints what `./registryd --version` tells."""
 import contextlib
 import dataclasses
 import functools
@@ -29,8 +30,6 @@ LAG = 20_000_000
 TOLD = {
     PROVED: "The program is proved: just these sources were proved before it was built.",
     COMPILED: "The program is compiled from these sources, with checks as it runs. It is not proved on this machine: ./test does that.",
-    UNCHECKED: "The program is compiled from these sources without checks as it runs, for measurements. It is not proved on this machine: "
-               "./test does that.",
 }
 
 
@@ -115,7 +114,7 @@ def sum_of(file):
 
 def place(name, kind):
     """Where a program of this kind stands, and what tells of it."""
-    path = TOP / "out" / (PROVED if kind == PROVED else COMPILED) / file_name(name)
+    path = TOP / "out" / kind / file_name(name)
     return path, path.with_name(f"{name}.json")
 
 
@@ -139,7 +138,7 @@ def standing(name, kind):
     try:
         told = json.loads(beside.read_bytes())
         program = Program(path, told["kind"], told["sources"])
-        if sum_of(path) != told["program"] or not os.access(path, os.X_OK) or (program.kind == PROVED) != (kind == PROVED):
+        if sum_of(path) != told["program"] or not os.access(path, os.X_OK) or program.kind != kind:
             return None, False
         # without a kit there is no other that could make it anew
         return program, program.sum == sources_sum(name, kind == PROVED, kit_version() or told["kit"])
@@ -147,21 +146,15 @@ def standing(name, kind):
         return None, False
 
 
-def proved(name):
-    """The program that was proved of just these sources, if it stands."""
-    program, is_current = standing(name, PROVED)
-    return program if is_current else None
-
-
-def compiled(name):
-    """The program that was compiled from just these sources, with or without checks, if it stands."""
-    program, is_current = standing(name, COMPILED)
+def made(name, kind):
+    """The program of a kind that was made from just these sources, if it stands."""
+    program, is_current = standing(name, kind)
     return program if is_current else None
 
 
 def current(name):
-    """The program that is to be run: the proved one of just these sources, else the compiled one, else none."""
-    return proved(name) or compiled(name)
+    """The program that is to be run: the proved one of just these sources, else the one that was compiled with checks, else none."""
+    return made(name, PROVED) or made(name, COMPILED)
 
 
 def is_older(name):

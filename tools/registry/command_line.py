@@ -8,7 +8,7 @@ from .table import COMMON, SUBCOMMANDS, subcommand
 
 SEE = "`registry --help` has all"
 WIDE = 78  # of sentences in the help
-GENERAL = ("--help", "-h", "--version", "--manual", "--completion", "--complete")
+GENERAL = ("--help", "-h", "--version", "-V", "--manual", "--completion", "--complete")
 
 
 class Parser(argparse.ArgumentParser):
@@ -97,5 +97,5 @@ def overview():
                     + "\n\n`registry SUBCOMMAND --help` has the words of each, with examples.")
     for it in COMMON:
         add(parser, it)
-    parser.add_argument("--version", action="store_true", help="the version of the program")
+    parser.add_argument("-V", "--version", action="store_true", help="the version of the program")
     return parser.format_help()

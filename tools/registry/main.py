@@ -35,7 +35,7 @@ def general(words):
     elif words == ["--manual"]:
         from .manual import page
         print(page(), end="")
-    elif words == ["--version"]:
+    elif words in (["--version"], ["-V"]):
         from .program import version
         print(version())
     else:

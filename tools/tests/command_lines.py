@@ -11,12 +11,13 @@
     has TEXT           a part of standard output, of which the rest is left open; without either there is none
     status N           the exit status
     error LINE         a line on standard error, which else is empty
+    says TEXT          a part of what stands before these lines there, which is left open else; without it nothing does
     left NAME LINE     a line of a file that is there then: all of them, in order
     none NAME          no such file is there then
 """
 from preloaded import Break
 
-PARTS = ("break", "room", "input", "output", "has", "status", "error", "left", "none")
+PARTS = ("break", "room", "input", "output", "has", "status", "error", "says", "left", "none")
 
 
 class Case:

@@ -27,13 +27,13 @@ printf '%s\\n' "${COMPREPLY[@]}"
 FILES = ["files: -o default"]
 # a small table, and what zsh and fish read for it, written by hand after their own pages: _arguments of zshcompsys(1), complete(1) of fish
 SMALL = (Command("go", "Goes", (Option("n", "N", "How many", "1 2"), Option("from", "FILE", "Whence"), Option("deep", "D", "How deep"), Option("fast", "", "At once"))),
-         Command("join", "Joins", takes_files=True))
+         Command("join", "Joins", takes_files=True), Command("tell", "Tells", words="go join"))
 ZSH = """#compdef registryd
 # Completes the words of registryd in zsh.
 _registryd()
 {
     local curcontext=$curcontext state line
-    local -a commands=('go:Goes' 'join:Joins')
+    local -a commands=('go:Goes' 'join:Joins' 'tell:Tells')
     _arguments -C '(- *)--help[Print help]' '(- *)--version[Print the version, and whether the program is proved]' '1: :->command' '*:: :->words'
     case $state in
         command) _describe command commands ;;
@@ -41,6 +41,7 @@ _registryd()
             case $words[1] in
                 go) _arguments '--n[How many]:N:(1 2)' '--from[Whence]:FILE:_files' '--deep[How deep]:D: ' '--fast[At once]' '(- *)--help[Print help]' ;;
                 join) _arguments '*:file:_files' '(- *)--help[Print help]' ;;
+                tell) _arguments '1:command:(go join)' ;;
             esac
             ;;
     esac
@@ -60,7 +61,13 @@ complete -c registryd -n '__fish_seen_subcommand_from go' -l help -d 'Print help
 complete -c registryd -n __fish_use_subcommand -a join -d 'Joins'
 complete -c registryd -n '__fish_seen_subcommand_from join' -l help -d 'Print help'
 complete -c registryd -n '__fish_seen_subcommand_from join' -F
+complete -c registryd -n __fish_use_subcommand -a tell -d 'Tells'
+complete -c registryd -n '__fish_seen_subcommand_from tell' -a 'go join'
 """
+
+
+# those that have a help of their own
+HELPED = [it for it in COMMANDS if not it.words]
 
 
 def helped(*words):
@@ -75,13 +82,13 @@ class Table(unittest.TestCase):
         self.assertEqual(helped(), told)
 
     def test_the_options_are_those_of_the_program(self):
-        for command in COMMANDS:
+        for command in HELPED:
             with self.subTest(command.name):
                 told = [("--", it.name, it.value, it.about) for it in command.options] + [("--", "help", "", HELP)]
                 self.assertEqual([it for it in helped(command.name) if it[0]], told)
 
     def test_files_go_where_the_program_takes_them(self):
-        for command in COMMANDS:
+        for command in HELPED:
             usage = run([command.name, "--help"]).stdout.decode()
             self.assertEqual("<FILE>..." in usage, command.takes_files, command.name)
 
@@ -131,12 +138,13 @@ class Shells(unittest.TestCase):
         return self.said("bash", "--norc", "-c", CALL, "bash", "./bash", *before.split(), last)
 
     def test_bash_offers_words(self):
-        self.assertEqual(self.offered("registryd |"), ["serve", "race", "--help", "--version"])
+        self.assertEqual(self.offered("registryd |"), ["serve", "race", "help", "--help", "--version"])
         self.assertEqual(self.offered("registryd |s"), ["serve"])
         self.assertEqual(self.offered("registryd |--v"), ["--version"])
         self.assertEqual(self.offered("registryd serve |--w"), ["--workers"])
         self.assertEqual(self.offered("registryd serve |x"), [])
         self.assertEqual(self.offered("registryd race |--"), ["--newest", "--any", "--help"])
+        self.assertEqual(self.offered("registryd help |"), ["serve", "race"])
 
     def test_bash_offers_each_option_until_it_is_given(self):
         self.assertEqual(self.offered("registryd serve |--"), [*(f"--{it.name}" for it in COMMANDS[0].options), "--help"])
@@ -185,7 +193,8 @@ class Shells(unittest.TestCase):
         def offered(line):
             return sorted(it.split("\t")[0] for it in self.said("fish", "--no-config", "-c", f"source fish; complete -C '{line}'"))
 
-        self.assertEqual(offered("registryd "), ["race", "serve"])
+        self.assertEqual(offered("registryd "), ["help", "race", "serve"])
+        self.assertEqual(offered("registryd help "), ["race", "serve"])
         self.assertEqual(offered("registryd serve --"), sorted([*(f"--{it.name}" for it in COMMANDS[0].options), "--help"]))
         self.assertEqual(offered("registryd serve --workers 6"), ["64"])
         self.assertEqual(offered("registryd serve --load z"), ["zsh"])

@@ -21,7 +21,7 @@ import prefix
 from c_library import Library
 from installed import Piece, pieces
 from prefix import Refused, install, remove
-from programs import COMPILED, PROVED, UNCHECKED, Program
+from programs import COMPILED, PROVED, Program
 
 VERSION = Path(TOP, "VERSION").read_text(encoding="ascii").strip()
 LIST = '{"op":"list"}\n'
@@ -123,8 +123,18 @@ class Whole(unittest.TestCase):
             self.assertEqual((done.returncode, done.stdout, done.stderr), (0, reply, ""), words)
 
     def test_the_programs_own_words_are_passed(self):
-        done = run([self.bin / "registryd", "--version", "--version"])
-        self.assertEqual((done.returncode, done.stderr), (2, "registryd: bad words\n"))
+        done = run([self.bin / "registryd", "serve", "--version"])
+        self.assertEqual((done.returncode, done.stdout), (2, ""))
+        self.assertIn("unexpected argument '--version' found", done.stderr)
+        done = run([self.bin / "registryd", "help", "serve"])
+        self.assertEqual((done.returncode, done.stderr), (0, ""))
+
+    def test_the_version_whatever_follows(self):
+        told = run([self.bin / "registryd", "--version"]).stdout
+        self.assertRegex(told, r"\Aregistryd 0\.\d+\.\d+, commit .*\nThe program is .*\n\Z")
+        for words in (["registryd", "-V"], ["registryd", "--version", "--x"], ["registryd", "-V", "serve"], ["registry", "-V"], ["registry", "--version"]):
+            done = run([self.bin / words[0], *words[1:]])
+            self.assertEqual((done.returncode, done.stdout, done.stderr), (0, told, ""), words)
 
     def test_the_first_session_and_the_refusal_of_the_first_page(self):
         # the second command of the page is for a checkout alone
@@ -352,9 +362,9 @@ class Words(Case):
     """What the command says, and which program it takes."""
 
     def called(self, *words, proved=None, compiled=None):
-        stands = {"proved": proved, "compiled": compiled}
-        of = {name: lambda _, kind=kind: kind and Program(self.stub, kind, "") for name, kind in stands.items()}
-        with mock.patch.multiple(installed.programs, **of), mock.patch.object(installed.c_library, "standing", lambda: None):
+        kind = proved or compiled
+        current = mock.patch.object(installed.programs, "current", lambda _: kind and Program(self.stub, kind, ""))
+        with current, mock.patch.object(installed.c_library, "standing", lambda: None):
             return called("install", *map(str, words))
 
     def test_the_proved_program_is_taken(self):
@@ -373,9 +383,7 @@ class Words(Case):
     def test_what_has_to_be_run_first(self):
         for words, stands, told in (([], {}, "run ./test or tools/build --proved first"),
                                     ([], {"compiled": COMPILED}, "or take the compiled one with --unproved"),
-                                    ([], {"compiled": UNCHECKED}, "run ./test or tools/build --proved first\n"),
-                                    (["--unproved"], {}, "run tools/build --compiled first"),
-                                    (["--unproved"], {"compiled": UNCHECKED}, "run tools/build --compiled first")):
+                                    (["--unproved"], {}, "run tools/build --compiled first")):
             status, said, error = self.called(self.prefix, *words, **stands)
             self.assertEqual((status, said, error.count("\n")), (1, "", 1))
             self.assertTrue(error.startswith("tools/install: no program") and told in error, error)

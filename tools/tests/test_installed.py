@@ -15,7 +15,7 @@ sys.path.insert(0, os.path.join(TOP, "tools"))
 import installed
 from installed import Piece
 from prefix import Refused
-from programs import COMPILED, PROVED, UNCHECKED, Program
+from programs import COMPILED, PROVED, Program
 
 SOURCES = {
     "tools/one.py": "#!/usr/bin/env python3\n\"\"\"Run tools/two, or tools/twofold, or ./registry.\"\"\"\nimport os\nimport shared.part\nfrom three import x\n",
@@ -111,20 +111,20 @@ class Programs(Case):
             self.assertEqual((command.path, command.mode), ("bin/registryd", 0o755))
             self.assertEqual(command.data.decode(), f"""#!/bin/sh
 # Runs the program that is installed with it.
-if [ "$#" = 1 ] && [ "$1" = --version ]; then
+case ${{1-}} in --version | -V)
     cat <<\\END
 registryd 1.2.3, commit c0ffee1
 {said}
 END
-    exit
-fi
+    exit ;;
+esac
 {FIND}{HUGE_PAGES}exec "$here/../lib/registryd/registryd" "$@"
 """)
 
     def test_the_command_for_people(self):
         command, text, page = installed.command_pieces()
         self.assertEqual(command, Piece("bin/registry", f"""#!/bin/sh
-{FIND}if [ "$*" = --version ]; then exec "$here/registryd" --version; fi
+{FIND}case $* in --version | -V) exec "$here/registryd" --version ;; esac
 exec python3 -B -S "$here/../lib/registryd/registry" "$@"
 """.encode(), 0o755))
         self.assertEqual(text, Piece("lib/registryd/registry", b"the command\n"))
@@ -132,12 +132,12 @@ exec python3 -B -S "$here/../lib/registryd/registry" "$@"
         self.assertIn(b"registryd 1.2.3", page.data)
 
     def test_which_program_is_taken(self):
-        proved, compiled, unchecked = (self.program(kind) for kind in (PROVED, COMPILED, UNCHECKED))
+        proved, compiled = (self.program(kind) for kind in (PROVED, COMPILED))
         first = "no program stands that was proved from these sources: run ./test or tools/build --proved first"
         other = "no program of these sources stands that checks as it runs: run tools/build --compiled first"
-        for stands, may_be, wanted in (((proved, compiled), False, proved), ((proved, compiled), True, proved), ((None, compiled), True, compiled), ((None, unchecked), True, other), ((None, None), True, other),
-                                       ((None, compiled), False, f"{first}, or take the compiled one with --unproved"), ((None, unchecked), False, first), ((None, None), False, first)):
-            with mock.patch.multiple(installed.programs, proved=lambda name: stands[0], compiled=lambda name: stands[1]):
+        for stands, may_be, wanted in ((proved, False, proved), (proved, True, proved), (compiled, True, compiled), (None, True, other),
+                                       (compiled, False, f"{first}, or take the compiled one with --unproved"), (None, False, first)):
+            with mock.patch.object(installed.programs, "current", lambda name: stands):
                 if isinstance(wanted, str):
                     with self.assertRaises(Refused) as caught:
                         installed.chosen(may_be)

@@ -8,7 +8,7 @@ import tempfile
 import unittest
 from pathlib import Path
 
-from fake_tree import COMPILED, NONE, OLDER, PROVED, UNCHECKED, Case
+from fake_tree import COMPILED, NONE, OLDER, PROVED, Case
 from processes import is_gone
 from program import PATIENCE, in_time
 from services import wait_for
@@ -58,15 +58,32 @@ class Version(Case):
         self.assertEqual(self.state(), COMPILED)
         self.assertEqual(self.says("a"), "")
 
-    def test_it_is_compiled_without_checks(self):
-        self.says()
-        status, _said, wrong = self.tree.run("tools/build", "--unchecked")
+    def unchecked(self):
+        """Builds the program without checks, which has a path of its own; gives what it answers there."""
+        status, path, wrong = self.tree.run("tools/build", "--unchecked")
         self.assertRegex(wrong, r"\Aregistryd: it is compiled first, .*\nregistryd: compiled in \d+ s, without checks as it runs\n\Z")
-        self.assertEqual((status, self.state()), (0, UNCHECKED))
-        status, said, _wrong = self.tree.run("registryd", "a")
-        self.assertEqual((status, said.splitlines()), (0, ["registryd a", "low a"]))
-        self.assertEqual(self.tree.run("tools/build", "--compiled")[0], 0)
+        self.assertEqual((status, path), (0, f"{self.tree.top}/out/unchecked/registryd\n"))
+        self.assertEqual(self.tree.run("tools/build", "--unchecked")[1:], (path, ""))
+        return self.tree.run("out/unchecked/registryd", "a")[1].splitlines()
+
+    def test_one_without_checks_is_never_run(self):
+        self.assertEqual(self.unchecked(), ["registryd a", "low a"])
+        self.assertEqual(self.state(), NONE)
+        self.assertIn("compiled first", self.says("a"))
         self.assertEqual(self.state(), COMPILED)
+        self.assertEqual(self.says("a"), "")
+
+    def test_nor_where_another_stands_already(self):
+        self.says("a")
+        self.unchecked()
+        self.assertEqual((self.state(), self.says("a")), (COMPILED, ""))
+        self.assertEqual(self.tree.run("tools/build")[1], f"{self.tree.top}/out/compiled/registryd\n")
+
+    def test_nor_under_the_name_of_a_checked_one(self):
+        self.unchecked()
+        (self.tree.top / "out" / "unchecked").rename(self.tree.top / "out" / "compiled")
+        self.assertEqual(self.state(), NONE)
+        self.assertIn("compiled first", self.says("a"))
 
     def test_another_kit(self):
         self.tree.run("tools/build", "--proved")
@@ -161,8 +178,13 @@ class Starts(Case):
         self.tree.write("crates/low/src/lib.rt", "echo low $*\n")
         self.assertNotEqual(self.tree.run("registryd")[0], 0)
 
+    def test_the_first_word_asks_for_the_version_whatever_follows(self):
+        for words in (["--version"], ["-V"], ["--version", "a"], ["-V", "--help"]):
+            status, said, wrong = self.tree.run("registryd", *words)
+            self.assertEqual((status, said.splitlines()[1:], wrong), (0, [NONE], ""), words)
+
     def test_other_words_with_version_are_the_programs_own(self):
-        for words in (["--version", "a"], ["--help"], ["serve", "--version"], ["version"], ["-V"]):
+        for words in (["--help"], ["serve", "--version"], ["version"], ["-v"], ["--versions"], ["serve", "-V"]):
             self.says(*words)
 
     def test_a_link_and_another_folder(self):
@@ -236,9 +258,9 @@ class Library(Case):
         self.assertIn("its sources have changed", self.build()[1])
 
     def test_checks_as_it_runs_are_left_out_of_one_for_measurements(self):
-        library = self.tree.top / "out" / "compiled" / "libembedded.a"
-        for words, is_checked in ((["--compiled"], True), (["--unchecked"], False)):
-            self.build(*words)
+        for kind, is_checked in (("compiled", True), ("unchecked", False)):
+            self.build(f"--{kind}")
+            library = self.tree.top / "out" / kind / "libembedded.a"
             self.assertEqual("call void @llvm.trap()" in library.read_text(encoding="ascii"), is_checked)
 
     def test_a_root_that_no_main_can_call(self):

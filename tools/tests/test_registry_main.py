@@ -97,7 +97,7 @@ class Ends(Printed):
                 mock.patch.object(manual, "page", lambda: "the page\n"), mock.patch.object(program, "version", lambda: "9.9"), \
                 mock.patch.object(command_line, "overview", lambda: "all of it\n"):
             for words, status, told in ((["--complete", "a", "b"], 0, "words\na\nb\n"), (["--complete"], 0, "words\n"), (["--completion", "bsh"], 0, "another\n"), (["--manual"], 0, "the page\n"),
-                                        (["--version"], 0, "9.9\n"), (["--help"], 0, "all of it\n"), (["-h"], 0, "all of it\n"), (["--json", "-h"], 0, "all of it\n"), ([], 2, "all of it\n"),
+                                        (["--version"], 0, "9.9\n"), (["-V"], 0, "9.9\n"), (["--help"], 0, "all of it\n"), (["-h"], 0, "all of it\n"), (["--json", "-h"], 0, "all of it\n"), ([], 2, "all of it\n"),
                                         (["--json"], 2, "all of it\n"), (["--completion"], 2, "registry: --completion takes one of ash, bsh\n"),
                                         (["--completion", "zsh"], 2, "registry: --completion takes one of ash, bsh\n"), (["--version", "x"], 2, "all of it\n"), (["--manual", "x"], 2, "all of it\n")):
                 self.assertEqual((main.main(words), self.said()), (status, told), words)

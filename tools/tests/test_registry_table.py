@@ -141,7 +141,7 @@ class Help(unittest.TestCase):
         said = command_line.overview()
         self.assertTrue(said.startswith("usage: registry SUBCOMMAND ..\n\nA package registry with a version solver, over one file.\n\nsubcommands:\n"
                                         "  publish           Publish a version of a package\n"), said)
-        self.assertRegex(said, r"\n  --json +the answer as JSON, one line\n  --version +the version of the program\n\nexamples:\n")
+        self.assertRegex(said, r"\n  --json +the answer as JSON, one line\n  -V, --version +the version of the program\n\nexamples:\n")
         self.assertTrue(said.endswith("\nexamples:\n  registry publish log 1.3.0\n  registry publish app 1.0.0 log@^1.2\n  registry resolve app\n\n"
                                       "`registry SUBCOMMAND --help` has the words of each, with examples.\n"), said)
         self.assertNotIn("-h", said.split())

@@ -34,10 +34,18 @@ class Terminal(unittest.TestCase):
         self.assertEqual((status, told, said), (1, b"", WAITING + b"registryd: input failed\n"))
 
     def test_words_that_are_bad_wait_for_nothing(self):
-        for words in ([], ["--help"], ["serve", "--help"], ["serve"]):
+        for words in ([], ["serve"]):
             with self.subTest(words=words):
-                status, _told, said = at_terminal(words, CTRL_D)
-                self.assertEqual((status, said), (2, b"registryd: bad words\n"))
+                status, told, said = at_terminal(words, CTRL_D)
+                self.assertEqual((status, told), (2, b""))
+                self.assertRegex(said, rb"(?s)\Aerror: .*\nregistryd: bad words\n\Z")
+
+    def test_neither_does_help(self):
+        for words in (["--help"], ["serve", "--help"], ["help", "serve"]):
+            with self.subTest(words=words):
+                status, told, said = at_terminal(words, CTRL_D)
+                self.assertEqual((status, said), (0, b""))
+                self.assertIn(b"Usage: registryd ", told)
 
     def test_a_race_waits_for_nothing(self):
         status, told, said = at_terminal(["race", os.devnull], CTRL_D)

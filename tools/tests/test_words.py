@@ -74,7 +74,7 @@ class Words(unittest.TestCase):
             self.make(folder, case.files)
             done, printed = self.ran(case, words, folder)
             self.assertEqual([str(done.returncode)], case.told["status"], told)
-            self.assertEqual(done.stderr.decode(), case.text("error"), told)
+            self.compare_errors(case, done.stderr.decode(), told)
             for part in case.told["has"]:
                 self.assertIn(part, printed, told)
             if not case.told["has"]:
@@ -84,6 +84,15 @@ class Words(unittest.TestCase):
                 self.assertEqual(self.read(folder, name), text, told)
             for name in case.told["none"]:
                 self.assertFalse(os.path.exists(os.path.join(folder, name)), told)
+
+    def compare_errors(self, case, said, told):
+        last = case.text("error")
+        before = said.removesuffix(last)
+        self.assertEqual(before + last, said, told)
+        for part in case.told["says"]:
+            self.assertIn(part, before, told)
+        if not case.told["says"]:
+            self.assertEqual(before, "", told)
 
     def of_file(self, name, least):
         count = 0

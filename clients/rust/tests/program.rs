@@ -69,7 +69,9 @@ fn a_program_that_cannot_be_started() {
     let none = file("none");
     assert!(told(Registry::open(none, &Options::default()).map(|_| ())).starts_with("the program can't be started: "));
     let workers = Options { workers: 0, ..Options::default() };
-    assert!(told(Registry::open(program(), &workers).map(|_| ())).ends_with(" with status 2: registryd: bad words"));
+    let answer = told(Registry::open(program(), &workers).map(|_| ()));
+    assert!(answer.contains(" with status 2: error: invalid value '0' for '--workers <N>'"), "{answer}");
+    assert!(answer.ends_with("\nregistryd: bad words"), "{answer}");
 }
 
 #[test]

@@ -1,5 +1,6 @@
 -- What a walk over the words that passes leaves in its rows.
-use Rattle.std.proofs.Common.{◌≡◌, ◌&&◌, ℕ, zero, suc, Bool, true, false, cond, List, [], ◌∷◌, Option, Some, None, refl, IfSome, is_some, find, length, drop, fold, encode_utf8, slice_get}
+use Rattle.std.proofs.Common.{◌≡◌, ◌&&◌, ℕ, zero, suc, Bool, true, false, not, true≢false, codes, cond, List, [], ◌∷◌, Option, Some, None, refl, IfSome, is_some, find, length, drop, fold, encode_utf8, slice_get}
+use Rattle.std.specs.Bool.{⊤}
 use Rattle.std.specs.List.{AllByRecursion}
 use Rattle.std.specs.Option.{option_map_or}
 use Rattle.std.specs.Str.{bytes_eq, chars}
@@ -7,7 +8,8 @@ use Rattle.clap.specs.Lexer.{long_of, short_of}
 use Rattle.clap.specs.Kinds.{Kinds, or_else}
 use Rattle.clap.specs.Simple.{Shape}
 use Rattle.clap.specs.Walk.{Row, Rule, Text, Held, Outcome, done, waits, plain, refused, Waiting, idle, option, positional, Step, next, trailing, subcommand, value, Walk, Names, takes_values, takes_several, is_pending, arg_by_id, arg_by_long, arg_by_short, arg_by_index, attached_value, used, used_by_id, settled, settled_rows, reacted, option_met, flag_met, long_met, short_met, bundle, bundle_step, bundle_met, option_word, plain_word, after_flag, long_or_other, short_or_plain, subcommand_met, subcommand_or_other, word_met, to_positional, after_step, walked_from, walked}
-use Rattle.clap.specs.declared.error.ErrorKind.TheVariants.{TooManyValues}
+use Rattle.clap.specs.declared.error.ErrorKind.{ErrorKind}
+use Rattle.clap.specs.declared.error.ErrorKind.TheVariants.{DisplayHelp, InvalidSubcommand, TooManyValues}
 use Rattle.clap.specs.Faults.{use_fault, settle_fault, react_fault, option_fault, long_fault, short_fault, bundle_step_fault, flags_fault, flag_word_fault, other_fault, word_fault, positional_fault, step_fault, walk_fault}
 
 -- where neither of two steps fails, each passes
@@ -157,3 +159,78 @@ module _ (Good : List Row → Type 0) (s : Shape) where
     walk_keeps names [] w good none = good
     walk_keeps names (word ∷ rest) w good none =
         let both = no_fault _ _ none in walk_keeps names rest (walked s.rules names w word) (turn_keeps names w word w.stopped good both.0) both.1
+
+-- ---- where a walk stops that passes: at a subcommand, and not at the call for help
+
+abbrev pub IsNoHelp : Text → Type 0
+IsNoHelp name = bytes_eq name (codes "help") ≡ false
+
+abbrev StepsToNoHelp : Step → Type 0
+StepsToNoHelp (subcommand name) = IsNoHelp name
+StepsToNoHelp _ = ⊤
+
+abbrev pub StopsAtNoHelp : Option (Text × List Text) → Type 0
+StopsAtNoHelp stop = IfSome stop (λ p. IsNoHelp p.0)
+
+module _ (s : Shape) (helps : s.disable_help_subcommand ≡ false) where
+  plain_steps : (waiting : Waiting) (word : Text) (h : Held) → StepsToNoHelp (plain_word s.rules waiting word h).1
+  plain_steps idle word h = tt
+  plain_steps (option id) word h = tt
+  plain_steps positional word h = tt
+
+  flag_steps : (waiting : Waiting) (word : Text) (h : Held) (outcome : Outcome) → StepsToNoHelp (after_flag s.rules waiting word h outcome).1
+  flag_steps waiting word h done = tt
+  flag_steps waiting word h (waits id) = tt
+  flag_steps waiting word h plain = plain_steps waiting word h
+  flag_steps waiting word h refused = plain_steps waiting word h
+
+  short_or_plain_steps : (waiting : Waiting) (word : Text) (flags : Option Text) (h : Held) → StepsToNoHelp (short_or_plain s.rules waiting word flags h).1
+  short_or_plain_steps waiting word None h = plain_steps waiting word h
+  short_or_plain_steps waiting word (Some flags) h = flag_steps waiting word (bundle s.rules flags h).0 (bundle s.rules flags h).1
+
+  long_or_other_steps : (waiting : Waiting) (word : Text) (named : Option (Text × Option Text)) (h : Held) → StepsToNoHelp (long_or_other s.rules waiting word named h).1
+  long_or_other_steps waiting word (Some p) h =
+      let met = long_met s.rules (arg_by_long s.rules p.0) p.1 h in flag_steps waiting word met.0 met.1
+  long_or_other_steps waiting word None h = short_or_plain_steps waiting word (short_of word) h
+
+  no_help : (is_help disabled : Bool) (k : ErrorKind) (ks : Kinds) → disabled ≡ false → cond (is_help && not disabled) (k ∷ ks) [] ≡ [] → is_help ≡ false
+  no_help true true k ks on none = absurd (true≢false on)
+  no_help true false k ks on none = absurd (cc)
+  no_help false disabled k ks on none = refl
+
+  other_steps : (met : Option Text) (waiting : Waiting) (position : ℕ) (word : Text) (h : Held) → other_fault s met word h ≡ []
+      → StepsToNoHelp (subcommand_or_other s.rules met waiting position word h).1
+  other_steps (Some name) waiting position word h none = no_help (bytes_eq name (codes "help")) s.disable_help_subcommand DisplayHelp (InvalidSubcommand ∷ []) helps none
+  other_steps None waiting position word h none =
+      elim (bytes_eq word (45 ∷ 45 ∷ [])) as (λ b. StepsToNoHelp (cond b (h, trailing position) (long_or_other s.rules waiting word (long_of word) h)).1)
+      [ true ↦ tt | false ↦ long_or_other_steps waiting word (long_of word) h ]
+
+  word_steps : (names : Names) (is_trailing : Bool) (waiting : Waiting) (position : ℕ) (word : Text) (h : Held) → word_fault s names is_trailing waiting word h ≡ []
+      → StepsToNoHelp (word_met s.rules names is_trailing waiting position word h).1
+  word_steps names true waiting position word h none = tt
+  word_steps names false waiting position word h none = other_steps (subcommand_met names waiting word) waiting position word h none
+
+  positional_stops : (found : Option Rule) (word : Text) (w : Walk) (h : Held) → StopsAtNoHelp w.stopped → StopsAtNoHelp (to_positional s.rules found word w h).stopped
+  positional_stops None word w h stops = stops
+  positional_stops (Some a) word w h stops = tt
+
+  step_stops : (word : Text) (w : Walk) (h : Held) (step : Step) → StopsAtNoHelp w.stopped → StepsToNoHelp step → StopsAtNoHelp (after_step s.rules word w h step).stopped
+  step_stops word w h (next waiting) stops steps = stops
+  step_stops word w h (trailing position) stops steps = stops
+  step_stops word w h (subcommand name) stops steps = steps
+  step_stops word w h value stops steps = positional_stops (arg_by_index s.rules w.position) word w h stops
+
+  turn_stops : (names : Names) (w : Walk) (word : Text) (stopped : Option (Text × List Text)) → StopsAtNoHelp w.stopped → StopsAtNoHelp stopped
+      → cond (is_some stopped) [] (or_else (word_fault s names w.is_trailing w.waiting word w.held)
+      (step_fault s w.position (word_met s.rules names w.is_trailing w.waiting w.position word w.held).0 (word_met s.rules names w.is_trailing w.waiting w.position word w.held).1)) ≡ []
+      → StopsAtNoHelp (walked_from s.rules names stopped w word).stopped
+  turn_stops names w word (Some p) own stops none = stops
+  turn_stops names w word None own stops none =
+      let met = word_met s.rules names w.is_trailing w.waiting w.position word w.held in
+      step_stops word w met.0 met.1 own (word_steps names w.is_trailing w.waiting w.position word w.held (no_fault _ _ none).0)
+
+  pub walk_stops : (names : Names) (words : List Text) (w : Walk) → StopsAtNoHelp w.stopped → walk_fault s names w words ≡ [] → StopsAtNoHelp (fold (walked s.rules names) w words).stopped
+  unfolding walk_fault walked
+  walk_stops names [] w stops none = stops
+  walk_stops names (word ∷ rest) w stops none =
+      let both = no_fault _ _ none in walk_stops names rest (walked s.rules names w word) (turn_stops names w word w.stopped stops stops both.0) both.1

@@ -1,5 +1,6 @@
 -- Which values the words give where clap finds no fault in them.
 use Rattle.std.proofs.Common.{◌≡◌, ◌||◌, Bool, true, false, not, cond, List, [], ◌∷◌, ◌++◌, Option, Some, None, refl, sym, subst, ◌∙◌, ap, is_some, find, length, fold, codes, inl, inr, arith, option_and_then, option_map, slice_get, true≢false}
+use Rattle.std.proofs.lemmas.Slice.Eq.{bytes_eq-Decides}
 use Rattle.std.specs.List.{AllByRecursion}
 use Rattle.std.specs.Option.{option_map_or}
 use Rattle.std.specs.Str.{bytes_eq}
@@ -8,7 +9,7 @@ use Rattle.clap.specs.ValueTests.{accepts}
 use Rattle.clap.specs.Facts.{explicit_source}
 use Rattle.clap.proofs.ValueTestLemmas.{accepts-Accepts}
 use Rattle.clap.specs.Kinds.{Kinds, check_kinds, or_else, range_kinds}
-use Rattle.clap.specs.Simple.{Shape, built, built_leaf, filled, help_rule, inherited, marked_built, with_index, with_leaf_noted, entered, label_of, names_of, rows_at, subcommand_of}
+use Rattle.clap.specs.Simple.{Shape, built, built_leaf, filled, help_rule, help_shape, inherited, marked_built, with_index, with_leaf_noted, entered, label_of, names_of, rows_at, subcommand_of}
 use Rattle.clap.specs.Takes.{is_given}
 use Rattle.clap.specs.Walk.{Row, Rule, Text, action_of, all_of, at_row, answers_to, finished, has_row, more_values, nothing_held, one_of, reading_by, row_text, settled, used_as, values_or_missing, walk, walk_from, with_default, default_rows, with_values, without}
 use Rattle.clap.specs.Faults.{check_fault, entered_fault, fault_of, level_fault, repeat_fault, set_fault, values_fault}
@@ -25,7 +26,7 @@ use Rattle.clap.specs.declared.parser.matches.ValueSource.TheVariants.{DefaultVa
 use Rattle.command_line.specs.CommandLine.{program_app, serve_app, race_app, workers_rule, budget_rule, files_rule, flag_rule, option_rule}
 use Rattle.command_line.specs.declared.words.TheConstants.{MOST_CONFLICTS, MOST_WORKERS}
 use Rattle.command_line.specs.Words.{HasBudget, HasFiles, HasFlag, HasFlags, HasWorkers, IsGiven}
-use Rattle.command_line.proofs.CommandWalk.{Keeps, no_fault, walk_keeps, settle_keeps}
+use Rattle.command_line.proofs.CommandWalk.{IsNoHelp, Keeps, StopsAtNoHelp, no_fault, walk_keeps, walk_stops, settle_keeps}
 
 append_all : {X : Type 0} (P : X → Type 0) (xs ys : List X) → AllByRecursion P xs → AllByRecursion P ys → AllByRecursion P (xs ++ ys)
 append_all P [] ys first then = then
@@ -370,16 +371,28 @@ subcommand_wanted : (rows : List Row) (has : Bool) → check_fault program_shape
 subcommand_wanted rows true none = refl
 subcommand_wanted rows false none = absurd (cc)
 
-entered_by : (words : List Text) (is_serve is_race : Bool) → let met = cond is_serve (Some serve_shape) (cond is_race (Some race_shape) None) in
-    option_map_or (λ s. level_fault s [] nothing_held words false []) met [] ≡ [] → is_some (option_map (λ s. rows_at s words) met) ≡ true → IsGiven (option_map (λ s. rows_at s words) met)
-entered_by words true is_race below has = ((rows_at serve_shape words).1, inl (refl, workers_given words below, budget_given words below, flags_of_serve words below))
-entered_by words false true below has = ((rows_at race_shape words).1, inr (refl, files_given words below, flags_of_race words below))
-entered_by words false false below has = absurd (true≢false (sym has))
+abbrev help_leaf : Shape
+help_leaf = built_leaf help_shape
 
-entered_from : (stop : Option (Text × List Text)) → entered_fault (built program_app) stop ≡ [] → is_some (entered (built program_app) stop) ≡ true
+named_otherwise : (name : Text) (b : Bool) → bytes_eq (codes "help") name ≡ b → IsNoHelp name → (b || false) ≡ false
+named_otherwise name false is other = refl
+named_otherwise name true is other =
+    let same : codes "help" ≡ name = (bytes_eq-Decides (codes "help") name).0 is in
+    absurd (true≢false (ap (λ (n : Text). bytes_eq n (codes "help")) same ∙ other))
+
+entered_by : (words : List Text) (is_serve is_race is_help : Bool) → is_help ≡ false → let met = cond is_serve (Some serve_shape) (cond is_race (Some race_shape) (cond is_help (Some help_leaf) None)) in
+    option_map_or (λ s. level_fault s [] nothing_held words false []) met [] ≡ [] → is_some (option_map (λ s. rows_at s words) met) ≡ true → IsGiven (option_map (λ s. rows_at s words) met)
+entered_by words true is_race is_help other below has = ((rows_at serve_shape words).1, inl (refl, workers_given words below, budget_given words below, flags_of_serve words below))
+entered_by words false true is_help other below has = ((rows_at race_shape words).1, inr (refl, files_given words below, flags_of_race words below))
+entered_by words false false true other below has = absurd (true≢false other)
+entered_by words false false false other below has = absurd (true≢false (sym has))
+
+entered_from : (stop : Option (Text × List Text)) → StopsAtNoHelp stop → entered_fault (built program_app) stop ≡ [] → is_some (entered (built program_app) stop) ≡ true
     → IsGiven (entered (built program_app) stop)
-entered_from None below has = absurd (true≢false (sym has))
-entered_from (Some p) below has = entered_by p.1 (answers_to p.0 (label_of serve_shape)) (answers_to p.0 (label_of race_shape)) below has
+entered_from None stops below has = absurd (true≢false (sym has))
+entered_from (Some p) stops below has =
+    entered_by p.1 (answers_to p.0 (label_of serve_shape)) (answers_to p.0 (label_of race_shape)) (answers_to p.0 (label_of help_leaf))
+    (named_otherwise p.0 (bytes_eq (codes "help") p.0) refl stops) below has
 
 -- where clap finds no fault in the words, a subcommand and its values are given
 pub given_values : (words : List Text) → fault_of program_app words ≡ [] → IsGiven (subcommand_of program_app words)
@@ -391,4 +404,5 @@ given_values words none =
     let entered_well = no_fault _ _ walked_well.1 in
     let settled_well = no_fault _ _ entered_well.1 in
     let defaults_well = no_fault _ _ settled_well.1 in
-    entered_from end.stopped entered_well.0 (subcommand_wanted (finished program_shape.rules end.held) has defaults_well.1)
+    let stops = walk_stops program_shape refl names words (walk_from nothing_held) tt walked_well.0 in
+    entered_from end.stopped stops entered_well.0 (subcommand_wanted (finished program_shape.rules end.held) has defaults_well.1)

@@ -49,7 +49,6 @@ bare_app = let a = new_app (codes "registryd") in
     record a {
       top = record a.top {
         no_binary_name = true;
-        disable_help_subcommand = true;
         subcommand_required = true;
       };
     }

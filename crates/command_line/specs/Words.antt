@@ -1,10 +1,11 @@
 -- What the words of the command line say.
-use Rattle.std.specs.Prelude.{◌≡◌, ◌≤◌, ◌<◌, ◌⊎◌, ◌||◌, Bool, false, true, ℕ, List, [], Option, Some, None, codes, map, String, string_bytes, option_map, length, IsSome}
+use Rattle.std.specs.Prelude.{◌≡◌, ◌≤◌, ◌<◌, ◌⊎◌, ◌||◌, Bool, false, true, ℕ, List, [], ◌∷◌, Option, Some, None, codes, map, String, string_bytes, option_map, length, IsSome}
 use Rattle.std.specs.Option.{option_map_or}
 use Rattle.std.specs.Str.{bytes_eq}
 use Rattle.std.specs.Str.Parse.{IsNumeral, digits_value, without_leading_plus}
 use Rattle.std.specs.declared.alloc.Global.{Global}
-use Rattle.clap.specs.Words.{IsUnsignedIn, Row, Text, fault_of, subcommand_of, first_of, all_of, one_of}
+use Rattle.clap.specs.Words.{IsAmong, IsUnsignedIn, Row, Text, fault_of, subcommand_of, first_of, all_of, one_of}
+use Rattle.clap.specs.declared.error.kind.ErrorKind.TheVariants.{DisplayHelp}
 use Rattle.command_line.specs.CommandLine.{program_app}
 use Rattle.command_line.specs.declared.words.TheConstants.{MOST_CONFLICTS, MOST_FILES, MOST_WORKERS, NEWEST_BY_DEFAULT}
 use Rattle.command_line.specs.declared.words.Words.{Words}
@@ -119,6 +120,14 @@ IsRaceOf newest count given = (rows : List Row) × (files : List Text) × (given
 -- clap finds no fault in the words, and they ask for a race of so many files, by such selections
 abbrev pub AskToRace : List Text → Bool → ℕ → Type 0
 AskToRace words newest count = (fault_of program_app words ≡ []) × IsRaceOf newest count (subcommand_of program_app words)
+
+-- clap may answer the words with help: it does, or memory runs out, or behind the word `help` stands no subcommand
+abbrev pub MayAskForHelp : List Text → Type 0
+MayAskForHelp words = IsAmong DisplayHelp (fault_of program_app words)
+
+-- clap answers the words with help, or memory runs out
+abbrev pub AskForHelp : List Text → Type 0
+AskForHelp words = fault_of program_app words ≡ DisplayHelp ∷ []
 
 -- ---- what clap has seen to
 

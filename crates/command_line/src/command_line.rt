@@ -16,8 +16,8 @@ const SERVE_EXAMPLE: &str =
 // What the help of `race` shows.
 const RACE_EXAMPLE: &str = "Example: registryd race first.lines second.lines";
 
-/// `registryd serve --workers N [--journal FILE] [--load FILE] [--save FILE] [--budget N] [--newest | --any]` or
-/// `registryd race [--newest | --any] FILE...`, without the program's name.
+/// `registryd serve --workers N [--journal FILE] [--load FILE] [--save FILE] [--budget N] [--newest | --any]`,
+/// `registryd race [--newest | --any] FILE...` or `registryd help [COMMAND]`, without the program's name.
 pub fn program<'a>(alloc: Global) -> Result<Command<'a>, AllocError>
     ensures { IfOk result (λ c. app_of c ≡ program_app) }
 {
@@ -33,7 +33,6 @@ fn bare_program<'a>(alloc: Global) -> Result<Command<'a>, AllocError>
         named
             .about("A package registry that reads request lines and writes reply lines")
             .no_binary_name(true)
-            .disable_help_subcommand(true)
             .subcommand_required(true),
     )
 }

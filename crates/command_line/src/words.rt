@@ -2,7 +2,7 @@
 ghost use Rattle.std.specs.Prelude.{◌≡◌, ◌≢◌, ◌⊎◌, [], IfErr, IfOk, OnOk, IsErrOf, option_map, true, map, string_bytes};
 ghost use Rattle.clap.specs.Words.{fault_of, takes, subcommand_of, subcommand_rows_of, rows_of, found_of, kind_of};
 ghost use Rattle.command_line.specs.CommandLine.{program_app};
-ghost use Rattle.command_line.specs.Words.{texts, Says, SaysNewest, SaysServe, SaysRace, HasManyFiles, HasMixedFiles, HasOpposedFlags, IsManyFiles, AreMixed, AreOpposed, HasWorkers, HasBudget, HasFlag, HasFlags, HasFiles, IsGiven, AreWords, NamesBoth, is_set};
+ghost use Rattle.command_line.specs.Words.{texts, AskForHelp, MayAskForHelp, Says, SaysNewest, SaysServe, SaysRace, HasManyFiles, HasMixedFiles, HasOpposedFlags, IsManyFiles, AreMixed, AreOpposed, HasWorkers, HasBudget, HasFlag, HasFlags, HasFiles, IsGiven, AreWords, NamesBoth, is_set};
 ghost use Rattle.command_line.specs.declared.words.WordFault.TheVariants.{Memory};
 
 use crate::command_line::program;
@@ -54,8 +54,11 @@ pub enum Words {
 /// Why there is no command to run.
 #[derive(Clone, Copy, Debug, PartialEq, Eq, ThisError)]
 pub enum WordFault {
-    /// clap refuses the words, as it does for `--help`, or a race has too many files, or a session keeps a
-    /// journal and is to load or to save one as well, or both the newest selections and any are asked for.
+    /// The words ask for help, which [`advice_on`] tells.
+    #[error("help is asked for")]
+    Help,
+    /// clap refuses the words, or a race has too many files, or a session keeps a journal and is to load or
+    /// to save one as well, or both the newest selections and any are asked for.
     #[error("bad words")]
     Bad,
     #[error("no memory")]
@@ -82,6 +85,9 @@ pub fn read_words(alloc: Global, words: &[String]) -> Result<Words, WordFault>
     // Words that clap takes are bad only for too many files, or for files or flags that are not named together.
     ensures refused { IsErrOf result WordFault.Bad → takes program_app (texts words.now) ≡ true
         → HasManyFiles (subcommand_of program_app (texts words.now)) ⊎ HasMixedFiles (subcommand_of program_app (texts words.now)) ⊎ HasOpposedFlags (subcommand_of program_app (texts words.now)) }
+    // Only words that clap may answer with help ask for it, and those that it answers with nothing else are not bad.
+    ensures help { IsErrOf result WordFault.Help → MayAskForHelp (texts words.now) }
+    ensures helped { IsErrOf result WordFault.Bad → AskForHelp (texts words.now) → ⊥ }
 {
     let matches = matches_of(alloc, words)?;
     words_of(alloc, &matches)
@@ -113,8 +119,8 @@ Usage: registryd race --any <FILE>...
 For more information, try '--help'.
 ";
 
-/// What to show a person whose words are bad: what clap says to them, and where clap has nothing against
-/// them, that files or flags are not named together, or the help of the program.
+/// What to show a person whose words ask for help, or are bad: what clap says to them, and where clap has nothing
+/// against them, that files or flags are not named together, or the help of the program.
 pub fn advice_on(alloc: Global, words: &[String]) -> Result<String, AllocError> {
     match program(alloc)?.try_get_matches_from(words) {
         Ok(matches) => match matches.subcommand_matches("serve") {
@@ -151,6 +157,8 @@ fn matches_of<'a>(alloc: Global, words: &'a [String]) -> Result<ArgMatches<'a>, 
     ensures taken { OnOk result (fault_of program_app (texts words.entry.now) ≡ []) }
     ensures bad { IsErrOf result WordFault.Bad → fault_of program_app (texts words.entry.now) ≢ [] }
     ensures refused { IsErrOf result WordFault.Bad → takes program_app (texts words.entry.now) ≢ true }
+    ensures help { IsErrOf result WordFault.Help → MayAskForHelp (texts words.entry.now) }
+    ensures helped { IsErrOf result WordFault.Bad → AskForHelp (texts words.entry.now) → ⊥ }
 {
     let command = program(alloc)?;
     match command.try_get_matches_from(words) {
@@ -159,13 +167,15 @@ fn matches_of<'a>(alloc: Global, words: &'a [String]) -> Result<ArgMatches<'a>, 
     }
 }
 
-// Want of memory is no fault of the words.
+// Want of memory is no fault of the words, and neither is a wish for help.
 fn fault_in(e: &Error) -> WordFault
-    ensures bad { result ≡ WordFault.Bad → kind_of e.now ≢ ErrorKind.OutOfMemory }
+    ensures bad { result ≡ WordFault.Bad → (kind_of e.now ≢ ErrorKind.OutOfMemory) × (kind_of e.now ≢ ErrorKind.DisplayHelp) }
     ensures memory { result ≡ WordFault.Memory → kind_of e.now ≡ ErrorKind.OutOfMemory }
+    ensures help { result ≡ WordFault.Help → kind_of e.now ≡ ErrorKind.DisplayHelp }
 {
     match e.kind() {
         ErrorKind::OutOfMemory => WordFault::Memory,
+        ErrorKind::DisplayHelp => WordFault::Help,
         _ => WordFault::Bad,
     }
 }
@@ -175,6 +185,7 @@ fn words_of(alloc: Global, matches: &ArgMatches) -> Result<Words, WordFault>
     ensures ok { IfOk result (λ w. Says w (subcommand_rows_of matches.now)) }
     ensures bad { IsErrOf result WordFault.Bad
         → HasManyFiles (subcommand_rows_of matches.now) ⊎ HasMixedFiles (subcommand_rows_of matches.now) ⊎ HasOpposedFlags (subcommand_rows_of matches.now) }
+    ensures no_help { IsErrOf result WordFault.Help → ⊥ }
 {
     match matches.subcommand_matches("serve") {
         Some(given) => return serve_words(alloc, given),
@@ -192,6 +203,7 @@ fn serve_words(alloc: Global, given: &ArgMatches) -> Result<Words, WordFault>
     requires flags { HasFlags (rows_of (found_of given.now)) }
     ensures ok { IfOk result (λ w. SaysServe w (rows_of (found_of given.now))) }
     ensures bad { IsErrOf result WordFault.Bad → AreMixed (rows_of (found_of given.now)) ⊎ AreOpposed (rows_of (found_of given.now)) }
+    ensures no_help { IsErrOf result WordFault.Help → ⊥ }
 {
     let Some(workers) = given.get_one::<usize>("workers") else {
         unreachable!()
@@ -217,6 +229,7 @@ fn words_with(
         (option_map (λ t. t.now) save.entry) (option_map (λ t. t.now) journal.entry)) }
     ensures bad { IsErrOf result WordFault.Bad
         → NamesBoth (option_map (λ t. t.now) load.entry) (option_map (λ t. t.now) save.entry) (option_map (λ t. t.now) journal.entry) }
+    ensures no_help { IsErrOf result WordFault.Help → ⊥ }
 {
     match journal {
         None => Ok(Words::Serve {
@@ -245,6 +258,7 @@ fn race_words(alloc: Global, given: &ArgMatches) -> Result<Words, WordFault>
     requires flags { HasFlags (rows_of (found_of given.now)) }
     ensures ok { IfOk result (λ w. SaysRace w (rows_of (found_of given.now))) }
     ensures bad { IsErrOf result WordFault.Bad → IsManyFiles (rows_of (found_of given.now)) ⊎ AreOpposed (rows_of (found_of given.now)) }
+    ensures no_help { IsErrOf result WordFault.Help → ⊥ }
 {
     let newest = newest_wanted(given)?;
     let Some(files) = given.get_strs("files") else {
@@ -270,6 +284,7 @@ fn newest_wanted(given: &ArgMatches) -> Result<bool, WordFault>
     requires { HasFlags (rows_of (found_of given.now)) }
     ensures ok { IfOk result (λ newest. SaysNewest newest (rows_of (found_of given.now))) }
     ensures opposed { IfErr result (λ fault. AreOpposed (rows_of (found_of given.now))) }
+    ensures no_help { IsErrOf result WordFault.Help → ⊥ }
 {
     let newest = is_set(given, "newest");
     let any = is_set(given, "any");

@@ -1,5 +1,7 @@
 -- What words ask that were read.
 use Rattle.std.proofs.Common.{◌≡◌, ◌⊎◌, ◌<◌, ℕ, Bool, nat_eq, List, [], Option, None, Some, String, Global, inl, inr, refl, sym, subst, ap, arith, codes, length, true≢false, ◌∙◌}
+use Rattle.std.proofs.KnownBytes.{Keeps-refl}
+use Rattle.std.specs.Io.KnownBytes.{Appends}
 use Rattle.std.specs.Option.{option_map_or}
 use Rattle.std.specs.Prelude.{IsSome, option_map, string_bytes}
 use Rattle.clap.specs.Words.{Row, Text, all_of, fault_of, first_of, subcommand_of}
@@ -7,9 +9,9 @@ use Rattle.journals.specs.declared.load.LoadFault.{LoadFault}
 use Rattle.journals.specs.declared.load.LoadFault.TheVariants as unloaded
 use Rattle.command_line.specs.CommandLine.{program_app}
 use Rattle.endings.specs.Ending.{IsUnread, end_of_load, end_of_run}
-use Rattle.registryd.specs.CommandOutcomes.{BreaksFrom, Ends, Falls, HasBroken, HasFallen, HasKept, HasNoJournal, HasNotBegun, HasServed, HasStopped, ServesFrom, Stops, TellsOfFile}
+use Rattle.registryd.specs.CommandOutcomes.{BreaksFrom, Ends, Falls, HasBroken, HasFallen, HasHelped, HasKept, HasNoJournal, HasNotBegun, HasServed, HasStopped, ServesFrom, Stops, TellsOfFile}
 use Rattle.session.specs.Streams.{AreUntouched, streams}
-use Rattle.command_line.specs.Words.{AreMixed, AreOpposed, AskToKeep, AskToRace, AskToServe, HasManyFiles, HasMixedFiles, HasOpposedFlags, IsKeep, IsServe, Says, SaysNewest}
+use Rattle.command_line.specs.Words.{AreMixed, AreOpposed, AskToKeep, AskToRace, AskToServe, HasManyFiles, HasMixedFiles, HasOpposedFlags, IsKeep, IsServe, MayAskForHelp, Says, SaysNewest}
 use Rattle.command_line.specs.declared.words.TheConstants.{MOST_FILES}
 use Rattle.endings.specs.Shown.{shown_text}
 use Rattle.endings.specs.declared.fault.FileFault.{FileFault}
@@ -157,6 +159,10 @@ module _ (words : List Text) (r0 r w0 w : Option (List ℕ)) (settings : Setting
 
 pub tells_of_file : (words : List Text) (settings : Settings) (journal : Text) → AskToKeep words settings.budget settings.newest journal → (fault : FileFault) → fault.name.items ≡ shown_text journal → TellsOfFile words fault
 tells_of_file words settings journal asked fault named = record { settings = settings; journal = journal; asked = asked; named = named }
+
+-- help is asked for, and a text is written
+pub has_helped : (words : List Text) (r w0 w : Option (List ℕ)) → MayAskForHelp words → (text : List ℕ) × Appends w0 w text → HasHelped words (streams r r w0 w)
+has_helped words r w0 w asked (text, written) = record { asked = asked; read = Keeps-refl r; text = text; written = written }
 
 -- an end that tells a failed read comes of one
 pub input_ended : (fault : RunFault) → end_of_run fault ≡ end.Input → fault ≡ Input

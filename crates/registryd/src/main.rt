@@ -14,7 +14,7 @@ mod run_command;
 mod system;
 mod target;
 
-use command_line::{Words, read_words};
+use command_line::{Words, advice_on, read_words};
 use endings::{End, ending};
 use freed::keep_what_is_freed;
 use lines::write_text;
@@ -32,17 +32,21 @@ const WAITING: &str =
 fn main(rt: HostRuntime) -> ExitCode {
     let end = match begin(&rt) {
         Ok(words) => {
+            let words = after_name(words.as_slice());
             let mut input = rt.stdin();
             if input.is_terminal() {
-                greet(rt.alloc(), after_name(words.as_slice()), &mut rt.stderr());
+                greet(rt.alloc(), words, &mut rt.stderr());
             }
             let CommandOutcome { end, writer: _ } = run_command(
                 &rt,
                 rt.alloc(),
-                after_name(words.as_slice()),
+                words,
                 &mut input,
                 rt.stdout(),
             );
+            if matches!(end, End::Words) {
+                advise(rt.alloc(), words, &mut rt.stderr());
+            }
             end
         }
         Err(e) if e.kind() == io::ErrorKind::OutOfMemory => End::Memory,
@@ -67,6 +71,13 @@ fn words_given<R: Env + Alloc>(rt: &R) -> io::Result<Vec<String<R::A>, R::A>> {
 fn greet<W: Write>(alloc: Global, words: &[String], writer: &mut W) {
     if let Ok(Words::Serve { .. } | Words::Keep { .. }) = read_words(alloc, words) {
         let _ = write_text(writer, WAITING.as_bytes());
+    }
+}
+
+// Tells what is wrong in the words. What can't be written is given up: the status tells that something is.
+fn advise<W: Write>(alloc: Global, words: &[String], writer: &mut W) {
+    if let Ok(text) = advice_on(alloc, words) {
+        let _ = write_text(writer, text.as_bytes());
     }
 }
 

@@ -1,11 +1,9 @@
 //! What the words of the command line ask for, done.
-ghost use Rattle.std.specs.Prelude.{◌≡◌, ◌≢◌, ◌⊎◌, ◌<◌, ◌≤◌, ℕ, List, [], length, option_map, string_bytes, vec_len, IfOk, IsSome, None, Some, Option};
-ghost use Rattle.std.specs.Io.KnownBytes.{Keeps, IsAtEnd};
-ghost use Rattle.clap.specs.Words.{fault_of, subcommand_of};
+ghost use Rattle.std.specs.Prelude.{◌≡◌, ◌≢◌, ◌⊎◌, ◌<◌, ◌≤◌, ℕ, List, length, option_map, string_bytes, vec_len, IfOk, IsSome, None, Some, Option};
+ghost use Rattle.std.specs.Io.KnownBytes.{Appends, Keeps, IsAtEnd};
 ghost use Rattle.versions.specs.Words.{Text};
 ghost use Rattle.book.specs.declared.item.Item.{Item};
 ghost use Rattle.lines.specs.Lines.{lines_of, whole_lines_of};
-ghost use Rattle.command_line.specs.CommandLine.{program_app};
 ghost use Rattle.registryd.specs.CommandOutcomes.{AskForNothing, BreaksFrom, Ends, Falls, FallsAtMost, HasEnded, HasLostInput, HasLostJournal, HasLostOutput};
 ghost use Rattle.registryd.specs.CommandOutcomes.{HasNoJournal, ServesFrom, Stops};
 ghost use Rattle.endings.specs.Shown.{shown_text};
@@ -17,7 +15,7 @@ ghost use Rattle.journals.specs.Files.{IsHistory};
 ghost use Rattle.journals.specs.declared.format.Format.TheVariants.{Two};
 ghost use Rattle.session.specs.Session.{Serves, Breaks};
 ghost use Rattle.session.specs.Streams.{AreUntouched, streams_of};
-ghost use Rattle.command_line.specs.Words.{AskToKeep, AskToRace, AskToServe, HasManyFiles, HasMixedFiles, HasOpposedFlags, texts};
+ghost use Rattle.command_line.specs.Words.{AskForHelp, AskToKeep, AskToRace, AskToServe, texts};
 ghost use Rattle.command_line.specs.declared.words.TheConstants.{MOST_FILES, MOST_WORKERS};
 
 use crate::files::loaded_from;
@@ -47,7 +45,7 @@ pub struct CommandOutcome<W> {
 }
 
 /// Does what the words after the program's name ask for, over standard input and output, and tells
-/// how that ended. Where the words are bad it writes what they may be.
+/// how that ended.
 pub fn run_command<H: Wait + Threads + Sync + Files + AllocGlobal, R: Read, W: Write>(
     rt: &H,
     alloc: Global,
@@ -58,11 +56,11 @@ pub fn run_command<H: Wait + Threads + Sync + Files + AllocGlobal, R: Read, W: W
 where
     H::File: SystemFile,
     // Each line has its lawful reply, in order; those of a race by one journal, which is printed. Of a journal that is kept, each
-    // went out once what it rests on was durable.
+    // went out once what it rests on was durable. Words that ask for help get that.
     ensures done { result.end ≡ End.Done → HasEnded (texts words.now) (streams_of R.remaining W.contents reader.old reader.new writer result.writer) }
     // Each whole line that was read has its lawful reply. Without a journal to begin from none is read, and of a race nothing is written.
     ensures input { result.end ≡ End.Input → HasLostInput (texts words.now) (streams_of R.remaining W.contents reader.old reader.new writer result.writer) }
-    // A beginning of the lawful replies is written; or all of them, and the journal is not saved.
+    // A beginning of the lawful replies, or of the help, is written; or all replies, and the journal is not saved.
     ensures output { result.end ≡ End.Output → HasLostOutput (texts words.now) (streams_of R.remaining W.contents reader.old reader.new writer result.writer) }
     // A line of the journal to begin from is at fault.
     ensures journal { (line : ℕ) → result.end ≡ End.Journal line
@@ -73,13 +71,10 @@ where
         → HasLostJournal (texts words.now) (streams_of R.remaining W.contents reader.old reader.new writer result.writer) fault }
     // Nothing was read or written.
     ensures memory { result.end ≡ End.Memory → AreUntouched (streams_of R.remaining W.contents reader.old reader.new writer result.writer) }
-    // Nothing was read, and the words ask neither to serve nor for a race.
+    // Nothing was read or written, and the words ask neither to serve nor for a race, nor for help alone.
     ensures words { result.end ≡ End.Words → Keeps (R.remaining reader.old) (R.remaining reader.new) × AskForNothing (texts words.now) }
-    // Words that clap takes are told nothing, but for too many files, and for files or flags that are not named together.
-    ensures quiet { result.end ≡ End.Words → fault_of program_app (texts words.now) ≡ []
-        → (HasManyFiles (subcommand_of program_app (texts words.now)) → ⊥)
-        → (HasMixedFiles (subcommand_of program_app (texts words.now)) → ⊥)
-        → (HasOpposedFlags (subcommand_of program_app (texts words.now)) → ⊥) → Keeps (W.contents writer) (W.contents result.writer) }
+    ensures quiet { result.end ≡ End.Words → Keeps (W.contents writer) (W.contents result.writer) }
+    ensures no_help { result.end ≡ End.Words → AskForHelp (texts words.now) → ⊥ }
 {
     let mut writer = writer;
     match read_words(alloc, words) {
@@ -125,13 +120,14 @@ where
             let end = race_files(rt, alloc, settings, files.as_slice(), &mut writer);
             CommandOutcome { end, writer }
         }
-        Err(WordFault::Bad) => {
-            advise(alloc, words, &mut writer);
-            CommandOutcome {
-                end: End::Words,
-                writer,
-            }
+        Err(WordFault::Help) => {
+            let end = show_help(alloc, words, &mut writer);
+            CommandOutcome { end, writer }
         }
+        Err(WordFault::Bad) => CommandOutcome {
+            end: End::Words,
+            writer,
+        },
         Err(WordFault::Memory) => CommandOutcome {
             end: End::Memory,
             writer,
@@ -448,9 +444,20 @@ fn read_files<H: Files + AllocGlobal>(
     Ok(files)
 }
 
-// That a person can't be told what the words may be changes nothing.
-fn advise<W: Write>(alloc: Global, words: &[String], writer: &mut W) {
-    if let Ok(text) = advice_on(alloc, words) {
-        let _ = write_text(writer, text.as_bytes());
+/// Writes the help that these words ask for.
+fn show_help<W: Write>(alloc: Global, words: &[String], writer: &mut W) -> End
+    ensures shown { (text : List ℕ) × Appends (W.contents writer.old) (W.contents writer.new) text }
+    ensures memory { result ≡ End.Memory → Keeps (W.contents writer.old) (W.contents writer.new) }
+    ensures input { result ≢ End.Input }
+    ensures kept { (fault : FileFault) → result ≢ End.Kept fault }
+    ensures words { result ≢ End.Words }
+    ensures no_journal { (line : ℕ) → result ≢ End.Journal line }
+{
+    let Ok(text) = advice_on(alloc, words) else {
+        return End::Memory;
+    };
+    match write_text(writer, text.as_bytes()) {
+        Ok(()) => End::Done,
+        Err(_) => End::Output,
     }
 }

@@ -6,9 +6,6 @@ use Rattle.command_line.proofs.command_line.bare_program.Goals as goal
 abbrev unnamed : App → App
 unnamed = on_top (λ s. record s { no_binary_name = true })
 
-abbrev helpless : App → App
-helpless = on_top (λ s. record s { disable_help_subcommand = true })
-
 abbrev demanding : App → App
 demanding = on_top (λ s. record s { subcommand_required = true })
 
@@ -16,5 +13,4 @@ pub returns : goal.returns
 returns c =
     let about : app_of c.about.result ≡ new_app (codes "registryd") = ap app_of_fields c.about.ensures ∙ ap app_of_fields c.in_ok-named.ensures.0 ∙ c.new.ensures.app in
     let first : app_of c.no_binary_name.result ≡ unnamed (new_app (codes "registryd")) = ap app_of_fields c.no_binary_name.ensures ∙ ap unnamed about in
-    let second : app_of c.disable_help_subcommand.result ≡ helpless (unnamed (new_app (codes "registryd"))) = ap app_of_fields c.disable_help_subcommand.ensures ∙ ap helpless first in
-    ap app_of_fields c.subcommand_required.ensures ∙ ap demanding second
+    ap app_of_fields c.subcommand_required.ensures ∙ ap demanding first

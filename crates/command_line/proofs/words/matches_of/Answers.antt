@@ -1,7 +1,7 @@
-use Rattle.std.proofs.Common.{ap, refl, sym, subst, true, [], ◌∷◌, inl, inr, ◌≡◌, ◌∙◌}
-use Rattle.clap.specs.Words.{App, HasKind, Kinds, fault_of, is_simple, is_simple_and_free, kind_of, subcommand_of, takes}
+use Rattle.std.proofs.Common.{List, ap, refl, sym, subst, true, [], ◌∷◌, inl, inr, ◌≡◌, ◌∙◌}
+use Rattle.clap.specs.Words.{App, HasKind, IsAmong, Kinds, Text, fault_of, is_simple, is_simple_and_free, kind_of, subcommand_of, takes}
 use Rattle.clap.specs.declared.error.Error.{Error}
-use Rattle.clap.specs.declared.error.kind.ErrorKind.TheVariants.{OutOfMemory}
+use Rattle.clap.specs.declared.error.kind.ErrorKind.TheVariants.{DisplayHelp, OutOfMemory}
 use Rattle.clap.proofs.OnLiterals.{clap_on_literals}
 use Rattle.command_line.specs.CommandLine.{program_app}
 use Rattle.command_line.specs.Words.{IsGiven, texts}
@@ -41,14 +41,36 @@ returns-in-Ok-clause-given c =
 pub returns-in-Ok-clause-taken : goal.returns-in-Ok-clause-taken
 returns-in-Ok-clause-taken c = faultless c
 
+-- what a parse of the words by this command fails by
+faults : (app : App) (words : List Text) (e : Error) → app ≡ program_app → (is_simple_and_free app ≡ true → HasKind (fault_of app words) e) → HasKind (fault_of program_app words) e
+faults app words e is fails = subst (λ (a : App). HasKind (fault_of a words) e) is (fails (ap is_simple_and_free is ∙ is_free))
+
 pub returns-in-Err-clause-bad : goal.returns-in-Err-clause-bad
 returns-in-Err-clause-bad c = λ bad none.
-    let app = c.in_ok-command.ensures in
-    let kinds = ap (λ (a : App). fault_of a (texts c.args.words.now)) app ∙ none in
-    c.fault_in.ensures.bad (cc) (only_memory _ c.in-Err.e kinds (c.in-Err.ensures.kinds (ap is_simple_and_free app ∙ is_free)))
+    (c.fault_in.ensures.bad (cc)).0 (only_memory _ c.in-Err.e none (faults _ _ c.in-Err.e c.in_ok-command.ensures c.in-Err.ensures.kinds))
 
 pub returns-in-Err-clause-refused : goal.returns-in-Err-clause-refused
 returns-in-Err-clause-refused c = λ bad taken.
     let app = c.in_ok-command.ensures in
     let memory = c.in-Err.ensures.passes (ap (λ (a : App). takes a (texts c.args.words.now)) app ∙ taken) in
-    c.fault_in.ensures.bad (cc) memory
+    (c.fault_in.ensures.bad (cc)).0 memory
+
+-- an error of this kind is among those that may come
+among : (e : Error) (kinds : Kinds) → kind_of e ≡ DisplayHelp → HasKind kinds e → IsAmong DisplayHelp kinds
+among e kinds is (inl memory) = absurd (cc)
+among e kinds is (inr one) = subst (λ k. IsAmong k kinds) is one
+
+pub returns-in-Err-clause-help : goal.returns-in-Err-clause-help
+returns-in-Err-clause-help c = λ help. among c.in-Err.e _ (c.fault_in.ensures.help (cc)) (faults _ _ c.in-Err.e c.in_ok-command.ensures c.in-Err.ensures.kinds)
+
+-- where help alone may come, it came, or memory ran out
+memory_or_help : (e : Error) → (kind_of e ≡ OutOfMemory → ⊥) → (kind_of e ≡ DisplayHelp → ⊥) → HasKind (DisplayHelp ∷ []) e → ⊥
+memory_or_help e no_memory no_help (inl memory) = no_memory memory
+memory_or_help e no_memory no_help (inr (inl help)) = no_help help
+memory_or_help e no_memory no_help (inr (inr none)) = none
+
+pub returns-in-Err-clause-helped : goal.returns-in-Err-clause-helped
+returns-in-Err-clause-helped c = λ bad asked.
+    let other = c.fault_in.ensures.bad (cc) in
+    let kinds = faults _ _ c.in-Err.e c.in_ok-command.ensures c.in-Err.ensures.kinds in
+    memory_or_help c.in-Err.e other.0 other.1 (subst (λ kinds. HasKind kinds c.in-Err.e) asked kinds)

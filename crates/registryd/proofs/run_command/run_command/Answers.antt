@@ -1,7 +1,7 @@
 use Rattle.std.proofs.Common.{inl, inr}
 use Rattle.std.proofs.KnownBytes.{Keeps-refl}
 use Rattle.registryd.proofs.KeptLemmas.{err_same}
-use Rattle.registryd.proofs.WordLemmas.{asks_no_keep, asks_no_race, asks_no_serve, has_broken, has_fallen, has_kept, has_no_journal, has_not_begun, has_served, has_stopped, keep_asks, serve_asks, tells_of_file}
+use Rattle.registryd.proofs.WordLemmas.{asks_no_keep, asks_no_race, asks_no_serve, has_broken, has_fallen, has_helped, has_kept, has_no_journal, has_not_begun, has_served, has_stopped, keep_asks, serve_asks, tells_of_file}
 use Rattle.registryd.proofs.run_command.run_command.Goals as goal
 
 pub returns-in-Ok-Serve-clause-done : goal.returns-in-Ok-Serve-clause-done
@@ -78,6 +78,17 @@ returns-in-Err-Bad-clause-words g c = λ is.
     let bad = c.in-Err-Bad.ensures.bad (err_same _ _ _ c.in-Err-Bad.field-0-is) in
     (Keeps-refl _, record { serve = asks_no_serve _ bad; keep = asks_no_keep _ bad; race = asks_no_race _ bad })
 
-pub returns-in-Err-Bad-clause-quiet : goal.returns-in-Err-Bad-clause-quiet
-returns-in-Err-Bad-clause-quiet g c = λ is taken few apart single.
-    absurd (elim (c.in-Err-Bad.ensures.bad (err_same _ _ _ c.in-Err-Bad.field-0-is) taken) [ inl many ↦ few many | inr other ↦ elim other [ inl mixed ↦ apart mixed | inr opposed ↦ single opposed ] ])
+pub returns-in-Err-Bad-clause-no_help : goal.returns-in-Err-Bad-clause-no_help
+returns-in-Err-Bad-clause-no_help g c = λ is. c.in-Err-Bad.ensures.helped (err_same _ _ _ c.in-Err-Bad.field-0-is)
+
+-- ---- they ask for help
+
+pub returns-in-Err-Help-clause-done : goal.returns-in-Err-Help-clause-done
+returns-in-Err-Help-clause-done g c = λ is.
+    let asked = c.in-Err-Help.ensures.help (err_same _ _ _ c.in-Err-Help.field-0-is) in
+    inr (inr (inr (has_helped _ _ _ _ asked c.show_help-end.ensures.shown)))
+
+pub returns-in-Err-Help-clause-output : goal.returns-in-Err-Help-clause-output
+returns-in-Err-Help-clause-output g c = λ is.
+    let asked = c.in-Err-Help.ensures.help (err_same _ _ _ c.in-Err-Help.field-0-is) in
+    inr (inr (inr (inr (has_helped _ _ _ _ asked c.show_help-end.ensures.shown))))
