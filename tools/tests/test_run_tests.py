@@ -173,6 +173,18 @@ class Measured(unittest.TestCase):
         self.assertEqual(self.noted({}, {"a": 2.6}, "a"), {"a": 3})
 
 
+    def test_the_proof_of_a_crate_begins_when_the_gate_tells_of_one_before_it(self):
+        folder = self.enterContext(tempfile.TemporaryDirectory())
+        with mock.patch.object(measured.time, "monotonic", side_effect=[0, 10, 25, 40]):
+            proofs = measured.Proofs({name: os.path.join(folder, name) for name in "abcd"})
+            # b waits for a processor until a is proved, and c until b is; of d nothing is told
+            for name, begun in (("a", "a"), ("b", "b"), ("c", "cd")):
+                for it in begun:
+                    os.makedirs(os.path.join(folder, it, "out"))
+                proofs.tell(name)
+        self.assertEqual(proofs.took, {"a": 10, "b": 15, "c": 15})
+
+
 class Counting(unittest.TestCase):
     def test_parts_are_added(self):
         whole = Counts(2, 0, (("a", "no etcd"),)) + Counts(3, 1) + Counts(0, 0, (("b", "no cargo"),))
