@@ -37,12 +37,12 @@ def files():
 
 class Result(unittest.TextTestResult):
     """Counts the tests that passed: of those that were begun some may be skipped, and a class that is skipped begins none. Each has a
-    time limit; a class whose tests take longer than others has `LONGER`, so many times that."""
+    time limit."""
     passed = 0
 
     def startTest(self, test):
         self.limit = contextlib.ExitStack()
-        self.limit.enter_context(limited(SECONDS * getattr(test, "LONGER", 1)))
+        self.limit.enter_context(limited(SECONDS))
         super().startTest(test)
 
     def stopTest(self, test):

@@ -1,5 +1,6 @@
 """Which program `./registryd` takes, what it tells of it, and when it builds one: over a small checkout with a kit of scripts."""
 import os
+import re
 import select
 import shlex
 import signal
@@ -59,10 +60,15 @@ class Version(Case):
         self.assertEqual(self.says("a"), "")
 
     def test_it_is_compiled_without_checks(self):
+        # what has no checks is measured, and so optimized further
+        told = self.tree.log.with_name("told")
+        self.tree.make_kit(clang=f"echo $* >> {told}")
         self.says()
+        self.assertEqual(re.findall("-O[1-9]", told.read_text(encoding="ascii")), ["-O1"])
         status, _said, wrong = self.tree.run("tools/build", "--unchecked")
         self.assertRegex(wrong, r"\Aregistryd: it is compiled first, .*\nregistryd: compiled in \d+ s, without checks as it runs\n\Z")
         self.assertEqual((status, self.state()), (0, UNCHECKED))
+        self.assertEqual(re.findall("-O[1-9]", told.read_text(encoding="ascii")), ["-O1", "-O3"])
         status, said, _wrong = self.tree.run("registryd", "a")
         self.assertEqual((status, said.splitlines()), (0, ["registryd a", "low a"]))
         self.assertEqual(self.tree.run("tools/build", "--compiled")[0], 0)
@@ -280,7 +286,7 @@ class Failures(Case):
         self.assertIn("the kit's command rt is not on the path", self.fails())
 
     def test_a_full_disk(self):
-        for part in ("-emit-llvm", "-O3"):
+        for part in ("-emit-llvm", "-O1"):
             self.tree.make_kit(clang=f'case "$*" in *{part}*) echo "cannot write: No space left on device"; exit 1;; esac')
             self.assertIn("it was not built: the disk is full", self.fails())
 
@@ -314,7 +320,7 @@ class Failures(Case):
         changes = ((lambda: (self.tree.kit / "c" / "asan.a").unlink(), "it has no .*/c/asan.a"),
                    (lambda: (self.tree.kit / "bin" / "rtlib.py").write_text("class Crate:\n    pass\n"), "its module of crates is another"),
                    (lambda: self.tree.make_kit(clang='case "$*" in *fsanitize*) ;; *) exit 3;; esac'), "gives no module to clang"),
-                   (lambda: self.tree.make_kit(clang='case "$*" in *O3*) echo other; exit 1;; esac'), "does not compile the module: other"))
+                   (lambda: self.tree.make_kit(clang='case "$*" in *O1*) echo other; exit 1;; esac'), "does not compile the module: other"))
         for change, why in changes:
             with self.subTest(why=why):
                 self.setUp()
