@@ -37,12 +37,12 @@ def files():
 
 class Result(unittest.TextTestResult):
     """Counts the tests that passed: of those that were begun some may be skipped, and a class that is skipped begins none. Each has a
-    time limit."""
+    time limit: that of its class, `LONGEST`, with the reason, or the usual one."""
     passed = 0
 
     def startTest(self, test):
         self.limit = contextlib.ExitStack()
-        self.limit.enter_context(limited(SECONDS))
+        self.limit.enter_context(limited(getattr(test, "LONGEST", SECONDS)))
         super().startTest(test)
 
     def stopTest(self, test):

@@ -32,6 +32,7 @@ FILES = {
     "test_waits_before.py": HEAD + "    @classmethod\n    def setUpClass(cls):\n        import threading\n        threading.Event().wait()\n"
                                    "    def test_o(self):\n        pass\n",
     "test_broken.py": "import no_such_module\n",
+    "test_longer.py": HEAD + "    LONGEST = 100\n    def test_r(self):\n        import time\n        time.sleep(3)\n",
     "test_changes.py": HEAD + "    def test_p(self):\n        import json\n        json.dumps = None\n",
     "test_unchanged.py": HEAD + "    def test_q(self):\n        import json\n        self.assertIsNotNone(json.dumps)\n",
     "test_ends.py": HEAD + "    def test_f(self):\n        import os\n        os._exit(3)\n",
@@ -90,11 +91,11 @@ class Counted(unittest.TestCase):
         self.assertEqual((said.splitlines()[-1], status), ("3 passed, 0 failed, 0 skipped", 0), said)
 
     def test_a_test_that_waits_for_ever_fails(self):
-        said, status = self.run_these("test_waits.py", "test_waits_before.py", last=PASSING, TEST_SECONDS="2")
+        said, status = self.run_these("test_waits.py", "test_waits_before.py", "test_longer.py", last=PASSING, TEST_SECONDS="2")
         self.assertIn("it was not answered in 2.0 seconds", said)
         self.assertEqual(said.count("AssertionError: it was not answered in 2.0 seconds"), 2)
-        # passed: n and the last file's
-        self.assertEqual((said.splitlines()[-1], status), ("2 passed, 2 failed, 0 skipped", 1), said)
+        # passed: n, the last file's, and r, whose class has more time
+        self.assertEqual((said.splitlines()[-1], status), ("3 passed, 2 failed, 0 skipped", 1), said)
 
     def test_what_could_not_run_is_skipped_and_told(self):
         said, status = self.run_these("test_skips.py", "test_skips_all.py", last=PASSING)
