@@ -70,7 +70,7 @@ def compiled(kit, top, name, folder, is_checked):
     module, words = lowered(kit, copy, sources, folder)
     # a library is linked into what may be loaded anywhere
     words = ["-fPIC" if word == "-fPIE" else word for word in words]
-    objects = objects_of(kit, exported(as_text(kit, module, words, is_checked), name, names), words, folder, names)
+    objects = objects_of(kit, exported(as_text(kit, module, words, is_checked), name, names), words, folder, is_checked, names)
     status, said = call([kit.toolchain / "bin" / "llvm-ar", "rcsD", library, *objects])
     if status:
         raise refused("its archiver does not pack the library", said)

@@ -8,7 +8,8 @@ example, and apart.
 import os
 import random
 import sys
-from statistics import mean
+from itertools import combinations
+from statistics import fmean
 
 from progress import TOP
 from registry.svg import plain_text as text
@@ -84,12 +85,10 @@ def crossings(rows, short):
     """How many short lines cross."""
     places = {name: place for row in rows for place, name in enumerate(row)}
     depths = {name: depth for depth, row in enumerate(rows) for name in row}
-    count = 0
-    for index, (above, below) in enumerate(short):
-        for other, under in short[index + 1:]:
-            if depths[above] == depths[other]:
-                count += (places[above] - places[other]) * (places[below] - places[under]) < 0
-    return count
+    beside = [[] for _ in rows]
+    for above, below in short:
+        beside[depths[above]].append((places[above], places[below]))
+    return sum((one[0] - other[0]) * (one[1] - other[1]) < 0 for lines in beside for one, other in combinations(lines, 2))
 
 
 def swept(rows, short, goes_down):
@@ -102,20 +101,23 @@ def swept(rows, short, goes_down):
             name, other = (below, above) if goes_down else (above, below)
             if name in joined and other in beside:
                 joined[name].append(beside.index(other))
-        middles = {name: mean(found) if found else rows[at].index(name) for name, found in joined.items()}
+        middles = {name: fmean(found) if found else rows[at].index(name) for name, found in joined.items()}
         rows[at] = sorted(rows[at], key=middles.get)
     return rows
 
 
 def ordered(rows, short):
     """The rows in an order in which few lines cross: the best that some starts lead to, the same in each run."""
-    best, chance = rows, random.Random(0)
-    for _ in range(STARTS):
-        tried = [chance.sample(row, len(row)) for row in rows]
-        for sweep in range(SWEEPS):
-            tried = swept(tried, short, sweep % 2 == 0)
-            best = min(best, tried, key=lambda some: crossings(some, short))
-    return best
+    def tries():
+        chance = random.Random(0)
+        yield rows
+        for _ in range(STARTS):
+            tried = [chance.sample(row, len(row)) for row in rows]
+            for sweep in range(SWEEPS):
+                tried = swept(tried, short, sweep % 2 == 0)
+                yield tried
+
+    return min(tries(), key=lambda some: crossings(some, short))
 
 
 def room(left, right):
@@ -133,10 +135,10 @@ def spread(row, wanted):
     groups = []
     for name, offset in zip(row, offsets):
         groups.append([wanted[name] - offset])
-        while len(groups) > 1 and mean(groups[-2]) > mean(groups[-1]):
+        while len(groups) > 1 and fmean(groups[-2]) > fmean(groups[-1]):
             last = groups.pop()
             groups[-1] += last
-    starts = [mean(group) for group in groups for _ in group]
+    starts = [fmean(group) for group in groups for _ in group]
     return {name: start + offset for name, start, offset in zip(row, starts, offsets)}
 
 
@@ -148,7 +150,7 @@ def places_of(rows, short):
     for sweep in range(3 * SWEEPS):
         for row in rows if sweep % 2 == 0 else reversed(rows):
             joined = {name: [places[b if a == name else a] for a, b in short if name in (a, b)] for name in row}
-            places.update(spread(row, {name: mean(found) if found else places[name] for name, found in joined.items()}))
+            places.update(spread(row, {name: fmean(found) if found else places[name] for name, found in joined.items()}))
     left = min(places.values())
     return {name: place - left + MARGIN + WIDTH / 2 for name, place in places.items()}
 

@@ -5,8 +5,12 @@ import sys
 import threading
 import time
 
+from measured import read
+
 TOP = os.path.dirname(os.path.dirname(os.path.abspath(__file__)))
-# What a crate that the file of seconds doesn't name takes, for each byte of its text.
+# The file of what the proof of each crate takes.
+SECONDS = ("tools", "proof_seconds.txt")
+# What a crate that it doesn't name takes, for each byte of its text.
 SECONDS_A_BYTE = 0.001
 # How much sooner all crates are proved on several processors than on one: crates wait for those below them.
 GAIN = {1: 1.0, 2: 1.7, 3: 2.2, 4: 2.6}
@@ -38,11 +42,9 @@ def crates_below(name=None):
 
 def seconds_of(crate):
     """What the proof of a crate takes at one job on an idle machine: as measured, else by its size."""
-    with open(os.path.join(TOP, "tools", "proof_seconds.txt"), encoding="utf-8") as lines:
-        for line in lines:
-            name, _, seconds = line.split("#")[0].partition(" ")
-            if name == crate:
-                return float(seconds)
+    measured = read(os.path.join(TOP, *SECONDS))
+    if crate in measured:
+        return measured[crate]
     size = 0
     for part in ("src", "specs", "proofs"):
         for at, _, files in os.walk(os.path.join(TOP, "crates", crate, part)):

@@ -1,4 +1,5 @@
-"""Tries the listed wrong bodies beside the gate: those of a crate as soon as it is proved and a processor has no proof to do.
+"""Tries the listed wrong bodies beside the gate: those of a crate as soon as it is proved and a processor has no proof to do. Before
+them it builds the static library, once all below that is proved.
 
 The gate's libraries are linked into a room of the tries' own as each is told as proved, so that nothing that the gate builds,
 or puts back at its end, changes what a try rests on. Tries give way to proofs: they run at the lowest priority, and none
@@ -10,6 +11,7 @@ import threading
 from collections import Counter
 from concurrent.futures import ThreadPoolExecutor
 
+import prove_library
 from draw_crates import reached, stands_on
 from try_rounds import BAD, BY_CLAUSE, BY_PROOF, build_below, library, listed, take, try_in_rounds
 
@@ -30,8 +32,10 @@ def try_crate(edits, room):
 class Tries:
     """The listed edits, by crates: those that wait and those that are tried, over what the gate has told so far."""
 
-    def __init__(self, processors):
+    def __init__(self, processors, library):
         crates = stands_on()
+        # the static library, and what comes of its build once that is begun
+        self.library, self.built = library, None
         self.processors, self.waiting = processors, {edits[0].crate: edits for edits in listed()}
         self.below = {name: reached(crates, name) for name in crates}
         self.told, self.failed, self.taken, self.tried = set(), set(), set(), []
@@ -78,11 +82,13 @@ class Tries:
     def idle(self):
         """How many processors neither prove a crate nor try its edits. Each crate whose libraries are proved is being proved."""
         proofs = [name for name in self.below if name not in self.told and self.below[name] <= self.told]
-        return self.processors - len(proofs) - sum(not of.done() for of in self.tried)
+        return self.processors - len(proofs) - sum(not of.done() for of in [*self.tried, *filter(None, [self.built])])
 
     def go_on(self, *_):
-        """Begins what can be tried now: when a crate is told of, and when a try has ended."""
+        """Begins what can be done now: when a crate is told of, and when a try or the library's build has ended."""
         with self.lock, contextlib.suppress(RuntimeError):
+            if self.idle() > 0 and self.below[self.library] <= self.taken:
+                self.build_library()
             for name in self.ready()[:max(0, self.idle())]:
                 self.begin(name, self.room.name)
 
@@ -91,6 +97,14 @@ class Tries:
         del self.waiting[name]
         self.tried.append(of)
         of.add_done_callback(self.go_on)
+
+    def build_library(self):
+        """Begins the build of the static library where it is not begun; answers what comes of it."""
+        with self.lock:
+            if not self.built:
+                self.built = self.pool.submit(prove_library.build, self.library, self.room.name)
+                self.built.add_done_callback(self.go_on)
+            return self.built
 
     def end(self, is_well):
         """Tries what is left, once the gate has ended well; answers how many edits are refused, by a clause or because a proof no longer

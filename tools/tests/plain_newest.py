@@ -1,5 +1,7 @@
 """The newest selection of a request, by its definition, over all selections that meet the request. It shares nothing with the
 program; what versions and requirements mean is read by `plain_search`."""
+from functools import cache
+
 import plain_search
 from plain_search import key
 
@@ -34,14 +36,18 @@ class Published(plain_search.Published):
             left = [selection for selection in left if selection[name] == version]
         return sorted([name, version] for name, version in taken.items()) if left else None
 
-    def first_found(self, needs, lock, taken=None):
+    def first_found(self, needs, lock):
         """The same, as a search that tries the most preferred versions first and goes back one step at a time ends."""
-        taken = taken or {}
-        asked = [*needs, *(line for name, version in taken.items() for line in self.needs_of(name, version))]
-        if any(name in taken and not self.matches(requirement, taken[name]) for name, requirement in asked):
-            return None
-        name = self.next_package(needs, taken)
-        if name is None:
-            return sorted([name, version] for name, version in taken.items())
-        tried = (self.first_found(needs, lock, {**taken, name: version}) for version in self.in_preference(name, lock))
-        return next((found for found in tried if found is not None), None)
+        in_preference = cache(lambda name: self.in_preference(name, lock))
+
+        def search(taken):
+            asked = [*needs, *(line for name, version in taken.items() for line in self.needs_of(name, version))]
+            if any(name in taken and not self.matches(requirement, taken[name]) for name, requirement in asked):
+                return None
+            name = self.next_package(needs, taken)
+            if name is None:
+                return sorted([name, version] for name, version in taken.items())
+            tried = (search({**taken, name: version}) for version in in_preference(name))
+            return next((found for found in tried if found is not None), None)
+
+        return search({})

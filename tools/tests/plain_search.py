@@ -40,6 +40,7 @@ def compares(op, bound, version):
     return version[:kept] == bound[:kept] and version >= bound
 
 
+@lru_cache(maxsize=100_000)
 def matches(requirement, text):
     """Whether a version meets a requirement of comparators with full versions, or `*`."""
     version = key(text)

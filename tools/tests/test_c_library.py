@@ -77,8 +77,12 @@ class Page(unittest.TestCase):
 
 @needs_library
 class Built(unittest.TestCase):
+    def setUp(self):
+        # what is built here is not run
+        self.enterContext(mock.patch.dict(os.environ, CFLAGS="-O0"))
+
     def test_it_is_built_anew_where_anything_has_changed(self):
-        _, kind = c_library.archive()
+        over, kind = c_library.archive()
         with tempfile.TemporaryDirectory() as folder:
             sources, made = Path(folder, "c"), Path(folder, "library")
             shutil.copytree(CLIENT, sources)
@@ -88,12 +92,14 @@ class Built(unittest.TestCase):
                 first = (made / "libregistryd.a").stat().st_mtime_ns
                 self.assertEqual((c_library.built(), c_library.standing()), (Library(made, kind),) * 2)
                 self.assertEqual((made / "libregistryd.a").stat().st_mtime_ns, first)
-                for changed in (sources / "fault.c", made / "libregistryd.a", made / "libregistryd.so.0"):
-                    with open(changed, "ab") as file:
-                        file.write(b"\n")
-                    self.assertIsNone(c_library.standing(), changed)
-                    c_library.built()
-                    self.assertIsNotNone(c_library.standing(), changed)
+                with mock.patch.object(c_library, "make") as make:
+                    for changed in (sources / "fault.c", made / "libregistryd.a", made / "libregistryd.so.0"):
+                        with open(changed, "ab") as file:
+                            file.write(b"\n")
+                        self.assertIsNone(c_library.standing(), changed)
+                        c_library.built()
+                        self.assertIsNotNone(c_library.standing(), changed)
+                    self.assertEqual(make.mock_calls, [mock.call(made, over, "-B")] * 3)
                 (sources / "fault.c").write_text("no C\n", encoding="ascii")
                 self.assertRaisesRegex(c_library.Unbuilt, "^make fails in clients/c: .*fault.c", c_library.built)
                 self.assertIsNone(c_library.standing())

@@ -50,12 +50,14 @@ def why_not_built():
 
 
 class Client(unittest.TestCase):
+    LONGEST = 600  # cargo compiles the client and its tests
+
     def cargo(self, folder, *words, **more):
         """What cargo prints; without the network, and with what it builds in a folder."""
         given = {**os.environ, "CARGO_TARGET_DIR": os.path.join(folder, "target"), "REGISTRYD": PROGRAM,
                  "REGISTRYD_LIBRARY_FOLDER": os.path.dirname(LIBRARY or ""), **ONCE}
         words = ["cargo", *words, "--offline", "--locked", "--manifest-path", os.path.join(HERE, "Cargo.toml")]
-        done = subprocess.run(words, env=given, stdin=subprocess.DEVNULL, stdout=subprocess.PIPE, stderr=subprocess.PIPE, text=True, timeout=1200, **more)
+        done = subprocess.run(words, env=given, stdin=subprocess.DEVNULL, stdout=subprocess.PIPE, stderr=subprocess.PIPE, text=True, **more)
         self.assertEqual(done.returncode, 0, done.stdout + done.stderr)
         return done.stdout
 

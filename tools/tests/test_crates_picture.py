@@ -12,12 +12,16 @@ import draw_crates
 
 
 class Picture(unittest.TestCase):
+    @classmethod
+    def setUpClass(cls):
+        cls.picture = draw_crates.picture()
+
     def test_it_is_drawn_anew(self):
         with open(draw_crates.PICTURE, encoding="utf-8") as file:
-            self.assertEqual(file.read(), draw_crates.picture(), "tools/draw_crates.py draws it anew")
+            self.assertEqual(file.read(), self.picture, "tools/draw_crates.py draws it anew")
 
     def test_each_crate_stands_there_once(self):
-        boxes = re.findall(r'font-size="14"[^>]*>(\w+)<', draw_crates.picture())
+        boxes = re.findall(r'font-size="14"[^>]*>(\w+)<', self.picture)
         self.assertEqual(sorted(boxes), sorted(draw_crates.stands_on()))
 
     def test_a_crate_is_below_those_that_stand_on_it(self):

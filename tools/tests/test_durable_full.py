@@ -2,6 +2,7 @@
 be written, and the next session goes on with all that was told."""
 import contextlib
 import ctypes
+import functools
 import os
 import tempfile
 import unittest
@@ -36,6 +37,8 @@ class Full(Sessions):
     def setUp(self):
         super().setUp()
         self.kept = os.path.join(self.folder, "kept")
+        # many sessions are asked the same
+        self.replies = functools.cache(lambda *lines: serve(lines))
 
     def session(self, path, steps, most=None):
         """A client that sends these steps, each once those before it are answered, until the program is gone; answers its replies
@@ -54,7 +57,7 @@ class Full(Sessions):
     def all_told_is_there(self, path, client, told, words, lines, before=()):
         """What a session left that could not write: some of its replies, all of which rest on what is there."""
         self.assertTrue(client.read.endswith(b"\n") or not client.read)
-        self.assertEqual(client.replies(), serve([*before, *lines])[len(before):len(before) + len(client.replies())])
+        self.assertEqual(client.replies(), self.replies(*before, *lines)[len(before):len(before) + len(client.replies())])
         self.assertEqual(told, (1, f"registryd: journal {path}: can't be written: {words}\n".encode()))
         self.assertIsNone(fault_of(self.read(path), lines, len(client.replies()), [journal_line(line).encode() for line in before]))
 
@@ -63,7 +66,7 @@ class Full(Sessions):
         found = remnant(self.read(path))
         done = run(["serve", "--workers", "1", "--journal", path], "".join(line + "\n" for line in [*lines, LIST]).encode())
         self.assertEqual((done.returncode, done.stderr), (0, b""))
-        self.assertEqual(done.stdout.splitlines()[-1].decode(), serve([*before, *lines, LIST])[-1])
+        self.assertEqual(done.stdout.splitlines()[-1].decode(), self.replies(*before, *lines, LIST)[-1])
         text = self.read(path)
         self.assertTrue(text.startswith(found.text))
         self.assertEqual(text.splitlines()[-1], b"end %d" % (text.count(b"\n") - 2))

@@ -19,6 +19,8 @@ VALGRIND = ["valgrind", "-q", "--error-exitcode=99", "--leak-check=full", "--err
 @needs_library
 @skip_without("cc", "gcc")
 class Calls(unittest.TestCase):
+    LONGEST = PATIENCE  # under valgrind
+
     def setUp(self):
         folder = tempfile.TemporaryDirectory()
         self.addCleanup(folder.cleanup)

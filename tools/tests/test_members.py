@@ -16,7 +16,8 @@ HISTORIES = os.path.join(program.TOP, "tools", "etcd_histories.py")
 
 class Case(unittest.TestCase):
     def setUp(self):
-        self.enterContext(program.in_time())
+        # members and fronts use all processors
+        self.enterContext(program.in_time(2 * program.PATIENCE))
         self.folder = self.enterContext(tempfile.TemporaryDirectory())
 
     @unittest.skipUnless(is_installed() and may_divide(), "no etcd, or no right to make namespaces of the network")

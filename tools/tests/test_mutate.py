@@ -78,7 +78,7 @@ class Bad(unittest.TestCase):
 '''
 # What both tests together don't notice.
 LEFT = ["line 19: `raise ValueError('never')` deleted (no test comes there)", "line 19: `'never'` as `''` (no test comes there)"]
-PARTS = ("mutate", "mutants.py", "noticing.py", "concerned.py", "programs.py", "progress.py", "counts.py", "draw_crates.py")
+PARTS = ("mutate", "mutants.py", "noticing.py", "concerned.py", "programs.py", "progress.py", "measured.py", "counts.py", "draw_crates.py")
 
 
 class Mutants(unittest.TestCase):

@@ -1,8 +1,9 @@
 """Which programs `./test` notes as proved, which it compiles, and which ones its tests in Python run: over a small checkout with a kit of
 scripts, and two files of tests, which tell which programs they ran."""
+import re
 import unittest
 
-from fake_tree import COMPILED, NONE, PROVED, Case
+from fake_tree import COMPILED, CRATES, NONE, PROVED, Case
 
 FIRST = """import os, subprocess, unittest
 class Case(unittest.TestCase):
@@ -31,16 +32,22 @@ class Tests(Case):
         self.assertEqual(status, 0, said + wrong)
         self.assertIn("embedded: the static library is proved and built\n", said)
         self.assertIn("library of proved\n", said)
-        self.assertEqual(said.replace("library of proved", "").count("proved\n"), 2)
+        self.assertEqual(re.sub("^(rt: .*|library of proved)\n", "", said, flags=re.M).count("proved\n"), 2)
         self.assertRegex(said.splitlines()[-1], "^5 passed, 0 failed")
         self.assertEqual(self.state(), PROVED)
         self.assertEqual(self.tree.run("tools/build", "embedded")[1:], (f"{self.tree.top}/out/proved/libembedded.a\n", ""))
         self.assertEqual(self.says("a", first=None), "")
+        # and what each proof took
+        self.assertEqual([line.split()[0] for line in self.seconds()], ["#", "#", *CRATES])
+
+    def seconds(self):
+        return (self.tree.top / "tools" / "proof_seconds.txt").read_text(encoding="ascii").splitlines()
 
     def test_a_gate_that_failed_notes_nothing(self):
+        before = self.seconds()
         status, said, _wrong = self.tree.run("test", FAIL="1")
         self.assertEqual(status, 1)
-        self.assertEqual(self.state(), NONE)
+        self.assertEqual((self.state(), self.seconds()), (NONE, before))
 
     def test_neither_does_one_whose_library_could_not_be_built(self):
         with open(self.tree.top / "crates" / "embedded" / "src" / "lib.rt", "a", encoding="ascii") as root:

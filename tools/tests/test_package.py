@@ -65,6 +65,8 @@ def is_known():
 
 @skip_without("dpkg-deb", "dpkg")
 class Made(unittest.TestCase):
+    LONGEST = PATIENCE + MOST_SECONDS  # dpkg must not be broken off
+
     @classmethod
     def setUpClass(cls):
         cls.folder = Path(cls.enterClassContext(tempfile.TemporaryDirectory()))

@@ -1,5 +1,6 @@
 """Which program `./registryd` takes, what it tells of it, and when it builds one: over a small checkout with a kit of scripts."""
 import os
+import re
 import select
 import shlex
 import signal
@@ -57,6 +58,14 @@ class Version(Case):
         self.tree.write("crates/low/proofs/Lib.antt", "another")
         self.assertEqual(self.state(), COMPILED)
         self.assertEqual(self.says("a"), "")
+
+    def test_what_is_measured_is_optimized_further(self):
+        told = self.tree.log.with_name("told")
+        self.tree.make_kit(clang=f"echo $* >> {told}")
+        self.says()
+        self.assertEqual(re.findall("-O[1-9]", told.read_text(encoding="ascii")), ["-O1"])
+        self.unchecked()
+        self.assertEqual(re.findall("-O[1-9]", told.read_text(encoding="ascii")), ["-O1", "-O3"])
 
     def unchecked(self):
         """Builds the program without checks, which has a path of its own; gives what it answers there."""
@@ -302,7 +311,7 @@ class Failures(Case):
         self.assertIn("the kit's command rt is not on the path", self.fails())
 
     def test_a_full_disk(self):
-        for part in ("-emit-llvm", "-O3"):
+        for part in ("-emit-llvm", "-O1"):
             self.tree.make_kit(clang=f'case "$*" in *{part}*) echo "cannot write: No space left on device"; exit 1;; esac')
             self.assertIn("it was not built: the disk is full", self.fails())
 
@@ -336,7 +345,7 @@ class Failures(Case):
         changes = ((lambda: (self.tree.kit / "c" / "asan.a").unlink(), "it has no .*/c/asan.a"),
                    (lambda: (self.tree.kit / "bin" / "rtlib.py").write_text("class Crate:\n    pass\n"), "its module of crates is another"),
                    (lambda: self.tree.make_kit(clang='case "$*" in *fsanitize*) ;; *) exit 3;; esac'), "gives no module to clang"),
-                   (lambda: self.tree.make_kit(clang='case "$*" in *O3*) echo other; exit 1;; esac'), "does not compile the module: other"))
+                   (lambda: self.tree.make_kit(clang='case "$*" in *O1*) echo other; exit 1;; esac'), "does not compile the module: other"))
         for change, why in changes:
             with self.subTest(why=why):
                 self.setUp()

@@ -7,10 +7,13 @@ import subprocess
 import sys
 import tempfile
 import unittest
+from unittest import mock
 
 from program import TOP
 
 sys.path.insert(0, os.path.join(TOP, "tools"))
+import measured
+import run_tests
 from counts import Counts
 
 NOTES = "REQUESTS, REPLIES, JOURNAL = {}, {}, {}\n"
@@ -29,6 +32,9 @@ FILES = {
     "test_waits_before.py": HEAD + "    @classmethod\n    def setUpClass(cls):\n        import threading\n        threading.Event().wait()\n"
                                    "    def test_o(self):\n        pass\n",
     "test_broken.py": "import no_such_module\n",
+    "test_longer.py": HEAD + "    LONGEST = 100\n    def test_r(self):\n        import time\n        time.sleep(3)\n",
+    "test_changes.py": HEAD + "    def test_p(self):\n        import json\n        json.dumps = None\n",
+    "test_unchanged.py": HEAD + "    def test_q(self):\n        import json\n        self.assertIsNotNone(json.dumps)\n",
     "test_ends.py": HEAD + "    def test_f(self):\n        import os\n        os._exit(3)\n",
     "test_empty.py": "",
     "test_written_lines.py": HEAD + "    def test_g(self):\n        self.assertEqual((said.REQUESTS, said.REPLIES), ({'a': 1}, {'c': 1}))\n",
@@ -41,7 +47,7 @@ REASONS = ["skipped: test_skips.Case.test_h: no etcd", "skipped: test_skips.Othe
 class Counted(unittest.TestCase):
     """`./test --tools` in a folder of its own, with these files as its tests."""
 
-    def run_these(self, *names, options=(), last=None, **variables):
+    def run_these(self, *names, options=(), last=None, begun=None, **variables):
         with tempfile.TemporaryDirectory() as top:
             tests = os.path.join(top, "tools", "tests")
             os.makedirs(tests)
@@ -56,7 +62,7 @@ class Counted(unittest.TestCase):
             # these tests ask no program
             given = {**os.environ, "REGISTRYD": "none", "PROBE": "none", "EMBEDDED": "none", **variables}
             done = subprocess.run([sys.executable, os.path.join(top, "test"), *options, "--tools"], env=given, stdout=subprocess.PIPE,
-                                  stderr=subprocess.PIPE, text=True, timeout=300)
+                                  stderr=subprocess.PIPE, text=True, timeout=300, preexec_fn=begun)
             self.assertEqual(done.stderr, "")
             return done.stdout, done.returncode
 
@@ -74,16 +80,22 @@ class Counted(unittest.TestCase):
 
     def test_a_process_that_ends_fails(self):
         said, status = self.run_these("test_ends.py")
-        self.assertIn("it could not be run", said)
+        self.assertIn("test_ends.py: it could not be run: its process ended", said)
         # the last one fails too: nothing was noted
         self.assertEqual((said.splitlines()[-1], status), ("0 passed, 2 failed, 0 skipped", 1), said)
 
+    def test_what_a_file_changes_in_its_process_meets_no_other_file(self):
+        # on one processor
+        said, status = self.run_these("test_changes.py", "test_unchanged.py", last=PASSING,
+                                      begun=lambda: os.sched_setaffinity(0, [*os.sched_getaffinity(0)][:1]))
+        self.assertEqual((said.splitlines()[-1], status), ("3 passed, 0 failed, 0 skipped", 0), said)
+
     def test_a_test_that_waits_for_ever_fails(self):
-        said, status = self.run_these("test_waits.py", "test_waits_before.py", last=PASSING, TEST_SECONDS="2")
+        said, status = self.run_these("test_waits.py", "test_waits_before.py", "test_longer.py", last=PASSING, TEST_SECONDS="2")
         self.assertIn("it was not answered in 2.0 seconds", said)
-        self.assertIn("it was not answered in 6.0 seconds", said)
-        # passed: n and the last file's
-        self.assertEqual((said.splitlines()[-1], status), ("2 passed, 2 failed, 0 skipped", 1), said)
+        self.assertEqual(said.count("AssertionError: it was not answered in 2.0 seconds"), 2)
+        # passed: n, the last file's, and r, whose class has more time
+        self.assertEqual((said.splitlines()[-1], status), ("3 passed, 2 failed, 0 skipped", 1), said)
 
     def test_what_could_not_run_is_skipped_and_told(self):
         said, status = self.run_these("test_skips.py", "test_skips_all.py", last=PASSING)
@@ -100,6 +112,78 @@ class Counted(unittest.TestCase):
     def test_where_none_passed_it_is_a_failure(self):
         said, status = self.run_these("test_skips_all.py", last=FILES["test_skips_all.py"])
         self.assertEqual((said.splitlines()[-1], status), ("0 passed, 0 failed, 2 skipped", 1))
+
+
+class Ordered(unittest.TestCase):
+    """Which file begins first, by the seconds that each took."""
+
+    def setUp(self):
+        self.folder = self.enterContext(tempfile.TemporaryDirectory())
+        self.seconds = os.path.join(self.folder, "test_seconds.txt")
+        self.enterContext(mock.patch.multiple(run_tests, TOP=self.folder, FOLDERS=("tests",), MEASURED=self.seconds))
+        os.mkdir(os.path.join(self.folder, "tests"))
+        for name in ("test_a.py", "test_b.py", "test_c.py", "test_written_lines.py", "helper.py"):
+            self.write(os.path.join("tests", name), PASSING)
+
+    def write(self, name, text):
+        with open(os.path.join(self.folder, name), "w", encoding="ascii") as file:
+            file.write(text)
+
+    def in_order(self):
+        return [os.path.basename(path) for path in run_tests.files()]
+
+    def test_those_that_take_longest_and_those_that_were_not_measured_begin_first(self):
+        self.assertEqual(self.in_order(), ["test_a.py", "test_b.py", "test_c.py", "test_written_lines.py"])
+        self.write("test_seconds.txt", "# seconds\ntest_a.py 1\ntest_b.py 20\ntest_written_lines.py 300\n")
+        self.assertEqual(self.in_order(), ["test_c.py", "test_b.py", "test_a.py", "test_written_lines.py"])
+
+    def test_a_run_notes_the_seconds_of_what_passed(self):
+        self.write("test_seconds.txt", "# seconds\ntest_a.py 1\ntest_gone.py 20\n")
+        came = {"test_a.py": (Counts(1), 70), "test_b.py": (Counts(1, 1), 80), "test_c.py": (Counts(1, 0, (("c", "no etcd"),)), 90)}
+        ran = [(os.path.join(self.folder, "tests", name), ("", of, {}), seconds) for name, (of, seconds) in came.items()]
+        with mock.patch.multiple(run_tests, side_by_side=lambda paths, at_once: ran, judged=lambda *_: Counts(1)):
+            self.assertEqual(run_tests.run_all(1).lines()[-1], "4 passed, 1 failed, 1 skipped")
+        with open(self.seconds, encoding="ascii") as file:
+            self.assertEqual(file.read(), "# seconds\ntest_a.py 1\n")
+
+
+class Measured(unittest.TestCase):
+    def noted(self, before, took, names):
+        with tempfile.TemporaryDirectory() as folder:
+            path = os.path.join(folder, "seconds.txt")
+            with open(path, "w", encoding="ascii") as file:
+                file.writelines(["# what it is\n", *(f"{name} {seconds}\n" for name, seconds in before.items())])
+            measured.note(path, took, names)
+            with open(path, encoding="ascii") as file:
+                self.assertEqual(file.readline(), "# what it is\n")
+            return measured.read(path)
+
+    def test_only_what_is_far_from_what_stands_is_written_anew(self):
+        before = {"a": 100, "b": 100, "c": 95, "d": 1, "e": 30}
+        # c takes six times as long as was noted beside the others, and d some seconds more
+        self.assertEqual(self.noted(before, {"a": 95, "b": 100, "c": 617, "d": 4, "e": 30}, "abcde"), {**before, "c": 617})
+        self.assertEqual(self.noted(before, {"a": 100, "b": 40, "c": 95, "d": 1, "e": 16}, "abcde"), {**before, "b": 40})
+
+    def test_a_machine_on_which_all_takes_longer_changes_nothing(self):
+        before = {"a": 100, "b": 40}
+        self.assertEqual(self.noted(before, {"a": 520, "b": 190}, "ab"), before)
+
+    def test_names_that_are_new_or_gone(self):
+        # the machine takes twice as long
+        self.assertEqual(self.noted({"a": 100, "b": 40, "c": 7}, {"a": 200, "new": 60}, ["new", "a", "c", "unknown"]), {"new": 30, "a": 100, "c": 7})
+        self.assertEqual(self.noted({}, {"a": 2.6}, "a"), {"a": 3})
+
+
+    def test_the_proof_of_a_crate_begins_when_the_gate_tells_of_one_before_it(self):
+        folder = self.enterContext(tempfile.TemporaryDirectory())
+        with mock.patch.object(measured.time, "monotonic", side_effect=[0, 10, 25, 40]):
+            proofs = measured.Proofs({name: os.path.join(folder, name) for name in "abcd"})
+            # b waits for a processor until a is proved, and c until b is; of d nothing is told
+            for name, begun in (("a", "a"), ("b", "b"), ("c", "cd")):
+                for it in begun:
+                    os.makedirs(os.path.join(folder, it, "out"))
+                proofs.tell(name)
+        self.assertEqual(proofs.took, {"a": 10, "b": 15, "c": 15})
 
 
 class Counting(unittest.TestCase):
