@@ -78,7 +78,7 @@ class Queue:
         self.enter()
 
     def enter(self):
-        """Returns at the head of the queue, or where the time is over; at once where there is no file to write: the program tells of that."""
+        """Returns at the head of the queue, or where the time is over; at once where there is no file that may be written."""
         if self.file is None and os.path.isfile(self.path):
             with contextlib.suppress(OSError):
                 self.file = open(self.path, "rb+", buffering=0)
@@ -113,7 +113,8 @@ class Queue:
             return False
         if now >= self.begun + SILENT and not self.is_told:
             self.is_told = True
-            Output.note(f"{self.path} is in use by {self.told(holder(self.path))}: waiting up to {self.seconds:,} second{'s' * (self.seconds != 1)}")
+            most = f"{self.seconds:,} second{'s' * (self.seconds != 1)}"
+            Output.note(f"{self.path} is in use by {self.told(holder(self.path))}: waiting up to {most}")
         time.sleep(min(seconds, left))
         return True
 
