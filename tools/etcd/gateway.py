@@ -225,8 +225,8 @@ class Gateway:
             raise Full("etcd holds as much as it may")
 
     def give_back(self, revision):
-        """Has the members forget what is past at a revision, give back the room of that, and take their alarms back. One that doesn't answer
-        is passed over."""
+        """Has the members forget what is past at a revision, give back the room of that, and take their alarms back. One that doesn't
+        answer is passed over."""
         every = self.patient(self.members)
         with contextlib.suppress(Fault):  # it was forgotten before
             every.insist("/v3/kv/compaction", {"revision": revision, "physical": True})

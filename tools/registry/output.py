@@ -11,7 +11,7 @@ def is_coloured(stream):
 
 
 def visible(text):
-    """A text with nothing in it that a terminal obeys or nobody sees, as controls of the direction: such characters are told by their numbers."""
+    """A text with nothing in it that a terminal obeys or nobody sees: such characters are told by their numbers."""
     return text if text.isprintable() else "".join(it if it.isprintable() else numbered(ord(it)) for it in text)
 
 

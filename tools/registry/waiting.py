@@ -14,7 +14,7 @@ from .lines.fault import shown
 from .output import Output
 
 SECONDS = 10  # that a session waits
-LOOK, LONGEST, SILENT = 0.05, 0.5, 1  # seconds: between two looks, at most between two tries, and until it is told
+LOOK, LONGEST, SILENT = 0.1, 0.5, 1  # seconds: between two looks, at most between two tries, and until it is told
 
 
 class InUse(Failed):
@@ -41,16 +41,23 @@ class Holder(NamedTuple):
         return False
 
 
-def holder(path):
-    """Who has the lock of a file; none where the system doesn't tell."""
+def holding(path):
+    """The process that has the lock of a file; 0 where the system doesn't tell."""
     with contextlib.suppress(OSError, ValueError):
         found = os.stat(path)
         place = f"{os.major(found.st_dev):02x}:{os.minor(found.st_dev):02x}:{found.st_ino}"
         with open("/proc/locks", encoding="ascii") as file:
             locks = [line.split() for line in file]
         # their number, kind, two words more, the process and the file; of those who wait an arrow is before the kind
-        pid = next((int(it[4]) for it in locks if it[1] == "FLOCK" and it[5] == place), 0)
-        if pid > 0:
+        return max(0, next((int(it[4]) for it in locks if it[1] == "FLOCK" and it[5] == place), 0))
+    return 0
+
+
+def holder(path):
+    """Who has the lock of a file; none where the system doesn't tell."""
+    pid = holding(path)
+    with contextlib.suppress(OSError, ValueError):
+        if pid:
             found = [Holder(it, words_of(it)) for it in (pid, parent(pid))]
             return next((it for it in found if it.words[:1] == ["registry"]), found[0])
     return None
@@ -70,15 +77,16 @@ def parent(pid):
 
 
 class Queue:
-    """The queue before a journal, as one session sees it that waits so many seconds."""
+    """The queue before a journal, as one session sees it that waits so many seconds for each that is before it."""
 
     def __init__(self, path, seconds):
         self.path, self.seconds, self.begun = path, seconds, time.monotonic()
+        self.pid, self.end = 0, self.begun + seconds  # whose turn it is, and until when it is waited for
         self.file, self.pause, self.is_told = None, LOOK, False
         self.enter()
 
     def enter(self):
-        """Returns at the head of the queue, or where the time is over; at once where there is no file to write: the program tells of that."""
+        """Returns at the head of the queue, or where the time is over; at once where there is no file that may be written."""
         if self.file is None and os.path.isfile(self.path):
             with contextlib.suppress(OSError):
                 self.file = open(self.path, "rb+", buffering=0)
@@ -107,14 +115,16 @@ class Queue:
 
     def waits(self, seconds):
         """Waits, and answers whether there was time to. Once that takes long it is told."""
-        now = time.monotonic()
-        left = self.begun + self.seconds - now
-        if left <= 0:
+        now, pid = time.monotonic(), holding(self.path)
+        if pid and pid != self.pid:
+            self.pid, self.end = pid, now + self.seconds
+        if now >= self.end:
             return False
         if now >= self.begun + SILENT and not self.is_told:
             self.is_told = True
-            Output.note(f"{self.path} is in use by {self.told(holder(self.path))}: waiting up to {self.seconds:,} second{'s' * (self.seconds != 1)}")
-        time.sleep(min(seconds, left))
+            most = f"{self.seconds:,} second{'s' * (self.seconds != 1)}"
+            Output.note(f"{self.path} is in use by {self.told(holder(self.path))}: waiting up to {most}")
+        time.sleep(min(seconds, self.end - now))
         return True
 
     @staticmethod

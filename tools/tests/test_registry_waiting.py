@@ -134,6 +134,15 @@ class Holders(Folder):
         with mock.patch("builtins.open", side_effect=PermissionError):
             self.assertIsNone(waiting.holder(self.journal))
 
+    def test_the_time_counts_anew_for_each_session(self):
+        clock, queue = [0.0], waiting.Queue(self.path("none"), 10)
+        queue.begun, queue.end, queue.is_told = 0.0, 10.0, True
+        with mock.patch.object(waiting, "time", mock.Mock(monotonic=lambda: clock[0])):
+            for now, pid, wanted in ((1, 7, True), (10.5, 7, True), (10.9, 8, True), (20.8, 0, True), (20.8, 8, True), (20.9, 8, False), (20.9, 0, False)):
+                clock[0] = now
+                with mock.patch.object(waiting, "holding", lambda _, pid=pid: pid):
+                    self.assertIs(queue.waits(0), wanted, (now, pid))
+
     def test_the_queue_is_left_for_a_try_where_it_may_be_in_the_way(self):
         self.hold()
         queue = waiting.Queue(self.journal, PATIENCE)
