@@ -269,7 +269,8 @@ def sessions(kind, path, rng, most):
 def demand_kept(accepted, commands):
     for revision, request in accepted.items():
         wanted = program.journal_line(request.line()).encode()
-        demand(commands[revision - 1:revision] == [wanted], f"{request} was accepted at revision {revision}, where the journal has {commands[revision - 1:revision]}")
+        found = commands[revision - 1:revision]
+        demand(found == [wanted], f"{request} was accepted at revision {revision}, where the journal has {found}")
 
 
 def group(seed, most, folder):

@@ -819,7 +819,7 @@ class _Embedded:
         return self._alone(lambda: self._exchanged(lines))
 
     def _alone(self, work: Callable[[], Any], seconds: float | None = None) -> Any:
-        """Does what no two threads do at once. A call may be broken off between any two steps of this, and gives the lock back all the same."""
+        """Does what no two threads do at once. Where a call is broken off between any two steps of this, the lock is given back too."""
         try:
             if not self._lock.acquire(timeout=-1 if seconds is None else seconds):
                 raise TimeoutError(f"a search of the session still runs after {seconds:g} seconds, and can't be ended in this process")
