@@ -106,7 +106,7 @@ class Caller:
         if self.is_single and len(asked) == 1:
             futures = [functools.partial(self.registry._session.call, asked[0])]
         else:
-            futures = [functools.partial(it.result, LIMIT) for it in self.registry.many(asked)]
+            futures = [it.result for it in self.registry.many(asked)]
         self.told.append([(request, outcome(future)) for request, future in zip(asked, futures)])
 
     def ask_on(self, count):
@@ -161,7 +161,10 @@ def judged(told):
 @contextlib.contextmanager
 def alarms(rng, caller):
     """Meanwhile a signal's handler raises exceptions in the caller, which is the main thread, as long as it may be interrupted."""
+    limit = time.monotonic() + LIMIT
+
     def handler(*_):
+        demand(time.monotonic() < limit, "a call waits for ever")
         signal.setitimer(signal.ITIMER_REAL, rng.random() * rng.choice([HURRY / 10, HURRY, HURRY * 5]) + 1e-6)
         if caller.may_be_interrupted:
             caller.may_be_interrupted = False

@@ -592,18 +592,18 @@ class _Child:
         self._wake.put(False)
         is_killed = not self._ending.wait(seconds)
         if is_killed:
-            self._stop(0)
+            self._end()
             self._ending.wait(WAITED)
         was_told, self._is_told = self._is_told, True
         if is_killed:
-            raise Ended(f"the program was killed, since it had not ended {seconds:g} seconds after the session was closed", self._process.poll())
+            raise Ended(f"the program was killed, since it had not ended {seconds:g} seconds after the session was closed", self._process.returncode)
         if not was_told and (self._fault or self._process.returncode):
             raise self._ended(self._fault or DIED)
 
     def kill(self) -> None:
         self._is_closed = self._is_told = True
         self._wake.put(False)
-        self._stop(0)
+        self._end()
         self._ending.wait(None)
 
     # The threads
@@ -616,7 +616,7 @@ class _Child:
             except Exception:  # it reads no more, or there is no memory
                 self._is_broken = True
         if self._is_broken:
-            self._stop(WAITED)
+            self._stop()
         if self._is_over:
             self._tell_left()
 
@@ -651,7 +651,7 @@ class _Child:
         except BaseException as why:  # as there is no memory, or a call back of a future has raised SystemExit
             fault = f"a reply could not be given: {why!r}"
         if self._waiting or not self._is_closed:
-            self._stop(WAITED)
+            self._stop()
         self._process.wait()
         self._process.stdout.close()
         self._threads[1].join(WAITED)  # a program that this one has started may keep standard error open
@@ -684,17 +684,22 @@ class _Child:
             for future in futures:
                 future.settle(self._ended(self._fault or DIED))
 
-    def _stop(self, seconds: float) -> None:
-        """Ends the program, with what it may have started, unless it ends by itself in time."""
-        with contextlib.suppress(ProcessLookupError):
-            try:
-                self._process.wait(seconds)
-            except subprocess.TimeoutExpired:
+    def _stop(self) -> None:
+        """Ends the program unless it ends by itself in a moment."""
+        try:
+            self._process.wait(WAITED)
+        except subprocess.TimeoutExpired:
+            self._end()
+
+    def _end(self) -> None:
+        """Ends the program at once, with what it may have started. Calls that may be broken off do so: they take none of Popen's locks."""
+        if self._process.returncode is None:
+            with contextlib.suppress(ProcessLookupError):
                 os.killpg(self._process.pid, signal.SIGKILL)
 
     def _ended(self, fault: str = "") -> Ended:
         why = fault or (CLOSED if self._is_closed else self._fault)
-        told, status = self._told.decode(errors="replace").strip(), self._process.poll()
+        told, status = self._told.decode(errors="replace").strip(), self._process.returncode
         how = "" if status is None or why == BROKEN_OFF else f" with status {status}" if status >= 0 else f" by signal {-status}"
         return Ended(f"{why}{how}{': ' if told else ''}{told}", status)
 
