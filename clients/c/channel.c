@@ -86,8 +86,18 @@ ssize_t send_some(struct channel *it, const char *bytes, size_t length)
     return sent;
 }
 
+/* Ends a channel that has sent a part of what it was fed, and has no memory for what is answered: so nothing can go on behind that part. */
+static int break_off(struct channel *it)
+{
+    shutdown(it->file, SHUT_RDWR);
+    it->is_broken = it->is_over = true;
+    it->error = ENOMEM;
+    return REGISTRYD_ENDED;
+}
+
 int feed_channel(struct channel *it, const char *bytes, size_t length)
 {
+    const char *begin = bytes;
     if (it->is_ended)
         return REGISTRYD_MISUSE;
     while (length) {
@@ -101,7 +111,7 @@ int feed_channel(struct channel *it, const char *bytes, size_t length)
             await_channel(it, true);
             int answer = receive_channel(it);
             if (answer)
-                return answer;
+                return bytes == begin ? answer : break_off(it);
         }
     }
     return REGISTRYD_OK;

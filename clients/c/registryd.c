@@ -230,7 +230,12 @@ int registryd_ask(registryd_session session, const void *bytes, size_t length, v
     const struct way *way = place->session.way;
     *taken = *left = 0;
     int answer = way->feed(&place->session, bytes, length);
-    return leave(place, answer ? answer : way->take(&place->session, room, size, taken, left));
+    if (!answer) {
+        answer = way->take(&place->session, room, size, taken, left);
+        if (answer == REGISTRYD_MEMORY)
+            *left = 1;
+    }
+    return leave(place, answer);
 }
 
 int registryd_save(registryd_session session)

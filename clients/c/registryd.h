@@ -47,8 +47,8 @@ enum registryd_answer {
     REGISTRYD_MEMORY = 2,
     /* The program can't be started, or the service can't be reached. */
     REGISTRYD_START = 3,
-    /* The program has ended, or the journal isn't whole: why stands on standard error. In process: there was no memory to go on.
-     * By a service: it is not there any more. */
+    /* The program has ended, or the journal isn't whole: why stands on standard error. In process, or amid a feed: there was no memory
+     * to go on. By a service: it is not there any more. */
     REGISTRYD_ENDED = 4,
     /* In process: something is the matter with a journal's file. A session that was open takes no more, and what was told as
      * accepted is in the file that it kept its journal in. */
@@ -130,7 +130,8 @@ int registryd_feed(registryd_session session, const void *bytes, size_t length);
 int registryd_take(registryd_session session, void *bytes, size_t room, size_t *length, size_t *left);
 
 /* registryd_feed and then registryd_take, with no call of another thread for the session between them. Where the first does not
- * answer REGISTRYD_OK, that is the answer, and nothing is taken. */
+ * answer REGISTRYD_OK, that is the answer, and nothing is taken. Where it answers REGISTRYD_MEMORY and something is left to take, the lines
+ * were fed: their replies come before those of later lines. */
 int registryd_ask(registryd_session session, const void *bytes, size_t length, void *room, size_t size, size_t *taken, size_t *left);
 
 /* Ends the input, waits for the last replies, which can then be taken, and for the journal to be whole.

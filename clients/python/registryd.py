@@ -17,6 +17,9 @@ A line that is refused by number raises the exception of its name, which is a `R
 exception: `resolve` answers `NoSelection`. Names, versions and requirements are judged by the registry alone. Where the session
 has ended, every call that waits and every later one raises `Ended`, which says how it ended; none waits for ever.
 
+A call may be interrupted, as by Ctrl-C or by what a signal's handler raises. No later call gets its reply: that is dropped as it comes, or
+the session ends and says why.
+
 Any thread may call. It takes Python 3.10 and the standard library.
 """
 from __future__ import annotations
@@ -35,7 +38,7 @@ import threading
 import time
 import weakref
 from collections import deque
-from collections.abc import Iterable, Mapping, Sequence
+from collections.abc import Callable, Iterable, Iterator, Mapping, Sequence
 from concurrent.futures import Future
 from dataclasses import dataclass
 from pathlib import Path
@@ -414,10 +417,10 @@ class Registry:
     def many(self, requests: Iterable[Request]) -> Sequence[Future[Reply]]:
         """Sends lines together: all of them, or none where one can't be written."""
         lines = [written(it) for it in requests]
-        futures: list[Future[Reply]] = [Future() for _ in lines]
+        futures = [Awaited() for _ in lines]
         for future in futures:
             future.set_running_or_notify_cancel()  # a line that was sent can't be taken back
-        self._session.send(lines, futures)
+        self._session.send(lines, tuple(futures))
         return futures
 
     def close(self, seconds: float | None = None) -> None:
@@ -445,31 +448,70 @@ class Registry:
 
 
 CLOSED, DIED = "the session was closed", "the program ended"
+BROKEN_OFF = "a call was interrupted while its line was being sent"
 
 
-def settle(future: Future[Reply] | _Answered, reply: Reply | Refusal) -> None:
-    if isinstance(reply, Refusal):
-        future.set_exception(reply)
-    else:
-        future.set_result(reply)
+class Awaited(Future):
+    """What becomes of one line, for any number of threads."""
+
+    def settle(self, reply: Reply | RegistryError) -> None:
+        """Doesn't wait for the future's lock: a thread that was interrupted in a call of this future may have left it locked for good."""
+        if self._condition.acquire(blocking=False):
+            self._condition.release()
+            self._set(reply)
+        else:
+            threading.Thread(target=self._set, args=[reply], daemon=True).start()
+
+    def _set(self, reply: Reply | RegistryError) -> None:
+        if isinstance(reply, RegistryError):
+            self.set_exception(reply)
+        else:
+            self.set_result(reply)
 
 
-# ---- A program of its own
-
-class _Answered(queue.SimpleQueue):
+class Answered(queue.SimpleQueue):
     """What becomes of one line, for a single thread that waits: as much of a future as that takes, for a fifth of its time."""
 
-    set_result = set_exception = queue.SimpleQueue.put
+    settle = queue.SimpleQueue.put
 
     def result(self) -> Any:
         reply = self.get()
-        if isinstance(reply, Exception):
+        if isinstance(reply, RegistryError):
             raise reply
         return reply
 
 
+Futures = Sequence[Union[Awaited, Answered]]
+
+
+class Ending:
+    """The end of something, for any number of threads that wait for it. One that is interrupted may wait again: after an interrupted `join`
+    of a thread, Python takes the thread for ended."""
+
+    def __init__(self) -> None:
+        self._has_come, self._lock = False, threading.Lock()
+        self._lock.acquire()
+
+    def tell(self) -> None:
+        self._has_come = True
+        self._lock.release()
+
+    def wait(self, seconds: float | None) -> bool:
+        """Waits at most so long; answers whether the end has come."""
+        limit = float("inf") if seconds is None else time.monotonic() + seconds
+        while not self._has_come and (left := limit - time.monotonic()) > 0:
+            self._lock.acquire(timeout=min(left, WAITED))  # one thread is woken by it, others find it then
+        return self._has_come
+
+
+# ---- A program of its own
+
 class _Child:
-    """A session with a program that is started for it, and asked over pipes by three threads."""
+    """A session with a program that is started for it, and asked over pipes by three threads.
+
+    A call may be broken off between any two of its steps: by a key, by what a signal's handler raises, for lack of memory. So whoever finds
+    that a line and its future did not enter both, which only one that has the turn can, writes no more, and the session ends. The three
+    threads are not broken off."""
 
     def __init__(self, words: Sequence[str]) -> None:
         lifeline, self._lifeline = map(beside_streams, os.pipe())
@@ -483,16 +525,20 @@ class _Child:
             raise
         finally:
             os.close(lifeline)
-        self._waiting: deque[Future[Any] | _Answered] = deque()  # of the lines that have no reply so far, in order
-        self._lines: queue.SimpleQueue[bytes | None] = queue.SimpleQueue()  # to be written; none is the last
-        self._unwritten = 0  # how many texts are queued, or being written
-        self._lock = threading.Lock()  # a line is queued with its future, or neither is
+        self._turn = threading.RLock()  # which a thread can give back only where it has it
+        self._is_whole = True  # whether each line has its future and more may come
+        self._waiting: deque[Awaited | Answered] = deque()  # of the lines that are written and have no reply so far, in order
+        self._queued: deque[tuple[bytes, Futures]] = deque()  # what a thread is to write, with the futures of its lines
+        self._wake: queue.SimpleQueue[bool] = queue.SimpleQueue()  # has that thread look there; false has it end
         self._input = self._process.stdin.fileno()
         self._writable = select.poll()
         self._writable.register(self._input, select.POLLOUT)
-        self._fault = ""  # why no more lines are taken
-        self._failed = ""  # what it was before the session was closed
-        self._is_told = False  # whether a call to close or kill has come to its end
+        self._fault = ""  # why no more lines are taken, but for a call to close or kill
+        self._is_closed = False  # whether there was one
+        self._is_told = False  # whether one has come to its end
+        self._is_broken = False  # whether the program reads no more
+        self._is_over = False  # whether what waits is being told that it gets no reply
+        self._ending = Ending()  # of the program, once all that waited is told
         self._told = b""  # the end of standard error
         self._threads = [threading.Thread(target=run, daemon=True) for run in (self._write, self._hear, self._read)]
         for thread in self._threads:
@@ -501,68 +547,96 @@ class _Child:
     def call(self, request: Request) -> Any:
         if threading.current_thread() in self._threads:
             raise RuntimeError("what a future calls back can't wait for a reply: it may ask")
-        answered = _Answered()
+        answered = Answered()
         self.send([written(request)], [answered])
         return answered.result()
 
-    def send(self, lines: Sequence[bytes], futures: Sequence[Future[Reply] | _Answered]) -> None:
+    def send(self, lines: Sequence[bytes], futures: Futures) -> None:
+        if self._is_closed or self._fault:
+            raise self._ended()
         text = b"".join(lines)
-        with self._lock:
-            if self._fault:
-                raise self._ended()
-            self._waiting.extend(futures)
-            if self._unwritten or not self._write_now(text):
-                self._unwritten += 1
-                self._lines.put(text)
+        if not self._write_now(text, futures):
+            self._queued.append((text, futures))
+            self._wake.put(True)
+        if self._is_over:  # perhaps these came too late to be told
+            raise self._ended()
 
-    def _write_now(self, text: bytes) -> bool:
-        """Writes a short text where that can't wait, which spares a change of threads; answers whether it has. Where the program reads
-        no more, the thread that writes finds that."""
-        if len(text) > select.PIPE_BUF or not self._writable.poll(0):
-            return False
-        with contextlib.suppress(OSError):
-            return os.write(self._input, text) == len(text)
-        return False
+    def _write_now(self, text: bytes, futures: Futures) -> bool:
+        """Writes a short text where that can't wait, which spares a change of threads; answers whether it has."""
+        try:
+            if len(text) > select.PIPE_BUF or not self._turn.acquire(blocking=False):
+                return False
+            is_free = self._is_whole and not self._queued and bool(self._writable.poll(0))
+            if is_free:
+                self._is_whole = False
+                self._waiting.extend(futures)
+                os.write(self._input, text)
+                self._is_whole = True
+            self._turn.release()
+            return is_free
+        except BrokenPipeError:  # the thread that writes ends the program, and the one that reads tells
+            self._is_broken = True
+            self._turn.release()
+            self._wake.put(True)
+            return True
+        except BaseException:
+            try:  # the first call here is this one, since another exception may come behind each
+                self._turn.release()
+            except RuntimeError:
+                pass  # this thread does not have it
+            self._wake.put(True)
+            raise
 
     def close(self, seconds: float | None) -> None:
-        with self._lock:
-            if self._fault != CLOSED:
-                self._failed, self._fault = self._fault, CLOSED
-                self._lines.put(None)
-        is_killed = not self._join(seconds)
+        self._is_closed = True
+        self._wake.put(False)
+        is_killed = not self._ending.wait(seconds)
         if is_killed:
-            self._stop(0)
-            self._join(WAITED)
+            self._end()
+            self._ending.wait(WAITED)
         was_told, self._is_told = self._is_told, True
         if is_killed:
-            raise Ended(f"the program was killed, since it had not ended {seconds:g} seconds after the session was closed", self._process.poll())
-        if not was_told and (self._failed or self._process.returncode):
-            raise self._ended(self._failed or DIED)
+            raise Ended(f"the program was killed, since it had not ended {seconds:g} seconds after the session was closed", self._process.returncode)
+        if not was_told and (self._fault or self._process.returncode):
+            raise self._ended(self._fault or DIED)
 
     def kill(self) -> None:
-        self._stop(0)
-        with self._lock:
-            self._fault, self._is_told = CLOSED, True
-            self._lines.put(None)
-        self._join(None)
+        self._is_closed = self._is_told = True
+        self._wake.put(False)
+        self._end()
+        self._ending.wait(None)
 
     # The threads
 
     def _write(self) -> None:
         """Writes what is queued, and closes the pipe. A program that reads no more is ended, and the thread that reads tells."""
-        for step in (self._write_queued, self._process.stdin.close):
+        for step in (self._write_queued, self._shut):
             try:
                 step()
-            except OSError:
-                self._stop(WAITED)
+            except Exception:  # it reads no more, or there is no memory
+                self._is_broken = True
+        if self._is_broken:
+            self._stop()
+        if self._is_over:
+            self._tell_left()
 
     def _write_queued(self) -> None:
-        while (text := self._lines.get()) is not None:
-            self._process.stdin.write(text)
-            if self._lines.empty():
+        while self._wake.get():
+            with self._turn:
+                if not self._is_whole:
+                    self._fault = self._fault or ("" if self._is_broken else BROKEN_OFF)
+                    return
+                self._is_whole = False
+                for text, futures in taken_from(self._queued):
+                    self._waiting.extend(futures)
+                    self._process.stdin.write(text)
                 self._process.stdin.flush()
-            with self._lock:
-                self._unwritten -= 1
+                self._is_whole = True
+
+    def _shut(self) -> None:
+        with self._turn:
+            self._is_whole = False
+        self._process.stdin.close()
 
     def _hear(self) -> None:
         """Keeps the end of what the program says on standard error."""
@@ -571,49 +645,70 @@ class _Child:
                 self._told = (self._told + told)[-MOST_TOLD:]
 
     def _read(self) -> None:
-        """Gives each reply to the line that waits longest, and tells those that get none."""
-        fault = DIED
-        for line in self._process.stdout:
-            try:
-                if not line.endswith(b"\n"):
-                    break
-                reply, future = answer(line), self._waiting.popleft()
-            except (ValueError, KeyError, TypeError, IndexError):
-                fault = f"the program wrote no reply: {line[:200]!r}"
-                break
-            settle(future, reply)
-        if self._waiting or self._fault != CLOSED:
-            self._stop(WAITED)
+        """Gives replies to the lines that wait for them, and tells those that get none."""
+        try:
+            fault = self._give_replies()
+        except BaseException as why:  # as there is no memory, or a call back of a future has raised SystemExit
+            fault = f"a reply could not be given: {why!r}"
+        if self._waiting or not self._is_closed:
+            self._stop()
         self._process.wait()
         self._process.stdout.close()
         self._threads[1].join(WAITED)  # a program that this one has started may keep standard error open
-        with self._lock:
-            left, self._waiting = list(self._waiting), deque()
+        if fault != DIED or not self._is_closed:
             self._fault = self._fault or fault
-            self._lines.put(None)
+        self._is_over = True
+        self._wake.put(False)
         os.close(self._lifeline)
-        for future in left:
-            future.set_exception(self._ended(fault))
+        self._tell_left()
+        self._threads[0].join(WAITED)  # it may be that such a program keeps the pipe full
+        self._ending.tell()
 
-    def _stop(self, seconds: float) -> None:
-        """Ends the program, with what it may have started, unless it ends by itself in time."""
-        with contextlib.suppress(ProcessLookupError):
+    def _give_replies(self) -> str:
+        """Gives each reply to the line that waits longest; answers why no more come."""
+        for line in self._process.stdout:
+            if not line.endswith(b"\n"):
+                break
             try:
-                self._process.wait(seconds)
-            except subprocess.TimeoutExpired:
+                reply, future = answer(line), self._waiting.popleft()
+            except (ValueError, KeyError, TypeError, IndexError):
+                return f"the program wrote no reply: {line[:200]!r}"
+            future.settle(reply)
+        return DIED
+
+    def _tell_left(self) -> None:
+        """Tells what gets no reply. Two threads may do so at once."""
+        for future in taken_from(self._waiting):
+            future.settle(self._ended(self._fault or DIED))
+        for _, futures in taken_from(self._queued):
+            for future in futures:
+                future.settle(self._ended(self._fault or DIED))
+
+    def _stop(self) -> None:
+        """Ends the program unless it ends by itself in a moment."""
+        try:
+            self._process.wait(WAITED)
+        except subprocess.TimeoutExpired:
+            self._end()
+
+    def _end(self) -> None:
+        """Ends the program at once, with what it may have started. Calls that may be broken off do so: they take none of Popen's locks."""
+        if self._process.returncode is None:
+            with contextlib.suppress(ProcessLookupError):
                 os.killpg(self._process.pid, signal.SIGKILL)
 
-    def _join(self, seconds: float | None) -> bool:
-        """Waits at most so long until all is written and read, and the program has ended; answers whether that is so."""
-        limit = None if seconds is None else time.monotonic() + seconds
-        for thread in self._threads[::2]:
-            thread.join(None if limit is None else max(0, limit - time.monotonic()))
-        return not any(thread.is_alive() for thread in self._threads[::2])
-
     def _ended(self, fault: str = "") -> Ended:
-        told, status = self._told.decode(errors="replace").strip(), self._process.poll()
-        how = "" if status is None else f" with status {status}" if status >= 0 else f" by signal {-status}"
-        return Ended(f"{fault or self._fault}{how}{': ' if told else ''}{told}", status)
+        why = fault or (CLOSED if self._is_closed else self._fault)
+        told, status = self._told.decode(errors="replace").strip(), self._process.returncode
+        how = "" if status is None or why == BROKEN_OFF else f" with status {status}" if status >= 0 else f" by signal {-status}"
+        return Ended(f"{why}{how}{': ' if told else ''}{told}", status)
+
+
+def taken_from(items: deque[Any]) -> Iterator[Any]:
+    """Takes out one after another, as long as there are any, though another thread may do so too."""
+    with contextlib.suppress(IndexError):
+        while True:
+            yield items.popleft()
 
 
 def beside_streams(file: int) -> int:
@@ -652,7 +747,8 @@ CALLS = {
     "close": (NUMBER,),
 }
 NEWEST, ANY = 1, 2  # which selection answers a request
-ANSWERS = {1: "the library was misused, as by a process that was forked", 2: "there is no memory"}
+MISUSED = 1
+ANSWERS = {MISUSED: "the library was misused, as by a process that was forked", 2: "there is no memory"}
 
 
 @functools.cache
@@ -685,7 +781,9 @@ class _Embedded:
         # how many bytes were taken, and how many are left to take
         self._length, self._left = SIZE(), SIZE()
         self._takes = (self._room, ROOM, ctypes.pointer(self._length), ctypes.pointer(self._left))
-        self._lock = threading.Lock()
+        self._lock = threading.RLock()  # which a thread can give back only where it has it
+        self._asker: int | None = None  # the thread that asks
+        self._is_taken = True  # whether all replies are: not where a call was broken off
         self._fault = ""  # why no more lines are taken
         number, words = NUMBER(), ctypes.create_string_buffer(MOST_TOLD)
         files = [None if path is None else os.fsencode(path) for path in (journal, load, save)]
@@ -703,44 +801,67 @@ class _Embedded:
         self._forget.atexit = False
 
     def call(self, request: Request) -> Any:
-        with self._lock:
-            text = self._asked(written(request))
-            if self._fault:
-                raise Ended(self._fault)
+        text, fault = self._asked(written(request))
+        if fault:
+            raise Ended(fault)
         reply = answer(text)
         if isinstance(reply, Refusal):
             raise reply
         return reply
 
-    def send(self, lines: Sequence[bytes], futures: Sequence[Future[Reply]]) -> None:
-        with self._lock:
-            text, fault = self._asked(b"".join(lines)), self._fault
+    def send(self, lines: Sequence[bytes], futures: Futures) -> None:
+        text, fault = self._asked(b"".join(lines))
         replies = text.splitlines()
         for reply, future in zip(replies, futures):
-            settle(future, answer(reply))
+            future.settle(answer(reply))
         for future in futures[len(replies):]:
-            future.set_exception(Ended(fault))
+            future.settle(Ended(fault))
 
-    def _asked(self, lines: bytes) -> bytes:
-        """The replies to lines; fewer where the session has ended on the way, and then the fault is noted."""
+    def _asked(self, lines: bytes) -> tuple[bytes, str]:
+        """The replies to lines; fewer where the session has ended on the way, and then why it has."""
+        if self._asker == threading.get_ident():
+            raise RuntimeError("a call of this thread is under way: a signal's handler can't make another")
+        return self._alone(lambda: self._exchanged(lines))
+
+    def _alone(self, work: Callable[[], Any], seconds: float | None = None) -> Any:
+        """Does what no two threads do at once. Where a call is broken off between any two steps of this, the lock is given back too."""
+        try:
+            if not self._lock.acquire(timeout=-1 if seconds is None else seconds):
+                raise TimeoutError(f"a search of the session still runs after {seconds:g} seconds, and can't be ended in this process")
+            done = work()
+            self._lock.release()
+            return done
+        except BaseException:
+            if self._asker == threading.get_ident():
+                self._asker = None
+            with contextlib.suppress(RuntimeError):  # this thread does not have it
+                self._lock.release()
+            raise
+
+    def _exchanged(self, lines: bytes) -> tuple[bytes, str]:
         if self._fault:
             raise Ended(self._fault)
-        self._take_left()  # of a call that was interrupted
+        self._asker = threading.get_ident()
+        if not self._is_taken:
+            self._take_left()
+        self._is_taken = False
         answered = self._library.registryd_ask(self._number, lines, len(lines), *self._takes)
-        taken = self._room[:self._length.value]
+        pieces = [] if answered else [self._room[:self._length.value]]
         if answered:
-            self._fault = told_by(answered, self._words())
-            self._left.value = 1  # what came before may be taken
-        return taken + self._take_left() if self._left.value else taken
+            self._fault = self._fault or told_by(answered, self._words())
+        if answered or self._left.value:
+            pieces += self._take_left()  # where it failed, what came before may be taken
+        self._is_taken, self._asker = True, None
+        return b"".join(pieces), self._fault
 
-    def _take_left(self) -> bytes:
+    def _take_left(self) -> list[bytes]:
         """What is left to take of the last replies."""
         pieces = []
-        while self._left.value:
-            self._left.value = 0
-            self._library.registryd_take(self._number, *self._takes)
+        while self._library.registryd_take(self._number, *self._takes) != MISUSED:
             pieces.append(self._room[:self._length.value])
-        return b"".join(pieces)
+            if not self._left.value:
+                break
+        return pieces
 
     def _words(self) -> ctypes.Array[ctypes.c_char]:
         words = ctypes.create_string_buffer(MOST_TOLD)
@@ -748,24 +869,29 @@ class _Embedded:
         return words
 
     def close(self, seconds: float | None) -> None:
-        if not self._lock.acquire(timeout=-1 if seconds is None else seconds):
-            raise TimeoutError(f"a search of the session still runs after {seconds:g} seconds, and can't be ended in this process")
-        try:
-            failed, self._fault = self._fault, CLOSED
-            if failed == CLOSED:
-                return
-            if not failed and (answered := self._library.registryd_save(self._number)):
-                failed = told_by(answered, self._words())
-            self._forget()
-        finally:
-            self._lock.release()
-        if failed:
+        if failed := self._alone(self._close, seconds):
             raise Ended(failed)
 
+    def _close(self) -> str:
+        """Closes the session, unless it is closed; answers how it failed."""
+        if not self._forget.alive:
+            return ""
+        was_begun, failed = self._fault == CLOSED, "" if self._fault == CLOSED else self._fault
+        self._fault = CLOSED
+        if not failed and (answered := self._library.registryd_save(self._number)):
+            # a call that was broken off may have come as far as to close it
+            failed = "" if was_begun and answered == MISUSED else told_by(answered, self._words())
+        self._end()
+        return failed
+
     def kill(self) -> None:
-        with self._lock:
-            self._fault = CLOSED
-            self._forget()
+        self._alone(self._end)
+
+    def _end(self) -> None:
+        self._fault = CLOSED
+        if self._forget.alive:
+            self._library.registryd_close(self._number)
+            self._forget.detach()
 
 
 def told_by(answered: int, words: ctypes.Array[ctypes.c_char]) -> str:

@@ -7,15 +7,15 @@ from __future__ import annotations
 
 import contextlib
 import json
+import queue
 import socket
 import threading
 import time
 from collections import deque
 from collections.abc import Sequence
-from concurrent.futures import Future
 from typing import Any
 
-from registryd import CLOSED, WAITED, Ended, Reply, Request, answer, settle, written
+from registryd import CLOSED, WAITED, Accepted, Answered, Awaited, Ended, Ending, Futures, Request, answer, taken_from, written
 
 PATIENCE, PAUSE = 10.0, 0.1  # seconds for a service to be there again, and between two tries
 LEAST = 0.001  # seconds to wait at least, since 0 would mean not to wait at all
@@ -25,107 +25,106 @@ REQUESTS = ("resolve", "check", "list")
 GREETING = b'{"op":"resolve","needs":[]}\n'  # its reply tells the revision
 FENCE = b"{}\n"  # the program that keeps the journal refuses it, once all commands that came before are in the journal
 
+Line = tuple[bytes, "Awaited | Answered"]  # with what waits for its reply
+
 
 class Connection:
-    """A session over a socket, whose replies a thread reads. The address is the socket's path, or HOST:PORT."""
+    """A session over a socket, which one thread writes to and another one reads. The address is the socket's path, or HOST:PORT.
+
+    A call may be broken off between any two of its steps: by a key, by what a signal's handler raises, for lack of memory. So all that it
+    does is one step, which queues its lines with what waits for them. The two threads are not broken off."""
 
     def __init__(self, address: str) -> None:
         self._address = address
-        self._lock = threading.Lock()  # of all that changes; who has it waits for nothing
-        self._waiting: deque[tuple[bytes, Future[Reply]]] = deque()  # the lines that have no reply so far, in order
-        self._unwritten: deque[bytes] = deque()  # what the connection didn't take at once
-        self._is_writing = False  # whether a thread writes that
+        self._lines: queue.SimpleQueue[list[Line] | None] = queue.SimpleQueue()  # to be asked; none is the last
+        self._lock = threading.Lock()  # of what both threads change; who has it waits for nothing
+        self._waiting: deque[Line] = deque()  # the lines that have no reply so far, in order
+        self._is_new = False  # whether the connection was made again, and has to be asked all of them
+        self._is_all_asked = False  # whether no more comes
         self._open: set[socket.socket] = set()  # what a call to kill has to shut
-        self._fault = ""  # why no more lines are taken
-        self._is_killed = False
+        self._fault = ""  # why no more lines are taken, but for a call to close or kill
+        self._is_closed = self._is_killed = False  # whether there was one
+        self._is_over = False  # whether what waits is being told that it gets no reply
+        self._ending = Ending()  # of the session, once all that waited is told
         self._is_answered = True  # whether anything was, since it connected again
         self._socket, self._revision = self._opened(time.monotonic() + PATIENCE, GREETING)  # the revision that was told last
-        self._thread = threading.Thread(target=self._run, daemon=True)
-        self._thread.start()
+        self._threads = [threading.Thread(target=run, daemon=True) for run in (self._write, self._run)]
+        for thread in self._threads:
+            thread.start()
 
     def call(self, request: Request) -> Any:
-        if threading.current_thread() is self._thread:
+        if threading.current_thread() in self._threads:
             raise RuntimeError("what a future calls back can't wait for a reply: it may ask")
-        future: Future[Reply] = Future()
-        self.send([written(request)], [future])
-        return future.result()
+        answered = Answered()
+        self.send([written(request)], [answered])
+        return answered.result()
 
-    def send(self, lines: Sequence[bytes], futures: Sequence[Future[Reply]]) -> None:
-        with self._lock:
-            if self._fault:
-                raise Ended(self._fault)
-            self._waiting.extend(zip(lines, futures))
-            self._put(b"".join(lines))
+    def send(self, lines: Sequence[bytes], futures: Futures) -> None:
+        if self._is_closed or self._fault:
+            raise self._ended()
+        self._lines.put(list(zip(lines, futures)))
+        if self._is_over:  # perhaps these came too late to be told
+            raise self._ended()
 
     def close(self, seconds: float | None) -> None:
-        with self._lock:
-            failed, self._fault = "" if self._fault == CLOSED else self._fault, CLOSED
-            self._end_input()
-        self._thread.join(seconds)
-        if self._thread.is_alive():
+        failed, self._is_closed = "" if self._is_closed else self._fault, True
+        self._lines.put([])
+        if not self._ending.wait(seconds):
             self.kill()
             raise Ended(f"the service had not answered {seconds:g} seconds after the session was closed")
         if failed:
             raise Ended(failed)
 
     def kill(self) -> None:
-        with self._lock:
-            self._fault, self._is_killed = CLOSED, True
-            for it in self._open:
-                shut(it, socket.SHUT_RDWR)
-        if threading.current_thread() is not self._thread:
-            self._thread.join(WAITED)  # the system may be looking up a host
+        self._is_closed = self._is_killed = True
+        for it in list(self._open):
+            shut(it, socket.SHUT_RDWR)
+        if threading.current_thread() not in self._threads:
+            self._ending.wait(WAITED)  # the system may be looking up a host
 
-    # What is written
+    def _ended(self) -> Ended:
+        return Ended(CLOSED if self._is_closed else self._fault)
 
-    def _put(self, text: bytes) -> None:
-        """Writes lines as far as the connection takes them at once, and has a thread write the rest. Where that fails, the thread that
-        reads finds the connection broken off, and asks again."""
-        if not self._unwritten and not self._is_writing:
-            try:
-                text = text[self._socket.send(text, socket.MSG_DONTWAIT):]
-            except BlockingIOError:
-                pass
-            except OSError:
-                return
-        if text:
-            self._unwritten.append(text)
-            if not self._is_writing:
-                self._is_writing = True
-                threading.Thread(target=self._write, daemon=True).start()
+    # The thread that writes
 
     def _write(self) -> None:
-        while True:
+        """Asks what is queued, and by a connection that is new all that has no reply. Where that fails, the thread that reads finds the
+        connection broken off, and connects again."""
+        while (lines := self._lines.get()) is not None:
             with self._lock:
-                if not self._unwritten:
-                    self._is_writing = False
-                    self._end_input()
-                    return
-                text, connection = self._unwritten.popleft(), self._socket
+                self._waiting.extend(lines)
+                text = b"".join(line for line, _ in (self._waiting if self._is_new else lines))
+                self._is_new, connection = False, self._socket
             try:
                 connection.sendall(text)
             except OSError:
                 shut(connection, socket.SHUT_RDWR)
+            if self._is_closed and self._lines.empty():
+                self._is_all_asked = True
+                shut(connection, socket.SHUT_WR)
+        for _, future in taken_from(self._waiting):
+            future.settle(self._ended())
+        self._ending.tell()
 
-    def _end_input(self) -> None:
-        """Tells the service that no more comes, where that is so."""
-        if self._fault == CLOSED and not self._unwritten and not self._is_writing:
-            shut(self._socket, socket.SHUT_WR)
-
-    # The thread
+    # The thread that reads
 
     def _run(self) -> None:
+        try:
+            self._read_on()
+        except BaseException as why:  # as there is no memory, or a call back of a future has raised SystemExit
+            self._fault = f"a reply could not be given: {why!r}"
+        self._is_over = True
+        self._leave(self._socket)
+        self._lines.put(None)
+
+    def _read_on(self) -> None:
+        """Reads until no reply comes any more, by one connection after another."""
         while self._read():
             if self._is_answered:
                 limit, self._is_answered = time.monotonic() + PATIENCE, False
             if not (self._has_ended(limit) and self._again(limit)):
+                self._fault = f"the service at {self._address} is not there any more"
                 break
-        with self._lock:
-            self._fault = self._fault or f"the service at {self._address} is not there any more"
-            left, self._waiting = list(self._waiting), deque()
-        self._leave(self._socket)
-        for _, future in left:
-            future.set_exception(Ended(self._fault))
 
     def _read(self) -> bool:
         """Gives replies to the lines that wait longest, until the connection breaks off; answers whether it has to be made again."""
@@ -141,8 +140,8 @@ class Connection:
                 self._revision, self._is_answered = reply.revision, True
                 with self._lock:
                     _, future = self._waiting.popleft()
-                settle(future, reply)
-        return not self._is_killed and (bool(self._waiting) or not self._fault)
+                future.settle(reply)
+        return not self._is_killed and (bool(self._waiting) or not self._is_all_asked)
 
     def _has_ended(self, limit: float) -> bool:
         """Waits until the service has ended the connection, after which no line of it is carried out; answers whether there is none
@@ -181,7 +180,7 @@ class Connection:
                 return True
         return False
 
-    def _known(self, commands: list[bytes]) -> list[tuple[Future[Reply], int]]:
+    def _known(self, commands: list[bytes]) -> list[tuple[Awaited | Answered, int]]:
         """Which lines were carried out, by their revisions: after what was told last, and in their order."""
         with self._lock:
             waiting = list(self._waiting)
@@ -192,34 +191,30 @@ class Connection:
                 known.append((future, revision))
         return known
 
-    def _go_on_with(self, connection: socket.socket, known: list[tuple[Future[Reply], int]]) -> None:
+    def _go_on_with(self, connection: socket.socket, known: list[tuple[Awaited | Answered, int]]) -> None:
         """Asks by another connection what is not known."""
         settled = {id(future) for future, _ in known}
         with self._lock:
             self._waiting = deque(it for it in self._waiting if id(it[1]) not in settled)
-            self._socket = connection
-            self._unwritten.clear()
-            self._put(b"".join(line for line, _ in self._waiting))
-            self._end_input()
+            self._socket, self._is_new = connection, True
+        self._lines.put([])
         for future, revision in known:
             self._revision, self._is_answered = revision, True
-            settle(future, answer(b'{"ok":true,"revision":%d}' % revision))
+            future.settle(Accepted(revision))
 
     # Connections
 
     def _connected(self, limit: float) -> socket.socket:
         connection = connect(self._address, max(limit - time.monotonic(), LEAST))
-        with self._lock:
-            self._open.add(connection)
-            if not self._is_killed:
-                return connection
+        self._open.add(connection)
+        if not self._is_killed:
+            return connection
         self._leave(connection)
         raise ConnectionAbortedError
 
     def _leave(self, connection: socket.socket) -> None:
         shut(connection, socket.SHUT_RDWR)  # so that who still writes to it ends
-        with self._lock:
-            self._open.discard(connection)
+        self._open.discard(connection)
         connection.close()
 
     def _opened(self, limit: float, line: bytes) -> tuple[socket.socket, int]:

@@ -14,6 +14,7 @@ from test_durable_replies import HOPELESS, holes
 CALLS = os.path.join(TESTS, "c_client_calls.c")
 OUTLIVED = os.path.join(TESTS, "c_client_outlived.c")
 CLOSED = os.path.join(TESTS, "c_client_closed.c")
+MEMORY = os.path.join(TESTS, "c_client_memory.c")
 REPLIES = (b'{"ok":true,"revision":1}\n{"ok":true,"revision":2}\n'
            b'{"revision":2,"selected":[["app","1.0.0"],["log","1.3.0"]]}\n')
 AGAIN = (b'{"error":7,"name":"AlreadyPublished","revision":2}\n' * 2 + REPLIES.splitlines(True)[2])
@@ -69,6 +70,12 @@ class Client(unittest.TestCase):
         self.assertEqual((done.returncode, done.stdout), (0, b""), done.stderr)
         # the program's own words on the journal that isn't there, and on the one that another session has
         self.assertEqual(done.stderr, b"registryd: input failed\n" * 2 + b"registryd: journal k.journal: in use by another session\n")
+
+    def test_no_memory_for_replies(self):
+        linked(self.caller, MEMORY, "-Wl,--wrap=realloc")
+        done = subprocess.run([self.caller, PROGRAM], stdout=subprocess.PIPE, stderr=subprocess.PIPE, timeout=300, check=False)
+        # a program that nobody hears any more says so
+        self.assertEqual((done.returncode, done.stdout, done.stderr), (0, b"", b"registryd: output failed\n"))
 
     def test_a_session_is_closed_while_a_thread_waits_for_a_search(self):
         linked_with_sources(self.caller, CLOSED, "-g", "-fsanitize=thread")

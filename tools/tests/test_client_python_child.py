@@ -1,5 +1,6 @@
 """The client in Python and its child: programs that end, close or write what is no reply, sessions that are closed or killed in the
 midst of a search, and what becomes of the program where this process ends."""
+import contextlib
 import os
 import signal
 import subprocess
@@ -33,7 +34,7 @@ class Child(Case):
 
             def write(text):
                 if not written:
-                    comes(lambda: registry._session._unwritten > 1)  # as a thread that gets no processor until then
+                    comes(lambda: registry._session._queued)  # as a thread that gets no processor until then
                 written.append(text)
                 return stdin.write(text)
 
@@ -41,7 +42,7 @@ class Child(Case):
             with mock.patch.object(registry._session._process, "stdin", slow):
                 registry.many(Publish("a", f"{number}.0.0") for number in range(300))
                 self.assertEqual(registry.resolve({"a": "*"}), Selection(300, {"a": "299.0.0"}))
-                self.assertTrue(comes(lambda: not registry._session._unwritten))
+                self.assertTrue(comes(lambda: registry._session._is_whole))
                 # now that nothing waits it is written at once, not by that thread
                 self.assertEqual(len(written), 2)
                 self.assertEqual(registry.resolve({"a": "^7"}).selected, {"a": "7.0.0"})
@@ -174,7 +175,8 @@ class Child(Case):
             if not closed:
                 # what is written then finds a broken pipe
                 while registry._session._threads[0].is_alive():
-                    registry._session._lines.put(b"\n")
+                    with contextlib.suppress(Ended):
+                        registry.ask(List())
             self.ends("the program ended", lambda: future.result(SECONDS))
             self.ends("the program ended", registry.close)
 
@@ -214,7 +216,7 @@ class Child(Case):
     def test_an_end_that_was_interrupted_is_gone_on_with(self):
         registry = Registry(PROGRAM)
         future = registry.ask(pigeons(registry))
-        with mock.patch.object(registry._session, "_join", side_effect=KeyboardInterrupt), self.assertRaises(KeyboardInterrupt):
+        with mock.patch.object(registry._session._ending, "wait", side_effect=KeyboardInterrupt), self.assertRaises(KeyboardInterrupt):
             registry.close()
         self.ends("killed", lambda: registry.close(0.1))
         self.ends("by signal 9", lambda: future.result(SECONDS))

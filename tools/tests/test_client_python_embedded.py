@@ -183,7 +183,7 @@ import os, threading, time, registryd
 from client_python import pigeons
 registry = registryd.Registry(embedded=True, library={LIBRARY!r}, journal="a.journal")
 threading.Thread(target=registry.ask, args=[pigeons(registry)], daemon=True).start()
-while not registry._session._lock.locked():
+while not registry._session._asker:
     time.sleep(0.01)
 begun = time.monotonic()
 try:
@@ -201,10 +201,19 @@ except TimeoutError as told:
 
     def test_a_session_is_closed_once_the_search_has_ended(self):
         with self.open(save=self.path("journal")) as registry:
-            registry._session._lock.acquire()
+            is_begun, may_end = threading.Event(), threading.Event()
+
+            def search():
+                is_begun.set()
+                may_end.wait()
+
+            searching = threading.Thread(target=registry._session._alone, args=[search])
+            searching.start()
+            is_begun.wait()
             self.assertRaises(TimeoutError, registry.close, 0.05)
-            threading.Timer(0.2, registry._session._lock.release).start()
+            threading.Timer(0.2, may_end.set).start()
             self.assertEqual(registry.publish("a", "1.0.0"), 1)
+            searching.join()
         self.assertTrue(os.path.exists(self.path("journal")))
 
 

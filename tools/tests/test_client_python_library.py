@@ -168,7 +168,7 @@ class Embedded(Case):
 
     def test_what_is_left_of_a_call_that_was_interrupted(self):
         registry = self.open(LISTED)
-        registry._session._left.value, self.library.left = 5, b"rest\n"
+        registry._session._is_taken, self.library.left = False, b"rest\n"
         self.assertEqual(registry.list(), Listing(0, {}))
         self.assertEqual(self.names(), ["open", "take", "ask"])
 
