@@ -191,6 +191,25 @@ class Slow(Case):
         self.patient.child.answer(b"a reply")
         self.assertFalse(self.one.is_slow)
 
+    def test_a_client_is_slow_no_more_once_a_reader_was_at_its_request_for_a_moment_only(self):
+        self.one.is_slow = True
+        self.ask((self.one, b"first"))
+        self.pass_time(0.2)
+        self.patient.child.answer(b"a reply")
+        self.assertFalse(self.one.is_slow)
+
+    def test_what_is_asked_again_has_its_quarter_of_a_second_again(self):
+        """Also of the same reader, whose program has ended by itself."""
+        self.pool = self.pool_of(1)
+        reader, = self.pool.readers
+        self.ask((self.one, b"first"))
+        self.pass_time(9.9)
+        self.begin_again(reader)
+        self.pass_time(0.2)
+        self.assertFalse(reader.child.is_killed)
+        self.pass_time(0.1)
+        self.assertTrue(reader.child.is_killed)
+
     def test_one_that_waited_in_vain_is_taken_for_quick(self):
         self.one.is_slow = True
         self.ask((self.two, b"slow"), (self.one, b"first"))
