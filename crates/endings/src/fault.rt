@@ -15,7 +15,7 @@ pub enum What {
     NotPlain,
     /// The line of this number, counted from 1, is not a journal's.
     Line(usize),
-    /// It was removed, or is not as long as the session left it.
+    /// Its name leads to no file or to another one, or it is not as long as the session left it.
     Changed,
     /// The system refused something.
     Opened,
