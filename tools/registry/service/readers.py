@@ -5,7 +5,7 @@ from collections import deque
 
 from ..session import selecting, shared
 from .child import ACCEPTED, Child
-from .journal import text_at
+from .copies import text_at
 from .supervisor import Supervisor
 
 WINDOW = 32  # requests that a reader has at most
