@@ -218,8 +218,11 @@ uint64_t revision_of(const char *reply, size_t length)
 
 bool is_unavailable(const char *reply, size_t length)
 {
-    static const char begin[] = "{\"error\":503,";
-    return length >= sizeof begin - 1 && !memcmp(reply, begin, sizeof begin - 1);
+    static const char *const begins[] = {"{\"error\":503,\"name\":\"Unavailable\"", "{\"error\":503,\"name\":\"TooManyClients\""};
+    for (size_t i = 0; i < 2; i++)
+        if (length >= strlen(begins[i]) && !memcmp(reply, begins[i], strlen(begins[i])))
+            return true;
+    return false;
 }
 
 bool ask_revision(int file, const char *line, const struct patience *patience, uint64_t *revision)

@@ -328,7 +328,7 @@ def answer(line: bytes) -> Reply | Refusal:
         return Accepted(revision)
     if "error" in said:
         kind = REFUSALS.get(said["error"])
-        return kind(revision) if kind else Refusal(revision, said["name"])
+        return kind(revision) if kind else Refusal(revision, said.get("reason", said["name"]))
     if "selected" in said:
         return Selection(revision, dict(said["selected"]))
     if "refused" in said:

@@ -20,7 +20,7 @@ from registryd import CLOSED, WAITED, Accepted, Answered, Awaited, Ended, Ending
 PATIENCE, PAUSE = 10.0, 0.1  # seconds for a service to be there again, and between two tries
 LEAST = 0.001  # seconds to wait at least, since 0 would mean not to wait at all
 PIECE = 65_536  # bytes that are read at once
-UNAVAILABLE = 503  # the number of the service's own refusals: it could not ask a program, or has as many clients as may be
+UNAVAILABLE = b'{"error":503,"name":"Unavailable",', b'{"error":503,"name":"TooManyClients",'  # the service could not ask a program, or has no room
 REQUESTS = ("resolve", "check", "list")
 GREETING = b'{"op":"resolve","needs":[]}\n'  # its reply tells the revision
 FENCE = b"{}\n"  # the program that keeps the journal refuses it, once all commands that came before are in the journal
@@ -302,4 +302,4 @@ def changes_nothing(line: bytes) -> bool:
 
 
 def is_unavailable(line: bytes) -> bool:
-    return line.startswith(b'{"error":%d,' % UNAVAILABLE)
+    return line.startswith(UNAVAILABLE)

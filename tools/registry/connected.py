@@ -102,6 +102,8 @@ class Connected:
                 raise Lost
             reply = json.loads(line)
             if reply.get("error") == UNAVAILABLE:
+                if "reason" in reply:
+                    raise Failed(f"the service at {self.path} accepts nothing now: {reply['reason']}")
                 raise Lost
             yield reply
 

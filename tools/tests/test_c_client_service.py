@@ -229,6 +229,12 @@ class WithScripts(Called):
                 self.assertEqual(self.tried(what, service.path, lines), accepted(2, 3, 4) + LISTED, (what, first))
                 self.assertEqual(service.asked, [[GREETING, *lines], [FENCE, YANK, LIST]])
 
+    def test_what_a_service_refuses_is_not_asked_again(self):
+        refused = '{"error":503,"name":"DiskFault","reason":"the journal can\'t be written: No space left on device","revision":1}\n'
+        service = self.script(1, [], [(2, refused + LISTED)])
+        self.assertEqual(self.tried("lines", service.path, [YANK, LIST]), refused + LISTED)
+        self.assertEqual(service.asked, [[GREETING, YANK, LIST]])
+
     def test_between_what_is_asked_again(self):
         """A command that was carried out is answered at its place."""
         for first, again in (([LIST, YANK, LIST], [LIST, LIST]), ([YANK, LIST, LIST, UNYANK], [LIST, LIST])):

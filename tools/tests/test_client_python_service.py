@@ -236,6 +236,14 @@ class Scripts(client_python.Case):
         self.assertEqual(service.asked, [[GREETING, PUBLISH], [FENCE, PUBLISH]])
         registry.kill()
 
+    def test_what_a_service_refuses_is_not_asked_again(self):
+        service, registry = self.session(1, [], [(2, '{"error":503,"name":"DiskFault","reason":"the journal can\'t be written: so","revision":1}\n' + LISTED)])
+        refused, listed = registry.many([Yank("log", "1.0.0"), List()])
+        with self.assertRaisesRegex(registryd.Refusal, "^the journal can't be written: so: .*, at revision 1$"):
+            refused.result(SECONDS)
+        self.assertEqual((listed.result(SECONDS).revision, service.asked), (4, [[GREETING, YANK, LIST]]))
+        registry.kill()
+
     def test_requests_alone_need_no_look(self):
         service, registry = self.session(1, [PUBLISHED], [(1, ""), (1, LISTED)])
         self.assertEqual(registry.list().revision, 4)

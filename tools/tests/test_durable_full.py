@@ -21,10 +21,10 @@ CDLL = ctypes.CDLL(None, use_errno=True)
 
 
 @contextlib.contextmanager
-def small_disk():
+def small_disk(size=TMPFS):
     """The folder of a small file system, or none where none may be mounted."""
     with tempfile.TemporaryDirectory() as folder:
-        if CDLL.mount(b"none", folder.encode(), b"tmpfs", 0, f"size={TMPFS}".encode()):
+        if CDLL.mount(b"none", folder.encode(), b"tmpfs", 0, f"size={size}".encode()):
             yield None
             return
         try:

@@ -86,6 +86,12 @@ class Connecting(unittest.TestCase):
         self.assertEqual(made.ask(request, A1), [{"revision": 1, "selected": []}, {"ok": True, "revision": 1}])
         self.assertEqual((self.sent(1), self.connections.closed()), ([request], [True, False]))
 
+    def test_what_the_service_refuses_is_not_asked_again(self):
+        made = self.connected([EMPTY % 0, OK % 1, '{"error":503,"name":"DiskFault","reason":"why","revision":1}'])
+        with self.assertRaisesRegex(Failed, r"\Athe service at address accepts nothing now: why\Z"):
+            made.ask(A1, B1)
+        self.assertEqual((self.sent(0)[1:], self.slept), ([A1, B1], []))
+
     def test_patience_begins_anew_with_each_reply(self):
         made = self.connected([EMPTY % 0, OK % 1], [], [OK % 2], journals=[Failed("not now"), journal([json.dumps(A1)])])
         self.now += 9.9

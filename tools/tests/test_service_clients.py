@@ -1,17 +1,21 @@
 """A connection of a service, over stand-ins of the service and of the other end: the order of its lines and replies, and what it may take."""
+import json
 import os
+import random
 import sys
 import unittest
 from types import SimpleNamespace
 from unittest import mock
 
+from made_lines import Maker
 from program import LIST, TOP, publish, resolve, yank
 
 sys.path.insert(0, os.path.join(TOP, "tools"))
-from registry.service import client
+from registry.service import client, ops
 
 A1, B1 = publish("a", "1.0.0").encode(), publish("b", "1.0.0").encode()
 ASK = resolve("a *").encode()
+BAD = b'{"error":19,"name":"BadLine","revision":4}\n'
 
 
 class Transport:
@@ -53,7 +57,8 @@ class Service:
 
     def __init__(self):
         self.asked, self.soon, self.later, self.cut, self.takes = [], [], [], [], True
-        self.clients, self.keeper, self.time = set(), SimpleNamespace(revision=4, is_up=True), 0.0
+        self.clients, self.pages = set(), set()
+        self.keeper, self.time = SimpleNamespace(revision=4, is_up=True), 0.0
         self.loop = SimpleNamespace(call_soon=self.soon.append, call_later=self.call_later)
         self.watch = SimpleNamespace(answered=lambda asked, seconds: None, cut_off=self.cut.append)
 
@@ -64,8 +69,9 @@ class Service:
     def now(self):
         return self.time
 
-    def takes_in(self, it):
-        self.clients |= {it} if self.takes else set()
+    def takes_in(self, it, kind):
+        assert kind is self.clients
+        kind |= {it} if self.takes else set()
         return self.takes
 
     def ask(self, asked):
@@ -91,7 +97,44 @@ class Clients(unittest.TestCase):
     def test_what_a_line_asks(self):
         for line, wanted in ((ASK, "resolve"), (A1, "publish"), (LIST.encode(), "list"), (b'{"op":"check"}', "check"), (b'{"op":"learn"}', ""), (b'{"op":1}', ""), (b"[]", ""), (b"{}", ""),
                              (b"", ""), (b"\xff", ""), (b"[" * 100_000, ""), (yank("a", "1.0.0").encode(), "yank"), (b'{"op":"unyank"}', "unyank")):
-            self.assertEqual(client.op_of(line), wanted, line[:20])
+            self.assertEqual(ops.op_of(line), wanted, line[:20])
+
+    def test_what_a_long_line_asks(self):
+        long = b"[" + b"[]," * 1_000 + b"0]"
+        for line, wanted in ((b'{"op":"list","x":%s}', "list"), (b'{"x":%s , "op" : "yank"}', "yank"), (b'{"\\u006fp":"publ\\u0069sh","x":%s}', "publish"),
+                             (b'{"\\u006F\\u0070":"\\u0063heck","x":%s}', "check"), (b'{"op":"learn","x":%s}', ""), (b'{"op":1,"x":%s}', ""), (b'{"x":%s}', ""), (b"%s", ""),
+                             (b'{"op":"resolve","lock":[["op","1.0.0"]],"x":%s}', "resolve"),
+                             # what seems to name it more than once is no line that is asked
+                             (b'{"op":"list","op":"yank","x":%s}', None), (b'{"op":"list","x":%s,"\\u006fp":"yank"}', None), (b'{"op":"list","x":[{"op":1},%s]}', None)):
+            self.assertEqual(ops.op_of(line % long), wanted, line)
+        for line in (b'{"op":"list","x":%s,"op":"yank"}' % long, LIST.encode()):
+            self.client.data_received(line + b"\n")
+        self.assertEqual([(it.line, it.op) for it in self.service.asked], [(b"", "")])
+        self.service.answer(b"x")
+        self.assertEqual([(it.line, it.op) for it in self.service.asked], [(LIST.encode(), "list")])
+
+    def test_a_long_line_asks_what_its_json_says(self):
+        maker, judged = Maker(random.Random(5)), 0
+        with mock.patch.object(ops, "LONG", 1 << 30):
+            for _ in range(5_000):
+                line = maker.line(maker.value()).replace(b"\n", b" ")
+                op, found = ops.op_of(line), ops.op_of_long(line)
+                judged += op == found != ""
+                self.assertTrue(not op or found in (op, None), line)
+        self.assertGreater(judged, 1_000)
+
+    def test_a_long_line_is_not_read_as_json(self):
+        """It would hold up all clients. What waits is looked at once."""
+        line = b'{"op":"list","x":[' + b"[]," * 349_000 + b"0]}"
+        with mock.patch.object(ops.json, "loads", side_effect=json.loads) as loads, mock.patch.object(ops, "op_of_long", side_effect=ops.op_of_long) as looked:
+            self.client.data_received(A1 + b"\n" + line + b"\n" + line + b"\n")
+            for _ in range(3):
+                self.client.go_on()
+            self.assertEqual(self.lines(), [A1])
+            self.service.answer(b"x")
+        self.assertEqual(self.lines(), [line, line])
+        self.assertLessEqual(max(len(call.args[0]) for call in loads.call_args_list), ops.LONG)
+        self.assertEqual(looked.call_count, 2)
 
     def test_who_is_connected(self):
         self.assertEqual((self.client.name, self.service.clients), ("127.0.0.1:7", {self.client}))
@@ -100,8 +143,10 @@ class Clients(unittest.TestCase):
         self.assertEqual((self.service.clients, list(self.client.lines)), (set(), []))
         self.service.takes = False
         other = Transport()
-        client.Client(self.service).connection_made(other)
-        self.assertEqual((other.written, other.is_closed), (b'{"error":503,"name":"TooManyClients","revision":4}\n', True))
+        with mock.patch.object(client, "page") as page:
+            client.Client(self.service).connection_made(other)
+        page.assert_called_once_with(self.service, other)
+        self.assertEqual((other.written, other.is_closed), (b"", False))
 
     def test_lines_come_in_pieces(self):
         for piece in (ASK[:5], ASK[5:] + b"\n" + ASK, b"\n\n"):
@@ -114,9 +159,9 @@ class Clients(unittest.TestCase):
 
     def test_lines_that_are_too_long(self):
         with mock.patch.object(client, "MOST_LINE_BYTES", 10):
-            self.client.data_received(b"x" * 10 + b"\n" + b"x" * 11 + b"\n" + b"y" * 50)
+            self.client.data_received(b"{" * 10 + b"\n" + b"x" * 11 + b"\n" + b"y" * 50)
             self.client.data_received(b"y" * 50 + b"\n")
-        self.assertEqual(self.lines(), [b"x" * 10, b"", b""])
+        self.assertEqual(self.lines(), [b"{" * 10, b"", b""])
 
     def test_a_request_is_asked_alone(self):
         """It waits for the lines before it, and those behind it wait for it. Commands are asked together."""
@@ -211,12 +256,31 @@ class Clients(unittest.TestCase):
         self.service.answer(b"x")
         self.assertEqual((self.transport.written, len(self.client.asked)), (b"", 0))
 
+    def test_what_begins_no_object_is_closed(self):
+        for pieces in ((b"\x16\x03\x01\n" + A1 + b"\n",), (b"\x16",), (b"x\n" + A1 + b"\n",), (b"GET /\n" + A1 + b"\n",), (b"PRI * HTTP/2.0\r\n\r\n" + A1 + b"\n",), (b"GET /", b" \n" + A1 + b"\n"),
+                       (b"M-SEARCH * HTTP/1.1\r\n" + A1 + b"\n",), (b"[]\n",), (b"\n\nx\n" + A1 + b"\n",), (b" \t\r\n", b"\x16"), (b"\xef\xbb\xbf" + A1 + b"\n",), (b"G" * 65_537,)):
+            self.setUp()
+            for it in pieces:
+                if not self.transport.is_closed:
+                    self.client.data_received(it)
+            self.assertTrue(self.transport.is_closed, pieces)
+            self.assertEqual((self.transport.written, [it for it in self.lines() if it.strip()], [it for it in self.client.lines if it.strip()]), (BAD, [], []), pieces)
+        for pieces in ((b" \t{",), (b"\r\n", b" \n\n", b" {"), (b"GET /",), (b"",)):
+            self.setUp()
+            for it in pieces:
+                self.client.data_received(it)
+            self.assertEqual((self.transport.is_closed, self.transport.written), (False, b""), pieces)
+        # behind the first line all is the program's to judge
+        self.setUp()
+        self.client.data_received(A1 + b"\nx\n")
+        self.assertEqual((self.lines(), self.transport.is_closed), ([A1, b"x"], False))
+
     def test_http_is_heard_in_the_first_line_alone(self):
         get = b"GET /health HTTP/1.1\r\nHost: x\r\n\r\n"
         with mock.patch.object(client, "page") as page:
             self.client.data_received(get)
         page.assert_called_once_with(self.service, self.transport, get)
-        self.assertEqual((self.service.clients, self.lines()), (set(), []))
+        self.assertEqual((self.service.clients, self.service.pages, self.lines()), (set(), {self.transport}, []))
         self.setUp()
         with mock.patch.object(client, "page") as page:
             self.client.data_received(ASK + b"\n" + get)

@@ -1,4 +1,5 @@
 """What a service answers is what the program answers: the same bytes in the order of each client's lines, however many there are."""
+import contextlib
 import itertools
 import json
 import os
@@ -175,13 +176,25 @@ class Bounds(Case):
         """A page from elsewhere can have a browser send any text behind a head of HTTP."""
         service = self.begin("--port", 0)
         for method, path, status in (("POST", "/", b"405 Method Not Allowed"), ("PUT", "/", b"405 Method Not Allowed"),
-                                     ("OPTIONS", "/", b"405 Method Not Allowed"), ("POST", "/" + "a" * (MOST_LINE_BYTES - 100), b"405 Method Not Allowed"),
-                                     ("POST", "/" + "a" * 3_000_000, b"400 Bad Request"), ("POST", "/ HTTP/1.1", b"400 Bad Request")):
+                                     ("OPTIONS", "/", b"405 Method Not Allowed"), ("POST", "/ HTTP/1.1", b"400 Bad Request")):
             text = f"{method} {path} HTTP/1.1\r\nHost: localhost\r\nContent-Length: 60\r\n\r\n{publish('log', '1.0.0')}\n"
             with self.subTest(text[:20]), Client(service.address()) as client:
                 self.assertIn(b"HTTP/1.1 " + status + b"\r\n", client.finish(text.encode()))
+        self.nothing_is_published(service)
+
+    def test_what_is_meant_for_someone_else_is_no_request(self):
+        """As where a browser is led to speak another protocol here: behind a first line that begins no object nothing is carried out."""
+        service, command = self.begin("--port", 0), publish("log", "1.0.0").encode() + b"\n"
+        for begun in (b"\x16\x03\x01\x02\x00\x01\x00\x01\xfc\x03\x03", b"\x16\x03\x01\n", b"GET /\r\n", b"PRI * HTTP/2.0\r\n\r\nSM\r\n\r\n", b"M-SEARCH * HTTP/1.1\r\n\r\n", b"USER x\r\n",
+                      b"\nHELO x\r\n", b"[]\n", b"POST /" + b"a" * (MOST_LINE_BYTES - 100) + b" HTTP/1.1\r\n\r\n", b"POST /" + b"a" * 3_000_000 + b" HTTP/1.1\r\n\r\n"):
+            with self.subTest(begun[:20]), Client(service.address()) as client, contextlib.suppress(OSError):  # it is closed before all is sent
+                told = client.finish(begun + b"\n" + command)
+                self.assertEqual(set(told.splitlines()) - {b'{"error":19,"name":"BadLine","revision":0}'}, set())
+        self.nothing_is_published(service)
+
+    def nothing_is_published(self, service):
         with service.client() as client:
-            self.assertEqual(client.ask(LIST)[0]["revision"], 0)
+            self.assertEqual(client.ask(LIST), [{"packages": [], "revision": 0}])
 
 
 class Pieces(unittest.TestCase):

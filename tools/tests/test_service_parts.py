@@ -4,6 +4,7 @@ import asyncio
 import grp
 import hashlib
 import io
+import json
 import os
 import socket
 import stat
@@ -14,11 +15,12 @@ from collections import deque
 from types import SimpleNamespace
 from unittest import mock
 
-from program import TOP, journal_line, publish
+from program import TOP, files_of_at_most, journal_line, publish
 
 sys.path.insert(0, os.path.join(TOP, "tools"))
+from limits import MOST_LINE_BYTES
 from registry.failures import Failed
-from registry.service import child, keeper, sockets, supervisor
+from registry.service import child, disk, keeper, sockets, supervisor
 
 A1, B1 = (journal_line(publish(name, "1.0.0")).encode() for name in "ab")
 OK = b'{"ok":true,"revision":%d}'
@@ -82,7 +84,7 @@ class Keeping(unittest.TestCase):
     def setUp(self):
         self.written, self.answered, self.failed, self.followed = [], [], [], []
         self.keeper = keeper.Keeper("path", None)
-        self.keeper.child = SimpleNamespace(ask=lambda line, answered: self.written.append(line))
+        self.keeper.child = SimpleNamespace(ask=lambda line, answered: self.written.append(line), said="")
         self.keeper.followers.append(self.followed.append)
 
     def asked(self, line):
@@ -103,7 +105,7 @@ class Keeping(unittest.TestCase):
     def test_lines_wait_until_it_is_begun(self):
         self.keeper.ask(self.asked(A1))
         self.assertEqual(self.written, [])
-        began = SimpleNamespace(ask=lambda line, answered: self.written.append(line))
+        began = SimpleNamespace(ask=lambda line, answered: self.written.append(line), said="")
 
         async def begin():
             return 2
@@ -122,13 +124,137 @@ class Keeping(unittest.TestCase):
             self.keeper.is_up, self.keeper.keeping = is_up, mock.Mock()
             gone = asyncio.get_running_loop().create_future()
             self.keeper.child = SimpleNamespace(gone=gone, input=SimpleNamespace(close=lambda: closed.append(goes and gone.set_result("")) or closed),
-                                                kill=lambda: closed.append("killed"), process=SimpleNamespace(returncode=status))
+                                                kill=lambda: closed.append("killed"), process=SimpleNamespace(returncode=status), said="")
             self.keeper.asked = deque([self.asked(A1)])
             told = await self.keeper.end(0.01)
             self.keeper.keeping.cancel.assert_called_once()
             return bool(told), len(closed), len(self.keeper.asked)
         for is_up, status, goes, wanted in ((True, 0, True, (True, 2, 0)), (True, 1, True, (False, 2, 0)), (True, None, False, (False, 2, 0)), (False, 0, True, (False, 1, 0))):
             self.assertEqual(asyncio.run(ended(is_up, status, goes)), wanted)
+
+
+class Faults(unittest.IsolatedAsyncioTestCase):
+    """What a keeper does whose program ended since it could not write the journal. The program that follows it ends well, or not, once its
+    input is closed."""
+    SAID = "registryd: journal a: b: can't be written: No space left on device (os error 28)\n"
+    FAULT = "the journal can't be written: No space left on device"
+
+    async def asyncSetUp(self):
+        self.path = os.path.join(self.enterContext(tempfile.TemporaryDirectory()), "journal")
+        self.write([A1])
+        self.keeper, self.told, self.closed = keeper.Keeper(self.path, None), [], 0
+        self.keeper.revision, self.keeper.is_up = 1, True
+        self.keeper.child = SimpleNamespace(said="", ask=lambda line, answered: self.told.append(line), input=SimpleNamespace(close=self.close))
+        self.enterContext(mock.patch.object(disk, "LOOKS", (0, 0.01)))
+        self.has_room = self.enterContext(mock.patch.object(disk, "has_room", return_value=False))
+        self.addCleanup(lambda: self.keeper.disk.looking and self.keeper.disk.looking.cancel())
+
+    def write(self, lines, rest=b""):
+        with open(self.path, "wb") as file:
+            file.write(b"registry-journal 2\n" + b"".join(journal_line(it.decode()).encode() + b"\n" for it in lines) + rest)
+
+    def close(self):
+        self.closed += 1
+
+    def ask(self, line, op="publish"):
+        self.keeper.ask(SimpleNamespace(line=line, op=op, answer=lambda reply: self.told.append((line, json.loads(reply)["reason"])), fail=lambda: self.told.append((line, None))))
+
+    def lose(self, said):
+        self.keeper.child.said = said
+        self.keeper.lost()
+
+    async def test_what_was_under_way_is_not_accepted(self):
+        self.keeper.is_up = False
+        for line, op in ((A1, "publish"), (B1, "yank"), (b"{}", "")):
+            self.ask(line, op)
+        # what is no whole line is cut off
+        self.write([A1], b'{"name":"b"')
+        self.lose(self.SAID)
+        self.assertEqual((self.told, self.keeper.disk.fault), ([(A1, self.FAULT), (B1, self.FAULT), (b"{}", None)], self.FAULT))
+
+    async def test_what_may_be_accepted_is_not_known(self):
+        for spoil in (lambda: self.write([A1, B1]), lambda: self.write([A1, B1], b'{"na'), lambda: os.unlink(self.path), lambda: os.mkdir(self.path)):
+            self.keeper.disk.fault, self.keeper.is_up = "", False
+            self.ask(B1)
+            spoil()
+            self.lose(self.SAID)
+            self.assertEqual((self.told, self.keeper.disk.fault), ([(B1, None)], self.FAULT))
+            self.told.clear()
+
+    async def test_commands_are_refused_until_it_can_be_written(self):
+        self.lose(self.SAID)
+        for line, op in ((B1, "publish"), (B1, "yank"), (B1, "unyank"), (b"{}", "")):
+            self.ask(line, op)
+        self.assertEqual(self.told, [*[(B1, self.FAULT)] * 3, b"{}"])
+        self.lose("")
+        self.assertEqual(self.keeper.disk.fault, "")
+        self.told.clear()
+        self.ask(B1)
+        self.assertEqual(self.told, [B1])
+
+    async def test_what_is_told(self):
+        self.lose(self.SAID.replace("device", '"device"'))
+        self.assertEqual(self.keeper.disk.refusal(), b'{"error":503,"name":"DiskFault","reason":"the journal can\'t be written: No space left on \\"device\\"","revision":1}')
+
+    async def test_which_ends_are_such_a_fault(self):
+        for said, fault in ((self.SAID, self.FAULT), ("registryd: journal j: can't be synced: Input/output error (os error 5)\n", "the journal can't be synced: Input/output error"),
+                            ("registryd: journal j: can't be opened: Read-only file system (os error 30)\n", "the journal can't be opened: Read-only file system"),
+                            ("registryd: journal j: can't be cut\n", "the journal can't be cut"), ("registryd: journal j: in use by another session\n", ""),
+                            ("registryd: journal j: changed by another program, and not gone on with\n", ""), ("registryd: input failed\n", ""), ("", ""), ("can't be written\n", "")):
+            self.lose(said)
+            self.assertEqual(self.keeper.disk.fault, fault, said)
+
+    async def until(self, holds):
+        async with asyncio.timeout(60):
+            while not holds():
+                await asyncio.sleep(0.001)
+
+    async def test_it_looks_for_room_and_then_has_the_program_write(self):
+        self.lose(self.SAID)
+        looking = self.keeper.disk.looking
+        await self.until(lambda: self.has_room.call_count > 2)
+        self.assertEqual((self.closed, self.has_room.call_args.args), (0, (self.path,)))
+        # the program can't write yet, and so is tried later again
+        self.has_room.return_value = True
+        await self.until(lambda: self.closed > 0)
+        self.lose(self.SAID)
+        self.assertIs(self.keeper.disk.looking, looking)
+        before = self.closed
+        await self.until(lambda: self.closed > before)
+        # while it is begun again it is not looked at
+        self.keeper.is_up = False
+        await asyncio.sleep(0.05)
+        before = self.has_room.call_count
+        await asyncio.sleep(0.05)
+        self.assertEqual(self.has_room.call_count, before)
+        self.lose("")
+        await self.until(lambda: self.keeper.disk.looking is None)
+        # and again, the next time
+        self.lose(self.SAID)
+        self.assertIsNot(self.keeper.disk.looking, looking)
+
+
+class Room(unittest.TestCase):
+    def setUp(self):
+        self.folder = self.enterContext(tempfile.TemporaryDirectory())
+        self.path = os.path.join(self.folder, "journal")
+        with open(self.path, "wb") as file:
+            file.write(b"x" * 100)
+
+    def test_a_line_of_any_length_has_room_at_its_end(self):
+        for most, has_room in ((100 + MOST_LINE_BYTES, True), (99 + MOST_LINE_BYTES, False), (50, False), (None, True)):
+            with files_of_at_most(most):
+                self.assertIs(disk.has_room(self.path), has_room, most)
+        self.assertEqual((os.listdir(self.folder), os.path.getsize(self.path)), (["journal"], 100))
+
+    def test_it_is_looked_for_where_the_journal_stands(self):
+        link = os.path.join(self.folder, "link")
+        os.symlink(self.path, link)
+        with mock.patch.object(tempfile, "TemporaryFile", side_effect=PermissionError) as made:
+            self.assertTrue(disk.has_room(link))
+        made.assert_called_once_with(dir=os.path.realpath(self.folder))
+        os.unlink(self.path)
+        self.assertFalse(disk.has_room(self.path))
 
 
 class Children(unittest.TestCase):

@@ -16,7 +16,8 @@ from test_journals import CHAIN, journal, learn
 sys.path.insert(0, os.path.join(TOP, "tools"))
 from registry.failures import Failed
 from registry.service import http, watching
-from registry.service.journal import commands_after, text_at
+from registry.service.copies import text_at
+from registry.service.journal import commands_after
 
 
 class Http(unittest.TestCase):
@@ -25,33 +26,44 @@ class Http(unittest.TestCase):
         self.path = os.path.join(self.folder, "journal")
         with open(self.path, "wb") as file:
             file.write(journal([*CHAIN[:2], CHAIN[2]])[:-6])
-        self.service = SimpleNamespace(path=self.path, is_stopping=False, clients=[SimpleNamespace(asked=[1, 2], lines=[3]), SimpleNamespace(asked=[], lines=[])],
-                                       keeper=SimpleNamespace(is_up=True, revision=3), readers=SimpleNamespace(ready=lambda: 2, are_late=lambda: False), watch=watching.Watch(None))
+        self.service = SimpleNamespace(path=self.path, is_stopping=False, clients=[SimpleNamespace(asked=[1, 2], lines=[3]), SimpleNamespace(asked=[], lines=[])], pages=set(), guests=set(),
+                                       takes_in=lambda place, kind: kind.add(place) or True, copying=asyncio.Semaphore(4),
+                                       keeper=SimpleNamespace(is_up=True, revision=3, disk=SimpleNamespace(fault="")), readers=SimpleNamespace(ready=lambda: 2, are_late=lambda: False), watch=watching.Watch(None))
 
-    def answer(self, head, address=("127.0.0.1", 1)):
+    def answer(self, head, address=("127.0.0.1", 1), is_guest=False):
         async def asked():
             self.service.loop = asyncio.get_running_loop()
-            return await http.answer(self.service, head, address)
+            return await http.answer(self.service, head, address, is_guest)
         status, _, text = asyncio.run(asked())
-        return status, text.decode()
+        pieces = [text] if isinstance(text, bytes) else list(text)
+        self.assertEqual(len(text), sum(map(len, pieces)))
+        return status, b"".join(pieces).decode()
 
     def get(self, target, **more):
         return self.answer(f"GET {target} HTTP/1.1\r\nHost: localhost\r\n\r\n".encode(), **more)
 
-    def test_what_is_http(self):
-        for line, is_one in ((b"GET / HTTP/1.1\r", True), (b"POST /x HTTP/1.0", True), (b"GET / HTTP/2", False), (b"get / HTTP/1.1", False), (LIST.encode(), False), (b"", False), (b"GET /", False)):
-            self.assertIs(http.is_http(line), is_one, line)
-        with mock.patch.object(http, "MOST_LINE_BYTES", 10):
-            for line, is_one in ((b"GET /xxxxxx", True), (b"GET /xxxxx", False), (b"xxxxxxxxxxx", False), (b'{"op":"list"}', False)):
-                self.assertIs(http.is_http(line), is_one, line)
+    def test_what_is_spoken(self):
+        for text, kind in ((b"GET / HTTP/1.1\r\n", http.HTTP), (b"POST /x HTTP/1.0\n", http.HTTP), (b"GET / HTTP/2\n", http.OTHER), (b"get / HTTP/1.1\n", http.OTHER), (b"GET /\n", http.OTHER),
+                           (b"\n\nGET / HTTP/1.1\r\n", http.OTHER), (LIST.encode() + b"\n", http.LINES), (b" \t{", http.LINES), (b"\r\n\n {", http.LINES), (b"\x16\x03", http.OTHER), (b"x", http.OTHER),
+                           (b"[]\n", http.OTHER), (b"\n\n[", http.OTHER), (b"\xef\xbb\xbf{}\n", http.OTHER), (b"", None), (b"GET / HTTP/1.1", None), (b" \r\n\t", None), (b"\n", None), (b"G" * 65_536, None), (b"G" * 65_537, http.OTHER)):
+            *lines, rest = text.split(b"\n")
+            self.assertEqual(http.spoken(lines, rest), kind, text[:20])
 
     def test_what_is_refused(self):
-        for head, status in ((b"x\r\n\r\n", "400"), (b"GET / HTTP/1.1", "400"), (b"POST /health HTTP/1.1\r\n\r\n", "405"), (b"GET /none HTTP/1.1\r\n\r\n", "404"),
-                             (b"GET /healthy HTTP/1.1\r\n\r\n", "404"), (b"GET /health HTTP/1.0\n\n", "200"), (b"GET /health?x HTTP/1.1\r\n\r\n", "200")):
+        for head, status in ((b"x\r\n\r\n", "400"), (b"GET / HTTP/1.1", "400"), (b"POST /health HTTP/1.0\r\n\r\n", "405"), (b"GET /none HTTP/1.0\r\n\r\n", "404"),
+                             (b"GET /healthy HTTP/1.0\r\n\r\n", "404"), (b"GET /health HTTP/1.0\n\n", "200"), (b"GET /health?x HTTP/1.0\r\n\r\n", "200")):
             self.assertEqual(self.answer(head)[0][:3], status, head)
         for host, status in (("localhost", "200"), ("LOCALHOST:80", "200"), ("127.0.0.1:1", "200"), ("[::1]", "200"), ("[::1]:7", "200"), ("evil.example", "421"), ("localhost.evil", "421")):
             head = f"GET /health HTTP/1.1\r\nAccept: x\r\nhOsT: {host}\r\n\r\n".encode()
             self.assertEqual((self.answer(head)[0][:3], self.answer(head, address=None)[0][:3]), (status, "200"), host)
+
+    def test_a_request_over_a_port_names_its_host_once(self):
+        good = "Host: localhost\r\n"
+        for version, heads, status in ((1, "", "400"), (1, "Host : localhost\r\n", "400"), (1, " Host: localhost\r\n", "400"), (1, "Host:\r\n", "400"), (1, "Host: a b\r\n", "400"), (1, "Hosts: localhost\r\n", "400"),
+                                       (1, good * 2, "400"), (1, good + "Host: evil.example\r\n", "400"), (1, good + "HOST : evil.example\r\n", "400"), (1, good, "200"),
+                                       (0, "", "200"), (0, good, "200"), (0, "Host : localhost\r\n", "400"), (0, good * 2, "400")):
+            head = f"GET /health HTTP/1.{version}\r\n{heads}Accept: x\r\n\r\n".encode()
+            self.assertEqual((self.answer(head)[0][:3], self.answer(head, address="")[0][:3]), (status, "200"), head)
 
     def test_health(self):
         self.assertEqual(self.get("/health"), ("200 OK", "ok\n"))
@@ -59,7 +71,11 @@ class Http(unittest.TestCase):
         self.assertEqual(self.get("/health"), ("503 Service Unavailable", "no reader is free: requests wait\n"))
         self.service.readers.ready = lambda: 0
         self.assertEqual(self.get("/health"), ("503 Service Unavailable", "no reader is ready: requests wait\n"))
-        self.service.keeper.is_up = False
+        for is_up in (True, False):
+            self.service.keeper.is_up, self.service.keeper.disk.fault = is_up, "the journal can't be written: so"
+            self.assertEqual(self.get("/health"), ("503 Service Unavailable", "the journal can't be written: so\n"))
+            self.assertIn("\nregistryd_keeper_up 0\n", self.get("/metrics")[1])
+        self.service.keeper.disk.fault = ""
         self.assertEqual(self.get("/health")[1], "the program that keeps the journal is being begun again: commands wait\n")
         self.assertEqual(self.get("/journal"), ("503 Service Unavailable", "what stands in the journal is known again once it is kept again\n"))
         self.service.is_stopping = True
@@ -68,6 +84,10 @@ class Http(unittest.TestCase):
     def test_the_journal(self):
         for target, count in (("/journal", 3), ("/journal?revision=2", 2), ("/journal?revision=0", 0), ("/journal?revision=9", 3), ("/journal?revision=", 3), ("/journal?revision=-1", 3)):
             self.assertEqual(self.get(target), ("200 OK", journal(CHAIN[:count]).decode()), target)
+        self.assertEqual(self.get("/journal", is_guest=True), ("503 Service Unavailable", "there are as many clients as may be\n"))
+        self.assertEqual(self.get("/health", is_guest=True)[0], "200 OK")
+        os.unlink(self.path)
+        self.assertEqual(self.get("/journal"), ("503 Service Unavailable", "the journal can't be read: No such file or directory\n"))
 
     def test_counts(self):
         told = self.get("/metrics")[1]
@@ -79,28 +99,40 @@ class Http(unittest.TestCase):
 
     def test_a_request_comes_in_pieces(self):
         async def told(*given, ended=True):
-            reader, writer = asyncio.StreamReader(), mock.Mock()
-            self.service.loop = SimpleNamespace(call_later=mock.Mock())
+            reader, writer = asyncio.StreamReader(), mock.Mock(drain=mock.AsyncMock(), wait_closed=mock.AsyncMock())
+            self.service.loop = asyncio.get_running_loop()
             writer.get_extra_info.return_value = ("127.0.0.1", 1)
             for piece in given:
                 reader.feed_data(piece)
             if ended:
                 reader.feed_eof()
             await http.tell(self.service, reader, writer)
-            self.service.loop.call_later.assert_called_once_with(30, writer.transport.abort)
-            writer.close.assert_called_once()
-            return writer.write.call_args and writer.write.call_args.args[0]
+            self.assertEqual(writer.close.called, not writer.transport.abort.called)
+            self.assertEqual((self.service.pages, self.service.guests), (set(), set()))
+            return b"".join(call.args[0] for call in writer.write.call_args_list) or None
         wanted = b"HTTP/1.1 200 OK\r\nContent-Type: text/plain; charset=utf-8\r\nContent-Length: 3\r\nConnection: close\r\n\r\nok\n"
-        for given in ([b"GET /health HTTP/1.1\r\n\r\n"], [b"GET /health HT", b"TP/1.1\n\n"]):
+        for given in ([b"GET /health HTTP/1.0\r\n\r\n"], [b"GET /health HT", b"TP/1.0\n\n"]):
             self.assertEqual(asyncio.run(told(*given, ended=False)), wanted)
         self.assertIsNone(asyncio.run(told(b"GET /health HTTP/1.1\r\n")))
         # a head that is too long is answered as it is
         with mock.patch.object(http, "MOST_HEAD", 20):
-            self.assertIn(b"HTTP/1.1 200 OK", asyncio.run(told(b"GET /health HTTP/1.1\r\nx", ended=False)))
-
+            self.assertIn(b"HTTP/1.1 200 OK", asyncio.run(told(b"GET /health HTTP/1.0\r\nx", ended=False)))
+        # nor is one waited for that does not come, or that is another's
+        with mock.patch.object(http, "PATIENCE", 0.01):
+            self.assertIsNone(asyncio.run(told(b"GET /health HTTP/1.0\r\n", ended=False)))
+        self.assertIn(b"HTTP/1.1 400 Bad Request", asyncio.run(told(LIST.encode() + b"\n", ended=False)))
+        # where there is no room it is answered too, and nothing else is
+        full, self.service.takes_in = b'{"error":503,"name":"TooManyClients","revision":3}\n', lambda place, kind: False
+        self.assertEqual(asyncio.run(told(b"GET /health HTTP/1.0\r\n\r\n", ended=False)), wanted)
+        with mock.patch.object(http, "HEARING", 0.01):
+            for given in ((), (b"GET /hea",), (LIST.encode() + b"\n",), (b"\n",)):
+                self.assertEqual(asyncio.run(told(*given, ended=False)), full, given)
+        self.assertEqual(self.service.watch.counts["clients_refused_total", ""], 4)
+        with mock.patch.object(http, "MOST_GUESTS", 0):
+            self.assertEqual(asyncio.run(told(b"GET /health HTTP/1.0\r\n\r\n")), full)
 
     def test_a_connection_on_which_http_is_spoken(self):
-        get, wanted = b"GET /health HTTP/1.1\r\n\r\n", b"HTTP/1.1 200 OK\r\nContent-Type: text/plain; charset=utf-8\r\nContent-Length: 3\r\nConnection: close\r\n\r\nok\n"
+        get, wanted = b"GET /health HTTP/1.0\r\n\r\n", b"HTTP/1.1 200 OK\r\nContent-Type: text/plain; charset=utf-8\r\nContent-Length: 3\r\nConnection: close\r\n\r\nok\n"
 
         async def told(begun, sent):
             self.service.loop = asyncio.get_running_loop()
@@ -118,8 +150,8 @@ class Http(unittest.TestCase):
             self.assertEqual(asyncio.run(told(begun, sent)), wanted, begun)
 
     def test_what_is_told_of_a_refusal(self):
-        for head, text in ((b"x\r\n\r\n", "this is no request over HTTP\n"), (b"PUT / HTTP/1.1\r\n\r\n", "GET alone is answered over HTTP; request lines come without it\n"),
-                           (b"GET / HTTP/1.1\r\n\r\n", "there are /metrics, /health and /journal\n"),
+        for head, text in ((b"x\r\n\r\n", "this is no request over HTTP\n"), (b"PUT / HTTP/1.0\r\n\r\n", "GET alone is answered over HTTP; request lines come without it\n"),
+                           (b"GET / HTTP/1.1\r\n\r\n", "a request names its host once\n"), (b"GET / HTTP/1.0\r\n\r\n", "there are /metrics, /health and /journal\n"),
                            (b"GET / HTTP/1.1\r\nHost: a.example\r\n\r\n", "this service is of another host\n")):
             self.assertEqual(self.answer(head)[1], text)
 

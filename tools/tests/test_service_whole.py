@@ -77,13 +77,16 @@ class Asking(Case):
         self.assertEqual((made.watch.path, made.is_stopping, made.is_over), ("-", False, False))
 
     async def test_as_many_clients_as_may_be(self):
-        made, clients = await self.made(), [self.client() for _ in range(4)]
-        self.assertEqual([made.takes_in(it) for it in clients[:3]], [True, True, False])
-        self.assertEqual((made.clients, made.watch.counts["clients_refused_total", ""]), ({clients[0], clients[1]}, 1))
+        made, (one, two, three) = await self.made(), [self.client() for _ in range(3)]
+        # of both kinds together
+        self.assertEqual([made.takes_in(one, made.clients), made.takes_in(two, made.pages), made.takes_in(three, made.clients), made.takes_in(three, made.pages)], [True, True, False, False])
+        self.assertEqual((made.clients, made.pages, made.guests), ({one}, {two}, set()))
+        made.pages.clear()
+        self.assertTrue(made.takes_in(three, made.clients))
         made.clients.clear()
         made.is_stopping = True
-        self.assertIs(made.takes_in(clients[3]), False)
-        self.assertEqual((made.clients, made.watch.counts["clients_refused_total", ""]), (set(), 2))
+        self.assertIs(made.takes_in(two, made.clients), False)
+        self.assertEqual(made.clients, set())
 
     async def test_who_is_asked(self):
         made = await self.made()

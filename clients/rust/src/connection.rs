@@ -140,12 +140,11 @@ fn has_port(address: &str) -> bool {
 /// The revision of a reply, unless it tells that the service can't be asked now.
 fn revision_of(told: &[u8]) -> io::Result<u64> {
     let fault = |why: &str| Err(io::Error::new(ErrorKind::Other, why.to_string()));
-    if told.starts_with(UNAVAILABLE) {
-        return fault(if told.windows(14).any(|it| it == b"TooManyClients") { "it has as many clients as may be" } else { "it is not available" });
-    }
     match told.strip_suffix(b"\n").and_then(reply::read) {
         Some(Ok(reply)) => Ok(reply.revision()),
         Some(Err((_, revision))) => Ok(revision),
+        None if told.windows(14).any(|it| it == b"TooManyClients") => fault("it has as many clients as may be"),
+        None if told.starts_with(UNAVAILABLE) => fault("it is not available"),
         None => fault("it has ended, or is no service"),
     }
 }

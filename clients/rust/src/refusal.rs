@@ -45,12 +45,14 @@ pub enum Refusal {
     NotADerivation,
     /// The search for a request met one conflict more than its budget.
     BudgetSpent,
+    /// A service can't write its journal, as on a full disk.
+    DiskFault = 503,
 }
 
 use Refusal::*;
 
 impl Refusal {
-    /// All of them, in the order of their numbers.
+    /// All of the program's, in the order of their numbers.
     pub const ALL: [Refusal; 22] = [
         BadName,
         BadVersion,
@@ -76,13 +78,13 @@ impl Refusal {
         BudgetSpent,
     ];
 
-    /// The refusal of a number, from 1 to 22.
+    /// The refusal of a number: of the program from 1 to 22, and of a service.
     pub fn of(number: u64) -> Option<Refusal> {
-        Refusal::ALL.into_iter().find(|it| u64::from(it.number()) == number)
+        Refusal::ALL.into_iter().chain([DiskFault]).find(|it| u64::from(it.number()) == number)
     }
 
-    pub fn number(self) -> u8 {
-        self as u8
+    pub fn number(self) -> u16 {
+        self as u16
     }
 
     /// The name that a reply has.

@@ -50,7 +50,8 @@ pub(crate) fn read(line: &[u8]) -> Option<Result<Reply, (Refusal, u64)>> {
     let said = Value::read(std::str::from_utf8(line).ok()?)?;
     let revision = said.get("revision")?.as_number()?;
     if let Some(number) = said.get("error") {
-        return Some(Err((Refusal::of(number.as_number()?)?, revision)));
+        let refusal = Refusal::of(number.as_number()?).filter(|it| said.get("name").and_then(Value::as_text) == Some(&it.name()))?;
+        return Some(Err((refusal, revision)));
     }
     Some(Ok(if said.get("ok").is_some() {
         Reply::Accepted { revision }
@@ -134,6 +135,7 @@ mod tests {
             r#"{"ok":true}"#,
             r#"{"error":0,"name":"","revision":1}"#,
             r#"{"error":23,"name":"","revision":1}"#,
+            r#"{"error":503,"name":"Unavailable","revision":1}"#,
             r#"{"revision":1,"selected":1}"#,
             r#"{"revision":1,"selected":[["a"]]}"#,
             r#"{"packages":[["a"]],"revision":1}"#,

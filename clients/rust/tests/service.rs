@@ -191,6 +191,16 @@ fn commands_that_have_no_reply_are_looked_up_in_their_order() {
 }
 
 #[test]
+fn what_a_service_refuses_is_not_asked_again() {
+    const FAULT: &str = "{\"error\":503,\"name\":\"DiskFault\",\"reason\":\"the journal can't be written\",\"revision\":1}\n";
+    let service = scripted(&[], &[(1, FAULT), (1, SELECTED)]);
+    let mut registry = Registry::connect(&service.socket).unwrap();
+    assert_eq!(registry.publish("log", "1.0.0", &[]), Err(Error::Refused { refusal: Refusal::DiskFault, revision: 1 }));
+    assert_eq!(registry.resolve(Resolve::default()), Ok(versions(&[])));
+    assert_eq!(service.asked.lock().unwrap().iter().map(Vec::len).collect::<Vec<_>>(), [2, 2]);
+}
+
+#[test]
 fn what_stood_when_it_connected_is_no_answer() {
     let service = scripted(&[PUBLISHED], &[(1, ""), (1, "{\"error\":7,\"name\":\"AlreadyPublished\",\"revision\":1}\n")]);
     let mut registry = Registry::connect(&service.socket).unwrap();

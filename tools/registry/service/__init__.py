@@ -12,6 +12,9 @@ What takes lines in and keeps the journal:
 
 What stands on that:
 
+    ops.py         what a line asks
+    disk.py        what is told while the journal can't be written, and until when
+    copies.py      the journal as it stood at a revision
     readers.py     programs that follow the keeper: they answer requests, so that no client can stop the others
     watching.py    what is counted and logged
     http.py        what is answered over HTTP: counts, health, the journal

@@ -20,6 +20,7 @@ class Child(asyncio.Protocol):
 
     def __init__(self, path, words, handed=()):
         self.path, self.waiting, self.is_killed = path, deque(), False
+        self.said = ""  # on standard error, once it has ended
         self.pieces = []  # of the line that has not come whole: it may be long
         self.input, self.early = None, []  # what is to be written before the pipe is connected
         # in a group of its own: a key that interrupts the service leaves its programs to it
@@ -63,10 +64,10 @@ class Child(asyncio.Protocol):
         if not self.input.is_closing():
             self.input.abort()
         with self.process.stderr as file:
-            said = file.read().decode(errors="replace")
+            self.said = file.read().decode(errors="replace")
         status = self.process.wait()
         self.process.let_go()
-        self.gone.set_result(reason(said, self.path) or said.strip() or f"the program ended with status {status}")
+        self.gone.set_result(reason(self.said, self.path) or self.said.strip() or f"the program ended with status {status}")
 
     def spent(self):
         """Seconds of a processor that it has had; none where it has ended."""

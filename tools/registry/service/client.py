@@ -1,20 +1,18 @@
 """A connection: its lines are answered in order, and it can't take more than its share."""
 import asyncio
-import json
 from collections import deque
 
 from limits import MOST_LINE_BYTES
 
-from .http import is_http, page
+from .http import HTTP, LINES, page, spoken
+from .ops import READS, op_of
 from .watching import name_of
 
-READS = ("resolve", "check", "list")  # what readers answer; all else goes to the keeper, so no reader changes by itself
-COMMANDS = ("publish", "yank", "unyank")
 MOST_ASKED = 64  # commands of a client that are under way; the lines behind them wait in the socket
 MOST_UNREAD = 64 << 20  # bytes of replies that wait for a client
 STALLED = 30  # seconds; then a client that doesn't read is cut off
 UNAVAILABLE = b'{"error":503,"name":"Unavailable","revision":%d}'
-FULL = b'{"error":503,"name":"TooManyClients","revision":%d}\n'
+OTHER = b'{"error":19,"name":"BadLine","revision":%d}\n'
 
 
 class Asked:
@@ -37,29 +35,20 @@ class Asked:
         self.answer(UNAVAILABLE % self.client.service.keeper.revision)
 
 
-def op_of(line):
-    """What a line asks; nothing where it can't be read or asks nothing that is known. Only the program says what is wrong then."""
-    try:
-        op = json.loads(line.decode())["op"]
-    except (ValueError, TypeError, KeyError, RecursionError):
-        return ""
-    return op if op in (*READS, *COMMANDS) else ""
-
-
 class Client(asyncio.Protocol):
     """One of them. Its lines wait in `lines`, and are in `asked` from when they are asked until their replies are written."""
 
     def __init__(self, service):
         self.service, self.lines, self.asked, self.rest = service, deque(), deque(), b""
-        self.is_first, self.is_ended, self.takes_commands = True, False, True
+        self.speaks, self.is_ended, self.takes_commands = None, False, True
+        self.op = None  # of the first of `lines`, once it is known
         self.clock = None  # runs while replies wait to be read
         self.is_slow = False  # whether its last request was
 
     def connection_made(self, transport):
         self.transport, self.name = transport, name_of(transport)
-        if not self.service.takes_in(self):
-            transport.write(FULL % self.service.keeper.revision)
-            transport.close()
+        if not self.service.takes_in(self, self.service.clients):
+            page(self.service, transport)  # how the service is it may ask
 
     def connection_lost(self, _):
         self.lines.clear()
@@ -70,16 +59,25 @@ class Client(asyncio.Protocol):
 
     def data_received(self, data):
         *lines, rest = (self.rest + data).split(b"\n")
-        if self.is_first and (lines or len(rest) > MOST_LINE_BYTES):
-            self.is_first = False
-            if is_http(lines[0] if lines else rest):
-                self.service.clients.discard(self)
-                page(self.service, self.transport, b"\n".join([*lines, rest]))
-                return
+        self.speaks = self.speaks or spoken(lines, rest)
+        if self.speaks not in (LINES, None):
+            self.leave_to_others(lines, rest)
+            return
         self.rest = rest[:MOST_LINE_BYTES + 1]  # enough to show that a line is too long
         # an empty line has the reply of such a one
         self.lines.extend(it if len(it) <= MOST_LINE_BYTES else b"" for it in lines)
         self.go_on()
+
+    def leave_to_others(self, lines, rest):
+        """A connection on which HTTP is spoken is that of a page. Any other is closed, so nothing that stands in what was meant for someone
+        else is carried out."""
+        if self.speaks == HTTP:
+            self.service.clients.discard(self)
+            self.service.pages.add(self.transport)
+            page(self.service, self.transport, b"\n".join([*lines, rest]))
+        else:
+            self.transport.write(OTHER % self.service.keeper.revision)
+            self.transport.close()
 
     def eof_received(self):
         """What came is answered, the last line too if it lacks its line feed."""
@@ -97,10 +95,13 @@ class Client(asyncio.Protocol):
         """Asks what may be asked now: one request, or commands, so the replies are those that one session would give. A client's next
         request waits for its last one: so it holds one reader at most, and revisions never fall."""
         while self.lines and not self.clock:
-            op = op_of(self.lines[0])
-            if self.asked and (op in READS or self.asked[0].op in READS or len(self.asked) == MOST_ASKED):
+            self.op = op_of(self.lines[0]) if self.op is None else self.op
+            if self.op is None:
+                self.lines[0], self.op = b"", ""
+            if self.asked and (self.op in READS or self.asked[0].op in READS or len(self.asked) == MOST_ASKED):
                 break
-            self.asked.append(Asked(self, self.lines.popleft(), op))
+            self.asked.append(Asked(self, self.lines.popleft(), self.op))
+            self.op = None
             self.service.ask(self.asked[-1])
         if self.lines or self.clock or self.is_ended:
             self.transport.pause_reading()

@@ -5,24 +5,35 @@ import os
 import re
 from functools import partial
 
-from limits import MOST_LINE_BYTES
+from .copies import Copy
+from .ops import BLANKS
 
-from .journal import text_at
-
-HTTP = re.compile(rb"([A-Z]+) (\S+) HTTP/1\.[01](\s*\n)?")
-BEGUN = re.compile(rb"[A-Z]+ \S")
+LINES, HTTP, OTHER = "lines", "HTTP", "neither"  # what may be spoken on a connection
+REQUEST = re.compile(rb"([A-Z]+) (\S+) HTTP/1\.([01])(\s*\n)?")
+OBJECT = re.compile(rb"[ \t\r]*\{")
+UNFINISHED = re.compile(rb"[ \t\r]*\Z|[A-Z]")  # the beginning of a line that may become one of these
 HOST = re.compile(rb"(?im)^host:[ \t]*(\S+?)(?::[0-9]+)?[ \t]*\r?$")
+HOSTS = re.compile(rb"(?im)^[ \t]*host\b")  # whatever may be taken for one
+COPY = re.compile(rb"GET /journal\b")
 HERE = b"localhost", b"127.0.0.1", b"[::1]"
 MOST_HEAD = 65_536
+MOST_COPIES = 4  # of the journal that are told at a time
+MOST_GUESTS = 16  # connections beyond the clients that may be, on which it may be asked how the service is
+HEARING = 1  # seconds for a guest to ask
+FULL = b'{"error":503,"name":"TooManyClients","revision":%d}\n'
 PATIENCE = 30  # seconds for a request to come and its answer to be read
 OK, UNAVAILABLE = "200 OK", "503 Service Unavailable"
 PLAIN, PROMETHEUS = "text/plain; charset=utf-8", "text/plain; version=0.0.4; charset=utf-8"
 
 
-def is_http(line):
-    """Whether a connection's first line is one of HTTP. One that is longer than a line may be is that by how it begins: so no line of a
-    page in a browser is taken for a request."""
-    return bool(HTTP.match(line) or len(line) > MOST_LINE_BYTES and BEGUN.match(line))
+def spoken(lines, rest):
+    """What is spoken on a connection, by its first line that is not blank; nothing where that can't be told so far."""
+    first = next((it for it in lines if it.strip(BLANKS)), None)
+    if OBJECT.match(rest if first is None else first):
+        return LINES
+    if lines and REQUEST.match(lines[0]):
+        return HTTP
+    return None if first is None and len(rest) <= MOST_HEAD and UNFINISHED.match(rest) else OTHER
 
 
 def page(service, transport=None, begun=b""):
@@ -36,25 +47,63 @@ def page(service, transport=None, begun=b""):
 
 
 async def tell(service, reader, writer):
-    """Answers one request."""
-    service.loop.call_later(PATIENCE, writer.transport.abort)
-    with contextlib.suppress(OSError), contextlib.closing(writer):
-        head = b""
-        while b"\r\n\r\n" not in head and b"\n\n" not in head and len(head) <= MOST_HEAD:
-            piece = await reader.read(MOST_LINE_BYTES)
-            if not piece:
-                return
-            head += piece
-        status, kind, text = await answer(service, head, writer.get_extra_info("peername"))
-        writer.write(f"HTTP/1.1 {status}\r\nContent-Type: {kind}\r\nContent-Length: {len(text)}\r\nConnection: close\r\n\r\n".encode() + text)
+    """Answers one request, if it comes and the answer is read in time."""
+    place = writer.transport
+    is_guest = place not in service.pages and not service.takes_in(place, service.pages)
+    try:
+        async with asyncio.timeout(PATIENCE):
+            head = await (guest_head(service, reader, place) if is_guest else head_of(reader))
+            if is_guest and not REQUEST.match(head):
+                service.watch.turned_away()
+                writer.write(FULL % service.keeper.revision)
+            elif head:
+                await tell_one(service, head, writer, is_guest)
+            writer.close()
+            await writer.wait_closed()
+    except (OSError, asyncio.CancelledError):  # it takes too long, the other end has gone, or the service ends
+        place.abort()
+    finally:
+        service.pages.discard(place)
+        service.guests.discard(place)
 
 
-async def answer(service, head, address):
+async def head_of(reader):
+    """What comes up to the first empty line, or up to a first line that is not of HTTP, and perhaps more."""
+    head, piece = b"", b"."
+    while piece and b"\r\n\r\n" not in head and b"\n\n" not in head and len(head) <= MOST_HEAD and (b"\n" not in head or REQUEST.match(head)):
+        piece = await reader.read(MOST_HEAD)
+        head += piece
+    return head if piece else b""
+
+
+async def guest_head(service, reader, place):
+    """The same of a connection for which there is no room; nothing where there are too many of these, or it takes too long."""
+    if len(service.guests) < MOST_GUESTS:
+        service.guests.add(place)
+        with contextlib.suppress(TimeoutError):
+            async with asyncio.timeout(HEARING):
+                return await head_of(reader)
+    return b""
+
+
+async def tell_one(service, head, writer, is_guest):
+    async with service.copying if COPY.match(head) else contextlib.nullcontext():
+        status, kind, text = await answer(service, head, writer.get_extra_info("peername"), is_guest)
+        writer.write(f"HTTP/1.1 {status}\r\nContent-Type: {kind}\r\nContent-Length: {len(text)}\r\nConnection: close\r\n\r\n".encode())
+        for piece in [text] if isinstance(text, bytes) else text:
+            writer.write(piece)
+            await writer.drain()
+
+
+async def answer(service, head, address, is_guest=False):
     """The status, what kind of text it is, and the text."""
-    line, host = HTTP.match(head), HOST.search(head)
-    if not line or not line[3]:
+    line, hosts = REQUEST.match(head), HOST.findall(head)
+    if not line or not line[4]:
         return "400 Bad Request", PLAIN, b"this is no request over HTTP\n"
-    if address and host and host[1].lower() not in HERE:  # a browser was led here by a page from elsewhere
+    # only HTTP/1.1, which browsers speak, has to name its host
+    if address and (len(HOSTS.findall(head)) != len(hosts) or len(hosts) > 1 or len(hosts) < int(line[3])):
+        return "400 Bad Request", PLAIN, b"a request names its host once\n"
+    if address and hosts and hosts[0].lower() not in HERE:  # a browser was led here by a page from elsewhere
         return "421 Misdirected Request", PLAIN, b"this service is of another host\n"
     if line[1] != b"GET":
         return "405 Method Not Allowed", PLAIN, b"GET alone is answered over HTTP; request lines come without it\n"
@@ -65,7 +114,7 @@ async def answer(service, head, address):
         ill = illness(service)
         return (UNAVAILABLE if ill else OK), PLAIN, (ill or "ok").encode() + b"\n"
     if path == b"/journal":
-        return await journal(service, query)
+        return await journal(service, query, is_guest)
     return "404 Not Found", PLAIN, b"there are /metrics, /health and /journal\n"
 
 
@@ -73,6 +122,8 @@ def illness(service):
     """Why it can't do all that it is for; the empty text where it can."""
     if service.is_stopping:
         return "stopping"
+    if service.keeper.disk.fault:
+        return service.keeper.disk.fault
     if not service.keeper.is_up:
         return "the program that keeps the journal is being begun again: commands wait"
     if not service.readers.ready():
@@ -82,14 +133,20 @@ def illness(service):
 
 def metrics(service):
     size = os.stat(service.path).st_size if os.path.exists(service.path) else 0
+    can_accept = service.keeper.is_up and not service.keeper.disk.fault
     return service.watch.text({
         "clients": len(service.clients), "lines_waiting": sum(len(it.asked) + len(it.lines) for it in service.clients),
-        "readers": service.readers.ready(), "keeper_up": service.keeper.is_up, "revision": service.keeper.revision, "journal_bytes": size})
+        "readers": service.readers.ready(), "keeper_up": can_accept, "revision": service.keeper.revision, "journal_bytes": size})
 
 
-async def journal(service, query):
+async def journal(service, query, is_guest):
     """The journal at a revision. Clients are answered while it is read."""
+    if is_guest:
+        return UNAVAILABLE, PLAIN, b"there are as many clients as may be\n"
     if not service.keeper.is_up:
         return UNAVAILABLE, PLAIN, b"what stands in the journal is known again once it is kept again\n"
     asked, last = re.fullmatch(b"revision=([0-9]{1,9})", query), service.keeper.revision
-    return OK, PLAIN, await service.loop.run_in_executor(None, text_at, service.path, min(int(asked[1]), last) if asked else last)
+    try:
+        return OK, PLAIN, await service.loop.run_in_executor(None, Copy, service.path, min(int(asked[1]), last) if asked else last)
+    except OSError as fault:
+        return UNAVAILABLE, PLAIN, f"the journal can't be read: {fault.strerror}\n".encode()

@@ -5,18 +5,20 @@ import json
 
 from ..connected import line_of
 from .child import ACCEPTED, Child
+from .disk import Disk
 from .journal import commands_after
+from .ops import COMMANDS
 from .supervisor import Supervisor
 
 
 class Keeper(Supervisor):
     """`followers` are called with each accepted line, in order; `accepted` is the hash of them all. What is asked while the program is begun
-    again waits for that."""
+    again waits for that. While the journal can't be written, commands are refused."""
     role = "keeper"
 
     def __init__(self, path, watch, words=()):
         super().__init__(path, watch)
-        self.words, self.revision, self.accepted, self.followers = words, 0, hashlib.sha256(), []
+        self.words, self.revision, self.accepted, self.followers, self.disk = words, 0, hashlib.sha256(), [], Disk(self)
 
     async def begin(self):
         """Goes on with the journal's file. What stands there and was told to nobody is accepted now."""
@@ -36,6 +38,9 @@ class Keeper(Supervisor):
             it(line)
 
     def ask(self, asked):
+        if self.disk.fault and asked.op in COMMANDS:
+            asked.answer(self.disk.refusal())
+            return
         self.asked.append(asked)
         if self.is_up:
             self.child.ask(asked.line, self.answered)
@@ -47,9 +52,14 @@ class Keeper(Supervisor):
         asked.answer(reply)
 
     def lost(self):
-        """Nothing is known of what was under way, and so that is told."""
+        """Nothing is known of what was under way, and so that is told, unless it is certain that no command of it is accepted."""
+        is_certain = self.disk.judge(self.child.said)
         while self.asked:
-            self.asked.popleft().fail()
+            asked = self.asked.popleft()
+            if is_certain and asked.op in COMMANDS:
+                asked.answer(self.disk.refusal())
+            else:
+                asked.fail()
 
     async def end(self, seconds):
         """Has the program answer what it has and end the journal; answers whether it did so in time."""

@@ -14,7 +14,7 @@ from itertools import islice
 from ..session import selecting, shared
 from .child import ACCEPTED, Child
 from .client import UNAVAILABLE
-from .journal import text_at
+from .copies import text_at
 from .supervisor import Supervisor
 
 WINDOW = 4  # requests that the quick reader is asked at once

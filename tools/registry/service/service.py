@@ -5,9 +5,10 @@ import os
 import signal
 
 from ..session import selecting
-from .client import READS, Client
-from .http import page
+from .client import Client
+from .http import MOST_COPIES, page
 from .keeper import Keeper
+from .ops import READS
 from .readers import Readers
 from .sockets import allow_files, bound_file, bound_port, notify
 from .watching import Watch
@@ -20,17 +21,18 @@ class Service:
 
     def __init__(self, path, given):
         self.path, self.given, self.loop = path, given, asyncio.get_running_loop()
-        self.now, self.clients, self.servers, self.is_stopping, self.is_over = self.loop.time, set(), [], False, False
+        self.now, self.servers, self.is_stopping, self.is_over = self.loop.time, [], False, False
+        self.clients, self.pages, self.guests = set(), set(), set()  # connections: of lines, of HTTP, and those beyond the clients that may be
+        self.copying = asyncio.Semaphore(MOST_COPIES)
         self.watch, self.signalled = Watch(given.log), asyncio.Event()
         self.keeper = Keeper(path, self.watch, selecting(given))
         self.readers = Readers(path, self.watch, self.keeper, given)
 
-    def takes_in(self, client):
-        """Whether a client that comes is one of this service: not where there are as many as may be."""
-        if len(self.clients) >= self.given.clients or self.is_stopping:
-            self.watch.counts["clients_refused_total", ""] += 1
+    def takes_in(self, connection, kind):
+        """Whether a connection that comes has a place among those of its kind: not where there are as many clients as may be."""
+        if len(self.clients) + len(self.pages) >= self.given.clients or self.is_stopping:
             return False
-        self.clients.add(client)
+        kind.add(connection)
         return True
 
     def ask(self, asked):

@@ -87,6 +87,9 @@ class Watch:
         self.counts["restarts_total", f'program="{which}"'] += 1
         self.note(event="restart", program=which, why=repr(why))
 
+    def turned_away(self):
+        self.counts["clients_refused_total", ""] += 1
+
     def cut_off(self, client):
         self.counts["clients_cut_off_total", ""] += 1
         self.note(event="cut-off", client=client.name, why="'it does not read its replies'")
