@@ -132,7 +132,9 @@ class Clients(unittest.TestCase):
                 self.client.go_on()
             self.assertEqual(self.lines(), [A1])
             self.service.answer(b"x")
-        self.assertEqual(self.lines(), [line, line])
+            self.assertEqual(self.lines(), [line])
+            self.service.answer(b"x")
+        self.assertEqual(self.lines(), [line])
         self.assertLessEqual(max(len(call.args[0]) for call in loads.call_args_list), ops.LONG)
         self.assertEqual(looked.call_count, 2)
 

@@ -143,7 +143,8 @@ class Faults(unittest.IsolatedAsyncioTestCase):
         self.path = os.path.join(self.enterContext(tempfile.TemporaryDirectory()), "journal")
         self.write([A1])
         self.keeper, self.told, self.closed = keeper.Keeper(self.path, None), [], 0
-        self.keeper.revision, self.keeper.is_up = 1, True
+        self.keeper.accept(A1)
+        self.keeper.is_up = True
         self.keeper.child = SimpleNamespace(said="", ask=lambda line, answered: self.told.append(line), input=SimpleNamespace(close=self.close))
         self.enterContext(mock.patch.object(disk, "LOOKS", (0, 0.01)))
         self.has_room = self.enterContext(mock.patch.object(disk, "has_room", return_value=False))
