@@ -153,7 +153,7 @@ class RefusedCalls(unittest.TestCase):
     def test_a_call_that_another_row_makes_is_none_of_a_row(self):
         calls = RowCalls(sources_below(TOP))
         for of, call, name, more in (("solver", "solve", "solver::solve_with", {}), ("pool", "answer_all", "pool::answer_all_with", {}),
-                                     ("walk", "choose_newest", "walk::list_in_order", {}), ("further", "undecided", "wire::read_lock", {}),
+                                     ("walk", "choose_newest", "walk::list_in_order", {}), ("term", "negate", "terms::relation", {}),
                                      ("chronicle", "steps", "chronicle::Seat::unyank", {"steps": [[1, "yank", {}]]})):
             self.assertFalse(calls.makes({"of": of, "call": call, **more}, name), name)
 

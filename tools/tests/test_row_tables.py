@@ -12,6 +12,7 @@ import generated_rows_pool  # noqa: F401
 import generated_rows_requests  # noqa: F401
 import generated_rows_search  # noqa: F401
 import generated_rows_store  # noqa: F401
+import generated_rows_terms  # noqa: F401
 import row_tables
 from row_tables import BadRows, tables_in
 

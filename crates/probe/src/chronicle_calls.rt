@@ -188,7 +188,8 @@ fn take_all<'a, R: Threads>(
     requires mark { mark.old.row ≡ first.old.row }
 {
     for step in steps {
-        answers.push(take(rt, alloc, items(step)?, first, second, third, mark)?)?;
+        let answer = take(rt, alloc, items(step)?, first, second, third, mark)?;
+        answers.push(answer)?;
     }
     Ok(())
 }

@@ -1,15 +1,11 @@
 //! Calls that no program of this repository makes: each is made here, so that it is known to answer where there is memory.
 
-ghost use Rattle.std.specs.Prelude.{◌≡◌, []};
-
 use book::Item;
 use journals::{LoadFault, load_journal};
-use partial::Partial;
 use releases::{Matching, Releases};
-use rows::{AnswerText, CallResult, Unread, both, given_if, size_at, text_at, whole_at};
+use rows::{AnswerText, CallResult, Unread, both, given_if, size_at, text_at};
 use serde_json::Value;
 use std::alloc::{AllocError, Global};
-use terms::{Pkg, Term, VSet};
 use versions::{Need, Published};
 use wire::read_lock;
 
@@ -17,7 +13,6 @@ pub fn further_call(alloc: Global, name: &str, row: &Value) -> Result<CallResult
     match name {
         "load_journal" => loaded(alloc, text_at(row, "text")?.as_bytes()),
         "read_lock" => given_if(alloc, read_lock(alloc, text_at(row, "text")?.as_bytes())),
-        "undecided" => undecided(alloc, row),
         "matching_at" => matching_at(alloc, row),
         _ => Err(Unread::Row),
     }
@@ -64,27 +59,6 @@ fn at_fault(alloc: Global, line: usize) -> Result<CallResult, Unread> {
     text.answer()
 }
 
-// ---- partial solutions
-
-/// The packages that are undecided once it was said of one that its version is of this ordinal.
-fn undecided(alloc: Global, row: &Value) -> Result<CallResult, Unread> {
-    let pkg = whole_at(row, "pkg")?;
-    let ordinal = whole_at(row, "k")?;
-    let mut partial = Partial::new(alloc);
-    let answer = match derive(alloc, &mut partial, pkg, ordinal) {
-        Ok(()) => given_if(alloc, partial.undecided()),
-        Err(why) => Err(Unread::from(why)),
-    };
-    drop(partial);
-    answer
-}
-
-fn derive(alloc: Global, partial: &mut Partial, pkg: Pkg, ordinal: u32) -> Result<(), AllocError>
-    requires { partial.old ≡ [] }
-{
-    partial.derive(pkg, Term::In(VSet::single(alloc, ordinal)?), 0)
-}
-
 // ---- releases
 
 /// What meets a requirement where one version is published. The requirement is looked for at a place, and was not named.
@@ -94,17 +68,22 @@ fn matching_at(alloc: Global, row: &Value) -> Result<CallResult, Unread> {
     let mut releases = Releases::new(alloc);
     let answer = match publish(&mut releases, version) {
         Ok(()) => set_told(alloc, releases.matching_at(&need, place)),
-        Err(why) => Err(Unread::from(why)),
+        Err(why) => Err(why),
     };
     drop(releases);
     drop(need);
     answer
 }
 
-fn publish(releases: &mut Releases, version: Published) -> Result<(), AllocError>
-    requires { releases.old.releases ≡ [] }
-{
-    releases.reserve()?;
+fn publish(releases: &mut Releases, version: Published) -> Result<(), Unread> {
+    if releases.find(&version).is_some() || releases.len() > u32::MAX as usize {
+        drop(version);
+        return Err(Unread::Row);
+    }
+    if let Err(why) = releases.reserve() {
+        drop(version);
+        return Err(Unread::from(why));
+    }
     releases.push(version);
     Ok(())
 }

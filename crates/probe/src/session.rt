@@ -3,9 +3,11 @@
 use crate::chain_calls::chain_call;
 use crate::chronicle_calls::chronicle_call;
 use crate::further_calls::further_call;
+use crate::partial_calls::partial_call;
 use crate::pool_calls::pool_call;
 use crate::registry_calls::registry_call;
 use crate::solver_calls::solver_call;
+use crate::term_calls::term_call;
 use crate::walk_calls::walk_call;
 use registry::Registry;
 use rows::{CallResult, Unread, row_of, tell, text_at};
@@ -80,6 +82,8 @@ fn call_for(
         "solver" => solver_call(alloc, registry, name, row),
         "walk" => walk_call(alloc, registry, name, row),
         "chain" => chain_call(alloc, name, row),
+        "partial" => partial_call(alloc, name, row),
+        "term" => term_call(alloc, name, row),
         "further" => further_call(alloc, name, row),
         _ => Err(Unread::Row),
     }
