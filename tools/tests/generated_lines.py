@@ -4,10 +4,12 @@ import json
 import os
 import sys
 
+from generated_lines_terms import terms_at_the_edges_of_words
 from program import TOP, publish, resolve, unyank, yank
 
 sys.path.insert(0, os.path.join(TOP, "tools"))
-from limits import MOST_COMMANDS, MOST_LINE_BYTES, MOST_NEEDS, MOST_PACKAGES, MOST_VERSIONS
+from limits import (MOST_COMMANDS, MOST_LINE_BYTES, MOST_NAME_BYTES, MOST_NEEDS, MOST_PACKAGES, MOST_REQUIREMENT_BYTES, MOST_VERSION_BYTES,
+                    MOST_VERSIONS)
 
 LIST = b'{"op":"list"}'
 EMPTY = '{"packages":[],"revision":0}'
@@ -174,11 +176,34 @@ def budgets_in_other_words():
     yield b'{%s,"lock":[]}' % rest, refused
 
 
+def texts_at_the_limits_of_their_lengths():
+    """A name, a version and a requirement have at most so many bytes, and a requirement at most so many comparators."""
+    name, version, need = "a".ljust(MOST_NAME_BYTES, "b"), "1.0.0-".ljust(MOST_VERSION_BYTES, "a"), "^1.0.0".ljust(MOST_REQUIREMENT_BYTES)
+    most = 31 * ">=1," + "<2"
+    yield publish(name, "1.5.0").encode(), '{"ok":true,"revision":1}'
+    yield publish("a", version).encode(), '{"ok":true,"revision":2}'
+    for text in (need, most):
+        yield resolve(f"{name} {text}").encode(), '{"revision":2,"selected":[["%s","1.5.0"]]}' % name
+    for line, number, told in ((publish(name + "b", "1.0.0"), 1, "BadName"), (publish("b", version + "a"), 2, "BadVersion"),
+                               (resolve(f"{name} {need} "), 3, "BadRequirement"), (resolve(f"{name} >=1,{most}"), 3, "BadRequirement")):
+        yield line.encode(), '{"error":%d,"name":"%s","revision":2}' % (number, told)
+
+
+def a_chain_of_packages():
+    """A chain of 10,000 packages, each of which needs the next, is selected once its last package is published."""
+    count = 10_000
+    names = [f"p{number}" for number in range(count)]
+    yield from accepted([publish(name, "1.0.0", [f"{after} ^1"]).encode() for name, after in zip(names, names[1:])])
+    yield resolve("p0 *").encode(), '{"refused":true,"revision":%d}' % (count - 1)
+    yield from accepted([publish(names[-1], "1.0.0").encode()], count - 1)
+    yield resolve("p0 *").encode(), compact({"revision": count, "selected": sorted([name, "1.0.0"] for name in names)}).decode()
+
+
 SESSIONS = [
     lines_at_the_limit_of_their_length, values_in_one_another, needs_past_the_most_of_a_publication,
     needs_past_the_most_of_a_request, each_count_of_needs_up_to_the_most, a_selection_longer_than_the_room_of_replies,
     a_listing_longer_than_the_room_of_replies, the_most_versions_and_dependencies, the_most_names_of_packages,
-    the_most_commands_of_a_session, budgets_in_other_words,
+    the_most_commands_of_a_session, budgets_in_other_words, texts_at_the_limits_of_their_lengths, a_chain_of_packages, terms_at_the_edges_of_words,
 ]
 
 

@@ -2,10 +2,10 @@
 
 A table is a title and its rows; a row's member `gives` is what the call is wanted to answer."""
 
-from generated_rows import rows_of
+from generated_rows import tables
 
 
-@rows_of("high")
+@tables
 def many_requests_at_once():
     versions = [f"1.{minor}.0" for minor in range(16)]
     rows = [{"of": "registry", "call": "publish", "name": "a", "version": version, "needs": [], "gives": revision}

@@ -1,15 +1,20 @@
-"""Tables of `solver` for the requests of the sessions under `rows/lines`, and for workloads whose conflicts lead far back: what each
-offers to be learnt stands in the registry, a refusal has a derivation that follows, and a selection is the one that stands there."""
+"""Tables of `solver` for the requests of the sessions under `rows/lines`, and for workloads whose conflicts lead far back: a refusal
+has a derivation, and a selection is the one that stands there."""
 import json
 import os
 import sys
 
-from generated_rows import row, rows_of
+from generated_rows import row, tables
 from program import TOP
 from tables import tables_under
 
 sys.path.append(os.path.join(TOP, "bench"))
 import workloads
+
+
+def judged(answer):
+    """What an answer says of a request alone: what is selected, or that it has a derivation."""
+    return {"derived": True} if "derivation" in answer else {"selected": answer["selected"]}
 
 
 def asked(line, reply):
@@ -23,22 +28,22 @@ def asked(line, reply):
     if value["op"] != "resolve":
         return None
     gives = {"selected": told["selected"]} if "selected" in told else {"derived": True}
-    return row("solver", "judge", {**gives, "offers_stand": True}, needs=value["needs"], lock=value.get("lock", []))
+    return row("solver", "solve_with", gives, by=judged, needs=value["needs"], lock=value.get("lock", []))
 
 
-@rows_of("high")
+@tables
 def requests_of_sessions():
     """The sessions under rows/lines, whose replies have sources of their own."""
     count = 0
     for table in tables_under("lines"):
         rows = [made for made in (asked(line, reply) for line, reply, _ in table.rows) if made]
-        count += sum(it["call"] == "judge" for it in rows)
-        if any(it["call"] == "judge" for it in rows):
+        count += sum(it["of"] == "solver" for it in rows)
+        if any(it["of"] == "solver" for it in rows):
             yield table.title, rows
     assert count > 60, count
 
 
-@rows_of("high")
+@tables
 def requests_whose_conflicts_lead_far_back():
     """bench/workloads.py: by how they are made no selection meets these, since what they need at last is in its own way."""
     for name, (lines, requests) in (("towers", workloads.towers(4)), ("chain", workloads.chain(12))):

@@ -1,4 +1,4 @@
-"""Tables of `derivations`, `extraction`, `walk` and `solver` that would be too large to be kept: each public function makes some.
+"""Tables of `walk`, of `solver` and of what a seat learns that would be too large to be kept: each public function makes some.
 
 A table is a title and its rows; a row's member `gives` is what the call is wanted to answer, or what the function in its
 member `by` is to give of that."""
@@ -6,7 +6,7 @@ member `by` is to give of that."""
 import os
 import sys
 
-from generated_rows import KEPT_SETS, rows_of
+from generated_rows import KEPT_SETS, row, tables
 
 sys.path.insert(0, os.path.join(os.path.dirname(os.path.abspath(__file__)), ".."))
 from limits import MOST_DERIVATION_LINES as MOST, MOST_OFFERED_LINES
@@ -26,7 +26,7 @@ def _asked(of, call, gives, need, **more):
     return {"of": of, "call": call, "needs": [need.split(" ", 1)], "lock": [], **more, "gives": gives}
 
 
-# ---- derivations
+# ---- what is learnt
 
 def _premise(package, target, within):
     return {"package": package, "versions": [0], "target": target, "need": "^1.0.0", "within": within}
@@ -37,33 +37,22 @@ def _line(conclusion):
     return {"conclusion": conclusion, "causes": [_premise(1, 2, [0]), _premise(2, 3, [0])], "pivot": 2}
 
 
-@rows_of("search")
+@tables
 def so_many_lines_are_learnt():
     follows = _line([[1, {"in": [0]}], [3, {"not": [0]}]])
     other = _line([[1, {"in": [0]}], [3, {"not": [1]}]])
-    learnt, too_long, underived = follows["conclusion"], {"refused": 20}, {"refused": 21}
-    rows = [{"of": "learnt", "call": "new", "lines": [follows] * count + [last], "gives": gives}
-            for count, last, gives in [(MOST - 1, follows, learnt), (MOST - 1, other, underived),
-                                       (MOST, follows, too_long), (MOST, other, too_long)]]
-    yield f"{MOST} lines are learnt, and {MOST + 1} are not, whether they follow or not", rows
+    steps = [[1, "publish", {"name": name, "version": "1.0.0", "needs": needs}]
+             for name, needs in (("a", [["b", "^1.0.0"]]), ("b", [["c", "^1.0.0"]]), ("c", []))]
+    steps += [[1, "learn", {"lines": [follows] * count + [last]}]
+              for count, last in ((MOST, follows), (MOST, other), (MOST - 1, other), (MOST - 1, follows))]
+    gives = [[1, 1], [2, 2], [3, 3], {"refused": 20}, {"refused": 20}, {"refused": 21}, [4, 3]]
+    yield f"{MOST} lines are learnt, and {MOST + 1} are not, whether they follow or not", [
+        row("chronicle", "steps", gives, capacity=8, seats=[1, 2], steps=steps)]
 
 
 # ---- walk
 
-@rows_of("search")
-def a_long_chain_is_walked():
-    count, last = 10_000, "p9999"
-    chain = [(f"p{n}", "1.0.0", f"p{n + 1} ^1.0.0") for n in range(count - 1)]
-    rows = _published(*chain)
-    rows.append(_asked("walk", "reach_preferred", {"asks": ["p9998", "1.0.0"], "for": [last, "^1.0.0"]}, "p0 *"))
-    rows.append(_publish(count, last, "1.0.0"))
-    for start in (0, 9980):
-        reached = sorted([f"p{n}", "1.0.0"] for n in range(start, count))
-        rows.append(_asked("walk", "reach_preferred", {"selected": reached}, f"p{start} *"))
-    yield "A chain of 10,000 packages is walked to its end, which is published last", rows
-
-
-@rows_of("search")
+@tables
 def two_packages_that_need_each_other_are_chosen_by_any_requirement():
     """The sets of the first `KEPT_SETS` requirements of a package are kept, and each version is tested by the others."""
     rows = _published(("a", "1.0.0", "b ^1.0.0"), ("b", "1.0.0", "a ^1.0.0"),
@@ -76,6 +65,30 @@ def two_packages_that_need_each_other_are_chosen_by_any_requirement():
 
 
 # ---- solver
+
+def selection(answer):
+    """What is selected, or the error; not what is offered."""
+    return answer.get("selected", answer)
+
+
+@tables
+def what_one_conflict_each_rules_out():
+    """Each of three packages has a higher version that one conflict rules out, as pub's doc/solver.md, "Performing Conflict Resolution", shows."""
+    rows = _published(*(it for k in range(3) for it in ((f"foo{k}", "2.0.0", f"bar{k} ^1.0.0"), (f"bar{k}", "1.0.0", f"foo{k} ^1.0.0"), (f"foo{k}", "1.0.0"))))
+    needs = [[f"foo{k}", ">=1.0.0"] for k in range(3)]
+    chosen = [[f"foo{k}", "1.0.0"] for k in range(3)]
+    rows += [row("solver", call, chosen, by=selection, needs=needs, lock=[], budget=budget) for call in ("solve", "solve_with") for budget in (3, 4)]
+    yield "Three packages, of which each has a higher version that one conflict rules out, have a selection within three conflicts", rows
+
+
+@tables
+def a_lock_where_another_package_gives_way():
+    """pub's doc/solver.md, "Performing Conflict Resolution"; docs/SOLVER.md, Decision Making."""
+    rows = _published(("foo", "2.0.0", "bar ^1.0.0"), ("bar", "1.0.0", "foo ^1.0.0"), ("foo", "1.0.0"), ("log", "1.0.0"), ("log", "1.1.0"))
+    rows += [row("solver", "solve_with", [["foo", "1.0.0"], ["log", log]], by=selection, needs=[["foo", ">=1.0.0"], ["log", "^1"]], lock=lock)
+             for lock, log in (([], "1.1.0"), ([["log", "1.0.0"]], "1.0.0"))]
+    yield "A search for any selection keeps the version that the lock names, where only another package has to give way", rows
+
 
 def _row_of_packages(count):
     """A package "top" that needs "x" in one version, and a row of packages each of which needs the next one, up to one
@@ -110,7 +123,7 @@ def _beyond_the_most(answer):
     return [_count_as_cited(most) > MOST, len(most) > MOST]
 
 
-@rows_of("high")
+@tables
 def as_many_lines_as_may_be_learnt_are_offered():
     for count, offered in [(3, [4]), (MOST - 1, [MOST]), (MOST, [])]:
         rows = _published(*_row_of_packages(count))
@@ -131,7 +144,7 @@ def _tops(count, length):
     yield f"p{length}", "1.0.0", "x ^2"
 
 
-@rows_of("high")
+@tables
 def offers_have_so_many_lines_together():
     # each takes as many lines as may be
     most = MOST_OFFERED_LINES // MOST
@@ -158,7 +171,7 @@ def pigeons(count):
     return _published(*_pigeons(count)), [[f"pigeon{pigeon}", "*"] for pigeon in range(count)]
 
 
-@rows_of("high")
+@tables
 def a_line_that_is_cited_again_counts_once():
     # a refusal after so long a search teaches nothing, so there is a version that asks for no pigeon
     pigeons_needed = [f"pigeon{pigeon} *" for pigeon in range(8)]

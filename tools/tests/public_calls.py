@@ -11,7 +11,7 @@ TAKES_NONE = {"registry::Registry::check", "store::Store::check", "book::Replica
 OF_RACES = {"journals::can_be_saved"}
 # What the probe stands on, what is tried through the calls of the registry and of the solver, and what is tried through the
 # lines of the program (`test_memory.py`).
-NO_PART = {"rows", "calls_low", "calls_texts", "calls_high", "engine", "heuristics", "intake", "answers", "session", "race", "command_line"}
+NO_PART = {"rows", "engine", "heuristics", "intake", "answers", "session", "race", "command_line"}
 TAKES_MEMORY = re.compile(r"-> (?:io::)?Result<")
 
 
@@ -60,3 +60,30 @@ def that_take_memory():
                     if (of or name) in names and TAKES_MEMORY.search(head):
                         found.add("::".join(part for part in (crate, of, name) if part))
     return found - TAKES_NONE - OF_RACES
+
+
+def clauses_of(text):
+    """The clauses of each public function of a source, and of each `clone`: by the type that it is a method of, or none, and its name. What
+    has no name is `ensures`; a `clone` promises what its type's `is_clone` says."""
+    of, name, found = None, None, {}
+    for line in text.split("\n"):
+        opens = re.match(r"impl(?:<[^>]*>)? (?:\w+(?:<[^>]*>)? for )?(\w+)", line)
+        of = opens[1] if opens else None if line.startswith("}") else of
+        if re.match(r" *ghost is_clone = ", line):
+            found[of, "clone"] = {"is_clone"}
+        begins = re.match(r"( *)(pub )?(?:pub\(crate\) |const )*fn (\w+)", line)
+        if begins:
+            name = (of if begins[1] else None, begins[3]) if begins[2] else None
+        clause = re.match(r" *ensures (\w+)? ?\{", line)
+        if name and clause:
+            found.setdefault(name, set()).add(clause[1] or "ensures")
+    return found
+
+
+def said_by_clauses():
+    """The full names of the calls whose contract says all of what they do, each with the clauses that say it."""
+    with open(os.path.join(TOP, "tools", "tests", "said_by_clauses.txt"), encoding="utf-8") as file:
+        for line in file:
+            if not line.startswith("#"):
+                name, *clauses = line.split()
+                yield name, clauses

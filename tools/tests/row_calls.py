@@ -20,8 +20,8 @@ OWN_IMPORT = re.compile(r"^use crate::(\w+)(?:::(?:\{([^}]*)\}|(\w+)))?;", re.M)
 # What reads a value from a row, by the `of` of its type, which need not be named; and the types that such a function leaves open.
 READERS = ("at", "both", "three", "of")
 OPEN = ("T", "A", "B", "C")
-# The libraries of the probe.
-PROBE = ("rows", "calls_")
+# The crates of the probe.
+PROBE = ("rows/", "probe/")
 
 
 def plain(text):
@@ -123,9 +123,9 @@ class RowCalls:
         self.own = {path: {name.strip(): found[1] for found in OWN_IMPORT.finditer(texts[path])
                            for name in (found[2] or found[3] or found[1]).split(",")} for path in self.imports}
 
-    def called(self, library, row):
-        """The functions of the product that the probe's code calls for a row of a library."""
-        words, waiting = Words(row), [Function(f"{library}/src/session.rt", "Session", "call")]
+    def called(self, row):
+        """The functions of the product that the probe's code calls for a row."""
+        words, waiting = Words(row), [Function("probe/src/session.rt", "", "call")]
         seen, found = set(waiting), set()
         while waiting:
             for function in self.calls(waiting.pop(), words) - seen:
@@ -173,19 +173,19 @@ class RowCalls:
         named = set(re.findall(WORD, types or "")) or {*self.imports[function.path]}
         return {one for one in self.named.get("of", set()) if one in self.bodies and one.owner in named}
 
-    def makes(self, library, row, name):
-        """Whether the probe's code calls a function of this full name for a row of a library."""
+    def makes(self, row, name):
+        """Whether the probe's code calls a function of this full name for a row."""
         crate, *owner, last = name.split("::")
-        return any((one.crate, one.owner, one.name) == (crate, "".join(owner), last) for one in self.called(library, row))
+        return any((one.crate, one.owner, one.name) == (crate, "".join(owner), last) for one in self.called(row))
 
     @cached_property
     def sources(self):
         return Sources(self.texts)
 
-    def leads_to(self, library, row, name):
+    def leads_to(self, row, name):
         """Whether what is called for a row may come to a function of this full name."""
         crate, *owner, last = name.split("::")
-        reached = self.sources.reached(self.called(library, row))
+        reached = self.sources.reached(self.called(row))
         return any((one.crate, one.owner, one.name) == (crate, "".join(owner), last) for one in reached)
 
 

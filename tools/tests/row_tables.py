@@ -12,9 +12,7 @@ import tempfile
 
 from program import PROBE, TOP
 
-ROWS = os.path.join(TOP, "rows")
-# The word by which the program makes the calls of each folder of rows.
-WORDS = {"low": "low", "texts": "texts", "search": "low", "high": "high"}
+ROWS = os.path.join(TOP, "rows", "calls")
 # At each table the program begins anew, so that no table rests on another one.
 BEGIN = '{"of":"session","call":"new"}'
 # How much of a long row or answer is shown, and how many rows of a table.
@@ -139,15 +137,10 @@ def generated(tables):
     return found
 
 
-def files(folder):
-    """The files of a folder of rows, each with the name that it is told by."""
-    found = sorted(glob.glob(os.path.join(ROWS, folder, "*.rows")))
+def files():
+    """The files of rows, each with the name that it is told by."""
+    found = sorted(glob.glob(os.path.join(ROWS, "*.rows")))
     return [(path, os.path.relpath(path, TOP)) for path in found]
-
-
-def probe(folder):
-    """The program that makes the calls of a folder of rows, with its word."""
-    return [PROBE, WORDS[folder]]
 
 
 def answers(command, lines, **more):
@@ -163,7 +156,7 @@ def answers(command, lines, **more):
     return [json.loads(line) for line in told]
 
 
-def faults(tables, command):
+def faults(tables, command=(PROBE,)):
     """Asks all rows of these tables in one run, and gives what is to be told of the answers, by the tables' titles."""
     told = answers(command, [line for table in tables for line in table.lines()])
     found = {}

@@ -15,7 +15,7 @@ sys.path.insert(0, os.path.join(TOP, "tools"))
 from doc_comments import CRATES, Fault, faults, faults_of  # noqa: E402
 
 # What only the tests are made of, and the example.
-OF_TESTS = {"rows", "calls_low", "calls_texts", "calls_high", "probe", "team"}
+OF_TESTS = {"rows", "probe", "team"}
 # Crates that don't keep to it yet. One is taken out once it does.
 TO_COME = set()
 SOURCE = """\

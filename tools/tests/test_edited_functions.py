@@ -10,7 +10,7 @@ sys.path.insert(0, os.path.join(TOP, "tools"))
 from edit_files import CRATES, edits_of, functions_in  # noqa: E402
 
 # What only the tests are made of, and the example.
-OF_TESTS = {"rows", "calls_low", "calls_texts", "calls_high", "team"}
+OF_TESTS = {"rows", "team"}
 # The others: a line has the crate, the function and why it has no wrong body.
 WITHOUT = os.path.join(TOP, "tools", "tests", "functions_without_edits.txt")
 REASONS = {"reads", "looks-up", "compares", "copies", "wraps", "makes-empty", "law", "promises-nothing"}

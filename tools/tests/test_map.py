@@ -94,6 +94,14 @@ class Map(unittest.TestCase):
         named = re.findall(r"^\| Errors? ([\d, ]+(?:and \d+)?)", read(MAP), re.M)
         self.assertEqual([number for one in named for number in re.findall(r"\d+", one)], listed)
 
+    def test_each_error_has_its_number_and_name(self):
+        """Of some errors no line of the program is answered."""
+        listed = re.findall(r"^\| (\d+) \| (\w+) \|", read(os.path.join(TOP, "docs", "REGISTRY.md")), re.M)
+        said = read(os.path.join(TOP, "crates", "versions", "specs", "Refusals.antt"))
+        self.assertEqual(re.findall(r"^number_of (\w+) = (\d+)$", said, re.M), [(name, number) for number, name in listed])
+        self.assertEqual(re.findall(r'^name_of (\w+) = codes "(\w+)"$', said, re.M), [(name, name) for _, name in listed])
+        self.assertEqual(len(listed), 22)
+
     def test_a_wrong_line_is_told(self):
         good = [f"[`{name}`](../{path})" for name, path in (
             ("order", "crates/versions/src/precedence.rt"), ("precedence", "crates/versions/specs/Words.antt"),

@@ -1,6 +1,5 @@
 """An oracle that loses, or lies about a selection, a refusal, the newest selection or what shows that it is the newest, changes no
 answer: rows whose answers have other sources are asked again with each of these."""
-import json
 import random
 import unittest
 
@@ -14,28 +13,13 @@ ORACLES = "lost", "selection", "refusal", "newest", "ruling", "first"
 SEEDS = range(120)
 
 
-def with_oracle(asked, oracle):
-    """A row that is answered by this oracle, if it asks for an answer. What an oracle changes is how many conflicts are met, and
-    what is offered to be learnt, so a row with a budget, or that tells of offers, is left out."""
-    if asked["of"] != "solver":
-        return asked
-    return {**asked, "call": "solve_by", "oracle": oracle} if asked["call"] == "judge" and "budget" not in asked else None
-
-
 def again(rows, oracle):
-    return [made for made in (with_oracle(asked, oracle) for asked in rows) if made]
+    """The rows, those that ask for an answer by this oracle."""
+    return [{**asked, "call": "solve_by", "oracle": oracle} if asked["of"] == "solver" else asked for asked in rows]
 
 
 def asks(rows):
     return sum(asked["of"] == "solver" for asked in rows)
-
-
-def tables_of_solver():
-    for path, name in row_tables.files("high"):
-        if name.endswith("solver.rows"):
-            with open(path, encoding="utf-8") as rows:
-                for table in row_tables.tables_in(rows.read(), name):
-                    yield table.title, [{**json.loads(it.asked), "gives": it.wanted} for it in table.rows]
 
 
 def random_rows(seed):
@@ -48,7 +32,7 @@ def random_rows(seed):
     newest = registry.newest(needs, lock)
     gives = {"derived": True} if newest is None else {"selected": newest}
     return [*(row("registry", it["op"], by=lambda got: None, **{name: value for name, value in it.items() if name != "op"}) for it in commands),
-            row("solver", "judge", {**gives, "offers_stand": True}, needs=needs, lock=lock, newest=True)]
+            row("solver", "solve_with", gives, by=generated_rows_requests.judged, needs=needs, lock=lock, newest=True)]
 
 
 class Oracles(unittest.TestCase):
@@ -57,12 +41,9 @@ class Oracles(unittest.TestCase):
             changed = [(title, again(rows, oracle)) for title, rows in tables]
             changed = [(title, rows) for title, rows in changed if asks(rows)]
             self.assertGreaterEqual(sum(asks(rows) for _, rows in changed), least)
-            for title, told in row_tables.faults(row_tables.generated(changed), row_tables.probe("high")).items():
+            for title, told in row_tables.faults(row_tables.generated(changed)).items():
                 with self.subTest(oracle, table=title):
                     self.fail(told)
-
-    def test_the_tables_of_the_solver(self):
-        self.check(list(tables_of_solver()), 15)
 
     def test_the_requests_of_sessions(self):
         self.check(list(generated_rows_requests.requests_of_sessions()), 60)

@@ -10,7 +10,7 @@ from source_calls import Sources, sources_below
 ENTRY = re.compile(r"\[`([^`]+)`\]\(\.\./crates/([^)#]+\.rt)\)")
 NAME = re.compile(r"`((?:[A-Z]\w*::)?\w+)`")
 # no program stands on these
-OF_TESTS = ("calls_low", "calls_texts", "calls_high", "probe", "rows")
+OF_TESTS = ("probe", "rows")
 PROGRAMS = ("registryd/src/main.rt", "team/src/main.rt")
 
 

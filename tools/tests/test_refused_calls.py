@@ -1,39 +1,35 @@
 """Each public call that takes memory, with each of its requests refused in turn: it then answers lack of memory and leaves
 all as it was, or it answers what it answers otherwise.
 
-The calls stand in `rows/refused`. A table is named by the public calls that it is of. Its row with the member `refuse` is the
-call, the rows before it set things up, and those behind it show what the call left."""
+The calls stand in `rows/refused.rows`. A table is named by the public calls that it is of. Its row with the member `refuse` is the
+call, the rows before it set things up, and those behind it show what the call left. A call that has no table is one whose contract says all of that."""
 import functools
 import json
 import os
 import unittest
 
-import generated_rows
 import generated_rows_chronicle
 import generated_rows_store
 from preloaded import REFUSE_MEMORY, built, each_refused
-from program import TOP
-from public_calls import that_take_memory
+from program import PROBE, TOP
+from public_calls import said_by_clauses, that_take_memory
 from row_calls import RowCalls
-from row_tables import BEGIN, generated, probe, tables_in
+from row_tables import BEGIN, tables_in
 from source_calls import sources_below
 
-ROWS = os.path.join(TOP, "rows", "refused")
 SHORT = {"refused": 18}
-# The library that makes the calls of each file's rows.
-LIBRARIES = {"low": "low", "search": "low", "texts": "texts", "high": "high"}
 
 
 class Session:
     """Runs the probe on rows with a request for memory refused, or none."""
 
-    def __init__(self, command, library):
-        self.command, self.library = command, library
+    def __init__(self, library):
+        self.library = library
 
     def each(self, rows, numbers):
         """What each run of these numbers left."""
         given = "".join(json.dumps(row) + "\n" for row in rows).encode()
-        return map(Answers, each_refused(self.library, self.command, given, numbers))
+        return map(Answers, each_refused(self.library, [PROBE], given, numbers))
 
     def run(self, rows):
         """What a run left that is refused nothing."""
@@ -66,35 +62,15 @@ def is_in_part(answer, ample):
             and all(one in (SHORT, full) for one, full in zip(answer, ample)))
 
 
-def tables_of(file):
-    with open(os.path.join(ROWS, file), encoding="utf-8") as text:
-        return tables_in(text.read(), os.path.join("rows", "refused", file))
-
-
-def journals_at_fault():
-    """Of the rows of `rows/texts/loading.rows` that tell a line at fault each fifth of those whose journal is short: each takes as many
-    runs as it has requests."""
-    with open(os.path.join(TOP, "rows", "texts", "loading.rows"), encoding="utf-8") as text:
-        rows = [row for table in tables_in(text.read(), "loading.rows") for row in table.rows]
-    return [row for row in rows if isinstance(row.wanted, dict) and "line" in row.wanted and journal_length(row) < 400][::5]
-
-
-def journal_length(row):
-    """How long the journal of a row is, which is written as text, or as texts with how often each stands."""
-    text = json.loads(row.asked)["text"]
-    return len(text) if isinstance(text, str) else sum(len(part) * times for part, times in text)
+def refused_tables():
+    with open(os.path.join(TOP, "rows", "refused.rows"), encoding="utf-8") as text:
+        return tables_in(text.read(), "rows/refused.rows")
 
 
 def refused_rows():
-    """The library, the title and the call of each table whose call is refused memory."""
-    for file in sorted(os.listdir(ROWS)):
-        for table in tables_of(file):
-            rows = [json.loads(row.asked) for row in table.rows]
-            yield f"calls_{LIBRARIES[file.removesuffix('.rows')]}", table.title, next(row for row in rows if row.get("refuse"))
-    for title, rows in generated_rows.refused_beyond_the_kept_sets():
-        named, colon, _ = title.partition(": ")
-        if colon:
-            yield "calls_low", named, next(row for row in rows if row.get("refuse"))
+    """The title and the call of each table."""
+    for table in refused_tables():
+        yield table.title, next(row for row in (json.loads(it.asked) for it in table.rows) if row.get("refuse"))
 
 
 class RefusedCalls(unittest.TestCase):
@@ -121,7 +97,7 @@ class RefusedCalls(unittest.TestCase):
     def refuse_last(self, made, count, step):
         """Refuses one in so many of the last requests of a long row: what is met there is answered as ever, after one more try."""
         (title, (row,)), = made
-        session, asked = Session(probe("high"), self.library), {name: value for name, value in row.items() if name != "gives"}
+        session, asked = Session(self.library), {name: value for name, value in row.items() if name != "gives"}
         rows = [json.loads(BEGIN), asked]
         ample = session.run(rows)
         self.assertEqual(ample.answers, [None, row["gives"]], title)
@@ -150,44 +126,36 @@ class RefusedCalls(unittest.TestCase):
         self.assertEqual(told.answers[at + 1:], ample[at + 1:], f"{table.title}: request {number} was refused, it did otherwise")
         return 0
 
-    def test_each_public_call_has_a_table(self):
-        named = {name for file in sorted(os.listdir(ROWS)) for table in tables_of(file)
-                  for name in table.title.split(", ")}
-        named |= {name for table in generated(generated_rows.refused_beyond_the_kept_sets())
-                  for names, colon, _ in [table.title.partition(": ")] if colon for name in names.split(", ")}
-        self.assertEqual(named, that_take_memory())
+    def test_each_public_call_has_a_table_or_a_clause(self):
+        named = {name for table in refused_tables() for name in table.title.split(", ")}
+        said = {name for name, _ in said_by_clauses()}
+        self.assertEqual(named | said, that_take_memory())
+        self.assertEqual(named & said, set())
 
     def test_each_table_makes_the_calls_of_its_title(self):
         calls, count = RowCalls(sources_below(TOP)), 0
-        for library, title, row in refused_rows():
+        for title, row in refused_rows():
             made, *others = title.split(", ")
-            self.assertTrue(calls.makes(library, row, made), f"{title}: the row does not call {made}")
+            self.assertTrue(calls.makes(row, made), f"{title}: the row does not call {made}")
             for name in others:
-                self.assertTrue(calls.makes(library, row, name) or calls.leads_to(library, row, name), f"{title}: the row does not come to {name}")
+                self.assertTrue(calls.makes(row, name) or calls.leads_to(row, name), f"{title}: the row does not come to {name}")
             count += 1
-        self.assertGreater(count, 90)
+        self.assertGreater(count, 30)
 
     def test_the_row_of_another_call_does_not_make_it(self):
         calls, rows = RowCalls(sources_below(TOP)), [*refused_rows()]
-        made = {(library, json.dumps(row)): {"::".join(filter(None, (it.crate, it.owner, it.name))) for it in calls.called(library, row)} for library, _, row in rows}
-        pairs = [title.split(", ")[0] in made[library, json.dumps(other)] for library, title, row in rows for where, _, other in rows
-                 if where == library and (row["of"], row["call"]) != (other["of"], other["call"])]
-        # some make it too: they read the same names, sets and requirements for a call of their own
-        self.assertGreater(len(pairs), 4_000)
+        made = {json.dumps(row): {"::".join(filter(None, (it.crate, it.owner, it.name))) for it in calls.called(row)} for _, row in rows}
+        pairs = [title.split(", ")[0] in made[json.dumps(other)] for title, row in rows for _, other in rows
+                 if (row["of"], row["call"]) != (other["of"], other["call"])]
+        self.assertGreater(len(pairs), 600)
         self.assertLess(sum(pairs), len(pairs) * 0.03)
 
     def test_a_call_that_another_row_makes_is_none_of_a_row(self):
         calls = RowCalls(sources_below(TOP))
-        for of, call, name, more in (("term", "and", "terms::Term::or", {}), ("set", "copy", "terms::Term::copy", {"a": [1]}),
-                                     ("set", "copy", "terms::VSet::single", {"a": [1]}), ("set", "single", "terms::VSet::of", {"k": 1}),
-                                     ("registry", "apply", "registry::Registry::shared", {"do": "publish"}),
-                                     ("registry", "reserve", "registry::Registry::apply", {"do": "publish"})):
-            self.assertFalse(calls.makes("calls_low", {"of": of, "call": call, **more}, name), name)
-        self.assertFalse(calls.makes("calls_texts", {"of": "journals", "call": "end_text"}, "journals::load_journal"))
-        for of, call, name, more in (("jobs", "take", "pool::answer_lent", {}), ("solver", "solve", "solver::solve_with", {}),
-                                     ("pool", "answer_all", "pool::answer_all_with", {}),
+        for of, call, name, more in (("solver", "solve", "solver::solve_with", {}), ("pool", "answer_all", "pool::answer_all_with", {}),
+                                     ("walk", "choose_newest", "walk::list_in_order", {}), ("term", "negate", "terms::relation", {}),
                                      ("chronicle", "steps", "chronicle::Seat::unyank", {"steps": [[1, "yank", {}]]})):
-            self.assertFalse(calls.makes("calls_high", {"of": of, "call": call, **more}, name), name)
+            self.assertFalse(calls.makes({"of": of, "call": call, **more}, name), name)
 
     def test_the_last_requests_of_a_row_that_ends_behind_a_segment(self):
         self.refuse_last(generated_rows_chronicle.a_row_that_ends_behind_a_segment(), 150, 3)
@@ -195,32 +163,13 @@ class RefusedCalls(unittest.TestCase):
     def test_the_last_requests_of_a_seat_whose_store_was_full(self):
         self.refuse_last(generated_rows_store.a_seat_stores_at_most_4096(), 300, 300)
 
-    def test_requirements_beyond_those_whose_sets_are_kept(self):
-        session = Session(probe("low"), self.library)
-        for table in generated(generated_rows.refused_beyond_the_kept_sets()):
-            with self.subTest(table.title):
-                self.assertGreater(self.refuse_each(session, table), 0, f"{table.title}: no request was refused")
-
-    def test_each_request_of_the_loading_of_a_journal_at_fault(self):
-        # lack of memory is never told as a fault, and a fault never as lack of memory
-        session, count, refused = Session(probe("texts"), self.library), 0, 0
-        for row in journals_at_fault():
-            table, = generated([("journals::load_journal", [{**json.loads(row.asked), "refuse": True, "gives": row.wanted}])])
-            with self.subTest(row.place):
-                refused += self.refuse_each(session, table)
-                count += 1
-        self.assertTrue(count > 10 and refused > 100, (count, refused))
-        print(f"({count} journals, {refused} times answered lack of memory) ", end="")
-
     def test_each_request_of_each_call(self):
-        count = refused = 0
-        for file in sorted(os.listdir(ROWS)):
-            session = Session(probe(file.removesuffix(".rows")), self.library)
-            for table in tables_of(file):
-                with self.subTest(table.title):
-                    short = self.refuse_each(session, table)
-                    self.assertGreater(short, 0, f"{table.title}: no request was refused")
-                    count, refused = count + 1, refused + short
+        session, count, refused = Session(self.library), 0, 0
+        for table in refused_tables():
+            with self.subTest(table.title):
+                short = self.refuse_each(session, table)
+                self.assertGreater(short, 0, f"{table.title}: no request was refused")
+                count, refused = count + 1, refused + short
         print(f"({count} calls, {refused} times answered lack of memory) ", end="")
 
 

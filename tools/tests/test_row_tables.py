@@ -1,5 +1,5 @@
-"""Every row under rows/low, rows/texts, rows/search and rows/high, and every generated one, is asked of the program
-that makes its call; and the reader of rows tells what it cannot use."""
+"""Every row under rows/calls, and every generated one, is asked of the program that makes its call; and the reader of rows tells what
+it cannot use."""
 import os
 import stat
 import tempfile
@@ -9,12 +9,10 @@ import generated_rows
 # these add their tables to those of `generated_rows`
 import generated_rows_chronicle  # noqa: F401
 import generated_rows_pool  # noqa: F401
-import generated_rows_registry  # noqa: F401
 import generated_rows_requests  # noqa: F401
 import generated_rows_search  # noqa: F401
 import generated_rows_store  # noqa: F401
 import generated_rows_terms  # noqa: F401
-import generated_rows_texts  # noqa: F401
 import row_tables
 from row_tables import BadRows, tables_in
 
@@ -24,30 +22,28 @@ GOOD = '# A set.\n# Source: by definition.\n{"of":"set","call":"len","a":[1],"gi
 class Rows(unittest.TestCase):
     """One test for each file of rows, and for each function that makes rows."""
 
-    def ask(self, folder, tables):
-        for title, told in row_tables.faults(tables, row_tables.probe(folder)).items():
+    def ask(self, tables):
+        for title, told in row_tables.faults(tables).items():
             with self.subTest(title):
                 self.fail(told)
         print(f"({len(tables)} tables, {sum(len(table.rows) for table in tables)} rows) ", end="")
 
     def test_every_file_is_asked(self):
-        for folder in row_tables.WORDS:
-            below = os.path.join(row_tables.ROWS, folder)
-            asked = [os.path.basename(path) for path, _ in row_tables.files(folder)]
-            self.assertEqual(asked, sorted(os.listdir(below)))
-            self.assertTrue(asked)
+        asked = [os.path.basename(path) for path, _ in row_tables.files()]
+        self.assertEqual(asked, sorted(os.listdir(row_tables.ROWS)))
+        self.assertTrue(asked)
 
 
-def of_file(folder, path, name):
+def of_file(path, name):
     def test(self):
         with open(path, encoding="utf-8", newline="\n") as rows:
-            self.ask(folder, tables_in(rows.read(), name))
+            self.ask(tables_in(rows.read(), name))
     return test
 
 
-def of_generator(folder, make):
+def of_generator(make):
     def test(self):
-        self.ask(folder, row_tables.generated(make()))
+        self.ask(row_tables.generated(make()))
     return test
 
 
@@ -56,12 +52,10 @@ def add_test(name, test):
     setattr(Rows, name, test)
 
 
-for a_folder in row_tables.WORDS:
-    for a_path, a_name in row_tables.files(a_folder):
-        a_test = of_file(a_folder, a_path, a_name)
-        add_test(f"test_{a_folder}_{os.path.basename(a_path).removesuffix('.rows')}", a_test)
-for a_folder, a_generator in generated_rows.GENERATORS:
-    add_test(f"test_{a_folder}_{a_generator.__name__}", of_generator(a_folder, a_generator))
+for a_path, a_name in row_tables.files():
+    add_test(f"test_{os.path.basename(a_path).removesuffix('.rows')}", of_file(a_path, a_name))
+for a_generator in generated_rows.GENERATORS:
+    add_test(f"test_{a_generator.__name__}", of_generator(a_generator))
 
 
 class Reading(unittest.TestCase):

@@ -1,7 +1,7 @@
-//! Commands of one registry, which a session's rows change.
+//! Commands of one registry, which rows change.
 
 use crate::call_result::CallResult;
-use crate::reading::{Given, Unread, both, text_at, three};
+use crate::reading::{Given, Unread, both, three};
 use registry::{Command, Dependencies, Registry};
 use serde_json::Value;
 use std::alloc::Global;
@@ -17,11 +17,6 @@ pub fn command_call(
     let answer = enter(registry, &command);
     drop(command);
     answer
-}
-
-/// The command of a row that names it by its member `do`.
-pub fn command_at(alloc: Global, row: &Value) -> Result<Command, Unread> {
-    command_of(alloc, text_at(row, "do")?, row)
 }
 
 /// The command of this kind that a row tells.
@@ -54,16 +49,10 @@ impl Given for Dependencies {
     }
 }
 
-/// Makes room for a command, enters a copy of it, and answers the revision after it.
-pub fn enter(registry: &mut Registry, command: &Command) -> Result<CallResult, Unread> {
+/// Makes room for a command, carries out a copy of it, and answers the revision after it.
+fn enter(registry: &mut Registry, command: &Command) -> Result<CallResult, Unread> {
     registry.check(command)?;
     registry.reserve(command)?;
-    apply(registry, command)
-}
-
-/// As `enter`, for a command for which no room is made.
-pub fn apply(registry: &mut Registry, command: &Command) -> Result<CallResult, Unread> {
-    registry.check(command)?;
     if registry.revision() == u64::MAX {
         return Ok(CallResult::Skipped);
     }

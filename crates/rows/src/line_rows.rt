@@ -1,10 +1,7 @@
 //! Lines of derivations and of searches that rows give.
 
-use crate::call_result::CallResult;
-use crate::published::request_at;
 use crate::reading::{Given, Unread, at, both, size_at, three, whole_at};
-use derivations::{Cause, CausedIncompatibility, Derivation, Learnt, Line, Premise, Reason, check};
-use registry::{Registry, Request};
+use derivations::{Cause, CausedIncompatibility, Learnt, Line, Premise, Reason};
 use serde_json::Value;
 use std::alloc::Global;
 use terms::Incompat;
@@ -12,30 +9,6 @@ use terms::Incompat;
 /// What is learnt of the lines of a row.
 pub fn learnt_at(alloc: Global, row: &Value) -> Result<Learnt, Unread> {
     Ok(Learnt::new(alloc, at(alloc, row, "lines")?)?)
-}
-
-/// Whether the lines of a row are a derivation for its request.
-pub fn derivation_check(
-    alloc: Global,
-    registry: &Registry,
-    row: &Value,
-) -> Result<CallResult, Unread> {
-    let request = request_at(alloc, row)?;
-    let answer = lines_check(alloc, registry, &request, row);
-    drop(request);
-    answer
-}
-
-fn lines_check(
-    alloc: Global,
-    registry: &Registry,
-    request: &Request,
-    row: &Value,
-) -> Result<CallResult, Unread> {
-    let derivation = Derivation::new(at(alloc, row, "lines")?);
-    let is_derived = check(alloc, registry, request, &derivation);
-    drop(derivation);
-    Ok(CallResult::Bool(is_derived?))
 }
 
 /// A line of a derivation, as `{"conclusion":[..],"causes":[..,..],"pivot":1}`.

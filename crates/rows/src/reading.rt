@@ -138,12 +138,6 @@ impl Given for u32 {
     }
 }
 
-impl Given for String {
-    fn of(alloc: Global, value: &Value) -> Result<String, Unread> {
-        Ok(String::from_str(alloc, text(value)?)?)
-    }
-}
-
 impl Given for VSet {
     fn of(alloc: Global, value: &Value) -> Result<VSet, Unread> {
         let ordinals = <Vec<u32>>::of(alloc, value)?;

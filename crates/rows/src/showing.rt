@@ -35,15 +35,6 @@ where
     given(alloc, outcome?)
 }
 
-/// The answer of what gives nothing, and may be refused.
-pub fn done<E>(outcome: Result<(), E>) -> Result<CallResult, Unread>
-where
-    Unread: From<E>,
-{
-    outcome?;
-    Ok(CallResult::None)
-}
-
 // ---- many and few
 
 impl<T: Shows> Shows for &[T] {
