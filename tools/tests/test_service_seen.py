@@ -42,13 +42,6 @@ class Http(unittest.TestCase):
     def get(self, target, **more):
         return self.answer(f"GET {target} HTTP/1.1\r\nHost: localhost\r\n\r\n".encode(), **more)
 
-    def test_what_is_spoken(self):
-        for text, kind in ((b"GET / HTTP/1.1\r\n", http.HTTP), (b"POST /x HTTP/1.0\n", http.HTTP), (b"GET / HTTP/2\n", http.OTHER), (b"get / HTTP/1.1\n", http.OTHER), (b"GET /\n", http.OTHER),
-                           (b"\n\nGET / HTTP/1.1\r\n", http.OTHER), (LIST.encode() + b"\n", http.LINES), (b" \t{", http.LINES), (b"\r\n\n {", http.LINES), (b"\x16\x03", http.OTHER), (b"x", http.OTHER),
-                           (b"[]\n", http.OTHER), (b"\n\n[", http.OTHER), (b"\xef\xbb\xbf{}\n", http.OTHER), (b"", None), (b"GET / HTTP/1.1", None), (b" \r\n\t", None), (b"\n", None), (b"G" * 65_536, None), (b"G" * 65_537, http.OTHER)):
-            *lines, rest = text.split(b"\n")
-            self.assertEqual(http.spoken(lines, rest), kind, text[:20])
-
     def test_what_is_refused(self):
         for head, status in ((b"x\r\n\r\n", "400"), (b"GET / HTTP/1.1", "400"), (b"POST /health HTTP/1.0\r\n\r\n", "405"), (b"GET /none HTTP/1.0\r\n\r\n", "404"),
                              (b"GET /healthy HTTP/1.0\r\n\r\n", "404"), (b"GET /health HTTP/1.0\n\n", "200"), (b"GET /health?x HTTP/1.0\r\n\r\n", "200")):
@@ -124,6 +117,9 @@ class Http(unittest.TestCase):
         # where there is no room it is answered too, and nothing else is
         full, self.service.takes_in = b'{"error":503,"name":"TooManyClients","revision":3}\n', lambda place, kind: False
         self.assertEqual(asyncio.run(told(b"GET /health HTTP/1.0\r\n\r\n", ended=False)), wanted)
+        # nor does it wait for a copy that it can't have
+        self.service.copying = asyncio.Semaphore(0)
+        self.assertIn(b"as many clients as may be", asyncio.run(told(b"GET /journal HTTP/1.0\r\n\r\n", ended=False)) or b"")
         with mock.patch.object(http, "HEARING", 0.01):
             for given in ((), (b"GET /hea",), (LIST.encode() + b"\n",), (b"\n",)):
                 self.assertEqual(asyncio.run(told(*given, ended=False)), full, given)

@@ -87,7 +87,7 @@ async def guest_head(service, reader, place):
 
 
 async def tell_one(service, head, writer, is_guest):
-    async with service.copying if COPY.match(head) else contextlib.nullcontext():
+    async with service.copying if COPY.match(head) and not is_guest else contextlib.nullcontext():
         status, kind, text = await answer(service, head, writer.get_extra_info("peername"), is_guest)
         writer.write(f"HTTP/1.1 {status}\r\nContent-Type: {kind}\r\nContent-Length: {len(text)}\r\nConnection: close\r\n\r\n".encode())
         for piece in [text] if isinstance(text, bytes) else text:

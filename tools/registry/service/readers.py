@@ -157,6 +157,7 @@ class Readers:
 
     def end(self):
         """Ends all of them: what they had is told that it was not answered."""
+        self.looking.cancel()
         for it in self.readers:
             it.keeping.cancel()
             it.kill()
