@@ -1,5 +1,4 @@
 """Sessions of the command `registry` that wait for a journal: thirty at once, one that another session keeps waiting, and for whom it waits."""
-import fcntl
 import io
 import json
 import os
