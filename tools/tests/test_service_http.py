@@ -47,7 +47,7 @@ class Places(Case):
             client.ask(LIST)
             self.assertEqual(service.get("/health"), (200, "ok\n"))
             self.assertIn("registryd_clients 1\n", service.get("/metrics")[1])
-            self.assertEqual(service.get("/journal"), (503, "there are as many clients as may be\n"))
+            self.assertEqual(service.get("/journal"), (503, "as many clients as are allowed are connected\n"))
             # also beside some who wait, and these are let go soon
             waiting = [self.enterContext(service.client()) for _ in range(10)]
             self.assertEqual(service.get("/health"), (200, "ok\n"))
