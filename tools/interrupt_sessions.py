@@ -29,6 +29,7 @@ from unittest import mock
 TOP = os.path.dirname(os.path.dirname(os.path.abspath(__file__)))
 sys.path[:0] = [os.path.join(TOP, "tools", "tests"), os.path.join(TOP, "clients", "python")]
 import program
+from kill_sessions import Find, demand
 from library import LIBRARY
 from plain_remnant import remnant
 from registryd import BROKEN_OFF, Accepted, AlreadyPublished, Ended, NoSelection, Publish, Refusal, Registry, Resolve, Selection
@@ -42,20 +43,11 @@ LONG = 40  # lines that are sent together, now and then: more than a pipe takes 
 HURRY = 0.002  # seconds between two interrupts at most, usually
 
 
-class Find(Exception):
-    """What is found."""
-
-
 class Broken(BaseException):
     """What interrupts a call, besides exceptions that others raise too."""
 
 
 INTERRUPTS = (Broken, KeyboardInterrupt, MemoryError, TimeoutError, IndexError)
-
-
-def demand(holds, told):
-    if not holds:
-        raise Find(told)
 
 
 # ---- What is asked, and what is right
@@ -191,20 +183,6 @@ def send_exceptions(rng, callers, threads):
             ctypes.pythonapi.PyThreadState_SetAsyncExc(ctypes.c_ulong(threads[number].ident), ctypes.py_object(rng.choice(INTERRUPTS)))
 
 
-@contextlib.contextmanager
-def in_time():
-    """Meanwhile nothing in the main thread takes too long."""
-    def late(*_):
-        raise Find("a call waits for ever")
-    before = signal.signal(signal.SIGALRM, late)
-    signal.alarm(LIMIT)
-    try:
-        yield
-    finally:
-        signal.alarm(0)
-        signal.signal(signal.SIGALRM, before)
-
-
 # ---- A session, and a group of them
 
 def interrupted(registry, rng, session):
@@ -218,7 +196,7 @@ def interrupted(registry, rng, session):
         with alarms(rng, callers[0]):
             callers[0].run(rng.randrange(1, 6))
         send_exceptions(rng, callers[1:], threads)
-    with in_time():
+    with program.in_time(LIMIT):
         with contextlib.suppress(Ended):
             callers[0].ask_on(10)
         close(registry, rng)
@@ -299,7 +277,7 @@ def tried(seed, most=SESSIONS):
     with tempfile.TemporaryDirectory() as folder:
         try:
             return most, *group(seed, most, folder), None
-        except Find as find:
+        except (Find, AssertionError) as find:
             return most, 0, 0, f"seed {seed}: {find}"
 
 

@@ -504,9 +504,24 @@ class Ending:
         return self._has_come
 
 
+class Threaded:
+    """A session whose replies come by threads of its own."""
+    _threads: list[threading.Thread]
+
+    def call(self, request: Request) -> Any:
+        if threading.current_thread() in self._threads:
+            raise RuntimeError("a callback of a future can't wait for a reply: it may ask")
+        answered = Answered()
+        self.send([written(request)], [answered])
+        return answered.result()
+
+    def send(self, lines: Sequence[bytes], futures: Futures) -> None:
+        raise NotImplementedError
+
+
 # ---- A program of its own
 
-class _Child:
+class _Child(Threaded):
     """A session with a program that is started for it, and asked over pipes by three threads.
 
     A call may be broken off between any two of its steps: by a key, by what a signal's handler raises, for lack of memory. So whoever finds
@@ -543,13 +558,6 @@ class _Child:
         self._threads = [threading.Thread(target=run, daemon=True) for run in (self._write, self._hear, self._read)]
         for thread in self._threads:
             thread.start()
-
-    def call(self, request: Request) -> Any:
-        if threading.current_thread() in self._threads:
-            raise RuntimeError("what a future calls back can't wait for a reply: it may ask")
-        answered = Answered()
-        self.send([written(request)], [answered])
-        return answered.result()
 
     def send(self, lines: Sequence[bytes], futures: Futures) -> None:
         if self._is_closed or self._fault:
@@ -678,11 +686,10 @@ class _Child:
 
     def _tell_left(self) -> None:
         """Tells what gets no reply. Two threads may do so at once."""
-        for future in taken_from(self._waiting):
-            future.settle(self._ended(self._fault or DIED))
+        ended = functools.partial(self._ended, self._fault or DIED)
+        tell_all(taken_from(self._waiting), ended)
         for _, futures in taken_from(self._queued):
-            for future in futures:
-                future.settle(self._ended(self._fault or DIED))
+            tell_all(futures, ended)
 
     def _stop(self) -> None:
         """Ends the program unless it ends by itself in a moment."""
@@ -709,6 +716,13 @@ def taken_from(items: deque[Any]) -> Iterator[Any]:
     with contextlib.suppress(IndexError):
         while True:
             yield items.popleft()
+
+
+def tell_all(futures: Iterable[Awaited | Answered], ended: Callable[[], Ended]) -> None:
+    """Tells each that no reply comes, also those behind one whose callback raises SystemExit."""
+    for future in futures:
+        with contextlib.suppress(BaseException):
+            future.settle(ended())
 
 
 def beside_streams(file: int) -> int:

@@ -13,9 +13,8 @@ import threading
 import time
 from collections import deque
 from collections.abc import Sequence
-from typing import Any
 
-from registryd import CLOSED, WAITED, Accepted, Answered, Awaited, Ended, Ending, Futures, Request, answer, taken_from, written
+from registryd import CLOSED, WAITED, Accepted, Answered, Awaited, Ended, Ending, Futures, Threaded, answer, taken_from, tell_all
 
 PATIENCE, PAUSE = 10.0, 0.1  # seconds for a service to be there again, and between two tries
 LEAST = 0.001  # seconds to wait at least, since 0 would mean not to wait at all
@@ -28,7 +27,7 @@ FENCE = b"{}\n"  # the program that keeps the journal refuses it, once all comma
 Line = tuple[bytes, "Awaited | Answered"]  # with what waits for its reply
 
 
-class Connection:
+class Connection(Threaded):
     """A session over a socket, which one thread writes to and another one reads. The address is the socket's path, or HOST:PORT.
 
     A call may be broken off between any two of its steps: by a key, by what a signal's handler raises, for lack of memory. So all that it
@@ -52,13 +51,6 @@ class Connection:
         for thread in self._threads:
             thread.start()
 
-    def call(self, request: Request) -> Any:
-        if threading.current_thread() in self._threads:
-            raise RuntimeError("what a future calls back can't wait for a reply: it may ask")
-        answered = Answered()
-        self.send([written(request)], [answered])
-        return answered.result()
-
     def send(self, lines: Sequence[bytes], futures: Futures) -> None:
         if self._is_closed or self._fault:
             raise self._ended()
@@ -76,11 +68,16 @@ class Connection:
             raise Ended(failed)
 
     def kill(self) -> None:
-        self._is_closed = self._is_killed = True
-        for it in list(self._open):
-            shut(it, socket.SHUT_RDWR)
+        self._is_closed = True
+        self._break_off()
         if threading.current_thread() not in self._threads:
             self._ending.wait(WAITED)  # the system may be looking up a host
+
+    def _break_off(self) -> None:
+        """Has the thread that reads come to its end."""
+        self._is_killed = True
+        for it in list(self._open):
+            shut(it, socket.SHUT_RDWR)
 
     def _ended(self) -> Ended:
         return Ended(CLOSED if self._is_closed else self._fault)
@@ -88,6 +85,18 @@ class Connection:
     # The thread that writes
 
     def _write(self) -> None:
+        """Asks what is queued until the thread that reads has ended, and then tells what gets no reply."""
+        try:
+            self._write_queued()
+        except Exception as why:  # as there is no memory
+            self._fault = f"a line could not be sent: {why!r}"
+            self._break_off()
+            while (lines := self._lines.get()) is not None:
+                self._waiting.extend(lines)
+        tell_all((future for _, future in taken_from(self._waiting)), self._ended)
+        self._ending.tell()
+
+    def _write_queued(self) -> None:
         """Asks what is queued, and by a connection that is new all that has no reply. Where that fails, the thread that reads finds the
         connection broken off, and connects again."""
         while (lines := self._lines.get()) is not None:
@@ -102,9 +111,6 @@ class Connection:
             if self._is_closed and self._lines.empty():
                 self._is_all_asked = True
                 shut(connection, socket.SHUT_WR)
-        for _, future in taken_from(self._waiting):
-            future.settle(self._ended())
-        self._ending.tell()
 
     # The thread that reads
 
@@ -123,7 +129,7 @@ class Connection:
             if self._is_answered:
                 limit, self._is_answered = time.monotonic() + PATIENCE, False
             if not (self._has_ended(limit) and self._again(limit)):
-                self._fault = f"the service at {self._address} is not there any more"
+                self._fault = self._fault or f"the service at {self._address} is not there any more"
                 break
 
     def _read(self) -> bool:

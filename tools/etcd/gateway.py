@@ -66,7 +66,7 @@ def understood():
     try:
         yield
     except (ValueError, LookupError, TypeError, AttributeError, RecursionError) as wrong:
-        raise Fault(f"etcd's answer has another form than an answer of etcd: {wrong!r}") from wrong
+        raise Fault(f"etcd's answer does not have the form of one: {wrong!r}") from wrong
 
 
 def tls_context(cacert, cert, key):

@@ -20,7 +20,7 @@ def read_bounded(path):
     with open(path, "rb") as file:
         text = file.read(MOST_BYTES + 1)
     if len(text) > MOST_BYTES:
-        raise Failed(f"{path} has more than {MOST_BYTES:,} bytes, which are the most that are read")
+        raise Failed(f"{path} has more than {MOST_BYTES:,} bytes, the most that are read")
     return text
 
 

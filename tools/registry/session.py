@@ -15,7 +15,7 @@ import tied
 from . import near_limits
 from .failures import Failed, Refused, Usage, told
 from .program import program
-from .waiting import SECONDS, InUse, Queue
+from .waiting import SECONDS, InUse, Turn
 
 DEFAULT, VARIABLE, SERVICE = "registry.journal", "REGISTRY_JOURNAL", "REGISTRY_CONNECT"
 HEAD, END = b"registry-journal 2\n", re.compile(rb"^end [0-9]+\n", re.M)
@@ -244,12 +244,12 @@ class Writing(Session):
     """A session that goes on with a journal's file, or begins one. Where another session has that, it waits so many seconds."""
 
     def __init__(self, path, patience=SECONDS):
-        self.queue = Queue(path, patience)
+        self.turn = Turn(path, patience)
         try:
             while not self.has_begun(path):
-                self.queue.again()
+                self.turn.again()
         except BaseException:
-            self.queue.leave()
+            self.turn.leave()
             raise
 
     def has_begun(self, path):
@@ -266,7 +266,7 @@ class Writing(Session):
 
     def leave(self):
         super().leave()
-        self.queue.leave()
+        self.turn.leave()
 
     def warn(self):
         near_limits.warn(self.path)

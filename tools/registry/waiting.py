@@ -1,7 +1,8 @@
 """Waiting for a journal that another session writes.
 
-Whoever waits stands in a queue: a lock of this command's own on the journal's file (`lockf`), beside the one that a session's program has
-(`flock`). So of many sessions one at a time begins its program. The system takes both locks off as soon as their process has ended."""
+Whoever waits first takes its turn: a lock of this command's own on the journal's file (`lockf`), beside the one that a session's program
+has (`flock`). So of many sessions one at a time begins its program, in no certain order. The system takes both locks off as soon as their
+process has ended."""
 import contextlib
 import fcntl
 import os
@@ -76,24 +77,25 @@ def parent(pid):
         return int(file.read().rpartition(b")")[2].split()[1])  # behind the name, in which anything may stand
 
 
-class Queue:
-    """The queue before a journal, as one session sees it that waits so many seconds for each that is before it."""
+class Turn:
+    """A session's turn to begin its program, for which it waits so many seconds, and as long again for each other session that has the journal
+    meanwhile."""
 
     def __init__(self, path, seconds):
         self.path, self.seconds, self.begun = path, seconds, time.monotonic()
-        self.pid, self.end = 0, self.begun + seconds  # whose turn it is, and until when it is waited for
+        self.pid, self.end = 0, self.begun + seconds  # who has the journal, and until when that is waited for
         self.file, self.pause, self.is_told = None, LOOK, False
         self.enter()
 
     def enter(self):
-        """Returns at the head of the queue, or where the time is over; at once where there is no file that may be written."""
+        """Returns once the turn has come, or the time is over; at once where there is no file that may be written."""
         if self.file is None and os.path.isfile(self.path):
             with contextlib.suppress(OSError):
                 self.file = open(self.path, "rb+", buffering=0)
-                while not self.is_head() and self.waits(LOOK):
+                while not self.has_come() and self.waits(LOOK):
                     pass
 
-    def is_head(self):
+    def has_come(self):
         try:
             fcntl.lockf(self.file, fcntl.LOCK_EX | fcntl.LOCK_NB)
         except OSError:
@@ -111,7 +113,7 @@ class Queue:
         if found or self.file is None:
             self.enter()
         else:
-            self.leave()  # on a network file system the two locks may be one, and the queue's is in the way then
+            self.leave()  # on a network file system the two locks may be one, and that of the turn is in the way then
 
     def waits(self, seconds):
         """Waits, and answers whether there was time to. Once that takes long it is told."""

@@ -12,7 +12,7 @@ from unittest import mock
 from client_python import PYTHON, SECONDS, SOON, Case, registryd
 from library import LIBRARY, needs_library
 from program import TOP, publish
-from registryd import Accepted, Ended, List, Listing, NoSelection, Publish, Registry, Resolve
+from registryd import Accepted, Ended, List, Listing, Publish, Registry, Resolve
 from test_journals import journal
 from two_selections import BY_DEFAULT, FIRST_FOUND, NEEDS, NEWEST, VERSIONS
 

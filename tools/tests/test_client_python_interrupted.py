@@ -28,6 +28,11 @@ class Broken(BaseException):
     """What interrupts a call."""
 
 
+def leave(_):
+    """What a future calls back, and which ends its thread."""
+    raise SystemExit
+
+
 class Steps:
     """Meanwhile the n-th step of this thread in the files that count, a bytecode, is not done: an exception is raised there."""
 
@@ -205,6 +210,14 @@ class WithService(Stepped, Case):
         self.assertEqual(self.ended, 0)
 
 
+    def test_a_line_that_can_not_be_sent_ends_the_session(self):
+        first, second = registryd.Awaited(), registryd.Awaited()
+        first.add_done_callback(leave)
+        self.registry._session.send([None, None], [first, second])  # as where there is no memory to put lines together
+        self.assertRaisesRegex(Ended, "a line could not be sent: TypeError", second.result, SECONDS)
+        self.ends("a line could not be sent: ", self.registry.close)
+
+
 class Signals(Case):
     def interrupted(self, registry, call):
         """Makes a call, which a signal's handler interrupts."""
@@ -237,14 +250,19 @@ class Signals(Case):
         self.assertEqual(future.result(0), Accepted(1))
         self.assertTrue(os.path.exists(path))
 
-    def test_what_a_future_calls_back_ends_no_thread_in_silence(self):
-        def leave(_):
-            raise SystemExit
+    def test_a_callback_that_ends_its_thread_keeps_nobody_waiting(self):
+        """Whether it is called for a reply, or since none comes."""
         registry = Registry(PROGRAM)
         registry.ask(List()).add_done_callback(leave)
         with contextlib.suppress(Ended):
             self.assertEqual(registry.list(), Listing(0, {}))
         registry.kill()
+        registry = Registry(PROGRAM)
+        os.kill(registry._session._process.pid, signal.SIGSTOP)
+        first, second = registry.many([List()] * 2)
+        first.add_done_callback(leave)
+        registry.kill()
+        self.assertRaises(Ended, second.result, SECONDS)
 
 
 class AtRandom(unittest.TestCase):

@@ -22,7 +22,7 @@ from etcd.snapshot import Snapshots, Standing
 ENTRIES = [publish(f"p{number}", "1.0.0") for number in range(20)]
 ONE, MORE = publish("one", "1.0.0"), publish("more", "1.0.0")
 FULL = r"\Aetcd refuses: etcdserver: mvcc: database space exceeded: `registryd-etcd compact` makes room\Z"
-NO_ROOM = r"\Aetcd has no room for a snapshot, though all is gone that is of no use: --keep 0 lets more cells go, and etcd's --quota-backend-bytes says how much it may hold\Z"
+NO_ROOM = r"\Aetcd has no room for a snapshot, even after all that is of no use was deleted: --keep 0 deletes more cells, and etcd's --quota-backend-bytes sets how much it may hold\Z"
 
 
 class Room(Case):
@@ -187,7 +187,7 @@ class Nonsense(unittest.TestCase):
         for self.told, what in (([], "compact"), ({"kvs": [{}]}, "serve"), ({"kvs": [cell(value="%")]}, "journal"), ({"kvs": [cell(mod_revision="\x1b")]}, "found")):
             done = fronts.run(what, [self.gate.url], "--patience", "0.2")
             self.assertEqual((done.returncode, done.stdout), (1, b""))
-            self.assertRegex(done.stderr.decode(), r"\Aregistryd-etcd: (no member of etcd answers, .*is no answer of etcd|etcd's answer has another form[^\x1b\n]*)\n\Z")
+            self.assertRegex(done.stderr.decode(), r"\Aregistryd-etcd: (no member of etcd answers, .*is no answer of etcd|etcd's answer does not have the form[^\x1b\n]*)\n\Z")
 
     def test_each_part_that_asks(self):
         stands, entry = Standing("j", Cell(1, None, None)), mock.Mock(command=b"{}", seat=1, serial=1, writer="w")

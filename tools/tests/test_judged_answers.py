@@ -163,7 +163,7 @@ class Newest(unittest.TestCase):
 class Alone(unittest.TestCase):
     def test_each_command_begins_by_itself(self):
         # without the folders that these tests have on their path
-        for name in ("fuzz.py", "fuzz_check.py", "kill_sessions.py", "interrupt_sessions.py", "race_many.py", "newest_many.py", "etcd_histories.py", "hard_clients.py"):
+        for name in ("fuzz.py", "fuzz_check.py", "kill_sessions.py", "interrupt_sessions.py", "race_many.py", "newest_many.py", "etcd_histories.py", "hard_clients.py", "move_journals.py"):
             done = subprocess.run([sys.executable, os.path.join(TOP, "tools", name), "--help"], cwd="/", capture_output=True, text=True, timeout=100)
             self.assertEqual((done.returncode, done.stderr, done.stdout[:6 + len(name) + 1]), (0, "", f"usage: {name}"), name)
             if name == "newest_many.py":

@@ -1,10 +1,7 @@
 """`tools/interrupt_sessions.py` finds what is wrong: replies of hand."""
-import contextlib
-import io
 import os
 import sys
 import unittest
-from unittest import mock
 
 import client_python  # noqa: F401, the client is found by it
 from program import TOP, journal_line
@@ -48,17 +45,6 @@ class Judged(unittest.TestCase):
         for accepted in ({1: TWO}, {3: ONE}, {2: Publish("new", "7.1.1")}):
             with self.assertRaisesRegex(Find, "was accepted at revision"):
                 interrupt_sessions.demand_kept(accepted, commands)
-
-    def test_what_is_printed(self):
-        for finds, status in (([None, None], 0), (["seed 5: no", None], 1)):
-            tried = [(20, 30, 4_000, find) for find in finds]
-            pool = mock.MagicMock()
-            pool.return_value.__enter__.return_value.imap_unordered.return_value = tried
-            with mock.patch.object(interrupt_sessions.multiprocessing, "get_context", return_value=mock.Mock(Pool=pool)), \
-                    contextlib.redirect_stdout(io.StringIO()) as out:
-                self.assertEqual(interrupt_sessions.main(["--seed", "5", "--sessions", "40"]), status)
-            self.assertRegex(out.getvalue(), rf"\A{'seed 5: no' if status else ''}\n?40 sessions, 60 calls interrupted, 8,000 replies judged, in \d+ s; {status} finds\n\Z")
-            self.assertEqual(pool.return_value.__enter__.return_value.imap_unordered.call_args.args[1], range(5, 7))
 
 
 if __name__ == "__main__":

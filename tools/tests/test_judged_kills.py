@@ -1,4 +1,5 @@
-"""`tools/kill_sessions.py` and `tools/race_many.py` find what is wrong: sessions that lie, by replies of hand; and how they run a program."""
+"""`tools/kill_sessions.py` and `tools/race_many.py` find what is wrong: sessions that lie, by replies of hand; how they run a program, and what
+is printed."""
 import contextlib
 import io
 import os
@@ -18,6 +19,7 @@ from test_journals import journal
 from test_judged_runs import A1, B1, EMPTY, OK1, OK2, ended, running
 
 sys.path.insert(0, os.path.join(TOP, "tools"))
+import interrupt_sessions
 import kill_sessions
 import race_many
 
@@ -112,6 +114,11 @@ class Commands(unittest.TestCase):
         status, told = self.told(kill_sessions, ["--kills", "2"], [(0, 0, 0, "seed 1: no"), (0, 0, 0, "seed 2: no")])
         self.assertEqual(status, 1)
         self.assertRegex(told, r"\Aseed 1: no\nseed 2: no\n0 kills of sessions of 2 files, the largest of 0 bytes, 0 replies read, in \d{1,3} s; 2 finds\n\Z")
+
+    def test_interrupts(self):
+        status, told = self.told(interrupt_sessions, ["--seed", "5", "--sessions", "40"], [(20, 30, 4_000, None), (20, 30, 4_000, "seed 6: no")])
+        self.assertEqual((status, self.seeds), (1, [(5, {"most": 20}), (6, {"most": 20})]))
+        self.assertRegex(told, r"\Aseed 6: no\n40 sessions, 60 calls interrupted, 8,000 replies judged, in \d{1,3} s; 1 finds\n\Z")
 
     def test_races(self):
         with mock.patch.object(race_many, "library", lambda folder: "a library"):

@@ -437,10 +437,10 @@ class Words(unittest.TestCase):
                     make(path)
                     self.assertEqual(made(form, top), ([], [f"registry: {path} is no plain file"], 3))
         with mock.patch.object(files, "MOST_BYTES", 4_096):
-            self.assertEqual(made("debian", "/dev/zero"), ([], ["registry: /dev/zero has more than 4,096 bytes, which are the most that are read"], 3))
+            self.assertEqual(made("debian", "/dev/zero"), ([], ["registry: /dev/zero has more than 4,096 bytes, the most that are read"], 3))
             with tempfile.TemporaryDirectory() as top:
                 path = os.path.join(fill(top, {"1/a": entry("a", "1.0.0") + " " * 4_096}), "1/a")
-                self.assertEqual(made("crates-io", top), ([], [f"registry: {path} has more than 4,096 bytes, which are the most that are read"], 3))
+                self.assertEqual(made("crates-io", top), ([], [f"registry: {path} has more than 4,096 bytes, the most that are read"], 3))
 
     def test_a_pipe_that_is_named_itself_is_read(self):
         ours, theirs = os.pipe()

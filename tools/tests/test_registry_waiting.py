@@ -1,5 +1,4 @@
 """Sessions of the command `registry` that wait for a journal: thirty at once, one that another session keeps waiting, and for whom it waits."""
-import fcntl
 import io
 import json
 import os
@@ -135,24 +134,24 @@ class Holders(Folder):
             self.assertIsNone(waiting.holder(self.journal))
 
     def test_the_time_counts_anew_for_each_session(self):
-        clock, queue = [0.0], waiting.Queue(self.path("none"), 10)
-        queue.begun, queue.end, queue.is_told = 0.0, 10.0, True
+        clock, turn = [0.0], waiting.Turn(self.path("none"), 10)
+        turn.begun, turn.end, turn.is_told = 0.0, 10.0, True
         with mock.patch.object(waiting, "time", mock.Mock(monotonic=lambda: clock[0])):
             for now, pid, wanted in ((1, 7, True), (10.5, 7, True), (10.9, 8, True), (20.8, 0, True), (20.8, 8, True), (20.9, 8, False), (20.9, 0, False)):
                 clock[0] = now
                 with mock.patch.object(waiting, "holding", lambda _, pid=pid: pid):
-                    self.assertIs(queue.waits(0), wanted, (now, pid))
+                    self.assertIs(turn.waits(0), wanted, (now, pid))
 
-    def test_the_queue_is_left_for_a_try_where_it_may_be_in_the_way(self):
+    def test_the_turn_is_given_back_for_a_try_where_it_may_be_in_the_way(self):
         self.hold()
-        queue = waiting.Queue(self.journal, PATIENCE)
-        self.addCleanup(queue.leave)
+        turn = waiting.Turn(self.journal, PATIENCE)
+        self.addCleanup(turn.leave)
         for held, stands in ((True, True), (False, False), (False, True), (True, True)):
             with mock.patch.object(waiting, "holder", lambda _, held=held: waiting.Holder(9, ["a"]) if held else None):
-                queue.again()
-            self.assertEqual(queue.file is not None, stands)
-        with mock.patch.object(waiting, "holder", lambda _: None), mock.patch.object(queue, "waits", lambda _: False):
-            self.assertRaisesRegex(Failed, r"\A.* is in use by another session: try again once that has ended\Z", queue.again)
+                turn.again()
+            self.assertEqual(turn.file is not None, stands)
+        with mock.patch.object(waiting, "holder", lambda _: None), mock.patch.object(turn, "waits", lambda _: False):
+            self.assertRaisesRegex(Failed, r"\A.* is in use by another session: try again once that has ended\Z", turn.again)
 
 
 if __name__ == "__main__":

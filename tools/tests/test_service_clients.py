@@ -260,14 +260,15 @@ class Clients(unittest.TestCase):
 
     def test_what_begins_no_object_is_closed(self):
         for pieces in ((b"\x16\x03\x01\n" + A1 + b"\n",), (b"\x16",), (b"x\n" + A1 + b"\n",), (b"GET /\n" + A1 + b"\n",), (b"PRI * HTTP/2.0\r\n\r\n" + A1 + b"\n",), (b"GET /", b" \n" + A1 + b"\n"),
-                       (b"M-SEARCH * HTTP/1.1\r\n" + A1 + b"\n",), (b"[]\n",), (b"\n\nx\n" + A1 + b"\n",), (b" \t\r\n", b"\x16"), (b"\xef\xbb\xbf" + A1 + b"\n",), (b"G" * 65_537,)):
+                       (b"M-SEARCH * HTTP/1.1\r\n" + A1 + b"\n",), (b"[]\n",), (b"\n\nx\n" + A1 + b"\n",), (b" \t\r\n", b"\x16"), (b"\xef\xbb\xbf" + A1 + b"\n",), (b"G" * 65_537,),
+                       (b"get / HTTP/1.1\n",), (b"GET / HTTP/2\n",), (b"\n\nGET / HTTP/1.1\r\n",)):
             self.setUp()
             for it in pieces:
                 if not self.transport.is_closed:
                     self.client.data_received(it)
             self.assertTrue(self.transport.is_closed, pieces)
             self.assertEqual((self.transport.written, [it for it in self.lines() if it.strip()], [it for it in self.client.lines if it.strip()]), (BAD, [], []), pieces)
-        for pieces in ((b" \t{",), (b"\r\n", b" \n\n", b" {"), (b"GET /",), (b"",)):
+        for pieces in ((b" \t{",), (b"\r\n", b" \n\n", b" {"), (b"GET /",), (b"G" * 65_536,), (b"",)):
             self.setUp()
             for it in pieces:
                 self.client.data_received(it)
@@ -278,11 +279,12 @@ class Clients(unittest.TestCase):
         self.assertEqual((self.lines(), self.transport.is_closed), ([A1, b"x"], False))
 
     def test_http_is_heard_in_the_first_line_alone(self):
-        get = b"GET /health HTTP/1.1\r\nHost: x\r\n\r\n"
-        with mock.patch.object(client, "page") as page:
-            self.client.data_received(get)
-        page.assert_called_once_with(self.service, self.transport, get)
-        self.assertEqual((self.service.clients, self.service.pages, self.lines()), (set(), {self.transport}, []))
+        for get in (b"POST /x HTTP/1.0\n", b"GET /health HTTP/1.1\r\nHost: x\r\n\r\n"):
+            self.setUp()
+            with mock.patch.object(client, "page") as page:
+                self.client.data_received(get)
+            page.assert_called_once_with(self.service, self.transport, get)
+            self.assertEqual((self.service.clients, self.service.pages, self.lines()), (set(), {self.transport}, []))
         self.setUp()
         with mock.patch.object(client, "page") as page:
             self.client.data_received(ASK + b"\n" + get)

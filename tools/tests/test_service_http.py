@@ -15,11 +15,10 @@ MORE = 12 << 20  # bytes of memory that a service may take for copies of its jou
 
 
 class Places(Case):
-    def half(self, service, *pieces):
+    def half(self, service):
         """A connection on which a request over HTTP has begun."""
         made = self.enterContext(service.client())
-        for it in pieces or (b"GET /health HTTP/1.1\r\n",):
-            made.socket.sendall(it)
+        made.socket.sendall(b"GET /health HTTP/1.1\r\n")
         return made
 
     def test_they_count_among_the_clients(self):
@@ -48,20 +47,12 @@ class Places(Case):
             client.ask(LIST)
             self.assertEqual(service.get("/health"), (200, "ok\n"))
             self.assertIn("registryd_clients 1\n", service.get("/metrics")[1])
-            self.assertEqual(service.get("/journal"), (503, "there are as many clients as may be\n"))
+            self.assertEqual(service.get("/journal"), (503, "as many clients as are allowed are connected\n"))
             # also beside some who wait, and these are let go soon
             waiting = [self.enterContext(service.client()) for _ in range(10)]
             self.assertEqual(service.get("/health"), (200, "ok\n"))
             self.assertEqual({it.rest() for it in waiting}, {TOO_MANY})
             self.assertEqual(client.ask(LIST), [EMPTY])
-        self.ends_well(service)
-
-    def test_half_requests_are_bounded(self):
-        service = self.begin("--clients", 20)
-        halves = [self.half(service) for _ in range(36)]
-        with service.client() as client:
-            self.assertEqual(client.rest(), TOO_MANY)
-        self.assertIn(b"200 OK", halves[0].finish(b"\r\n"))
         self.ends_well(service)
 
 
@@ -118,15 +109,6 @@ class Copies(Case):
         finally:
             client.socket.settimeout(60)
         return bool(client.read)
-
-    def test_a_journal_that_is_gone(self):
-        service = self.begin()
-        away = service.journal.with_suffix(".away")
-        service.journal.rename(away)
-        self.assertEqual(service.get("/journal"), (503, "the journal can't be read: No such file or directory\n"))
-        away.rename(service.journal)
-        self.assertEqual(service.get("/journal?revision=1"), (200, journal(self.lines[:1]).decode()))
-        self.ends_well(service)
 
 
 if __name__ == "__main__":

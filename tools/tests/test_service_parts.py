@@ -182,21 +182,6 @@ class Faults(unittest.IsolatedAsyncioTestCase):
             self.assertEqual((self.told, self.keeper.disk.fault), ([(B1, None)], self.FAULT))
             self.told.clear()
 
-    async def test_commands_are_refused_until_it_can_be_written(self):
-        self.lose(self.SAID)
-        for line, op in ((B1, "publish"), (B1, "yank"), (B1, "unyank"), (b"{}", "")):
-            self.ask(line, op)
-        self.assertEqual(self.told, [*[(B1, self.FAULT)] * 3, b"{}"])
-        self.lose("")
-        self.assertEqual(self.keeper.disk.fault, "")
-        self.told.clear()
-        self.ask(B1)
-        self.assertEqual(self.told, [B1])
-
-    async def test_what_is_told(self):
-        self.lose(self.SAID.replace("device", '"device"'))
-        self.assertEqual(self.keeper.disk.refusal(), b'{"error":503,"name":"DiskFault","reason":"the journal can\'t be written: No space left on \\"device\\"","revision":1}')
-
     async def test_which_ends_are_such_a_fault(self):
         for said, fault in ((self.SAID, self.FAULT), ("registryd: journal j: can't be synced: Input/output error (os error 5)\n", "the journal can't be synced: Input/output error"),
                             ("registryd: journal j: can't be opened: Read-only file system (os error 30)\n", "the journal can't be opened: Read-only file system"),

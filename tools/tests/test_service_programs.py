@@ -151,8 +151,7 @@ class Following(unittest.IsolatedAsyncioTestCase):
         made = await self.begun(readers=3)
         for number in range(9):
             made.ask(self.asked(b"%d" % number))
-        lines = [[b"0"], [b"1"], [b"2"]]
-        self.assertEqual([[line for line, _ in it.child.waiting] for it in made.readers], lines)
+        self.assertEqual([[line for line, _ in it.child.waiting] for it in made.readers], [[b"0"], [b"1"], [b"2"]])
         made.readers[2].child.answer(b"a reply")
         self.assertEqual(([line for line, _ in made.readers[2].child.waiting], self.told), ([b"3", b"4", b"5", b"6"], [(b"2", b"a reply")]))
         made.readers[2].child.answer(b"a reply")
@@ -162,21 +161,6 @@ class Following(unittest.IsolatedAsyncioTestCase):
         self.assertEqual({it.revision for reader in made.readers for it in reader.asked}, {2})
         one, = (await self.begun(readers=1)).readers
         self.assertFalse(one.is_quick)
-
-    async def test_who_is_not_asked(self):
-        made = await self.begun()
-        one, two = made.readers
-        one.is_up = False
-        self.assertEqual(made.ready(), 1)
-        slow = self.asked(b"slow")
-        slow.client.is_slow = True
-        made.ask(slow)
-        made.ask(self.asked(b"other"))
-        # the last one is asked nothing of a client that is slow
-        self.assertEqual(([line for line, _ in two.child.waiting], [it.line for it in made.waiting]), ([b"other"], [b"slow"]))
-        one.is_up = True
-        made.share()
-        self.assertEqual(([line for line, _ in one.child.waiting], len(made.waiting)), ([b"slow"], 0))
 
     async def test_each_is_fed_what_is_accepted(self):
         made = await self.begun()
@@ -195,30 +179,21 @@ class Following(unittest.IsolatedAsyncioTestCase):
         one, two = made.readers
         first, second = self.asked(b"first"), self.asked(b"second")
         two.ask([first, second])
-        one.is_up, two.is_up = True, False
+        one.is_up = two.is_up = False
+        made.ask(self.asked(b"new"))
+        one.is_up = True
         two.lost()
+        # what waits longest is asked first
         self.assertEqual(([line for line, _ in one.child.waiting], [it.line for it in made.waiting], first.tries, second.tries, len(two.asked)),
-                         ([b"first"], [b"second"], 1, 0, 0))
+                         ([b"first"], [b"second", b"new"], 1, 0, 0))
         # with the second one that ends by itself it is given up
         one.is_up, two.is_up = False, True
         one.lost()
-        self.assertEqual((self.told, [line for line, _ in two.child.waiting[2:]], first.tries), ([(b"first", None)], [b"second"], 2))
+        self.assertEqual((self.told, [line for line, _ in two.child.waiting[2:]], first.tries), ([(b"first", None)], [b"second", b"new"], 2))
         # one that was killed says nothing against its request
         two.is_up, two.child.is_killed = False, True
         two.lost()
-        self.assertEqual((second.tries, [it.line for it in made.waiting]), (0, [b"second"]))
-
-    async def test_what_waits_longest_is_asked_first(self):
-        made = await self.begun()
-        one, two = made.readers
-        two.ask([self.asked(b"one"), self.asked(b"two")])
-        one.is_up = two.is_up = False
-        made.ask(self.asked(b"new"))
-        two.lost()
-        self.assertEqual([it.line for it in made.waiting], [b"one", b"two", b"new"])
-        one.is_up = two.is_up = True
-        made.share()
-        self.assertEqual(([line for line, _ in one.child.waiting], [line for line, _ in two.child.waiting[2:]]), ([b"one"], [b"two", b"new"]))
+        self.assertEqual((second.tries, [it.line for it in made.waiting]), (0, [b"second", b"new"]))
 
     async def test_they_are_looked_at_all_the_time(self):
         made, seen = await self.begun(), []
@@ -244,15 +219,11 @@ class Leaving(unittest.TestCase):
         here, there = socket.socketpair()
         self.addCleanup(here.close)
         transport = SimpleNamespace(is_closing=lambda: False, get_extra_info=lambda name: here if name == "socket" else None)
-        waits = SimpleNamespace(transport=transport, is_ended=False)
+        waits = SimpleNamespace(transport=transport)
         self.assertFalse(readers.has_left(waits))
         there.shutdown(socket.SHUT_WR)
-        waits.is_ended = True
         self.assertFalse(readers.has_left(waits))
         there.close()
-        self.assertTrue(readers.has_left(waits))
-        # also where what it sent was not read to its end
-        waits.is_ended = False
         self.assertTrue(readers.has_left(waits))
         transport.is_closing = lambda: True
         self.assertTrue(readers.has_left(waits))

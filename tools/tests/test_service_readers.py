@@ -260,7 +260,7 @@ class Slow(Case):
             self.assertIs(self.pool.are_late(), is_late)
 
 
-class Any(Case):
+class AtRandom(Case):
     """Clients whose requests take what a random number says, with programs for which time passes in steps."""
     BEGIN = 0.1  # seconds in which a program begins
 

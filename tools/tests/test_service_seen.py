@@ -42,13 +42,6 @@ class Http(unittest.TestCase):
     def get(self, target, **more):
         return self.answer(f"GET {target} HTTP/1.1\r\nHost: localhost\r\n\r\n".encode(), **more)
 
-    def test_what_is_spoken(self):
-        for text, kind in ((b"GET / HTTP/1.1\r\n", http.HTTP), (b"POST /x HTTP/1.0\n", http.HTTP), (b"GET / HTTP/2\n", http.OTHER), (b"get / HTTP/1.1\n", http.OTHER), (b"GET /\n", http.OTHER),
-                           (b"\n\nGET / HTTP/1.1\r\n", http.OTHER), (LIST.encode() + b"\n", http.LINES), (b" \t{", http.LINES), (b"\r\n\n {", http.LINES), (b"\x16\x03", http.OTHER), (b"x", http.OTHER),
-                           (b"[]\n", http.OTHER), (b"\n\n[", http.OTHER), (b"\xef\xbb\xbf{}\n", http.OTHER), (b"", None), (b"GET / HTTP/1.1", None), (b" \r\n\t", None), (b"\n", None), (b"G" * 65_536, None), (b"G" * 65_537, http.OTHER)):
-            *lines, rest = text.split(b"\n")
-            self.assertEqual(http.spoken(lines, rest), kind, text[:20])
-
     def test_what_is_refused(self):
         for head, status in ((b"x\r\n\r\n", "400"), (b"GET / HTTP/1.1", "400"), (b"POST /health HTTP/1.0\r\n\r\n", "405"), (b"GET /none HTTP/1.0\r\n\r\n", "404"),
                              (b"GET /healthy HTTP/1.0\r\n\r\n", "404"), (b"GET /health HTTP/1.0\n\n", "200"), (b"GET /health?x HTTP/1.0\r\n\r\n", "200")):
@@ -77,14 +70,14 @@ class Http(unittest.TestCase):
             self.assertIn("\nregistryd_keeper_up 0\n", self.get("/metrics")[1])
         self.service.keeper.disk.fault = ""
         self.assertEqual(self.get("/health")[1], "the program that keeps the journal is being begun again: commands wait\n")
-        self.assertEqual(self.get("/journal"), ("503 Service Unavailable", "what stands in the journal is known again once it is kept again\n"))
+        self.assertEqual(self.get("/journal"), ("503 Service Unavailable", "the journal can be copied once the program that keeps it runs again\n"))
         self.service.is_stopping = True
         self.assertEqual(self.get("/health"), ("503 Service Unavailable", "stopping\n"))
 
     def test_the_journal(self):
         for target, count in (("/journal", 3), ("/journal?revision=2", 2), ("/journal?revision=0", 0), ("/journal?revision=9", 3), ("/journal?revision=", 3), ("/journal?revision=-1", 3)):
             self.assertEqual(self.get(target), ("200 OK", journal(CHAIN[:count]).decode()), target)
-        self.assertEqual(self.get("/journal", is_guest=True), ("503 Service Unavailable", "there are as many clients as may be\n"))
+        self.assertEqual(self.get("/journal", is_guest=True), ("503 Service Unavailable", "as many clients as are allowed are connected\n"))
         self.assertEqual(self.get("/health", is_guest=True)[0], "200 OK")
         os.unlink(self.path)
         self.assertEqual(self.get("/journal"), ("503 Service Unavailable", "the journal can't be read: No such file or directory\n"))
@@ -124,6 +117,9 @@ class Http(unittest.TestCase):
         # where there is no room it is answered too, and nothing else is
         full, self.service.takes_in = b'{"error":503,"name":"TooManyClients","revision":3}\n', lambda place, kind: False
         self.assertEqual(asyncio.run(told(b"GET /health HTTP/1.0\r\n\r\n", ended=False)), wanted)
+        # nor does it wait for a copy that it can't have
+        self.service.copying = asyncio.Semaphore(0)
+        self.assertIn(b"as many clients as are allowed", asyncio.run(told(b"GET /journal HTTP/1.0\r\n\r\n", ended=False)) or b"")
         with mock.patch.object(http, "HEARING", 0.01):
             for given in ((), (b"GET /hea",), (LIST.encode() + b"\n",), (b"\n",)):
                 self.assertEqual(asyncio.run(told(*given, ended=False)), full, given)
@@ -151,7 +147,7 @@ class Http(unittest.TestCase):
 
     def test_what_is_told_of_a_refusal(self):
         for head, text in ((b"x\r\n\r\n", "this is no request over HTTP\n"), (b"PUT / HTTP/1.0\r\n\r\n", "GET alone is answered over HTTP; request lines come without it\n"),
-                           (b"GET / HTTP/1.1\r\n\r\n", "a request names its host once\n"), (b"GET / HTTP/1.0\r\n\r\n", "there are /metrics, /health and /journal\n"),
+                           (b"GET / HTTP/1.1\r\n\r\n", "a request has to name its host exactly once\n"), (b"GET / HTTP/1.0\r\n\r\n", "there are /metrics, /health and /journal\n"),
                            (b"GET / HTTP/1.1\r\nHost: a.example\r\n\r\n", "this service is of another host\n")):
             self.assertEqual(self.answer(head)[1], text)
 

@@ -1,7 +1,7 @@
 """`registry journal repair`: the longest lawful beginning of a journal's file, as a file of its own."""
 import json
 
-from ..failures import REFUSED, Failed, Refused
+from ..failures import Failed, Refused
 from ..journal_file import FAULTY, fault_line, read_journal, refuse_existing, write_new
 from ..lines.fault import shown
 

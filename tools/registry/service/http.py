@@ -87,7 +87,7 @@ async def guest_head(service, reader, place):
 
 
 async def tell_one(service, head, writer, is_guest):
-    async with service.copying if COPY.match(head) else contextlib.nullcontext():
+    async with service.copying if COPY.match(head) and not is_guest else contextlib.nullcontext():
         status, kind, text = await answer(service, head, writer.get_extra_info("peername"), is_guest)
         writer.write(f"HTTP/1.1 {status}\r\nContent-Type: {kind}\r\nContent-Length: {len(text)}\r\nConnection: close\r\n\r\n".encode())
         for piece in [text] if isinstance(text, bytes) else text:
@@ -102,7 +102,7 @@ async def answer(service, head, address, is_guest=False):
         return "400 Bad Request", PLAIN, b"this is no request over HTTP\n"
     # only HTTP/1.1, which browsers speak, has to name its host
     if address and (len(HOSTS.findall(head)) != len(hosts) or len(hosts) > 1 or len(hosts) < int(line[3])):
-        return "400 Bad Request", PLAIN, b"a request names its host once\n"
+        return "400 Bad Request", PLAIN, b"a request has to name its host exactly once\n"
     if address and hosts and hosts[0].lower() not in HERE:  # a browser was led here by a page from elsewhere
         return "421 Misdirected Request", PLAIN, b"this service is of another host\n"
     if line[1] != b"GET":
@@ -142,9 +142,9 @@ def metrics(service):
 async def journal(service, query, is_guest):
     """The journal at a revision. Clients are answered while it is read."""
     if is_guest:
-        return UNAVAILABLE, PLAIN, b"there are as many clients as may be\n"
+        return UNAVAILABLE, PLAIN, b"as many clients as are allowed are connected\n"
     if not service.keeper.is_up:
-        return UNAVAILABLE, PLAIN, b"what stands in the journal is known again once it is kept again\n"
+        return UNAVAILABLE, PLAIN, b"the journal can be copied once the program that keeps it runs again\n"
     asked, last = re.fullmatch(b"revision=([0-9]{1,9})", query), service.keeper.revision
     try:
         return OK, PLAIN, await service.loop.run_in_executor(None, Copy, service.path, min(int(asked[1]), last) if asked else last)

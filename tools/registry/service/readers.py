@@ -18,8 +18,8 @@ from .copies import text_at
 from .supervisor import Supervisor
 
 WINDOW = 4  # requests that the quick reader is asked at once
-PATIENCE = 0.25  # seconds; a request that a reader is at for longer is slow,
-EFFORT = 0.025  # where it had a processor for so long: else the machine is
+PATIENCE = 0.25  # seconds; a request is slow once a reader has been at it for longer,
+EFFORT = 0.025  # and has had a processor for longer than this meanwhile: else it is the machine that is slow
 MOST_TRIES = 2  # of a request with which readers ended by themselves
 TICK = 0.05
 SPENT = b'{"error":22,"name":"BudgetSpent","revision":%d}'
@@ -157,6 +157,7 @@ class Readers:
 
     def end(self):
         """Ends all of them: what they had is told that it was not answered."""
+        self.looking.cancel()
         for it in self.readers:
             it.keeping.cancel()
             it.kill()

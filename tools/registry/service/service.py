@@ -29,7 +29,7 @@ class Service:
         self.readers = Readers(path, self.watch, self.keeper, given)
 
     def takes_in(self, connection, kind):
-        """Whether a connection that comes has a place among those of its kind: not where there are as many clients as may be."""
+        """Whether a connection that comes has a place among those of its kind: not where as many clients as are allowed are connected."""
         if len(self.clients) + len(self.pages) >= self.given.clients or self.is_stopping:
             return False
         kind.add(connection)
