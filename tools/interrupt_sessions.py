@@ -162,12 +162,13 @@ def alarms(rng, caller):
             caller.may_be_interrupted = False
             raise rng.choice(INTERRUPTS)
     before = signal.signal(signal.SIGALRM, handler)
-    signal.setitimer(signal.ITIMER_REAL, rng.random() * HURRY + 1e-6)
+    limits = signal.setitimer(signal.ITIMER_REAL, rng.random() * HURRY + 1e-6)
     try:
         yield
     finally:
         caller.may_be_interrupted = False
-        signal.setitimer(signal.ITIMER_REAL, 0)
+        signal.signal(signal.SIGALRM, signal.SIG_IGN)  # the handler would set the timer again
+        signal.setitimer(signal.ITIMER_REAL, *limits)
         signal.signal(signal.SIGALRM, before)
 
 

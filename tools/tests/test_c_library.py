@@ -77,6 +77,8 @@ class Page(unittest.TestCase):
 
 @needs_library
 class Built(unittest.TestCase):
+    LONGEST = 300  # the library is built
+
     def setUp(self):
         # what is built here is not run
         self.enterContext(mock.patch.dict(os.environ, CFLAGS="-O0"))
@@ -201,7 +203,7 @@ class Installed(unittest.TestCase):
         program, library = Program(Path(PROGRAM), COMPILED, ""), Library(FOLDER, COMPILED)
         for found, told in ((library, f"{self.prefix}/lib/libregistryd.so.0 is installed, and has code that is not proved\n"),
                             (None, "the library for C is not installed, since none stands that may be: tools/build_library builds it\n")):
-            with mock.patch.multiple(installed.programs, proved=lambda _: None, compiled=lambda _: program), \
+            with mock.patch.object(installed.programs, "made", lambda _, kind: program if kind == COMPILED else None), \
                     mock.patch.object(c_library, "standing", lambda of=found: of):
                 status, out, error = called("install", "--unproved", str(self.prefix))
             self.assertEqual((status, error), (0, ""))

@@ -34,6 +34,8 @@ def small_disk(size=TMPFS):
 
 
 class Full(Sessions):
+    LONGEST = 300  # a program is run for each byte that still finds room
+
     def setUp(self):
         super().setUp()
         self.kept = os.path.join(self.folder, "kept")

@@ -129,7 +129,7 @@ class Made(unittest.TestCase):
 
     def test_the_changelog(self):
         entries = re.split(r"^(?=registryd )", self.packed("changelog.Debian.gz"), flags=re.M)[1:]
-        told = re.findall(r"^## \[(\S+)\]", self.packed("changelog.gz"), re.M)
+        told = re.findall(r"^## \[(\d\S+)\]", self.packed("changelog.gz"), re.M)
         self.assertEqual([HEAD.match(it)[1] for it in entries], [f"{VERSION}~unproved-1", *(f"{it}-1" for it in told[1:])])
         for entry in entries:
             _, empty, *items, before, trailer, _ = entry.rstrip("\n").split("\n") + [""]
@@ -190,9 +190,8 @@ class Made(unittest.TestCase):
 
 class Words(unittest.TestCase):
     def called(self, *words, **stands):
-        of = {kind: lambda name, kind=kind: stands.get(kind) for kind in ("proved", "compiled")}
         # none of these words asks which library for C stands here
-        with mock.patch.multiple(installed.programs, **of), mock.patch.object(installed.c_library, "standing", lambda: None):
+        with mock.patch.object(installed.programs, "made", lambda name, kind: stands.get(kind)), mock.patch.object(installed.c_library, "standing", lambda: None):
             return called("package", *map(str, words))
 
     def test_what_has_to_be_run_first(self):

@@ -74,6 +74,8 @@ def refused_rows():
 
 
 class RefusedCalls(unittest.TestCase):
+    LONGEST = 300  # each refused request for memory is a run of a program
+
     @classmethod
     def setUpClass(cls):
         cls.library = built(cls, REFUSE_MEMORY)

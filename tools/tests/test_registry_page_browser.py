@@ -181,6 +181,8 @@ UNNAMED = """[...document.querySelectorAll('input, button, a, svg[tabindex], nav
 
 @skip_without(COMMAND, COMMAND)
 class Widths(InBrowser):
+    LONGEST = 300  # a browser draws each view at each width
+
     def test_nothing_is_cut_off(self):
         needs = ", ".join([">=0.0.1"] * 28)
         lines = [publish(LONG, LONG_VERSION), publish(LONG, "1.0.0"), publish(LONG, "1.1.0"), yank(LONG, "1.1.0"), publish("log", "1.0.0", [f"{LONG} {needs}"]),

@@ -99,6 +99,8 @@ def reader_of(lines, needs, lock, name, version, before):
 
 
 class Told(Folder):
+    LONGEST = 300  # each sentence is tried over many choices of versions
+
     def why_not(self, needs, version, *words, lock=None):
         locked = ["--lock", self.path("a.lock", json.dumps(lock))] if lock else []
         status, said, fault = self.registry("why", *needs, *locked, "--not", *version.split(" "), *words)
