@@ -83,7 +83,7 @@ class Turn:
 
     def __init__(self, path, seconds):
         self.path, self.seconds, self.begun = path, seconds, time.monotonic()
-        self.pid, self.end = 0, self.begun + seconds  # who has the journal, and until when that is waited for
+        self.pid, self.left = 0, seconds  # who has the journal, and for how long that is still waited for; what a try takes does not count
         self.file, self.pause, self.is_told = None, LOOK, False
         self.enter()
 
@@ -117,16 +117,18 @@ class Turn:
 
     def waits(self, seconds):
         """Waits, and answers whether there was time to. Once that takes long it is told."""
-        now, pid = time.monotonic(), holding(self.path)
+        pid = holding(self.path)
         if pid and pid != self.pid:
-            self.pid, self.end = pid, now + self.seconds
-        if now >= self.end:
+            self.pid, self.left = pid, self.seconds
+        if self.left <= 0:
             return False
-        if now >= self.begun + SILENT and not self.is_told:
+        if time.monotonic() >= self.begun + SILENT and not self.is_told:
             self.is_told = True
             most = f"{self.seconds:,} second{'s' * (self.seconds != 1)}"
             Output.note(f"{self.path} is in use by {self.told(holder(self.path))}: waiting up to {most}")
-        time.sleep(min(seconds, self.end - now))
+        seconds = min(seconds, self.left)
+        time.sleep(seconds)
+        self.left -= seconds
         return True
 
     @staticmethod

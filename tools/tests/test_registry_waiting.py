@@ -134,13 +134,15 @@ class Holders(Folder):
             self.assertIsNone(waiting.holder(self.journal))
 
     def test_the_time_counts_anew_for_each_session(self):
-        clock, turn = [0.0], waiting.Turn(self.path("none"), 10)
-        turn.begun, turn.end, turn.is_told = 0.0, 10.0, True
-        with mock.patch.object(waiting, "time", mock.Mock(monotonic=lambda: clock[0])):
-            for now, pid, wanted in ((1, 7, True), (10.5, 7, True), (10.9, 8, True), (20.8, 0, True), (20.8, 8, True), (20.9, 8, False), (20.9, 0, False)):
-                clock[0] = now
+        """Only the time of waiting counts: what its own tries take, as on a busy machine, does not."""
+        turn, slept = waiting.Turn(self.path("none"), 10), []
+        turn.is_told = True
+        with mock.patch.object(waiting, "time", mock.Mock(monotonic=lambda: 1e9, sleep=slept.append)):
+            for seconds, pid, wanted in ((6, 7, 6), (6, 7, 4), (6, 7, None), (1, 8, 1), (8, 0, 8), (8, 8, 1), (8, 8, None), (8, 0, None), (8, 7, 8)):
                 with mock.patch.object(waiting, "holding", lambda _, pid=pid: pid):
-                    self.assertIs(turn.waits(0), wanted, (now, pid))
+                    self.assertIs(turn.waits(seconds), wanted is not None, (seconds, pid))
+                self.assertEqual(slept, [] if wanted is None else [wanted], (seconds, pid))
+                slept.clear()
 
     def test_the_turn_is_given_back_for_a_try_where_it_may_be_in_the_way(self):
         self.hold()
