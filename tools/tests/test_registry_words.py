@@ -109,7 +109,7 @@ class Completed(Folder):
                               (["show", "lo"], ["lock", "log"]), (["show", "log", ""], []), (["yank", "log", ""], ["1.0.0", "1.1.0"]),
                               (["yank", "log", "1.1"], ["1.1.0"]), (["yank", "zebra", ""], []), (["publish", ""], ["app", "lock", "log"]),
                               (["publish", "x", ""], []), (["publish", "x", "1.0.0", "lo"], ["lock", "log"]), (["publish", "x", "1.0.0", "log@*", "a"], ["app"]),
-                              (["resolve", "--l"], ["--lock"]), (["resolve", "--lock", ""], "file"), (["resolve", "--lock", "x", "a"], ["app"]),
+                              (["resolve", "--l"], ["--lock", "--locked"]), (["resolve", "--lock", ""], "file"), (["resolve", "--lock", "x", "a"], ["app"]),
                               (["diff", ""], "file"), (["diff", "a", ""], "file"), (["diff", "a", "b", ""], []), (["import", "cargo", ""], "folder"),
                               (["import", "cargo", "x", "--index", ""], "folder"), (["import", "debian", ""], "file"), (["tree", "a", "--invert", "a"], ["app"]),
                               (["why", "app", "--not", "l"], ["lock", "log"]), (["why", "app", "--not", "log", "1.0"], ["1.0.0"]),
@@ -294,7 +294,7 @@ class Loaded(Folder):
         lock = self.path("registry.lock", '[["a","1.0.0"]]')
         self.path("registry.needs", "a\n")
         for words, needed in ((["list"], {"listing"}), (["show", "a"], {"show"}), (["resolve", "a"], {"resolve"}), (["tree", "a"], {"tree"}), (["unyank", "a", "1.0.0"], {"yank"}),
-                              (["outdated", "--lock", lock], {"outdated"}), (["upgrade", "--lock", lock], {"upgrade", "diff"}), (["diff", lock, lock], {"diff"})):
+                              (["outdated", "--lock", lock], {"outdated"}), (["upgrade", "--lock", lock], {"upgrade"}), (["diff", lock, lock], {"diff"})):
             found = self.loaded(*words)
             self.assertEqual({it.split(".")[2] for it in found if it.startswith("registry.commands.")}, needed)
             self.assertFalse({"registry.drawing", "registry.indexes.index", "registry.completion", "registry.manual", "dataclasses", "inspect", "tomllib"} & found, words)
