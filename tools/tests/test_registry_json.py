@@ -3,6 +3,7 @@ else that is near; and an error has the text that people read on standard error.
 import contextlib
 import json
 import os
+import re
 import signal
 import subprocess
 import sys
@@ -11,6 +12,7 @@ import unittest
 import lines_schema
 from program import PROGRAM, TOP, publish, yank
 from registry_folder import Folder, pigeons
+from test_readme import page
 
 sys.path.insert(0, os.path.join(TOP, "tools"))
 from registry.table import SUBCOMMANDS
@@ -36,7 +38,7 @@ FAILED = [
     (1, "publish log 1.0.0", 7), (1, "publish Log 1.0.0", 1), (1, "publish log 1.0", 2), (1, "publish a 1.0.0 b@q", 3), (1, "yank log 9.0.0", 11), (1, "yank log 1.0.0", 12),
     (1, "unyank log 2.0.0", 13), (1, "resolve a@q", 3), (1, f"resolve {' '.join(PIGEONS)} --budget 0", 22), (1, f"tree {' '.join(PIGEONS)} --budget 0", 22), (1, "tree app --invert zebra", "refused"),
     (1, f"why {' '.join(PIGEONS)} --budget 0", 22), (1, "outdated a@q --lock x.lock", 3), (1, "upgrade a --lock x.lock", "refused"), (1, "lock check x.lock a@q", 3),
-    (1, "show zebra", "refused"), (1, "resolve app --lock x.lock --locked", "refused"), (1, "resolve app --lock none --locked", "refused"), (1, "journal repair rubbish", "refused"),
+    (1, "journal renew bad.journal new", "refused"), (1, "show zebra", "refused"), (1, "resolve app --lock x.lock --locked", "refused"), (1, "resolve app --lock none --locked", "refused"), (1, "journal repair rubbish", "refused"),
     (2, "show", "usage"), (2, "lsit", "usage"), (2, "journal", "usage"), (2, "list --newest", "usage"), (2, "resolve --lock z.lock", "usage"), (2, "resolve app --budget x", "usage"),
     (2, "why app --told f", "usage"), (2, "serve", "usage"), (2, "page --port x", "usage"), (2, "list --connect none", "usage"), (3, "diff x.lock none", "failed"), (3, "diff x.lock rubbish", "failed"),
     (3, "lock check none", "failed"), (3, "check none", "failed"), (3, "journal verify none", "failed"), (3, "journal renew none new", "failed"), (3, "journal renew registry.journal x.lock", "failed"),
@@ -103,6 +105,11 @@ class Json(Folder):
             self.assertEqual((told["error"], fault.splitlines()[-1]), (error, f"registry: {told['message']}"), words)
             found.append(("error", told))
         self.assertEqual(self.judged(found), [])
+
+    def test_the_table_of_statuses_has_each_subcommand_that_ends_with_1(self):
+        rows = re.findall(r"(?m)^\| 1 \| (.*?) \|", page("docs/REGISTRY_COMMAND.md"))
+        ended = [words for status, words, *_ in (*ANSWERED, *FAILED) if status == 1]
+        self.assertEqual(set(re.findall("`(.*?)`", " ".join(rows))), {re.sub("^import .*", "import", kind_of(words).removeprefix("registry ")) for words in ended})
 
     def test_what_the_schema_refuses(self):
         self.assertEqual(self.judged(WRONG), WRONG)

@@ -10,6 +10,7 @@ from registry_folder import Folder
 APP = publish("app", "1.0.0", ["log ^1", "zlib *"])
 OLD = [publish("log", "1.0.0"), publish("log", "1.2.0"), publish("zlib", "1.0.0"), APP]
 LOCK = ["app 1.0.0", "log 1.2.0", "zlib 1.0.0"]
+FORBIDDEN = "registry: x.lock would change, which --locked forbids: `registry resolve --lock x.lock --write x.lock` changes it"
 SELECTED = "".join(f"{it}\n" for it in LOCK)
 # what was published and yanked since, the needs, the lock, and what is told where it can't be kept
 LOCKED = [
@@ -17,11 +18,11 @@ LOCKED = [
     ([publish("log", "1.3.0")], ["app"], LOCK, []),  # newer versions change nothing
     ([yank("log", "1.2.0")], ["app"], LOCK, ["registry: x.lock names log 1.2.0, which is yanked"]),  # nor does a yank: a lock may have it
     ([], ["app"], ["app 1.0.0", "log 1.9.9", "zlib 1.0.0"],
-     ["registry: x.lock names log 1.9.9, which is not published", "~ log 1.9.9 -> 1.2.0 (older)", "registry: x.lock is not what is selected: 0 came, 0 went, 1 changed"]),
-    ([publish("log", "1.3.0")], ["app", "log@^1.3"], LOCK, ["~ log 1.2.0 -> 1.3.0", "registry: x.lock is not what is selected: 0 came, 0 went, 1 changed"]),
-    ([], ["log"], LOCK, ["- app 1.0.0", "- zlib 1.0.0", "registry: x.lock is not what is selected: 0 came, 2 went, 0 changed"]),
-    ([], ["app"], LOCK[:2], ["+ zlib 1.0.0", "registry: x.lock is not what is selected: 1 came, 0 went, 0 changed"]),
-    ([], ["app"], [], ["+ app 1.0.0", "+ log 1.2.0", "+ zlib 1.0.0", "registry: x.lock is not what is selected: 3 came, 0 went, 0 changed"]),
+     ["registry: x.lock names log 1.9.9, which is not published", "~ log 1.9.9 -> 1.2.0 (older)", FORBIDDEN]),
+    ([publish("log", "1.3.0")], ["app", "log@^1.3"], LOCK, ["~ log 1.2.0 -> 1.3.0", FORBIDDEN]),
+    ([], ["log"], LOCK, ["- app 1.0.0", "- zlib 1.0.0", FORBIDDEN]),
+    ([], ["app"], LOCK[:2], ["+ zlib 1.0.0", FORBIDDEN]),
+    ([], ["app"], [], ["+ app 1.0.0", "+ log 1.2.0", "+ zlib 1.0.0", FORBIDDEN]),
     ([], ["app@^2"], LOCK, ["app ^2: refused at revision 4",
                             "  Because the request depends on app ^2 and no version of app matches ^2, resolving failed.",
                             "  No version of app matches ^2; there is 1.0.0."]),
@@ -72,7 +73,7 @@ class Resolve(Locked):
         self.hold(*OLD)
         with contextlib.chdir(self.folder):
             told = self.registry("resolve", "app", "--locked")
-            self.assertEqual(told, (1, "", "registry: registry.lock: there is no lock file to keep to: without --locked, `--write registry.lock` makes one\n"))
+            self.assertEqual(told, (1, "", "registry: registry.lock: there is no such lock file, and --locked makes none: `registry resolve NEED .. --write registry.lock` does\n"))
             self.assertEqual(self.registry("resolve", "app", "--write", "registry.lock")[0], 0)
             self.assertEqual(self.registry("resolve", "--locked"), (0, SELECTED, ""))
             self.path("registry.needs", "log\n")
@@ -92,7 +93,7 @@ class Resolve(Locked):
         path = self.lock(["app 1.0.0", "log 1.0.0", "web 1.0.0"])
         status, said, _ = self.registry("resolve", "app", "--lock", path, "--locked", "--json")
         self.assertEqual((status, json.loads(said)), (1, {
-            "error": "refused", "message": "x.lock is not what is selected: 1 came, 1 went, 0 changed",
+            "error": "refused", "message": FORBIDDEN.removeprefix("registry: "),
             "changes": [{"name": "web", "from": "1.0.0", "to": None}, {"name": "zlib", "from": None, "to": "1.0.0"}]}))
         self.assertEqual(json.loads(self.registry("resolve", "log@=1.0.0", "--lock", self.lock(["log 1.0.0"]), "--locked", "--json")[1]),
                          {"revision": 4, "selected": [["log", "1.0.0"]]})

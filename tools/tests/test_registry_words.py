@@ -1,7 +1,6 @@
 """What all subcommands of `registry` have in common: the table of words with the help, the completions and the manual page that are
-made of it; exit statuses, JSON, colours, pipes and terminals; and what one loads to start."""
+made of it; exit statuses, colours, pipes and terminals; and what one loads to start."""
 import importlib
-import json
 import os
 import shlex
 import shutil
@@ -265,17 +264,6 @@ class Shown(Folder):
         self.hold(publish("a", "1.0.0", ["b *", "c *"]), publish("b", "1.0.0", ["d *"]), publish("c", "1.0.0"), publish("d", "1.0.0"))
         done = typed("tree", "a", "--journal", self.journal, env={"PYTHONIOENCODING": "ascii"})
         self.assertEqual((done.returncode, done.stdout), (0, b"a 1.0.0\n|-- b 1.0.0\n|   `-- d 1.0.0\n`-- c 1.0.0\n"))
-
-    def test_json_is_one_line(self):
-        self.hold(publish("a", "1.0.0", ["b *"]), publish("b", "1.0.0"))
-        lock = self.path("registry.lock", '[["a","1.0.0"]]')
-        self.path("registry.needs", "a\n")
-        for words in (["show", "a"], ["search", "a"], ["list"], ["resolve", "a"], ["resolve", "zed"], ["tree", "a"], ["why", "a"], ["why", "zed"],
-                      ["outdated", "--lock", lock], ["upgrade", "--lock", lock], ["diff", lock, lock], ["publish", "c", "1.0.0"], ["yank", "c", "1.0.0"], ["yank", "c", "1.0.0"]):
-            for given in ([*words, "--json"], ["--json", *words]):
-                _, said, _ = self.registry(*given)
-                self.assertEqual(said.count("\n"), 1, given)
-                json.loads(said)
 
 
 class Loaded(Folder):

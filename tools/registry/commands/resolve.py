@@ -15,7 +15,7 @@ def run(given, out):
     if given.locked:
         given.lock = given.lock or DEFAULT
         if not os.path.lexists(given.lock):
-            raise Refused(f"{given.lock}: there is no lock file to keep to: without --locked, `--write {given.lock}` makes one")
+            raise Refused(f"{given.lock}: there is no such lock file, and --locked makes none: `registry resolve NEED .. --write {given.lock}` does")
     request = request_of(given)
     before = lock_of(given.write) if given.write and os.path.exists(given.write) else None
     with reading(given) as session:
@@ -38,7 +38,8 @@ def keep_to(path, lock, selected):
     lines = changes(lock, selected)
     if lines:
         say(*lines)
-        raise Refused(f"{path} is not what is selected: {counted(lines)}", {"changes": changed(lock, selected)})
+        raise Refused(f"{path} would change, which --locked forbids: `registry resolve --lock {path} --write {path}` changes it",
+                      {"changes": changed(lock, selected)})
 
 
 def keep(path, before, request, reply, out):
