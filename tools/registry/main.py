@@ -58,19 +58,25 @@ def guarded(words):
         sys.stdout.flush()
         return status
     except Failure as fault:
-        out.note(fault)
-        out.fail(fault)
-        return fault.status
+        return failed(out, fault)
     except BrokenPipeError:
         raise
     except OSError as fault:
-        say(f"registry: {told(fault)}")  # without a flush of standard output, which may be what failed
-        out.fail(Failed(told(fault)))
-        return FAILED
+        return failed(out, Failed(told(fault)))
     except MemoryError:
-        out.note("there is not enough memory")
-        out.fail(Failed("there is not enough memory"))
+        return failed(out, Failed("there is not enough memory"))
+
+
+def failed(out, fault):
+    """Tells why a command line fails; answers the exit status."""
+    try:
+        out.fail(fault)
+    except BrokenPipeError:
+        raise
+    except OSError as other:  # nor can standard output be written
+        say(f"registry: {told(other)}")
         return FAILED
+    return fault.status
 
 
 def main(words):

@@ -35,8 +35,8 @@ class Output:
     def give(self, value, lines):
         """An answer: the value as one line of JSON where that is wanted, else these lines."""
         if self.is_json:
-            print(as_json(value))
             self.has_answered = True
+            print(as_json(value))
         else:
             for line in lines:
                 print(visible(line).replace(self.mark, "\x1b["))
@@ -46,9 +46,11 @@ class Output:
         return f"{self.mark}{';'.join(STYLES[it] for it in styles)}m{text}{self.mark}0m" if self.is_coloured and text else text
 
     def fail(self, fault):
-        """In place of an answer why there is none, where JSON is wanted. People read it on standard error."""
+        """Why there is no answer, or no more than was given: on standard error and, in place of an answer in JSON, on standard output."""
+        self.note(fault)
         if self.is_json and not self.has_answered:
             self.give({"error": fault.kind, "message": str(fault), **fault.members}, [])
+            sys.stdout.flush()
 
     @staticmethod
     def note(text):
