@@ -57,7 +57,7 @@ def read_lock(text):
         return Lock(judged(value))
     if not (formed(value, MADE) and are_pairs(value["needs"])):
         raise Unread("19 BadLine: it is no object with needs, a revision and what is selected")
-    return Lock(judged(value["selected"]), [list(it) for it in value["needs"]], value["revision"])
+    return Lock(judged(value["selected"]), value["needs"], value["revision"])
 
 
 def lock_of(path):
