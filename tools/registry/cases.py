@@ -63,7 +63,7 @@ class Case:
         request = {**(question.request if question else self.request), "explain": True, **other}
         reply = self.ask(request) if question is None or question.is_plain() else self.put(question, request)
         if "error" in reply:
-            raise Refused(f"{self.title()}: {english(request, reply, dict)}")
+            raise Refused(f"{self.title()}: {english(request, reply, dict)}", reply)
         return reply
 
     def answer(self):

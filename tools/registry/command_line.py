@@ -40,7 +40,7 @@ def unknown(first, following):
     """What is said of words that name no subcommand."""
     below = [it.name.split(" ")[1] for it in SUBCOMMANDS if it.name.startswith(first + " ")]
     if below:
-        return f"{first} goes with one of {', '.join(below)}" + (f", not with {following[0]}" if following else "") + f": {SEE}"
+        return f"{first} goes with {'one of ' * (len(below) > 1)}{', '.join(below)}" + (f", not with {following[0]}" if following else "") + f": {SEE}"
     near = nearest(first, dict.fromkeys(it.name.split(" ")[0] for it in SUBCOMMANDS))
     return f"there is no subcommand {first}" + (f"; {near} may be meant" if near else "") + f": {SEE}"
 

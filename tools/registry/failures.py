@@ -5,23 +5,26 @@ INTERRUPTED, NO_READER = 130, 141  # as a shell tells of a program that SIGINT o
 
 
 class Failure(Exception):
-    """One line that says what happened and what to do."""
-    status = FAILED
+    """One line that says what happened and what to do; and further members of what `--json` prints of it, as the program's reply."""
+    status, kind = FAILED, "failed"
+
+    def __init__(self, message="", members=()):
+        super().__init__(message)
+        self.members = dict(members)
 
 
 class Refused(Failure):
     """The registry refuses it, there is no selection, or what was asked for is not there."""
-    status = REFUSED
+    status, kind = REFUSED, "refused"
 
 
 class Usage(Failure):
     """The words are wrong."""
-    status = USAGE
+    status, kind = USAGE, "usage"
 
 
 class Failed(Failure):
     """What is beyond the words and the registry: a file, the program, the machine."""
-    status = FAILED
 
 
 def told(fault):

@@ -1,6 +1,7 @@
 """Lock files, as docs/FORMATS.md tells of them, and what changed between two."""
 import json
 import os
+from typing import NamedTuple
 
 from check_derivation import NAME, PAIRS, formed, passes, read_version
 from limits import MOST_LINE_BYTES, MOST_LOCK_LINES
@@ -9,15 +10,23 @@ from .failures import Failed
 from .files import read_file
 
 DEFAULT = "registry.lock"
+MADE = {"needs": PAIRS, "revision": int, "selected": list}  # the form of a lock file that says what it was made of
 
 
 class Unread(Failed):
     """Why a text is no lock list."""
 
 
+class Lock(NamedTuple):
+    """What a lock file has: versions by package and, unless it is a plain list, the needs and the revision that they were selected for."""
+    selected: dict
+    needs: list = None
+    revision: int = None
+
+
 def judged(value):
     """The lines of a lock as versions by package, or the lowest refusal."""
-    if not formed(value, PAIRS) or any("\ud800" <= letter <= "\udfff" for pair in value for text in pair for letter in text):
+    if not are_pairs(value):
         raise Unread("19 BadLine: it is no array of pairs of texts, a name and a version each")
     for number, told, faults in (
             (1, "BadName: {} is no package name", [name for name, _ in value if not NAME.fullmatch(name)]),
@@ -29,22 +38,30 @@ def judged(value):
     return dict(value)
 
 
+def are_pairs(value):
+    return formed(value, PAIRS) and not any("\ud800" <= letter <= "\udfff" for pair in value for text in pair for letter in text)
+
+
 def repeated(names):
     seen = set()
     return [name for name in names if name in seen or seen.add(name)]
 
 
 def read_lock(text):
-    """The versions by package of a lock list in bytes."""
+    """The lock that stands in bytes: a lock list, or an object that has one beside what it was made of."""
     try:
         value = json.loads(text.decode()) if len(text) <= MOST_LINE_BYTES else None
     except (ValueError, RecursionError):
         value = None
-    return judged(value)
+    if not isinstance(value, dict):
+        return Lock(judged(value))
+    if not (formed(value, MADE) and are_pairs(value["needs"])):
+        raise Unread("19 BadLine: it is no object with needs, a revision and what is selected")
+    return Lock(judged(value["selected"]), value["needs"], value["revision"])
 
 
 def lock_of(path):
-    """The versions by package of a lock file."""
+    """The lock of a file."""
     if not os.path.lexists(path):
         raise Failed(f"{path}: there is no such lock file: `registry resolve NEED .. --write {path}` makes one")
     try:
@@ -53,12 +70,29 @@ def lock_of(path):
         raise Unread(f"{path} is no lock file: {fault}") from None
 
 
-def lock_text(versions):
-    """The lock file of some versions by package: an entry a line, by name, so that a review sees what changed."""
-    rows = sorted(versions.items(), key=lambda row: row[0].encode())
+def lock_text(lock):
+    """The text of a lock file: a pair a line, the versions by name, so that a review sees what changed."""
+    rows = sorted(lock.selected.items(), key=lambda row: row[0].encode())
+    if lock.needs is None:
+        return array(rows) + "\n"
+    return f'{{\n  "needs": {array(lock.needs, "  ")},\n  "revision": {lock.revision},\n  "selected": {array(rows, "  ")}\n}}\n'
+
+
+def array(rows, before=""):
+    """An array as JSON, with an item a line behind this much space."""
     if not rows:
-        return "[]\n"
-    return "[\n" + ",\n".join("  " + json.dumps(row, ensure_ascii=False) for row in rows) + "\n]\n"
+        return "[]"
+    return "[\n" + ",\n".join(f"{before}  {json.dumps(row, ensure_ascii=False)}" for row in rows) + f"\n{before}]"
+
+
+def renewed(before, request, reply):
+    """The lock that takes the place of one, or of none. A plain list stays one, and what is made of the same needs stays as it was."""
+    made = Lock(dict(reply["selected"]), request["needs"], reply["revision"])
+    if before is None:
+        return made
+    if before.needs is None:
+        return Lock(made.selected)
+    return before if made[:2] == before[:2] else made
 
 
 def changes(old, new):
@@ -72,6 +106,11 @@ def changes(old, new):
         elif old[name] != new[name]:
             lines.append(f"~ {name} {old[name]} -> {new[name]}{remark(old[name], new[name])}")
     return lines
+
+
+def changed(old, new):
+    """The same as values: each package with its version before and behind, none where it was not or is not there."""
+    return [{"name": name, "from": old.get(name), "to": new.get(name)} for name in sorted({*old, *new}) if old.get(name) != new.get(name)]
 
 
 def counted(lines):

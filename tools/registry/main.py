@@ -4,11 +4,11 @@ import os
 import sys
 
 from . import command_line
-from .failures import DONE, FAILED, INTERRUPTED, NO_READER, USAGE, Failure, Usage, told
+from .failures import DONE, FAILED, INTERRUPTED, NO_READER, USAGE, Failed, Failure, Usage, told
 from .output import Output, say
 
 
-def run(words):
+def run(words, out):
     """Obeys a command line; answers the exit status."""
     for place, it in enumerate(words, 1):
         if any("\ud800" <= letter <= "\udfff" for letter in it):
@@ -19,7 +19,7 @@ def run(words):
     given = command_line.reader(of).parse_intermixed_args(rest)
     given.subcommand = of.name
     module = importlib.import_module(f".commands.{of.module}", __package__)
-    return module.run(given, Output(given.json)) or DONE
+    return module.run(given, out) or DONE
 
 
 def general(words):
@@ -51,22 +51,32 @@ def overview(words):
 
 
 def guarded(words):
-    """The same, with what goes wrong as one line."""
+    """The same, with what goes wrong as one line, and as JSON where that is wanted."""
+    out = Output("--json" in words)
     try:
-        status = run(words)
+        status = run(words, out)
         sys.stdout.flush()
         return status
     except Failure as fault:
-        Output.note(fault)
-        return fault.status
+        return failed(out, fault)
     except BrokenPipeError:
         raise
     except OSError as fault:
-        say(f"registry: {told(fault)}")
-        return FAILED
+        return failed(out, Failed(told(fault)))
     except MemoryError:
-        Output.note("there is not enough memory")
+        return failed(out, Failed("there is not enough memory"))
+
+
+def failed(out, fault):
+    """Tells why a command line fails; answers the exit status."""
+    try:
+        out.fail(fault)
+    except BrokenPipeError:
+        raise
+    except OSError as other:  # nor can standard output be written
+        say(f"registry: {told(other)}")
         return FAILED
+    return fault.status
 
 
 def main(words):

@@ -5,7 +5,8 @@ ABOUT = ("`registry` is what people type to a package registry with a version so
          "in one file, the journal, and selects versions that fit together. What is accepted and what is selected is decided by the program "
          "registryd(1), which is proved correct.")
 STATUSES = ((0, "What was asked for is done."),
-            (1, "The registry refuses it, no selection meets the request, or what was asked for is not there."),
+            (1, "The registry refuses it, no selection meets the request, what was asked for is not there, what is checked has a fault, or there is a "
+                "difference that --locked forbids or --exit-status asks for."),
             (2, "The words are wrong."), (3, "A file can't be read or written, a journal is in use or damaged, or the program failed."),
             (130, "A key interrupted it."), (143, "A signal ended it."), (141, "Its reader ended before all was written."))
 VARIABLES = (("REGISTRY_JOURNAL", "The journal, where --journal does not name one."),
@@ -13,7 +14,8 @@ VARIABLES = (("REGISTRY_JOURNAL", "The journal, where --journal does not name on
              ("REGISTRY_PROGRAM", "The program that is asked, in place of registryd."),
              ("NO_COLOR", "No colour, also on a terminal, where it is set and not empty."))
 FILES = (("registry.journal", "The journal, in the folder where the command is given, where nothing names another."),
-         ("registry.lock", "The lock file, in that folder, of subcommands that need one: an array of pairs of a name and a version, one a line."),
+         ("registry.lock", "The lock file, in that folder, of subcommands that need one: what is selected, a name and a version a line, and the needs and the revision that "
+                           "it was made for."),
          ("registry.needs", "What the lock file was made for, beside it under its name with .needs for .lock: a name and a requirement a line."))
 
 

@@ -3,7 +3,7 @@ import os
 
 from .failures import Failed, Usage
 from .files import read_file, write_file
-from .locks import DEFAULT
+from .locks import DEFAULT, lock_of
 
 
 def need_of(text):
@@ -35,11 +35,21 @@ def write_needs(path, needs):
     return True
 
 
+def needs_known(typed, lock):
+    """The needs that were typed; where there are none, those of the needs file beside a lock file, else those that the lock file was made
+    for; none where nothing says any."""
+    if typed:
+        return [need_of(it) for it in typed]
+    path = needs_path(lock)
+    if os.path.exists(path):
+        return read_needs(path)
+    return lock_of(lock).needs if os.path.exists(lock) else None
+
+
 def needs_given(given):
-    """The needs that were typed; where there are none, those of the needs file beside the lock file."""
-    if given.need:
-        return [need_of(it) for it in given.need]
-    path = needs_path(getattr(given, "lock", None) or getattr(given, "write", None) or DEFAULT)
-    if not os.path.exists(path):
-        raise Usage(f"name what is needed, as app@^1, or write it into {path}, a name and a requirement a line")
-    return read_needs(path)
+    """The same of the lock file that the words name, which have to be known."""
+    lock = getattr(given, "lock", None) or getattr(given, "write", None) or DEFAULT
+    needs = needs_known(given.need, lock)
+    if needs is None:
+        raise Usage(f"name what is needed, as app@^1, or write it into {needs_path(lock)}, a name and a requirement a line")
+    return needs

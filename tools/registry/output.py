@@ -29,12 +29,13 @@ class Output:
     """Standard output and standard error of one subcommand."""
 
     def __init__(self, is_json=False):
-        self.is_json, self.is_coloured = is_json, not is_json and is_coloured(sys.stdout)
+        self.is_json, self.is_coloured, self.has_answered = is_json, not is_json and is_coloured(sys.stdout), False
         self.mark = os.urandom(8).hex()  # stands for the beginning of a colour's code until a line is printed: no text has it by chance
 
     def give(self, value, lines):
         """An answer: the value as one line of JSON where that is wanted, else these lines."""
         if self.is_json:
+            self.has_answered = True
             print(as_json(value))
         else:
             for line in lines:
@@ -43,6 +44,13 @@ class Output:
     def style(self, text, *styles):
         """A text in some of the STYLES, plain where there is no colour."""
         return f"{self.mark}{';'.join(STYLES[it] for it in styles)}m{text}{self.mark}0m" if self.is_coloured and text else text
+
+    def fail(self, fault):
+        """Why there is no answer, or no more than was given: on standard error and, in place of an answer in JSON, on standard output."""
+        self.note(fault)
+        if self.is_json and not self.has_answered:
+            self.give({"error": fault.kind, "message": str(fault), **fault.members}, [])
+            sys.stdout.flush()
 
     @staticmethod
     def note(text):

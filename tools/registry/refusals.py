@@ -84,9 +84,8 @@ def listed(session):
     return dict(reply["packages"])
 
 
-def accepted(session, request, reply, out):
+def accepted(session, request, reply):
     """A reply that is no refusal by number; one is told."""
     if "error" in reply:
-        out.give(reply, [])
-        raise Refused(english(request, reply, lambda: listed(session)))
+        raise Refused(english(request, reply, lambda: listed(session)), reply)
     return reply

@@ -1,13 +1,12 @@
 """What of a registry is kept where its journal begins anew: what lock files select, the newest versions of each package, and what
 those need. What these need is asked of the program: so whatever is kept can be selected as before, alone and by its lock file."""
 import json
-import os
 from typing import NamedTuple
 
 from check_derivation import read_version
 from limits import MOST_NEEDS, MOST_REQUIREMENT_BYTES
 
-from .needs import needs_path, read_needs
+from .needs import needs_known
 
 BUDGET = 10_000  # conflicts of one request
 
@@ -66,8 +65,9 @@ class Lock:
         lock = sorted(map(list, versions.items()))
         needs = [it for it in (held[name].need for name in roots(held)) if it]
         asked = [needs[at:at + MOST_NEEDS] for at in range(0, len(needs), MOST_NEEDS)]
-        if os.path.exists(needs_path(path)):
-            asked.append(read_needs(needs_path(path)))
+        known = needs_known((), path)
+        if known is not None:
+            asked.append(known)
         self.requests = [request(it, lock) for it in asked]
         self.replies = []
 

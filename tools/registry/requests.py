@@ -1,30 +1,26 @@
 """Requests to select versions, and what is told of their answers."""
 from check_derivation import read_version
 
-from .failures import REFUSED, Refused
+from .failures import REFUSED
 from .locks import lock_of
 from .needs import needs_given
 from .output import say
-from .refusals import english, listed
+from .refusals import accepted
 
 
 def request_of(given, lock=None):
     """The resolve line of some words: the needs that are typed or kept, and the lock file that is named, or this lock."""
     if lock is None:
-        lock = lock_of(given.lock) if given.lock else {}
+        lock = lock_of(given.lock).selected if given.lock else {}
     request = {"op": "resolve", "needs": needs_given(given), "lock": [list(it) for it in sorted(lock.items())], "explain": True}
     if getattr(given, "budget", None) is not None:
         request["budget"] = given.budget
     return request
 
 
-def answered(session, request, out):
+def answered(session, request):
     """The reply to a request: a selection, or that there is none. A refusal by number is told."""
-    (reply,) = session.ask(request)
-    if "error" in reply:
-        out.give(reply, [])
-        raise Refused(english(request, reply, lambda: listed(session)))
-    return reply
+    return accepted(session, request, *session.ask(request))
 
 
 def refused(session, request, reply, out):

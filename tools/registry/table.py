@@ -54,13 +54,15 @@ COMMON = (
 WAIT = option("--wait", "SECONDS", "wait so long for another session on the journal (else: 10)", range(86_401))
 NEEDS = word("NEED", "a package and a requirement, as app@^1; app alone is app@*", NEED, "*")
 LOCK = option("--lock", "FILE", "a lock file: its versions are preferred", FILE)
+LOCKED = flag("--locked", "end with status 1 unless exactly the lock file's versions are selected (--lock, else registry.lock)")
 LOCK_FILE = option("--lock", "FILE", "the lock file (else: registry.lock)", FILE)
 BUDGET = option("--budget", "N", "give up after N conflicts", BUDGETS)
 SELECTING = (flag("--newest", "take the newest selection, which is the same for everyone (else: as the program selects)"),
              flag("--any", "take the first selection that a search finds"))
 NOT = Word(("NAME", "VERSION"), "why this version is not what is selected", PACKAGE, flag="--not", kept_as="version")
 BESIDE = ("Where no NEED is typed, the needs file beside the lock file says what is needed: its name has .needs for .lock, and each of its "
-          "lines a name and a requirement. Without a lock file it is registry.needs.")
+          "lines a name and a requirement. Without a lock file it is registry.needs. A lock file that says what it was made for "
+          "needs no such file.")
 IMPORTING = (
     option("--from", "CRATE", "only these and what they need, as rand or rand@^0.8 (else: all, or of a workspace its own packages)", NEED, "+"),
     option("--newest", "N", "only the N newest versions of each crate", range(1, MOST_VERSIONS + 1)),
@@ -101,8 +103,8 @@ SUBCOMMANDS = (
                (word("TEXT", "a part of the name"),), ("registry search json",)),
     Subcommand("list", "listing", "List all packages, each with its newest version", (), ("registry list",)),
     Subcommand("resolve", "resolve", "Select versions that fit together",
-               (NEEDS, LOCK, option("--write", "FILE", "keep the selection as a lock file, and beside it what was needed", FILE), BUDGET, *SELECTING),
-               ("registry resolve app@^1 zlib", "registry resolve app@^1 --write registry.lock", "registry resolve --lock registry.lock"),
+               (NEEDS, LOCK, option("--write", "FILE", "keep the selection as a lock file, and beside it what was needed", FILE), LOCKED, BUDGET, *SELECTING),
+               ("registry resolve app@^1 zlib", "registry resolve app@^1 --write registry.lock", "registry resolve --lock registry.lock --locked"),
                BESIDE),
     Subcommand("tree", "tree", "Show a selection as a tree of who needs whom",
                (NEEDS, LOCK, option("--invert", "NAME", "who needs this package, in place of what is needed", PACKAGE),
@@ -120,8 +122,9 @@ SUBCOMMANDS = (
                "A refusal is told from its derivation alone, and only where that follows. Of a session whose packages are a journal's, "
                "as a race prints it, --journal names that: each reply is told at its revision. " + BESIDE),
     Subcommand("outdated", "outdated", "Tell what in a lock file is not the newest, and what holds it back",
-               (NEEDS, LOCK_FILE, option("--budget", "N", "give a question up after N conflicts (else: 10000)", BUDGETS), *SELECTING),
-               ("registry outdated", "registry outdated --lock app.lock"),
+               (NEEDS, LOCK_FILE, option("--budget", "N", "give a question up after N conflicts (else: 10000)", BUDGETS), *SELECTING,
+                flag("--exit-status", "end with status 1 where it has a package to tell of")),
+               ("registry outdated", "registry outdated --lock app.lock", "registry outdated --exit-status"),
                "Of each package it tells what is locked, what an upgrade of all would select, the newest version that is not yanked, and "
                "why that is not selected. " + BESIDE),
     Subcommand("upgrade", "upgrade", "Take packages off a lock file, and keep what is selected then",
@@ -131,8 +134,13 @@ SUBCOMMANDS = (
                ("registry upgrade log", "registry upgrade --yes", "registry upgrade --lock app.lock --need app@^2"),
                "It shows what would change and asks before it writes. " + BESIDE),
     Subcommand("diff", "diff", "Tell what changed between two lock files",
-               (word("OLD", "a lock file", FILE), word("NEW", "another one", FILE)), ("registry diff old.lock new.lock",),
+               (word("OLD", "a lock file", FILE), word("NEW", "another one", FILE), flag("--exit-status", "end with status 1 where they differ")),
+               ("registry diff old.lock new.lock", "registry diff --exit-status old.lock new.lock"),
                "A line begins with + where a package came, with - where it went, with ~ where its version changed."),
+    Subcommand("lock check", "lock_check", "Check that a lock file holds: each version is there, not yanked, and has what it needs",
+               (word("FILE", "a lock file", FILE), NEEDS), ("registry lock check registry.lock", "registry lock check app.lock app@^1"),
+               "It tells each fault in a line, and its exit status is 1 where there is any. Where no NEED is typed, what is needed is said by the "
+               "needs file beside the lock file, else by the lock file itself."),
     Subcommand("check", "check", "Check request lines: where each would be refused, why, and what was probably meant",
                (word("FILE", "a file of request lines; - is standard input", FILE),),
                ("registry check team.lines", "registry check - < team.lines"),

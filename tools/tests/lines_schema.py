@@ -1,5 +1,6 @@
-"""The schema of lines, `docs/lines.schema.json`, and ways to judge by it. Whole judgement takes Python's `jsonschema`, which may
-be there for another Python than the one that runs the tests: so a child judges, which is this file run by a Python that has it.
+"""The schemas of lines and of what `registry` prints as JSON, `docs/lines.schema.json` and `docs/registry.schema.json`, and ways to judge by
+them. Whole judgement takes Python's `jsonschema`, which may be there for another Python than the one that runs the tests: so a child judges,
+which is this file run by a Python that has it.
 
     lines_schema.py < VALUES     pairs of a definition's name and a value, as JSON; prints the places of those that are not of it
 """
@@ -10,17 +11,18 @@ import subprocess
 import sys
 from concurrent.futures import ThreadPoolExecutor
 
-SCHEMA = os.path.join(os.path.dirname(os.path.abspath(__file__)), "..", "..", "docs", "lines.schema.json")
+DOCS = os.path.join(os.path.dirname(os.path.abspath(__file__)), "..", "..", "docs")
 DEBIAN = "/usr/bin/python3"
 
 
-def read():
-    with open(SCHEMA, encoding="utf-8") as text:
+def read(name):
+    with open(os.path.join(DOCS, name), encoding="utf-8") as text:
         return json.load(text)
 
 
-SAID = read()
+SAID, ANSWERS = read("lines.schema.json"), read("registry.schema.json")
 KINDS = SAID["$defs"]
+ALL = {**KINDS, **ANSWERS["$defs"]}  # none has a name of the other's
 
 
 @functools.lru_cache(maxsize=None)
@@ -91,9 +93,10 @@ def whole(form, kinds):
 
 def main():
     from jsonschema import Draft202012Validator
-    Draft202012Validator.check_schema(SAID)
+    for it in (SAID, ANSWERS):
+        Draft202012Validator.check_schema(it)
     pairs = json.load(sys.stdin)
-    judges = {kind: Draft202012Validator(whole(KINDS[kind], KINDS)) for kind, _ in pairs}
+    judges = {kind: Draft202012Validator(whole(ALL[kind], ALL)) for kind, _ in pairs}
     print([place for place, (kind, value) in enumerate(pairs) if not judges[kind].is_valid(value)])
 
 

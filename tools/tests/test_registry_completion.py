@@ -16,7 +16,7 @@ from registry.failures import Failed
 
 PACKAGES = {"log": ["1.0.0", "1.1.0"], "lock": ["2.0.0"], "app": ["1.0.0"]}
 COMMON = ["--connect", "--help", "--journal", "--json"]
-FIRST = ["check", "diff", "import", "journal", "list", "outdated", "page", "publish", "resolve", "search", "serve", "shell", "show", "tree", "unyank", "upgrade",
+FIRST = ["check", "diff", "import", "journal", "list", "lock", "outdated", "page", "publish", "resolve", "search", "serve", "shell", "show", "tree", "unyank", "upgrade",
          "why", "yank"]
 # words of which the last one is being typed, and what is said of them: a kind, or words
 OFFERED = [
@@ -26,15 +26,16 @@ OFFERED = [
     (["import", ""], ["cargo", "crates-io", "debian"]), (["import", "c"], ["cargo", "crates-io"]), (["--json", "import", ""], ["cargo", "crates-io", "debian"]),
     (["--journal", "a", "import", ""], ["cargo", "crates-io", "debian"]), (["journal", ""], ["renew", "repair", "verify"]), (["nonsense", ""], []), (["--nonsense", ""], []),
     (["list", ""], []), (["show", ""], ["app", "lock", "log"]), (["show", "lo"], ["lock", "log"]), (["show", "log", ""], []), (["show", "", ""], []), (["search", ""], []),
+    (["lock", ""], ["check"]), (["lock", "check", ""], "file"), (["lock", "check", "x", "log@^1", "a"], ["app"]),
     (["yank", "log", ""], ["1.0.0", "1.1.0"]), (["yank", "log", "1.1"], ["1.1.0"]), (["yank", "zebra", ""], []), (["yank", "log", "1.1.0", ""], []),
     (["publish", "log", ""], []), (["publish", "log", "2.0.0", "lo"], ["lock", "log"]), (["publish", "log", "2.0.0", "app@*", "zlib@*", "lo"], ["lock", "log"]),
     (["diff", ""], "file"), (["diff", "a", ""], "file"), (["diff", "a", "b", ""], []), (["import", "cargo", ""], "folder"), (["import", "debian", ""], "file"),
     (["import", "debian", "x", ""], []), (["import", "cargo", "x", "--index", ""], "folder"), (["import", "cargo", "x", "--index", "y", ""], []),
     (["import", "cargo", "x", "--from", "lo"], ["lock", "log"]), (["import", "cargo", "x", "--from", "log", "lock", "a"], ["app"]),
-    (["resolve", "--lo"], ["--lock"]), (["resolve", "--lock", ""], "file"), (["resolve", "--lock", "x", "a"], ["app"]), (["resolve", "--budget", ""], []),
+    (["resolve", "--lo"], ["--lock", "--locked"]), (["resolve", "--lock", ""], "file"), (["resolve", "--lock", "x", "a"], ["app"]), (["resolve", "--budget", ""], []),
     (["resolve", "--budget", "5", "a"], ["app"]), (["resolve", "--any", "a"], ["app"]), (["serve", "--mode", ""], ["600", "660", "666"]), (["serve", "--mode", "66"], ["660", "666"]),
     (["why", "--not", ""], ["app", "lock", "log"]), (["why", "--not", "log", ""], ["1.0.0", "1.1.0"]), (["why", "--not", "log", "1.0.0", "a"], ["app"]),
-    (["why", "a", "--u"], ["--unfolded"]), (["diff", "--"], COMMON), (["upgrade", "log", "lo"], ["lock", "log"]), (["upgrade", "--need", "app", "lo"], ["lock", "log"]),
+    (["why", "a", "--u"], ["--unfolded"]), (["diff", "--"], sorted([*COMMON, "--exit-status"])), (["upgrade", "log", "lo"], ["lock", "log"]), (["upgrade", "--need", "app", "lo"], ["lock", "log"]),
 ]
 
 

@@ -1,5 +1,5 @@
-"""Lock files: what is read and refused is what the tables of the program's own readers want, what is written is read by it; and
-how `registry resolve` keeps a selection, and `registry diff` tells what changed between two."""
+"""Lock files: which lists are read and refused is what the table of the program's own reader wants; what a file says that it was made of;
+and how `registry resolve` keeps a selection, and `registry diff` tells what changed between two."""
 import json
 import os
 import stat
@@ -12,9 +12,9 @@ from registry_folder import Folder
 
 sys.path.insert(0, os.path.join(TOP, "tools"))
 from limits import MOST_LOCK_LINES
-from registry.locks import Unread, changes, coloured, counted, judged, lock_text, read_lock
+from registry.locks import Lock, Unread, changes, coloured, counted, judged, lock_text, read_lock, renewed
 
-TABLE = os.path.join(TOP, "rows", "texts", "locks.rows")
+TABLE = os.path.join(TOP, "rows", "calls", "further.rows")
 # two locks, and what changed
 CHANGED = [
     ([], [], []),
@@ -40,11 +40,6 @@ def versions(lines):
     return dict(line.split(" ") for line in lines)
 
 
-def an_entry_a_line(text):
-    """A lock list of the program's, which is one line, as a lock file has it."""
-    return text if text == "[]\n" else "[\n  " + text[1:-2].replace("],[", "],\n  [").replace('","', '", "') + "\n]\n"
-
-
 class Lists(unittest.TestCase):
     def test_what_is_read(self):
         table = rows("read_lock")
@@ -52,7 +47,7 @@ class Lists(unittest.TestCase):
         for row in table:
             text = row["text"] if isinstance(row["text"], str) else "".join(piece * count for piece, count in row["text"])
             if isinstance(row["gives"], list):
-                self.assertEqual(list(read_lock(text.encode()).items()), [tuple(it) for it in row["gives"]])
+                self.assertEqual(read_lock(text.encode()), Lock(dict(row["gives"])))
             else:
                 self.refused(text.encode(), row["gives"]["refused"])
 
@@ -73,17 +68,42 @@ class Lists(unittest.TestCase):
         self.assertEqual(len(judged(many[1:])), MOST_LOCK_LINES)
 
     def test_what_is_written(self):
-        # the entries of the program's own lists, in its order, one a line
-        written = [row for row in rows("write_lock") if row["gives"]["end"] == "done"]
-        self.assertGreater(len(written), 3)
-        for row in written:
-            self.assertEqual(lock_text(dict(row["lock"])), an_entry_a_line(row["gives"]["written"]))
-        self.assertEqual(lock_text({"b": "1.0.0+x", "a": "2.0.0"}), '[\n  ["a", "2.0.0"],\n  ["b", "1.0.0+x"]\n]\n')
+        # in byte order of the names, a pair a line
+        for lock, text in (({}, "[]\n"), ({"b": "1.0.0+x", "a_b": "0.2.0-rc.1", "a": "3.0.0", "a0": "1.0.0"},
+                                          '[\n  ["a", "3.0.0"],\n  ["a0", "1.0.0"],\n  ["a_b", "0.2.0-rc.1"],\n  ["b", "1.0.0+x"]\n]\n')):
+            self.assertEqual(lock_text(Lock(lock)), text)
+        # needs stand as they were asked
+        self.assertEqual(lock_text(Lock({"b": "1.0.0", "a": "2.0.0"}, [["b", "^1, <2"], ["a", "*"]], 7)),
+                         '{\n  "needs": [\n    ["b", "^1, <2"],\n    ["a", "*"]\n  ],\n  "revision": 7,\n'
+                         '  "selected": [\n    ["a", "2.0.0"],\n    ["b", "1.0.0"]\n  ]\n}\n')
+        self.assertEqual(lock_text(Lock({}, [], 0)), '{\n  "needs": [],\n  "revision": 0,\n  "selected": []\n}\n')
 
     def test_what_is_written_is_read(self):
         for old, new, _ in CHANGED:
             for lines in (old, new):
-                self.assertEqual(read_lock(lock_text(versions(lines)).encode()), versions(lines))
+                for lock in (Lock(versions(lines)), Lock(versions(lines), [["b", ">=1, <3"]], 3)):
+                    self.assertEqual(read_lock(lock_text(lock).encode()), lock)
+
+    def test_what_says_wrongly_what_it_was_made_of(self):
+        made = {"needs": [["a", "*"]], "revision": 1, "selected": [["a", "1.0.0"]]}
+        self.assertEqual(read_lock(json.dumps(made).encode()), Lock({"a": "1.0.0"}, [["a", "*"]], 1))
+        for wrong in ({"needs": ["a"]}, {"needs": [["a", "\ud800"]]}, {"needs": None}, {"revision": -1}, {"revision": "1"}, {"revision": True},
+                      {"selected": {"a": "1.0.0"}}, {"selected": [["a"]]}, {"more": 1}):
+            self.refused(json.dumps({**made, **wrong}).encode(), 19)
+        for missing in made:
+            self.refused(json.dumps({name: value for name, value in made.items() if name != missing}).encode(), 19)
+        self.refused(json.dumps({**made, "selected": [["a", "1"]]}).encode(), 2)
+
+    def test_what_takes_the_place_of_a_file(self):
+        old, request = Lock({"a": "1.0.0"}, [["a", "*"]], 4), {"needs": [["a", "*"]]}
+        reply = {"selected": [["a", "1.0.0"]], "revision": 9}
+        for before, asked, answered, wanted in (
+                (None, request, reply, Lock({"a": "1.0.0"}, [["a", "*"]], 9)),
+                (old, request, reply, old),  # the same again: so the file is, byte for byte
+                (old, {"needs": [["a", "^1"]]}, reply, Lock({"a": "1.0.0"}, [["a", "^1"]], 9)),
+                (old, request, {"selected": [["a", "1.1.0"]], "revision": 9}, Lock({"a": "1.1.0"}, [["a", "*"]], 9)),
+                (Lock({"a": "0.9.0"}), request, reply, Lock({"a": "1.0.0"}))):  # a plain list stays one
+            self.assertEqual(renewed(before, asked, answered), wanted)
 
     def test_what_changed(self):
         for old, new, told in CHANGED:
@@ -98,7 +118,9 @@ class Lists(unittest.TestCase):
 
 class Kept(Folder):
     OLD = [publish("app", "1.0.0", ["log ^1"]), publish("log", "1.0.0"), publish("log", "2.0.0")]
-    LOCK = '[\n  ["app", "1.0.0"],\n  ["log", "1.0.0"]\n]\n'
+    LOCK = ('{\n  "needs": [\n    ["app", "*"]\n  ],\n  "revision": 3,\n'
+            '  "selected": [\n    ["app", "1.0.0"],\n    ["log", "1.0.0"]\n  ]\n}\n')
+    PLAIN = '[\n  ["app", "1.0.0"],\n  ["log", "1.0.0"]\n]\n'
 
     def test_a_selection_and_back(self):
         # what was selected is kept, and selected again although a newer version is there by then
@@ -118,6 +140,26 @@ class Kept(Folder):
         told = [{"name": "app", "from": "1.0.0", "to": "1.1.0"}, {"name": "log", "from": "1.0.0", "to": "2.0.0"}]
         self.assertEqual(json.loads(self.registry("diff", path, new, "--json")[1]), told)
         self.assertEqual(json.loads(self.registry("diff", self.path("none.lock", "[]"), path, "--json")[1])[0], {"name": "app", "from": None, "to": "1.0.0"})
+
+    def test_the_same_selection_is_the_same_file(self):
+        self.hold(*self.OLD)
+        path = self.path("app.lock")
+        self.registry("resolve", "app", "--write", path)
+        self.hold(*self.OLD, publish("zed", "1.0.0"))
+        self.assertEqual(self.registry("resolve", "--lock", path, "--write", path), (0, "app 1.0.0\nlog 1.0.0\n", "registry: app.lock is written: 0 came, 0 went, 0 changed\n"))
+        self.assertEqual(self.text("app.lock"), self.LOCK)
+        self.registry("resolve", "app", "zed", "--lock", path, "--write", path)
+        self.assertEqual(json.loads(self.text("app.lock")),
+                         {"needs": [["app", "*"], ["zed", "*"]], "revision": 4, "selected": [["app", "1.0.0"], ["log", "1.0.0"], ["zed", "1.0.0"]]})
+
+    def test_what_a_lock_was_made_for_is_needed_where_nothing_else_says_so(self):
+        self.hold(*self.OLD)
+        path = self.path("app.lock", self.LOCK)
+        for words in (["resolve"], ["tree", "--depth", "0"], ["resolve", "--write", path]):
+            self.assertEqual(self.registry(*words, "--lock", path)[:2], (0, "app 1.0.0\n" + "log 1.0.0\n" * (words[0] == "resolve")))
+        # the needs file goes before it
+        self.path("app.needs", "log ^2\n")
+        self.assertEqual(self.registry("resolve", "--lock", path)[:2], (0, "log 2.0.0\n"))
 
     def test_a_lock_of_another_hand(self):
         self.hold(publish("a", "1.0.0"), publish("a", "2.0.0"), publish("b", "1.0.0"))
@@ -169,11 +211,11 @@ class Kept(Folder):
     def test_a_file_is_replaced_whole(self):
         # a link stays a link, and what stood there keeps its mode
         self.hold(*self.OLD)
-        path, link = self.path("kept.lock", "[]"), self.path("app.lock")
+        path, link = self.path("kept.lock", "[]"), self.path("app.lock")  # a plain list, which it stays
         os.chmod(path, 0o640)
         os.symlink("kept.lock", link)
         self.assertEqual(self.registry("resolve", "app", "--write", link)[0], 0)
-        self.assertEqual((self.text("kept.lock"), os.path.islink(link), stat.S_IMODE(os.stat(path).st_mode)), (self.LOCK, True, 0o640))
+        self.assertEqual((self.text("kept.lock"), os.path.islink(link), stat.S_IMODE(os.stat(path).st_mode)), (self.PLAIN, True, 0o640))
         self.assertEqual(sorted(os.listdir(self.folder)), ["app.lock", "app.needs", "kept.lock", "registry.journal"])
         status, said, fault = self.registry("resolve", "app", "--write", self.path("nowhere/app.lock"))
         self.assertEqual((status, said, fault), (3, "app 1.0.0\nlog 1.0.0\n", "registry: nowhere/app.lock is as it was: No such file or directory\n"))

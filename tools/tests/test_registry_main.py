@@ -70,6 +70,22 @@ class Ends(Printed):
             main.end_by_signal(signal.SIGTERM, None)
         self.assertEqual(ended.exception.code, 143)
 
+    def test_errors_as_json(self):
+        for fault, told in ((Refused("no"), '{"error":"refused","message":"no"}'), (Usage("no"), '{"error":"usage","message":"no"}'), (Failed("no"), '{"error":"failed","message":"no"}'),
+                            (Refused("no", {"error": 7, "name": "Is", "revision": 3}), '{"error":7,"message":"no","name":"Is","revision":3}'),
+                            (MemoryError(), '{"error":"failed","message":"there is not enough memory"}'), (OSError(28, "Full", "x"), '{"error":"failed","message":"x: Full"}')):
+            def run(given, out):
+                if given.name == "b":
+                    out.give([1], [])
+                raise fault
+            self.obeyed(run, "show", "a", "--json")
+            self.assertEqual(self.said().splitlines()[1:], [told])
+            # what was answered before stays the one line, and without --json there is none
+            self.obeyed(run, "show", "b", "--json")
+            self.assertEqual([it for it in self.said().splitlines() if not it.startswith("registry: ")], ["[1]"])
+            self.obeyed(run, "show", "a")
+            self.assertEqual(self.said().count("\n"), 1)
+
     def test_a_reader_that_is_gone(self):
         ours, theirs = os.pipe()
         os.close(ours)
@@ -82,9 +98,11 @@ class Ends(Printed):
         class Full(io.StringIO):
             def flush(self):
                 raise OSError(28, "No space left on device")
-        with mock.patch.object(sys, "stdout", Full()), mock.patch.object(main, "open_streams"):
-            self.assertEqual(self.obeyed(lambda *_: 0), FAILED)
-        self.assertEqual(self.said(), "registry: No space left on device\n")
+        for run, words in ((lambda *_: 0, ()), (mock.Mock(side_effect=Refused("no")), ()), (mock.Mock(side_effect=Refused("no")), ("show", "a", "--json")),
+                           (lambda _, out: out.give([1], []), ("show", "a", "--json"))):
+            with mock.patch.object(sys, "stdout", Full()), mock.patch.object(main, "open_streams"):
+                self.assertEqual(self.obeyed(run, *words), FAILED)
+            self.assertEqual(self.said(), "registry: No space left on device\n")
 
     def test_words_that_are_no_texts(self):
         for words, told in ((["\udc80"], "word 1 is not UTF-8"), (["show", "\udcff"], "word 2 is not UTF-8"), (["show", "a", "\ud800"], "word 3 is not UTF-8"), (["show", "\udfff"], "word 2 is not UTF-8")):

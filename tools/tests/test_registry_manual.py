@@ -131,8 +131,8 @@ class Said(unittest.TestCase):
     def rows(self, head):
         """What stands first in the rows of a table of docs/REGISTRY_COMMAND.md."""
         with open(os.path.join(TOP, "docs", "REGISTRY_COMMAND.md"), encoding="utf-8") as file:
-            table = file.read().partition(f"| {head} | Meaning |\n|---|---|\n")[2].partition("\n\n")[0]
-        return {part for row in table.splitlines() for part in re.split(", ", row.split(" | ")[0].lstrip("| "))}
+            table = file.read().partition(f"| {head} |")[2].partition("\n\n")[0]
+        return {part for row in table.splitlines()[2:] for part in re.split(", ", row.split(" | ")[0].lstrip("| "))}
 
 
 if __name__ == "__main__":

@@ -13,7 +13,7 @@ PAGE = "docs/REGISTRY_COMMAND.md"
 class Page(unittest.TestCase):
     def test_what_is_typed_prints_what_is_told(self):
         shown = blocks(PAGE)
-        self.assertEqual(len(shown), 16)
+        self.assertEqual(len(shown), 18)
         with tempfile.TemporaryDirectory() as folder:
             for typed, told in zip(shown[::2], shown[1::2]):
                 self.assertEqual(answers(folder, ["exec 2>&1", *typed])[0], told)

@@ -279,11 +279,11 @@ class Asking(unittest.TestCase):
         self.assertEqual(requests.needs_of(session, {"a": "1.0.0"}), {"a": [["b", "^1"]]})
 
     def test_a_refusal_by_number(self):
-        request, out = {"op": "resolve", "needs": [["A", "*"]]}, mock.Mock()
-        with self.assertRaises(Refused):
-            requests.answered(SimpleNamespace(ask=lambda it: [{"error": 1, "name": "BadName", "revision": 0}]), request, out)
-        out.give.assert_called_once_with({"error": 1, "name": "BadName", "revision": 0}, [])
-        self.assertEqual(requests.answered(SimpleNamespace(ask=lambda it: [{"refused": True}]), request, out), {"refused": True})
+        request, reply = {"op": "resolve", "needs": [["A", "*"]]}, {"error": 1, "name": "BadName", "revision": 0}
+        with self.assertRaises(Refused) as caught:
+            requests.answered(SimpleNamespace(ask=lambda it: [reply]), request)
+        self.assertEqual(caught.exception.members, reply)
+        self.assertEqual(requests.answered(SimpleNamespace(ask=lambda it: [{"refused": True}]), request), {"refused": True})
 
     def test_the_packages_that_are_asked_for(self):
         made = packages.registry_of(commands(publish("a", "1.0.0", ["b ^1"]), publish("b", "1.0.0"), publish("c", "1.0.0", ["a *"]), yank("b", "1.0.0")), ["a", "b"])

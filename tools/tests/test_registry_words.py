@@ -1,7 +1,6 @@
 """What all subcommands of `registry` have in common: the table of words with the help, the completions and the manual page that are
-made of it; exit statuses, JSON, colours, pipes and terminals; and what one loads to start."""
+made of it; exit statuses, colours, pipes and terminals; and what one loads to start."""
 import importlib
-import json
 import os
 import shlex
 import shutil
@@ -109,7 +108,7 @@ class Completed(Folder):
                               (["show", "lo"], ["lock", "log"]), (["show", "log", ""], []), (["yank", "log", ""], ["1.0.0", "1.1.0"]),
                               (["yank", "log", "1.1"], ["1.1.0"]), (["yank", "zebra", ""], []), (["publish", ""], ["app", "lock", "log"]),
                               (["publish", "x", ""], []), (["publish", "x", "1.0.0", "lo"], ["lock", "log"]), (["publish", "x", "1.0.0", "log@*", "a"], ["app"]),
-                              (["resolve", "--l"], ["--lock"]), (["resolve", "--lock", ""], "file"), (["resolve", "--lock", "x", "a"], ["app"]),
+                              (["resolve", "--l"], ["--lock", "--locked"]), (["resolve", "--lock", ""], "file"), (["resolve", "--lock", "x", "a"], ["app"]),
                               (["diff", ""], "file"), (["diff", "a", ""], "file"), (["diff", "a", "b", ""], []), (["import", "cargo", ""], "folder"),
                               (["import", "cargo", "x", "--index", ""], "folder"), (["import", "debian", ""], "file"), (["tree", "a", "--invert", "a"], ["app"]),
                               (["why", "app", "--not", "l"], ["lock", "log"]), (["why", "app", "--not", "log", "1.0"], ["1.0.0"]),
@@ -266,17 +265,6 @@ class Shown(Folder):
         done = typed("tree", "a", "--journal", self.journal, env={"PYTHONIOENCODING": "ascii"})
         self.assertEqual((done.returncode, done.stdout), (0, b"a 1.0.0\n|-- b 1.0.0\n|   `-- d 1.0.0\n`-- c 1.0.0\n"))
 
-    def test_json_is_one_line(self):
-        self.hold(publish("a", "1.0.0", ["b *"]), publish("b", "1.0.0"))
-        lock = self.path("registry.lock", '[["a","1.0.0"]]')
-        self.path("registry.needs", "a\n")
-        for words in (["show", "a"], ["search", "a"], ["list"], ["resolve", "a"], ["resolve", "zed"], ["tree", "a"], ["why", "a"], ["why", "zed"],
-                      ["outdated", "--lock", lock], ["upgrade", "--lock", lock], ["diff", lock, lock], ["publish", "c", "1.0.0"], ["yank", "c", "1.0.0"], ["yank", "c", "1.0.0"]):
-            for given in ([*words, "--json"], ["--json", *words]):
-                _, said, _ = self.registry(*given)
-                self.assertEqual(said.count("\n"), 1, given)
-                json.loads(said)
-
 
 class Loaded(Folder):
     """How long a subcommand takes to start hangs on what it loads."""
@@ -294,7 +282,7 @@ class Loaded(Folder):
         lock = self.path("registry.lock", '[["a","1.0.0"]]')
         self.path("registry.needs", "a\n")
         for words, needed in ((["list"], {"listing"}), (["show", "a"], {"show"}), (["resolve", "a"], {"resolve"}), (["tree", "a"], {"tree"}), (["unyank", "a", "1.0.0"], {"yank"}),
-                              (["outdated", "--lock", lock], {"outdated"}), (["upgrade", "--lock", lock], {"upgrade", "diff"}), (["diff", lock, lock], {"diff"})):
+                              (["outdated", "--lock", lock], {"outdated"}), (["upgrade", "--lock", lock], {"upgrade"}), (["diff", lock, lock], {"diff"})):
             found = self.loaded(*words)
             self.assertEqual({it.split(".")[2] for it in found if it.startswith("registry.commands.")}, needed)
             self.assertFalse({"registry.drawing", "registry.indexes.index", "registry.completion", "registry.manual", "dataclasses", "inspect", "tomllib"} & found, words)

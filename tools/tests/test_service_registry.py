@@ -23,7 +23,9 @@ LINES = [publish("log", "1.0.0"), publish("log", "1.2.0"), publish("log", "2.0.0
          publish("app", "1.0.0", ["log ^1", "zlib *"]), publish("web", "1.0.0", ["app ^1", "log ^2"])]
 READING = [["list"], ["search", "l"], ["show", "log"], ["resolve", "app"], ["tree", "app"], ["tree", "app", "--invert", "log"], ["why", "app"],
            ["why", "web"], ["why", "app", "--not", "log", "2.0.0"], ["resolve", "web"], ["resolve", "nothing"], ["show", "lgo"], ["list", "--json"],
-           ["resolve", "app", "--json"], ["resolve", "app", "--write", "app.lock"], ["outdated", "--lock", "app.lock"], ["resolve", "--lock", "app.lock"]]
+           ["resolve", "app", "--json"], ["resolve", "app", "--write", "app.lock"], ["outdated", "--lock", "app.lock"], ["resolve", "--lock", "app.lock"],
+           ["resolve", "app@^1", "--lock", "app.lock", "--locked"], ["resolve", "zlib", "--lock", "app.lock", "--locked"], ["lock", "check", "app.lock"],
+           ["lock", "check", "app.lock", "app@^2"], ["lock", "check", "app.lock", "a@q", "--json"]]
 
 
 class Same(Case):
@@ -42,7 +44,7 @@ class Same(Case):
         with service.client() as client:
             client.ask(*LINES)
         told = self.answers("--connect", service.socket)
-        self.assertEqual([status for status, _, _ in told], [0, 0, 0, 0, 0, 0, 0, 0, 0, 1, 1, 1, 0, 0, 0, 0, 0])
+        self.assertEqual([status for status, _, _ in told], [0, 0, 0, 0, 0, 0, 0, 0, 0, 1, 1, 1, 0, 0, 0, 0, 0, 0, 1, 0, 1, 1])
         copy = os.path.join(self.folder, "copy.journal")
         shutil.copy(service.journal, copy)
         self.assertEqual(told, self.answers("--journal", copy))

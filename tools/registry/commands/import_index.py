@@ -10,7 +10,7 @@ from ..files import read_bounded, write_file
 from ..indexes.cargo import Cargo
 from ..indexes.crates_io import CratesIo
 from ..indexes.debian import Debian
-from ..locks import lock_text
+from ..locks import Lock, lock_text
 from ..needs import needs_path, write_needs
 from ..output import say
 from ..refusals import english
@@ -79,6 +79,6 @@ def published(given, commands, chosen, notes, out):
 
 def keep(path, locked, needs, out):
     """Writes what Cargo.lock has as a lock file, and beside it the needs that were begun with."""
-    write_file(path, lock_text(dict(locked)))
+    write_file(path, lock_text(Lock(dict(locked))))
     write_needs(needs_path(path), [list(it) for it in needs])
     out.note(f"{path} and {needs_path(path)} are written")

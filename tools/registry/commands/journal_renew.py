@@ -19,7 +19,7 @@ def run(given, out):
         out.note(f"{given.old} has no end: what a session adds from now on is not taken over")
     releases = releases_of(old.commands())
     most = NEWEST if given.newest is None else given.newest
-    locks = [Lock(path, lock_of(path), releases) for path in given.lock or []]
+    locks = [Lock(path, lock_of(path).selected, releases) for path in given.lock or []]
     for lock in locks:
         for name in lock.missing:
             out.note(f"{lock.path} names a version of {name} that is not published")

@@ -5,7 +5,7 @@ from check_derivation import RELEASE, admits, read_version
 
 from ..cases import Case
 from ..derivation import Dependency
-from ..failures import Refused
+from ..failures import REFUSED, Refused
 from ..locks import DEFAULT, changes, lock_of
 from ..packages import registry_of
 from ..questions import Question
@@ -20,17 +20,17 @@ HEADS = SimpleNamespace(name="package", locked="locked", allowed="allowed", newe
 
 def run(given, out):
     path = given.lock or DEFAULT
-    lock = lock_of(path)
+    lock = lock_of(path).selected
     request = request_of(given, {})
     with reading(given) as session:
-        reply = answered(session, request, out)
+        reply = answered(session, request)
         if "selected" not in reply:
             return refused(session, request, reply, out)
         rows = outdated(session, lock, request, reply, listed(session), given.budget or BUDGET, selecting(given))
     out.give([vars(it) for it in rows], lines(rows, out))
     if not rows:
         out.note(f"all that {path} has is the newest")
-    return None
+    return REFUSED if rows and given.exit_status else None
 
 
 def outdated(session, lock, request, reply, packages, budget, words):

@@ -8,7 +8,7 @@ def run(given, out):
     command = {"op": "publish", "name": given.name, "version": given.version, "needs": [need_of(it) for it in given.need]}
     with writing(given) as session:
         (reply,) = session.ask(command)
-        accepted(session, command, reply, out)
+        accepted(session, command, reply)
         out.give(reply, [f"published {given.name} {given.version} (revision {reply['revision']})"])
         packages = listed(session) if command["needs"] else {}
     for name, _ in command["needs"]:

@@ -13,7 +13,7 @@ ASCII = {"tee": "|-- ", "corner": "`-- ", "down": "|   ", "none": "    "}
 def run(given, out):
     request = request_of(given)
     with reading(given) as session:
-        reply = answered(session, request, out)
+        reply = answered(session, request)
         if "selected" not in reply:
             return refused(session, request, reply, out)
         selected = dict(reply["selected"])

@@ -1,29 +1,30 @@
 """`registry upgrade`: takes packages off the lock, shows what would change, and writes it where that is wanted."""
 from ..failures import REFUSED, Refused
 from ..files import write_file
-from ..locks import DEFAULT, changes, coloured, counted, lock_of, lock_text
+from ..locks import DEFAULT, changed, changes, coloured, counted, lock_of, lock_text, renewed
 from ..nearest import nearest
 from ..refusals import listed
 from ..requests import answered, lock_notes, refused, request_of
 from ..session import reading
-from .diff import changed
 
 
 def run(given, out):
     path = given.lock or DEFAULT
-    lock = lock_of(path)
+    before = lock_of(path)
+    lock = before.selected
     request = request_of(given, without(path, lock, given.name))
     with reading(given) as session:
-        reply = answered(session, request, out)
+        reply = answered(session, request)
         if "selected" not in reply:
             return refused(session, request, reply, out)
         packages = listed(session)
-    selected = dict(reply["selected"])
+    new = renewed(before, request, reply)
+    selected = new.selected
     lines = changes(lock, selected)
     out.give(changed(lock, selected), [*coloured(lines, out), counted(lines)])
     for it in lock_notes(path, {name: text for name, text in lock.items() if selected.get(name) == text}, packages):
         out.note(it)
-    return settled(path, lines, selected, given, out)
+    return settled(path, before, new, given, out)
 
 
 def without(path, lock, names):
@@ -35,15 +36,15 @@ def without(path, lock, names):
     return {name: text for name, text in lock.items() if names and name not in names}
 
 
-def settled(path, lines, selected, given, out):
+def settled(path, before, new, given, out):
     """Writes the change where it is wanted, and says whether it is written."""
-    if not lines:
+    if new == before:
         out.note(f"nothing changes in {path}")
         return None
     is_wanted = True if given.yes else out.ask(f"write this to {path}?")
     if not is_wanted:
         out.note(f"{path} is as it was" + ("" if is_wanted is False else ": --yes writes it without a question"))
         return REFUSED
-    write_file(path, lock_text(selected))
+    write_file(path, lock_text(new))
     out.note(f"{path} is written")
     return None

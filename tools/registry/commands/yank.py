@@ -7,6 +7,6 @@ def run(given, out):
     command = {"op": given.subcommand, "name": given.name, "version": given.version}
     with writing(given) as session:
         (reply,) = session.ask(command)
-        accepted(session, command, reply, out)
+        accepted(session, command, reply)
         done = {"yank": "yanked", "unyank": "no longer yanked:"}[given.subcommand]
         out.give(reply, [f"{done} {given.name} {given.version} (revision {reply['revision']})"])
