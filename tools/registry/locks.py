@@ -3,7 +3,7 @@ import json
 import os
 
 from check_derivation import NAME, PAIRS, formed, passes, read_version
-from limits import MOST_LINE_BYTES, MOST_LOCK_LINES
+from limits import MOST_LINE_BYTES
 
 from .failures import Failed
 from .files import read_file
@@ -12,45 +12,39 @@ DEFAULT = "registry.lock"
 
 
 class Unread(Failed):
-    """Why a text is no lock list."""
+    """Why a file of locks or needs can't be read: where it is at fault, and what was probably meant."""
 
 
-def judged(value):
-    """The lines of a lock as versions by package, or the lowest refusal."""
-    if not formed(value, PAIRS) or any("\ud800" <= letter <= "\udfff" for pair in value for text in pair for letter in text):
-        raise Unread("19 BadLine: it is no array of pairs of texts, a name and a version each")
-    for number, told, faults in (
-            (1, "BadName: {} is no package name", [name for name, _ in value if not NAME.fullmatch(name)]),
-            (2, "BadVersion: {} is no version", [version for _, version in value if read_version(version) is None]),
-            (4, "RepeatedDependency: {} comes twice", repeated(name for name, _ in value)),
-            (6, f"TooManyDependencies: {len(value)} lines", value[MOST_LOCK_LINES:])):
-        if faults:
-            raise Unread(f"{number} {told.format(json.dumps(faults[0]))}")
-    return dict(value)
+def is_lock(value):
+    """Whether a value is a lock list: pairs of a name and a version, each name once."""
+    return formed(value, PAIRS) and len(dict(value)) == len(value) and all(NAME.fullmatch(name) and read_version(version) for name, version in value)
 
 
-def repeated(names):
-    seen = set()
-    return [name for name in names if name in seen or seen.add(name)]
-
-
-def read_lock(text):
-    """The versions by package of a lock list in bytes."""
+def read_lock(text, path):
+    """The versions by package of a lock list in bytes, which stands in a file."""
     try:
         value = json.loads(text.decode()) if len(text) <= MOST_LINE_BYTES else None
     except (ValueError, RecursionError):
         value = None
-    return judged(value)
+    if not is_lock(value):
+        raise Unread(faulty(path, text))
+    return dict(value)
+
+
+def faulty(path, text):
+    """What is wrong with a lock file: the fault for which the program would refuse it."""
+    from .lines.fault import placed
+    from .lines.judging import lock_faults
+    fault = lock_faults(text)[0]
+    above = text.decode(errors="replace")[:fault.place].split("\n")
+    return placed(path, len(above), fault._replace(place=len(above[-1])))
 
 
 def lock_of(path):
     """The versions by package of a lock file."""
     if not os.path.lexists(path):
         raise Failed(f"{path}: there is no such lock file: `registry resolve NEED .. --write {path}` makes one")
-    try:
-        return read_lock(read_file(path))
-    except Unread as fault:
-        raise Unread(f"{path} is no lock file: {fault}") from None
+    return read_lock(read_file(path), path)
 
 
 def lock_text(versions):

@@ -1,4 +1,5 @@
 """Runs one command line, and turns what may go wrong into one line on standard error and an exit status."""
+import errno
 import importlib
 import os
 import sys
@@ -6,6 +7,8 @@ import sys
 from . import command_line
 from .failures import DONE, FAILED, INTERRUPTED, NO_READER, USAGE, Failure, Usage, told
 from .output import Output, say
+
+FULL = (errno.ENOSPC, errno.EDQUOT, errno.EFBIG, errno.EIO)  # errors of a write
 
 
 def run(words):
@@ -62,11 +65,19 @@ def guarded(words):
     except BrokenPipeError:
         raise
     except OSError as fault:
+        if fault.errno in FULL and not fault.filename:  # whoever writes a file names it
+            fault.filename = "standard output"
+            write_no_more()
         say(f"registry: {told(fault)}")
         return FAILED
     except MemoryError:
         Output.note("there is not enough memory")
         return FAILED
+
+
+def write_no_more():
+    """Lets nothing more go to standard output, also what is left of it as the interpreter ends."""
+    os.dup2(os.open(os.devnull, os.O_WRONLY), sys.stdout.fileno())
 
 
 def main(words):
@@ -75,7 +86,7 @@ def main(words):
     try:
         return guarded(words)
     except BrokenPipeError:
-        os.dup2(os.open(os.devnull, os.O_WRONLY), sys.stdout.fileno())
+        write_no_more()
         return NO_READER
     except KeyboardInterrupt:
         return INTERRUPTED

@@ -6,7 +6,7 @@ from limits import MOST_COMMANDS, MOST_NEEDS, MOST_PACKAGES, MOST_VERSIONS
 
 from .indexes.index import Release, Unusable, need
 from .nearest import nearest
-from .needs import need_of
+from .needs import needs_of
 
 
 def merged(needs, spelled):
@@ -142,7 +142,7 @@ def noted(shelf, chosen, most, notes):
 def roots(index, crates):
     """The needs to begin with, as pairs of a crate and a requirement; none where all that is there is wanted."""
     if crates:
-        asked = [(index.spelled(name), requirement) for name, requirement in map(need_of, crates)]
+        asked = [(index.spelled(name), requirement) for name, requirement in needs_of(crates)]
         for name, requirement in asked:
             if not index.has(name):
                 near = nearest(name, index.names())

@@ -2,6 +2,7 @@
 how `registry resolve` keeps a selection, and `registry diff` tells what changed between two."""
 import json
 import os
+import re
 import stat
 import sys
 import unittest
@@ -12,9 +13,27 @@ from registry_folder import Folder
 
 sys.path.insert(0, os.path.join(TOP, "tools"))
 from limits import MOST_LOCK_LINES
-from registry.locks import Unread, changes, coloured, counted, judged, lock_text, read_lock
+from registry.locks import Unread, changes, coloured, counted, lock_text, read_lock
 
-TABLE = os.path.join(TOP, "rows", "texts", "locks.rows")
+# Lock lists with the pairs that are read, in their order: docs/FORMATS.md, Lock lists.
+READ = [
+    ('[["a","1.0.0"],["b","1.0.0"]]\n', ["a 1.0.0", "b 1.0.0"]), ('[["b","1.0.0"],["a","1.0.0"]]', ["b 1.0.0", "a 1.0.0"]),
+    (' [ [ "\\u0061" ,\r\n "1.0.0+x" ] ]\n\n', ["a 1.0.0+x"]), ('[\n  ["a", "1.0.0"],\n  ["b", "1.0.0"]\n]\n', ["a 1.0.0", "b 1.0.0"]), ("[]\n", []),
+    ("[]" + " " * 1_048_574, []),
+]
+# What is no lock list: where, and the lowest refusal, of the form, of names, of versions, of a name that comes twice.
+PAIRS = 'an array of pairs of a name and a version, as [["b","1.0.0"]]'
+UNREAD = [
+    ("{}", "1:1: error 19 BadLine: a lock file is " + PAIRS + ", not an object; did you mean []?"), ("", "1:1: error 19 BadLine: a lock file is " + PAIRS),
+    ('[["A","1","x"]]', '1:2: error 19 BadLine: each item of a lock file is a pair of a name and a version, as ["b","1.0.0"]'),
+    ('[["a","1.0.0"],\n  ["A",1]]', '2:3: error 19 BadLine: each item of a lock file is a pair of a name and a version, as ["b","1.0.0"]'),
+    ("[]\n[]", "2:1: error 19 BadLine: something stands behind the list: one file has one list"), ("[],", "1:3: error 19 BadLine: files are not parted by commas; leave it out"),
+    ('[["a","1"],\n["A","1.0.0"]]', '2:3: error 1 BadName: the capital letter "A", byte 1 of the name "A", is none of a-z, 0-9, - and _; did you mean "a"?'),
+    ('[["a","1.0.0"],["a","1"]]', '1:23: error 2 BadVersion: the version "1" has no minor number; did you mean "1.0.0"?'),
+    ('[["a","1.0.0"],\n["b","1.0.0"],\n["a","1.1.0"]]', '3:2: error 4 RepeatedDependency: a stands twice in "lock"'),
+    ("[]" + " " * 1_048_575, "1:1: error 19 BadLine: the file has more than 1,048,576 bytes"),
+    ('[["é","1.0.0"],\n ["b" "1.0.0"]]', "2:6: error 19 BadLine: a comma is missing"),
+]
 # two locks, and what changed
 CHANGED = [
     ([], [], []),
@@ -29,61 +48,44 @@ CHANGED = [
 ]
 
 
-def rows(call):
-    """The rows of the program's table for one call."""
-    with open(TABLE, encoding="utf-8") as lines:
-        found = [json.loads(line) for line in lines if line.startswith("{")]
-    return [row for row in found if row["call"] == call]
-
-
 def versions(lines):
     return dict(line.split(" ") for line in lines)
 
 
-def an_entry_a_line(text):
-    """A lock list of the program's, which is one line, as a lock file has it."""
-    return text if text == "[]\n" else "[\n  " + text[1:-2].replace("],[", "],\n  [").replace('","', '", "') + "\n]\n"
-
-
 class Lists(unittest.TestCase):
     def test_what_is_read(self):
-        table = rows("read_lock")
-        self.assertGreater(len(table), 10)
-        for row in table:
-            text = row["text"] if isinstance(row["text"], str) else "".join(piece * count for piece, count in row["text"])
-            if isinstance(row["gives"], list):
-                self.assertEqual(list(read_lock(text.encode()).items()), [tuple(it) for it in row["gives"]])
-            else:
-                self.refused(text.encode(), row["gives"]["refused"])
+        for text, pairs in READ:
+            self.assertEqual(list(read_lock(text.encode(), "x.lock").items()), list(versions(pairs).items()))
 
-    def refused(self, text, number):
+    def refused(self, text, said):
         with self.assertRaises(Unread) as told:
-            read_lock(text)
-        self.assertEqual(str(told.exception).split(" ")[0], str(number), text[:100])
+            read_lock(text, "x.lock")
+        self.assertRegex(str(told.exception), rf"\Ax.lock:{said}", text[:100])
+
+    def test_what_is_refused(self):
+        for text, said in UNREAD:
+            self.refused(text.encode(), re.escape(said) + r"\Z")
 
     def test_what_else_is_refused(self):
         for text in (b"\xff", b'[["a","\\ud800"]]', b'[["\\udfff","1.0.0"]]', b"[" * 100_000, b"[[1e999,1]]", b"null", b'[["a"]]', b'[{"a":"1.0.0"}]', b"[] x"):
-            self.refused(text, 19)
+            self.refused(text, "1:[0-9]+: error 19 BadLine: ")
         many = [[f"a{number}", "1.0.0"] for number in range(MOST_LOCK_LINES + 1)]
         text = json.dumps(many, separators=(",", ":")).encode()
         # so many lines are longer than a lock may be: they are refused for that
         self.assertGreater(len(text), 1_048_576)
-        self.refused(text, 19)
-        self.assertRaisesRegex(Unread, rf"\A6 TooManyDependencies: {len(many)} lines\Z", judged, many)
-        self.assertEqual(len(judged(many[1:])), MOST_LOCK_LINES)
+        self.refused(text, "1:1: error 19 BadLine: ")
 
     def test_what_is_written(self):
-        # the entries of the program's own lists, in its order, one a line
-        written = [row for row in rows("write_lock") if row["gives"]["end"] == "done"]
-        self.assertGreater(len(written), 3)
-        for row in written:
-            self.assertEqual(lock_text(dict(row["lock"])), an_entry_a_line(row["gives"]["written"]))
+        # an entry a line, in the byte order of the names
+        self.assertEqual(lock_text({}), "[]\n")
+        self.assertEqual(list(json.loads(lock_text({"b": "1.0.0+x", "a_b": "0.2.0-rc.1", "a": "3.0.0", "a0": "1.0.0"}))),
+                         [["a", "3.0.0"], ["a0", "1.0.0"], ["a_b", "0.2.0-rc.1"], ["b", "1.0.0+x"]])
         self.assertEqual(lock_text({"b": "1.0.0+x", "a": "2.0.0"}), '[\n  ["a", "2.0.0"],\n  ["b", "1.0.0+x"]\n]\n')
 
     def test_what_is_written_is_read(self):
         for old, new, _ in CHANGED:
             for lines in (old, new):
-                self.assertEqual(read_lock(lock_text(versions(lines)).encode()), versions(lines))
+                self.assertEqual(read_lock(lock_text(versions(lines)).encode(), "x.lock"), versions(lines))
 
     def test_what_changed(self):
         for old, new, told in CHANGED:
@@ -189,10 +191,10 @@ class Kept(Folder):
     def test_what_is_no_lock(self):
         good, bad = self.path("good", '[["a","1.0.0"]]\n'), self.path("bad", '[["a","1.0"]]')
         self.hold(publish("a", "1.0.0"))
-        for words, told in ((["diff", good, bad], 'bad is no lock file: 2 BadVersion: "1.0" is no version'), (["diff", bad, good], "2 BadVersion"),
+        for words, told in ((["diff", good, bad], 'bad:1:11: error 2 BadVersion: the version "1.0" has no patch number; did you mean "1.0.0"?'), (["diff", bad, good], "2 BadVersion"),
                             (["resolve", "a", "--lock", bad], "2 BadVersion"), (["diff", good, self.path("nowhere")], "nowhere: there is no such lock file"),
                             (["diff", good, self.path("x1", '[["A","1.0.0"]]')], "1 BadName"), (["diff", good, self.path("x2", '[["a",1]]')], "19 BadLine"),
-                            (["diff", good, self.path("x3", '[["a","1.0.0"],["a","2.0.0"]]')], '4 RepeatedDependency: "a" comes twice'),
+                            (["diff", good, self.path("x3", '[["a","1.0.0"],["a","2.0.0"]]')], 'x3:1:17: error 4 RepeatedDependency: a stands twice in "lock"'),
                             (["diff", good, self.folder], "Is a directory"), (["tree", "a", "--lock", bad], "2 BadVersion"),
                             (["resolve", "a", "--write", bad], "2 BadVersion"), (["outdated", "--lock", bad], "2 BadVersion"), (["upgrade", "--lock", bad], "2 BadVersion")):
             status, printed, fault = self.registry(*words)
