@@ -4,7 +4,7 @@ import bisect
 from check_derivation import NAME, admits, read_requirement, read_version
 from limits import MOST_COMMANDS, MOST_NEEDS, MOST_PACKAGES, MOST_VERSIONS
 
-from .indexes.index import Release, Unusable, need
+from .indexes.index import Release, Unusable, folded, need
 from .nearest import nearest
 from .needs import needs_of
 
@@ -114,6 +114,13 @@ def commands_of(chosen):
             yield {"op": "publish", "name": name, "version": release.version, "needs": release.needs}
             if release.yanked:
                 yield {"op": "yank", "name": name, "version": release.version}
+
+
+def other_spellings(chosen, published):
+    """The names that are taken or needed and of which a package is published that differs in `-` and `_` alone; each with that."""
+    spelled = {folded(it): it for it in published}
+    names = {*chosen, *(target for releases in chosen.values() for it in releases for target, _ in it.needs)}
+    return sorted((it, spelled[folded(it)]) for it in names if it not in published and folded(it) in spelled)
 
 
 def counted(chosen):

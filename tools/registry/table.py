@@ -66,10 +66,12 @@ IMPORTING = (
     option("--newest", "N", "only the N newest versions of each crate", range(1, MOST_VERSIONS + 1)),
     flag("--lines", "write request lines to standard output, and publish nothing"),
     flag("--ask", "end these lines with a request for the crates of --from, or for a workspace's own packages"),
+    flag("--both-spellings", "import also names that differ from the journal's only in - and _"),
     WAIT,
 )
 IMPORTED = ("Nothing is fetched. What is published already is passed over. What is left out, or told otherwise than it stands there, is counted "
-            "on standard error, each kind with its first example.")
+            "on standard error, each kind with its first example; and at the end how many crates have a selection where each is requested alone, "
+            "and what stands in the way of most of the others.")
 
 SUBCOMMANDS = (
     Subcommand("publish", "publish", "Publish a version of a package",

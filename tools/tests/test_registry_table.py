@@ -15,7 +15,7 @@ from registry.table import COMMON, SUBCOMMANDS, Subcommand, Word, flag, option, 
 NONE = {"journal": None, "connect": None, "json": False}
 SELECTING = {"newest": False, "any": False}
 ASKING = {"need": [], "lock": None, "budget": None, **SELECTING}
-IMPORTING = {"from": None, "newest": None, "lines": False, "ask": False, "wait": None}
+IMPORTING = {"from": None, "newest": None, "lines": False, "ask": False, "both_spellings": False, "wait": None}
 # command lines, and the values that are read from them
 READ = [
     ("publish log 1.3.0", {"name": "log", "version": "1.3.0", "need": [], "wait": None}), ("publish log 1.3.0 a@^1 --wait 0 b", {"name": "log", "version": "1.3.0", "need": ["a@^1", "b"], "wait": 0}),
