@@ -9,14 +9,14 @@ from .failures import Usage
 from .files import read_file, write_file
 from .locks import DEFAULT, Unread
 
-NEED = re.compile(r"\s*([^@\s]*)(?:(?:\s*@\s*|\s+(?=\S))(.*?))?\s*", re.S)
+NEED = re.compile(r"\s*([^@\s]*)(?:(?:\s*@\s*|\s+)(.*))?", re.S)  # of a text without white space at its end
 # what other tools have in place of the @: `log==1.0.0`, `log:1.0.0`, `log-1.0.0`
 JOINED = re.compile(r"([a-z][a-z0-9_-]*?)(?::|-(?=v?[0-9]+\.)|(?=[=<>~^!]))(.*)", re.S | re.I)
 
 
 def need_of(text):
     """A package and a requirement of one word: `app@^1`, `app ^1`, or `app` alone for any version. The program judges both."""
-    name, requirement = NEED.fullmatch(text).groups("*")
+    name, requirement = NEED.fullmatch(text.rstrip()).groups("*")
     return [name, requirement]
 
 
@@ -64,7 +64,7 @@ def read_needs(path):
         raise Unread(f"{path} is not UTF-8") from None
     needs = {}
     for number, line in enumerate(text.splitlines(), 1):
-        found = NEED.fullmatch(line.partition("#")[0])
+        found = NEED.fullmatch(line.partition("#")[0].rstrip())
         name, requirement = found.groups("*")
         if found[0].strip():
             if not NAME.fullmatch(name) or read_requirement(requirement) is None or name in needs:

@@ -30,7 +30,7 @@ class Needs(unittest.TestCase):
 
     def test_needs(self):
         for text, wanted in (("app@^1", ["app", "^1"]), ("app ^1", ["app", "^1"]), ("app", ["app", "*"]), ("app@", ["app", ""]), ("app@ >=1, <2 ", ["app", ">=1, <2"]), ("a b@c", ["a", "b@c"]), ("@", ["", ""]),
-                             ("app\t^1", ["app", "^1"]), (" app  @ ^1 ", ["app", "^1"]), ("app ", ["app", "*"]), ("app@^1, <2", ["app", "^1, <2"]), ("", ["", "*"])):
+                             ("app\t^1", ["app", "^1"]), (" app  @ ^1 ", ["app", "^1"]), ("app ", ["app", "*"]), ("app@^1, <2", ["app", "^1, <2"]), ("", ["", "*"]), ("a b" + " " * 10 ** 5 + "c", ["a", "b" + " " * 10 ** 5 + "c"])):
             self.assertEqual(needs.need_of(text), wanted, text)
         self.assertEqual([needs.needs_path(it) for it in ("a.lock", "a", "a.lock.b")], ["a.needs", "a.needs", "a.lock.b.needs"])
 
