@@ -34,7 +34,8 @@ class Alone:
 
     def value(self):
         """The same for JSON."""
-        return {"requested": len(self.asked), "selected": self.selected, "in_the_way": [{"what": told, "packages": names} for told, names in self.ranked()]}
+        return {"requested": len(self.asked), "selected": self.selected,
+                "in_the_way": [{"what": told, "packages": names} for told, names in self.ranked()]}
 
 
 def request(name):
@@ -48,7 +49,8 @@ def obstacles(reply):
     facts = [cause for row in reply.get("derivation", []) for cause in row["causes"]]
     premises = [it for it in facts if it.get("fact") == "premise"]
     told = [f'no version of {it["target"]} meets "{it["need"]}"' for it in premises if not it["within"]]
-    told += [f"two versions of {it} are needed, and a selection has one" for it in dict.fromkeys(it["target"] for it in premises) if is_divided(it, premises)]
+    targets = dict.fromkeys(it["target"] for it in premises)
+    told += [f"two versions of {it} are needed, and a selection has one" for it in targets if is_divided(it, premises)]
     return list(dict.fromkeys(told or [f"versions of {it['name']} are yanked" for it in facts if it.get("fact") == "disallowed"]))
 
 

@@ -17,7 +17,7 @@ class Unread(Failed):
 
 def is_lock(value):
     """Whether a value is a lock list: pairs of a name and a version, each name once."""
-    return formed(value, PAIRS) and len(dict(value)) == len(value) and all(NAME.fullmatch(name) and read_version(version) for name, version in value)
+    return formed(value, PAIRS) and len(dict(value)) == len(value) and all(NAME.fullmatch(name) and read_version(it) for name, it in value)
 
 
 def read_lock(text, path):

@@ -74,7 +74,7 @@ def read_needs(path):
 
 
 def faulty(path, number, found):
-    """What is wrong with a line of a needs file, and where: in its package, in its requirement, or that the package stands before it too."""
+    """What is wrong with a line of a needs file, and where: its package, its requirement, or that the package stands before it too."""
     from .lines.fault import Fault, placed
     from .lines.judging import text_fault
     from .lines.requirements import requirement_fault

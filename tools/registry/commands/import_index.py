@@ -87,8 +87,8 @@ def refuse_spellings(pairs):
     if pairs:
         name, there = pairs[0]
         count = f"{len(pairs)} name{'s differ' if len(pairs) > 1 else ' differs'}"
-        raise Refused(f"nothing is imported: {count} from the journal's only in - and _ (first: {name}, which is {there} there): import into another "
-                      "journal, which --journal FILE names, or add --both-spellings")
+        raise Refused(f"nothing is imported: {count} from the journal's only in - and _ (first: {name}, which is {there} there): "
+                      "import into another journal, which --journal FILE names, or add --both-spellings")
 
 
 def keep(path, locked, needs, out):

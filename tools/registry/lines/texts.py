@@ -50,7 +50,7 @@ def bad_name(text):
 
 
 def name_meant(text):
-    """The name that a text would be in small letters without accents, with - for what a name can't have; none where a requirement is in it."""
+    """The name that a text would be in small letters without accents, with - for what a name can't have; none of one with a requirement."""
     if re.search("[=<>~^!]|.@", text):
         return None
     plain = "".join(it for it in unicodedata.normalize("NFKD", text) if not unicodedata.combining(it))
