@@ -13,7 +13,8 @@ GENERAL = ("--help", "-h", "--version", "-V", "--manual", "--completion", "--com
 
 # subcommands that have other names elsewhere
 ELSEWHERE = {"add": "publish", "release": "publish", "remove": "yank", "delete": "yank", "unpublish": "yank", "install": "resolve",
-             "solve": "resolve", "lock": "resolve", "update": "upgrade", "info": "show", "view": "show", "ls": "list", "find": "search", "explain": "why"}
+             "solve": "resolve", "lock": "resolve", "update": "upgrade", "info": "show", "view": "show", "ls": "list", "find": "search",
+             "explain": "why"}
 
 
 class Parser(argparse.ArgumentParser):

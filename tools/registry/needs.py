@@ -81,7 +81,8 @@ def faulty(path, number, found):
     from .lines.texts import name_fault
     (name, requirement), at = found.groups("*"), found.start(1)
     said = "" if NAME.fullmatch(name) else slip(found[0])
-    fault = Fault(1, at, said) if said else text_fault(1, name_fault, name, at) or text_fault(3, requirement_fault, requirement, found.start(2))
+    fault = Fault(1, at, said) if said else text_fault(1, name_fault, name, at)
+    fault = fault or text_fault(3, requirement_fault, requirement, found.start(2))
     return placed(path, number, fault or Fault(4, at, f"{name} stands twice: join its requirements with a comma"))
 
 

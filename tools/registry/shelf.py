@@ -7,6 +7,7 @@ from limits import MOST_COMMANDS, MOST_NEEDS, MOST_PACKAGES, MOST_VERSIONS
 from .indexes.index import Release, Unusable, folded, need
 from .nearest import nearest
 from .needs import needs_of
+from .refusals import misspelled
 
 
 def merged(needs, spelled):
@@ -155,7 +156,7 @@ def roots(index, crates):
                 near = nearest(name, index.names())
                 raise Unusable(f"there is no crate {name} in the index" + (f"; there is {near}" if near else ""))
             if read_requirement(requirement) is None:
-                raise Unusable(f'"{requirement}" is no requirement')
+                raise Unusable(misspelled({"op": "resolve", "needs": [[name, requirement]]}, 3))
         return asked
     own = index.own()
     return sorted((index.spelled(name), f"={version}") for name, version in own if read_version(version))

@@ -70,8 +70,8 @@ IMPORTING = (
     WAIT,
 )
 IMPORTED = ("Nothing is fetched. What is published already is passed over. What is left out, or told otherwise than it stands there, is counted "
-            "on standard error, each kind with its first example; and at the end how many crates have a selection where each is requested alone, "
-            "and what stands in the way of most of the others.")
+            "on standard error, each kind with its first example; and at the end how many crates have a selection where each is requested "
+            "alone, and what stands in the way of most of the others.")
 
 SUBCOMMANDS = (
     Subcommand("publish", "publish", "Publish a version of a package",
@@ -80,7 +80,8 @@ SUBCOMMANDS = (
                "A publication is permanent. What it needs may be published later."),
     Subcommand("yank", "yank", "Keep a version from being selected anew",
                (word("NAME", "the package", PACKAGE), word("VERSION", "the version", VERSION), WAIT),
-               ("registry yank log 1.3.0", "registry yank log@1.3.0"), "Nothing is deleted: a lock file that names the version still has it."),
+               ("registry yank log 1.3.0", "registry yank log@1.3.0"),
+               "Nothing is deleted: a lock file that names the version still has it."),
     Subcommand("unyank", "yank", "Undo a yank",
                (word("NAME", "the package", PACKAGE), word("VERSION", "the version", VERSION), WAIT),
                ("registry unyank log 1.3.0",)),
