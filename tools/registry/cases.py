@@ -7,7 +7,7 @@ from .failures import Refused
 from .locks import changes
 from .packages import named
 from .questions import Question
-from .refusals import english, unmatched, unpublished
+from .refusals import english, not_there, unmatched, unpublished
 from .telling import Telling
 from .walk import is_preferred, walk
 
@@ -101,9 +101,10 @@ class Case:
     # ---- why a version is not what was selected
 
     def why_not(self, name, version):
-        release = self.registry([name]).find(name, version)
+        registry = self.registry([name])
+        release, held = registry.find(name, version), [(it.text, it.yanked) for it in registry.releases.get(name, ())]
         if release is None:
-            return [f"{name} {version} is not published"]
+            raise Refused(not_there({"name": name, "version": version}, {name: held} if held else dict.fromkeys(self.names)))
         if "selected" not in self.reply:
             return self.answer()
         selected, needs = self.selected(), dict(self.request["needs"])

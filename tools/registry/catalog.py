@@ -4,7 +4,7 @@ from typing import NamedTuple
 from check_derivation import RELEASE, read_version
 
 from .failures import Refused
-from .refusals import listed, unpublished
+from .refusals import listed, not_there, unpublished
 
 
 class Version(NamedTuple):
@@ -34,6 +34,13 @@ class Catalog:
         if name not in self.listed:
             raise Refused(unpublished(name, self.listed))
         return ranked(Version(text, is_yanked, self.needs[name, text]) for text, is_yanked in self.listed[name])
+
+    def version(self, name, text):
+        """The version of a package that equals this one."""
+        found = next((it for it in self.versions(name) if read_version(it.text) == read_version(text)), None)
+        if found is None:
+            raise Refused(not_there({"name": name, "version": text}, self.listed))
+        return found
 
     def newest(self, name):
         """The version that is taken where nothing else is asked for: the newest one that is neither yanked nor a pre-release."""

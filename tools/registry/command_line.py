@@ -11,11 +11,19 @@ WIDE = 78  # of sentences in the help
 GENERAL = ("--help", "-h", "--version", "-V", "--manual", "--completion", "--complete")
 
 
+# subcommands that have other names elsewhere
+ELSEWHERE = {"add": "publish", "release": "publish", "remove": "yank", "delete": "yank", "unpublish": "yank", "install": "resolve",
+             "solve": "resolve", "update": "upgrade", "info": "show", "view": "show", "ls": "list", "find": "search",
+             "explain": "why"}
+
+
 class Parser(argparse.ArgumentParser):
     """A parser whose faults are exceptions, in one line."""
 
     def error(self, message):
-        raise Usage(f"{message}: see `{self.prog} --help`")
+        meant = nearest(message.partition(" --")[2].partition(" ")[0].partition("=")[0], [it[2:] for it in self._option_string_actions])
+        hint = f"; did you mean --{meant}?" if meant and message.startswith("unrecognized") else ""
+        raise Usage(f"{message}{hint}: see `{self.prog} --help`")
 
 
 def split(words):
@@ -32,7 +40,7 @@ def split(words):
     for length in (2, 1):
         found = subcommand(" ".join(words[at:at + length]))
         if found:
-            return found, words[:at] + words[at + length:]
+            return found, parted(found, words[:at] + words[at + length:])
     raise Usage(unknown(words[at], words[at + 1:at + 2]))
 
 
@@ -41,8 +49,25 @@ def unknown(first, following):
     below = [it.name.split(" ")[1] for it in SUBCOMMANDS if it.name.startswith(first + " ")]
     if below:
         return f"{first} goes with {'one of ' * (len(below) > 1)}{', '.join(below)}" + (f", not with {following[0]}" if following else "") + f": {SEE}"
-    near = nearest(first, dict.fromkeys(it.name.split(" ")[0] for it in SUBCOMMANDS))
+    near = ELSEWHERE.get(first) or nearest(first, dict.fromkeys(it.name.split(" ")[0] for it in SUBCOMMANDS))
     return f"there is no subcommand {first}" + (f"; {near} may be meant" if near else "") + f": {SEE}"
+
+
+def parted(of, words):
+    """The words of a subcommand, a package and its version apart where they stand in one word, as `log@1.0.0`."""
+    options = {it.flag: it for it in (*of.words, *COMMON) if it.flag}
+    made, places, awaited = [], [it.names[0] for it in of.words if not it.flag], []
+    for it in words:
+        if it in options:
+            awaited = list(options[it].names)
+        elif not it.startswith("-"):
+            row = awaited or places
+            both = it.split("@", 1) if row[1:2] == ["VERSION"] else [it]
+            del row[:len(both)]
+            made += both
+            continue
+        made.append(it)
+    return made
 
 
 def reader(of):

@@ -3,18 +3,18 @@ import json
 import os
 from typing import NamedTuple
 
-from check_derivation import NAME, PAIRS, formed, passes, read_version
-from limits import MOST_LINE_BYTES, MOST_LOCK_LINES
+from check_derivation import NAME, PAIRS, formed, passes, read_requirement, read_version
+from limits import MOST_LINE_BYTES, MOST_NEEDS
 
 from .failures import Failed
 from .files import read_file
 
 DEFAULT = "registry.lock"
-MADE = {"needs": PAIRS, "revision": int, "selected": list}  # the form of a lock file that says what it was made of
+MADE = {"needs": PAIRS, "revision": int, "selected": PAIRS}  # the form of a lock file that says what it was made of
 
 
 class Unread(Failed):
-    """Why a text is no lock list."""
+    """Why a file of locks or needs can't be read: where it is at fault, and what was probably meant."""
 
 
 class Lock(NamedTuple):
@@ -24,50 +24,38 @@ class Lock(NamedTuple):
     revision: int = None
 
 
-def judged(value):
-    """The lines of a lock as versions by package, or the lowest refusal."""
-    if not are_pairs(value):
-        raise Unread("19 BadLine: it is no array of pairs of texts, a name and a version each")
-    for number, told, faults in (
-            (1, "BadName: {} is no package name", [name for name, _ in value if not NAME.fullmatch(name)]),
-            (2, "BadVersion: {} is no version", [version for _, version in value if read_version(version) is None]),
-            (4, "RepeatedDependency: {} comes twice", repeated(name for name, _ in value)),
-            (6, f"TooManyDependencies: {len(value)} lines", value[MOST_LOCK_LINES:])):
-        if faults:
-            raise Unread(f"{number} {told.format(json.dumps(faults[0]))}")
-    return dict(value)
+def are_read(pairs, read):
+    """Whether a value is pairs of a name, each name once, and a text that is read."""
+    return formed(pairs, PAIRS) and len(dict(pairs)) == len(pairs) and all(NAME.fullmatch(name) and read(it) is not None for name, it in pairs)
 
 
-def are_pairs(value):
-    return formed(value, PAIRS) and not any("\ud800" <= letter <= "\udfff" for pair in value for text in pair for letter in text)
-
-
-def repeated(names):
-    seen = set()
-    return [name for name in names if name in seen or seen.add(name)]
-
-
-def read_lock(text):
-    """The lock that stands in bytes: a lock list, or an object that has one beside what it was made of."""
+def read_lock(text, path):
+    """The lock that stands in bytes of a file: a lock list, or an object that has one beside what it was made of."""
     try:
         value = json.loads(text.decode()) if len(text) <= MOST_LINE_BYTES else None
     except (ValueError, RecursionError):
         value = None
-    if not isinstance(value, dict):
-        return Lock(judged(value))
-    if not (formed(value, MADE) and are_pairs(value["needs"])):
-        raise Unread("19 BadLine: it is no object with needs, a revision and what is selected")
-    return Lock(judged(value["selected"]), value["needs"], value["revision"])
+    lock = Lock(**value) if formed(value, MADE) else Lock(value)
+    needs = lock.needs or []
+    if not (are_read(lock.selected, read_version) and are_read(needs, read_requirement) and len(needs) <= MOST_NEEDS):
+        raise Unread(faulty(path, text))
+    return lock._replace(selected=dict(lock.selected))
+
+
+def faulty(path, text):
+    """What is wrong with a lock file: the fault for which the program would refuse it."""
+    from .lines.fault import placed
+    from .lines.judging import lock_faults
+    fault = lock_faults(text)[0]
+    above = text.decode(errors="replace")[:fault.place].split("\n")
+    return placed(path, len(above), fault._replace(place=len(above[-1])))
 
 
 def lock_of(path):
     """The lock of a file."""
     if not os.path.lexists(path):
         raise Failed(f"{path}: there is no such lock file: `registry resolve NEED .. --write {path}` makes one")
-    try:
-        return read_lock(read_file(path))
-    except Unread as fault:
-        raise Unread(f"{path} is no lock file: {fault}") from None
+    return read_lock(read_file(path), path)
 
 
 def lock_text(lock):

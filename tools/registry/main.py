@@ -1,4 +1,5 @@
 """Runs one command line, and turns what may go wrong into one line on standard error and an exit status."""
+import errno
 import importlib
 import os
 import sys
@@ -6,6 +7,8 @@ import sys
 from . import command_line
 from .failures import DONE, FAILED, INTERRUPTED, NO_READER, USAGE, Failed, Failure, Usage, told
 from .output import Output, say
+
+FULL = (errno.ENOSPC, errno.EDQUOT, errno.EFBIG, errno.EIO)  # errors of a write
 
 
 def run(words, out):
@@ -62,7 +65,7 @@ def guarded(words):
     except BrokenPipeError:
         raise
     except OSError as fault:
-        return failed(out, Failed(told(fault)))
+        return failed(out, Failed(unwritten(fault)))
     except MemoryError:
         return failed(out, Failed("there is not enough memory"))
 
@@ -74,9 +77,22 @@ def failed(out, fault):
     except BrokenPipeError:
         raise
     except OSError as other:  # nor can standard output be written
-        say(f"registry: {told(other)}")
+        say(f"registry: {unwritten(other)}")
         return FAILED
     return fault.status
+
+
+def unwritten(fault):
+    """An operating system's error in one line. That of a full standard output has no file, and nothing more goes there."""
+    if fault.errno in FULL and not fault.filename:  # whoever writes a file names it
+        fault.filename = "standard output"
+        write_no_more()
+    return told(fault)
+
+
+def write_no_more():
+    """Lets nothing more go to standard output, also what is left of it as the interpreter ends."""
+    os.dup2(os.open(os.devnull, os.O_WRONLY), sys.stdout.fileno())
 
 
 def main(words):
@@ -85,7 +101,7 @@ def main(words):
     try:
         return guarded(words)
     except BrokenPipeError:
-        os.dup2(os.open(os.devnull, os.O_WRONLY), sys.stdout.fileno())
+        write_no_more()
         return NO_READER
     except KeyboardInterrupt:
         return INTERRUPTED

@@ -46,7 +46,11 @@ def not_there(request, packages):
 def misspelled(request, number):
     """What is wrong with the first name, version or requirement that a request is refused for, and what was probably meant."""
     from .lines.judging import faults
-    return next(it.told for it in faults(json.dumps(request).encode()) if it.number == number)
+    from .lines.requirements import requirement_fault
+    said = next(it.told for it in faults(json.dumps(request).encode()) if it.number == number)
+    if number != 3:
+        return said
+    return next(f"{name}@{it}: {said}" for name, it in request["needs"] if requirement_fault(it))
 
 
 def repeated(pairs):

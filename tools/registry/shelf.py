@@ -4,9 +4,10 @@ import bisect
 from check_derivation import NAME, admits, read_requirement, read_version
 from limits import MOST_COMMANDS, MOST_NEEDS, MOST_PACKAGES, MOST_VERSIONS
 
-from .indexes.index import Release, Unusable, need
+from .indexes.index import Release, Unusable, folded, need
 from .nearest import nearest
-from .needs import need_of
+from .needs import needs_of
+from .refusals import misspelled
 
 
 def merged(needs, spelled):
@@ -116,6 +117,13 @@ def commands_of(chosen):
                 yield {"op": "yank", "name": name, "version": release.version}
 
 
+def other_spellings(chosen, published):
+    """The names that are taken or needed and of which a package is published that differs in `-` and `_` alone; each with that."""
+    spelled = {folded(it): it for it in published}
+    names = {*chosen, *(target for releases in chosen.values() for it in releases for target, _ in it.needs)}
+    return sorted((it, spelled[folded(it)]) for it in names if it not in published and folded(it) in spelled)
+
+
 def counted(chosen):
     """How much is taken, in words."""
     releases = [it for held in chosen.values() for it in held]
@@ -142,13 +150,13 @@ def noted(shelf, chosen, most, notes):
 def roots(index, crates):
     """The needs to begin with, as pairs of a crate and a requirement; none where all that is there is wanted."""
     if crates:
-        asked = [(index.spelled(name), requirement) for name, requirement in map(need_of, crates)]
+        asked = [(index.spelled(name), requirement) for name, requirement in needs_of(crates)]
         for name, requirement in asked:
             if not index.has(name):
                 near = nearest(name, index.names())
                 raise Unusable(f"there is no crate {name} in the index" + (f"; there is {near}" if near else ""))
             if read_requirement(requirement) is None:
-                raise Unusable(f'"{requirement}" is no requirement')
+                raise Unusable(misspelled({"op": "resolve", "needs": [[name, requirement]]}, 3))
         return asked
     own = index.own()
     return sorted((index.spelled(name), f"={version}") for name, version in own if read_version(version))

@@ -68,10 +68,12 @@ IMPORTING = (
     option("--newest", "N", "only the N newest versions of each crate", range(1, MOST_VERSIONS + 1)),
     flag("--lines", "write request lines to standard output, and publish nothing"),
     flag("--ask", "end these lines with a request for the crates of --from, or for a workspace's own packages"),
+    flag("--both-spellings", "import also names that differ from the journal's only in - and _"),
     WAIT,
 )
 IMPORTED = ("Nothing is fetched. What is published already is passed over. What is left out, or told otherwise than it stands there, is counted "
-            "on standard error, each kind with its first example.")
+            "on standard error, each kind with its first example; and at the end how many crates have a selection where each is requested "
+            "alone, and what stands in the way of most of the others.")
 
 SUBCOMMANDS = (
     Subcommand("publish", "publish", "Publish a version of a package",
@@ -80,7 +82,8 @@ SUBCOMMANDS = (
                "A publication is permanent. What it needs may be published later."),
     Subcommand("yank", "yank", "Keep a version from being selected anew",
                (word("NAME", "the package", PACKAGE), word("VERSION", "the version", VERSION), WAIT),
-               ("registry yank log 1.3.0",), "Nothing is deleted: a lock file that names the version still has it."),
+               ("registry yank log 1.3.0", "registry yank log@1.3.0"),
+               "Nothing is deleted: a lock file that names the version still has it."),
     Subcommand("unyank", "yank", "Undo a yank",
                (word("NAME", "the package", PACKAGE), word("VERSION", "the version", VERSION), WAIT),
                ("registry unyank log 1.3.0",)),
@@ -97,7 +100,8 @@ SUBCOMMANDS = (
                (word("FILE", "a file Packages, or what `apt-cache dumpavail` printed; without it apt-cache is asked", FILE, "?"), *IMPORTING),
                ("registry import debian --from reqwest", "registry import debian --from cargo --lines --ask"), IMPORTED),
     Subcommand("show", "show", "Show a package: its versions, what the newest needs, and who needs it",
-               (word("NAME", "the package", PACKAGE),), ("registry show log",),
+               (word("NAME", "the package", PACKAGE), word("VERSION", "tell what this version needs (else: the newest one)", VERSION, "?")),
+               ("registry show log", "registry show log@1.3.0"),
                "Versions stand by precedence, the newest first. Of each package that needs it the newest version that does is told."),
     Subcommand("search", "listing", "Find packages whose names have a text in them",
                (word("TEXT", "a part of the name"),), ("registry search json",)),

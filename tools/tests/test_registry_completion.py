@@ -25,7 +25,7 @@ OFFERED = [
     (["--journal", ""], "file"), (["--connect", ""], "file"), (["list", "--journal", "x"], "file"), (["list", "--json", ""], []),
     (["import", ""], ["cargo", "crates-io", "debian"]), (["import", "c"], ["cargo", "crates-io"]), (["--json", "import", ""], ["cargo", "crates-io", "debian"]),
     (["--journal", "a", "import", ""], ["cargo", "crates-io", "debian"]), (["journal", ""], ["renew", "repair", "verify"]), (["nonsense", ""], []), (["--nonsense", ""], []),
-    (["list", ""], []), (["show", ""], ["app", "lock", "log"]), (["show", "lo"], ["lock", "log"]), (["show", "log", ""], []), (["show", "", ""], []), (["search", ""], []),
+    (["list", ""], []), (["show", ""], ["app", "lock", "log"]), (["show", "lo"], ["lock", "log"]), (["show", "log", ""], ["1.0.0", "1.1.0"]), (["show", "log", "1.0.0", ""], []), (["show", "", ""], []), (["search", ""], []),
     (["lock", ""], ["check"]), (["lock", "check", ""], "file"), (["lock", "check", "x", "log@^1", "a"], ["app"]),
     (["yank", "log", ""], ["1.0.0", "1.1.0"]), (["yank", "log", "1.1"], ["1.1.0"]), (["yank", "zebra", ""], []), (["yank", "log", "1.1.0", ""], []),
     (["publish", "log", ""], []), (["publish", "log", "2.0.0", "lo"], ["lock", "log"]), (["publish", "log", "2.0.0", "app@*", "zlib@*", "lo"], ["lock", "log"]),

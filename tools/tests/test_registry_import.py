@@ -45,6 +45,8 @@ REACHED = [
 ALONE = ["left out: dependencies from another registry: 1 (first: solitary 2.0.0 needs away)",
          'left out: dependencies of a version on itself: 1 (first: solitary 2.0.0 needs solitary "^2")',
          'missing: requirements on crates that are not there: 1 (first: solitary 2.0.0 needs gone "^5")']
+# solitary needs gone, which is not there; each other one has a selection
+TRIED = ["resolve alone: 5 of 6 crates", 'in the way: no version of gone meets "^5": 1 (first: solitary)']
 PACKAGED = [publish("big", "0.3.60", ["none ^9.1"]), publish("fog", "1.4.2", ["q ^0.3.2", "pad-left >=1.5, <3"]),
             publish("pad-left", "1.5.0"), publish("pad-left", "2.0.0", ["big <0.4", "sha-1 ^0.9", "io ~1.2, =1.2.3"]),
             publish("q", "0.3.7"), publish("really", "0.4.1", ["big >=0.3.5", "q =0.3.7"]),
@@ -351,7 +353,7 @@ class Published(Folder):
 
     def test_the_sample_is_published_and_counted(self):
         status, said, counts = self.registry("import", "crates-io", CRATES_IO)
-        self.assertEqual((status, said, counts.splitlines()), (0, "imported: 13 versions of 6 crates, 1 of them yanked (revision 14)\n", sorted(REACHED + ALONE)))
+        self.assertEqual((status, said, counts.splitlines()), (0, "imported: 13 versions of 6 crates, 1 of them yanked (revision 14)\n", sorted(REACHED + ALONE) + TRIED))
         told = serve([*FOG, *IO, *MAKER, *PAD, *Q, *SOLITARY, LIST])[-1]
         self.assertEqual(json.loads(told), json.loads(serve_loaded(self.journal, LIST)))
 
@@ -364,7 +366,7 @@ class Published(Folder):
         self.registry("import", "crates-io", CRATES_IO, "--from", "io")
         status, said, counts = self.registry("import", "crates-io", CRATES_IO)
         self.assertEqual((status, said), (0, "imported: 13 versions of 6 crates, 1 of them yanked (revision 14)\n"))
-        self.assertEqual(counts.splitlines()[-1], "passed over: commands that were carried out before: 13")
+        self.assertEqual(counts.splitlines()[-3:], ["passed over: commands that were carried out before: 13", *TRIED])
         status, said, counts = self.registry("import", "crates-io", CRATES_IO, "--json")
         told = json.loads(said)
         self.assertEqual((status, counts, told["accepted"], told["passed_over"], told["refused"], told["revision"]), (0, "", 0, 14, 0, 14))
@@ -376,7 +378,27 @@ class Published(Folder):
         self.path("registry.journal", "registry-journal 2\n" + most[:most.rindex("{")] + "end 49151\n")
         status, said, counts = self.registry("import", "debian", DEBIAN)
         self.assertEqual((status, said), (1, "imported: 7 versions of 6 crates, 0 of them yanked (revision 49152)\n"))
-        self.assertEqual(counts.splitlines()[-1], "refused: the journal is full: `registry journal renew` begins a smaller one: 6 (first: fog 1.4.2)")
+        self.assertIn("refused: the journal is full: `registry journal renew` begins a smaller one: 6 (first: fog 1.4.2)", counts.splitlines())
+
+    def test_names_that_the_journal_spells_otherwise(self):
+        # of pad-left an own package is there, under the spelling that crates.io takes for the same
+        self.hold(publish("pad_left", "1.0.0"), publish("maker", "9.0.0"))
+        before = self.text("registry.journal")
+        status, said, counts = self.registry("import", "crates-io", CRATES_IO, "--from", "fog")
+        self.assertEqual((status, said, counts), (1, "", "registry: nothing is imported: 1 name differs from the journal's only in - and _ (first: pad-left, which is pad_left there): "
+                                                         "import into another journal, which --journal FILE names, or add --both-spellings\n"))
+        self.assertEqual(self.text("registry.journal"), before)
+        self.assertEqual(self.registry("import", "crates-io", CRATES_IO, "--from", "fog", "--both-spellings")[0], 0)
+        self.assertEqual(self.registry("import", "crates-io", CRATES_IO, "--from", "fog")[0], 0)  # by then both are there
+
+    def test_what_stands_in_the_way_of_a_selection(self):
+        # one needs two versions of log, as two that it needs do; crates that resolve are not told
+        files = {"3/l/log": entry("log", "1.0.0") + entry("log", "2.0.0"), "3/o/old": entry("old", "1.0.0", "log ^1"), "3/n/new": entry("new", "1.0.0", "log ^2"),
+                 "bo/th/both": entry("both", "1.0.0", "old ^1", "new ^1"),
+                 "us/er/user": entry("user", "1.0.0", "both *")}
+        with tempfile.TemporaryDirectory() as top:
+            status, _, counts = self.registry("import", "crates-io", fill(top, files))
+        self.assertEqual((status, counts.splitlines()[-2:]), (0, ["resolve alone: 3 of 5 crates", "in the way: two versions of log are needed, and a selection has one: 2 (first: both)"]))
 
     def test_what_cargo_locked_is_kept_as_a_lock_file(self):
         path = self.path("mine.lock")
@@ -416,7 +438,8 @@ class Words(unittest.TestCase):
             for words, status, told in [(["crates-io", bare], 1, "has no file at the place"), (["cargo", bare], 1, "neither a Cargo.toml"),
                                         (["crates-io", CRATES_IO, "--from", "zed"], 1, "there is no crate zed in the index"),
                                         (["debian", DEBIAN, "--from", "padleft"], 1, "there is no crate padleft in the index; there is pad-left"),
-                                        (["crates-io", CRATES_IO, "--from", "io@new"], 1, '"new" is no requirement'),
+                                        (["crates-io", CRATES_IO, "--from", "io@new"], 1, 'io@new: "n" stands where the major number of the requirement "new" should'),
+                                        (["crates-io", CRATES_IO, "--from", "io>=1"], 2, '"io>=1" has no @ between the package and the requirement; did you mean "io@>=1"?'),
                                         (["crates-io", CRATES_IO, "--ask"], 1, "name it by --from"),
                                         (["debian", os.path.join(bare, "none")], 3, "No such file"),
                                         (["crates-io", CRATES_IO, "--newest", "0"], 2, f"0 is no number from 1 to {MOST_VERSIONS}"),

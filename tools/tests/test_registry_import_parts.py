@@ -13,9 +13,12 @@ from unittest import mock
 from program import TOP, publish
 
 sys.path.insert(0, os.path.join(TOP, "tools"))
+from registry import alone
 from registry.commands import import_index
-from registry.failures import Usage
+from registry.failures import Refused, Usage
+from registry.indexes.index import Release
 from registry.output import Output
+from registry.shelf import other_spellings
 
 COMMANDS = [json.loads(publish(name, "1.0.0")) for name in "abcdef"]
 # accepted, published or yanked before, and refused
@@ -25,21 +28,23 @@ ASKED = {"op": "resolve", "needs": [["a", "^1"]]}
 
 
 def given(**more):
-    return SimpleNamespace(**{"subcommand": "import debian", "file": None, "from": None, "newest": None, "lines": False, "ask": False, **more})
+    return SimpleNamespace(**{"subcommand": "import debian", "file": None, "from": None, "newest": None, "lines": False, "ask": False, "both_spellings": False, **more})
 
 
 class Imported(unittest.TestCase):
     def setUp(self):
         self.index = SimpleNamespace(locked=lambda: [("a", "1.0.0")], names=lambda: ["all", "of", "them"], notes={})
-        self.chosen_of, self.needs = [], [("a", "^1")]
+        self.chosen_of, self.needs, self.pairs = [], [("a", "^1")], []
         self.enterContext(mock.patch.multiple(
             import_index, opened=lambda it: self.index, roots=lambda index, names: self.needs, request=lambda index, needs, locked: {**ASKED, "lock": [list(it) for it in locked]},
-            Shelf=lambda index: "shelf", choose=lambda shelf, names, most: (self.chosen_of.append((names, most)), ("chosen", {}))[1], commands_of=lambda chosen: iter(COMMANDS),
-            counted=lambda chosen: "6 versions", noted=lambda *_: ["left out: 2"], english=lambda command, reply, packages: f"it is refused by {reply['error']}"))
+            Shelf=lambda index: "shelf", choose=lambda shelf, names, most: (self.chosen_of.append((names, most)), ({"a": ["1.0.0"], "b": []}, {}))[1], commands_of=lambda chosen: iter(COMMANDS),
+            counted=lambda chosen: "6 versions", noted=lambda *_: ["left out: 2"], english=lambda command, reply, packages: f"it is refused by {reply['error']}",
+            other_spellings=lambda chosen, published: self.pairs, listed=lambda session: {}, reading=lambda _: contextlib.nullcontext("read"),
+            Alone=lambda session, names: SimpleNamespace(lines=lambda: [f"{session} alone: {names}"], value=lambda: names)))
 
     def run_it(self, replies=(), is_json=False, **more):
         """The status, what is printed, what is told besides, and what was sent."""
-        sent = []
+        self.sent = sent = []
 
         def each(requests):
             sent.extend(requests)
@@ -51,14 +56,25 @@ class Imported(unittest.TestCase):
 
     def test_what_becomes_of_each_command(self):
         self.assertEqual(self.run_it(REPLIES), (1, "imported: 6 versions (revision 2)\n", "left out: 2\npassed over: commands that were carried out before: 2\n"
-                                                                                         "refused: it is refused by 9: 2 (first: d 1.0.0)\n", COMMANDS))
+                                                                                         "refused: it is refused by 9: 2 (first: d 1.0.0)\nread alone: ['a']\n", COMMANDS))
         status, said, noted, _ = self.run_it(REPLIES, is_json=True)
         self.assertEqual((status, noted, json.loads(said)), (1, "", {"accepted": 2, "passed_over": 2, "refused": 2, "revision": 2,
-                                                                    "notes": ["left out: 2", "passed over: commands that were carried out before: 2", "refused: it is refused by 9: 2 (first: d 1.0.0)"]}))
+                                                                    "notes": ["left out: 2", "passed over: commands that were carried out before: 2", "refused: it is refused by 9: 2 (first: d 1.0.0)"],
+                                                                    "alone": ["a"]}))
         well = [{"ok": True, "revision": number} for number in range(1, 7)]
-        self.assertEqual(self.run_it(well)[:3], (None, "imported: 6 versions (revision 6)\n", "left out: 2\n"))
+        self.assertEqual(self.run_it(well)[:3], (None, "imported: 6 versions (revision 6)\n", "left out: 2\nread alone: ['a']\n"))
         with mock.patch.multiple(import_index, noted=lambda *_: [], commands_of=lambda _: []):
-            self.assertEqual(self.run_it()[:3], (None, "imported: 6 versions (revision 0)\n", ""))
+            self.assertEqual(self.run_it()[:3], (None, "imported: 6 versions (revision 0)\n", "read alone: ['a']\n"))
+
+    def test_names_that_the_journal_spells_otherwise(self):
+        other = "import into another journal, which --journal FILE names, or add --both-spellings"
+        for self.pairs, said in (([("a-b", "a_b")], f"1 name differs from the journal's only in - and _ (first: a-b, which is a_b there): {other}"),
+                                 ([("a-b", "a_b"), ("c", "c")], f"2 names differ from the journal's only in - and _ (first: a-b, which is a_b there): {other}")):
+            with self.assertRaises(Refused) as told:
+                self.run_it(REPLIES)
+            self.assertEqual(str(told.exception), f"nothing is imported: {said}")
+            self.assertEqual(self.sent, [])
+            self.assertEqual(self.run_it(REPLIES, both_spellings=True)[3], COMMANDS)
 
     def test_the_same_as_lines(self):
         lines = "".join(json.dumps(it, separators=(",", ":")) + "\n" for it in COMMANDS)
@@ -77,7 +93,7 @@ class Imported(unittest.TestCase):
 
     def test_what_cargo_locked_is_kept(self):
         path = os.path.join(self.enterContext(tempfile.TemporaryDirectory()), "a.lock")
-        self.assertEqual(self.run_it(REPLIES[:1], write=path)[::2], (None, f"left out: 2\nregistry: {path} and {path[:-5]}.needs are written\n"))
+        self.assertEqual(self.run_it(REPLIES[:1], write=path)[::2], (None, f"left out: 2\nread alone: ['a']\nregistry: {path} and {path[:-5]}.needs are written\n"))
         with open(path, encoding="utf-8") as lock, open(path[:-5] + ".needs", encoding="utf-8") as needs:
             self.assertEqual((lock.read(), needs.read()), ('[\n  ["a", "1.0.0"]\n]\n', "a ^1\n"))
         os.unlink(path)
@@ -85,6 +101,62 @@ class Imported(unittest.TestCase):
         self.assertFalse(os.path.exists(path))
         self.index.locked = None  # is not asked where nobody wants it
         self.assertEqual(self.run_it(REPLIES[:1], write=None)[0], None)
+
+
+class Spellings(unittest.TestCase):
+    def test_names_that_differ_in_their_strokes_alone(self):
+        chosen = {"a-b": [Release("1.0.0", [("c_d", "*"), ("e-f", "*")]), Release("1.1.0", [("g-h", "*")])], "i": [Release("1.0.0", [])], "k_l-m": []}
+        for published, wanted in (([], []), (["a-b", "c_d", "i"], []), (["a_b"], [("a-b", "a_b")]), (["c-d", "g_h", "k-l_m", "n-o"], [("c_d", "c-d"), ("g-h", "g_h"), ("k_l-m", "k-l_m")]),
+                                  (["a-b", "a_b"], []), (["ab"], [])):
+            self.assertEqual(other_spellings(chosen, published), wanted, published)
+
+
+def premise(name, target, need, *within):
+    return {"fact": "premise", "name": name, "need": need, "target": target, "versions": [0], "within": list(within)}
+
+
+def refused(*rows):
+    return {"refused": True, "derivation": [{"causes": row} for row in rows]}
+
+
+class Requested(unittest.TestCase):
+    """What is told of requests for each package alone."""
+    TWO = "two versions of {} are needed, and a selection has one"
+    ROOT, NEED = {"fact": "root"}, {"fact": "need", "index": 0}
+
+    def test_what_stands_in_the_way(self):
+        for reply, wanted in (
+                ({"selected": []}, []), ({"error": 22, "name": "BudgetSpent"}, ["no answer within 100 conflicts"]), ({"error": 18, "name": "OutOfMemory"}, ["OutOfMemory"]),
+                (refused([premise("a", "b", "^9"), self.NEED]), ['no version of b meets "^9"']),
+                (refused([premise("a", "c", "^1", 0), premise("b", "c", "^2", 1, 2)], [{"line": 1}, self.NEED]), [self.TWO.format("c")]),
+                # what has a version in common is in nobody's way
+                (refused([premise("a", "c", ">=1", 0, 1), premise("b", "c", "^2", 1)], [premise("a", "d", "*"), premise("b", "d", "^1")]), ['no version of d meets "*"', 'no version of d meets "^1"']),
+                (refused([{"fact": "disallowed", "name": "y", "versions": [0]}, premise("a", "y", "*", 0)]), ["versions of y are yanked"]),
+                (refused([{"fact": "disallowed", "name": "y", "versions": [0]}, premise("a", "z", "^1")]), ['no version of z meets "^1"']),
+                (refused([premise("a", "b", "^9"), premise("c", "b", "^9")]), ['no version of b meets "^9"']), (refused([self.NEED, self.ROOT]), [])):
+            self.assertEqual(alone.obstacles(reply), wanted, reply)
+
+    def made(self, replies):
+        asked = []
+        session = SimpleNamespace(each=lambda requests: asked.extend(requests) or iter(replies[it["needs"][0][0]] for it in requests))
+        return alone.Alone(session, list(replies)), asked
+
+    def test_how_many_resolve_alone(self):
+        none, two = refused([premise("a", "b", "^9"), self.NEED]), refused([premise("a", "c", "^1", 0), premise("b", "c", "^2", 1)], [premise("a", "b", "^9"), self.NEED])
+        made, asked = self.made({"p": none, "q": {"selected": []}, "r": two, "s": none})
+        self.assertEqual(asked[1], {"op": "resolve", "needs": [["q", "*"]], "explain": True, "budget": 100})
+        self.assertEqual(list(made.lines()), ["resolve alone: 1 of 4 crates", 'in the way: no version of b meets "^9": 3 (first: p)', f"in the way: {self.TWO.format('c')}: 1 (first: r)"])
+        self.assertEqual(made.value(), {"requested": 4, "selected": 1, "in_the_way": [{"what": 'no version of b meets "^9"', "packages": ["p", "r", "s"]}, {"what": self.TWO.format("c"), "packages": ["r"]}]})
+        self.assertEqual(list(self.made({})[0].lines()), ["resolve alone: 0 of 0 crates"])
+        many = self.made({f"p{number}": refused([premise("a", f"b{number}", "^9")]) for number in range(9)})[0]
+        self.assertEqual((len(list(many.lines())), len(many.value()["in_the_way"])), (6, 9))
+
+    def test_of_many_some_are_requested(self):
+        for count, requested in ((2_000, 2_000), (2_001, 1_001), (50_000, 2_000)):
+            made, asked = self.made({f"p{number}": {"selected": []} for number in range(count)})
+            self.assertEqual((len(asked), asked[-1]["needs"][0][0][1:] > str(count - 30)), (requested, True))
+            some = "" if count == requested else f" that were requested, of {count}"
+            self.assertEqual(list(made.lines()), [f"resolve alone: {requested} of {requested} crates{some}"])
 
 
 class Opened(unittest.TestCase):

@@ -131,7 +131,7 @@ class Check(Locked):
     def test_what_can_not_be_checked(self):
         self.hold(*OLD)
         path = self.lock(LOCK)
-        for words, status, told in (([self.path("none")], 3, "none: there is no such lock file"), ([self.path("bad", "{}")], 3, "bad is no lock file: 19 BadLine"),
+        for words, status, told in (([self.path("none")], 3, "none: there is no such lock file"), ([self.path("bad", "{}")], 3, "bad:1:1: error 19 BadLine"),
                                     ([], 2, "the following arguments are required: FILE"), ([path, "App"], 1, 'the capital letter "A"'), ([path, "app@q"], 1, '"q" stands where'),
                                     ([path, "app", "app@^1"], 1, "app comes twice"), ([path, *(f"a{it}" for it in range(65))], 1, "there are 65 needs, and 64 are the most")):
             ended, said, fault = self.registry("lock", "check", *words)

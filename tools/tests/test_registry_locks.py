@@ -2,6 +2,7 @@
 and how `registry resolve` keeps a selection, and `registry diff` tells what changed between two."""
 import json
 import os
+import re
 import stat
 import sys
 import unittest
@@ -12,9 +13,44 @@ from registry_folder import Folder
 
 sys.path.insert(0, os.path.join(TOP, "tools"))
 from limits import MOST_LOCK_LINES
-from registry.locks import Lock, Unread, changes, coloured, counted, judged, lock_text, read_lock, renewed
+from registry.locks import Lock, Unread, changes, coloured, counted, lock_text, read_lock, renewed
 
 TABLE = os.path.join(TOP, "rows", "calls", "further.rows")
+# What is no lock list: where, and the lowest refusal, of the form, of names, of versions, of a name that comes twice.
+PAIRS = 'an array of pairs of a name and a version, as [["b","1.0.0"]]'
+UNREAD = [
+    ("{}", "1:1: error 19 BadLine: a lock list is " + PAIRS + ", not an object; did you mean []?"), ("", "1:1: error 19 BadLine: a lock list is " + PAIRS),
+    ('[["A","1","x"]]', '1:2: error 19 BadLine: each item of a lock list is a pair of a name and a version, as ["b","1.0.0"]'),
+    ('[["a","1.0.0"],\n  ["A",1]]', '2:3: error 19 BadLine: each item of a lock list is a pair of a name and a version, as ["b","1.0.0"]'),
+    ("[]\n[]", "2:1: error 19 BadLine: something stands behind the lock: one file has one lock"), ("[],", "1:3: error 19 BadLine: files are not parted by commas; leave it out"),
+    ('[["a","1"],\n["A","1.0.0"]]', '2:3: error 1 BadName: the capital letter "A", byte 1 of the name "A", is none of a-z, 0-9, - and _; did you mean "a"?'),
+    ('[["a","1.0.0"],["a","1"]]', '1:23: error 2 BadVersion: the version "1" has no minor number; did you mean "1.0.0"?'),
+    ('[["a","1.0.0"],\n["b","1.0.0"],\n["a","1.1.0"]]', '3:2: error 4 RepeatedDependency: a stands twice in "lock"'),
+    ("[]" + " " * 1_048_575, "1:1: error 19 BadLine: the file has more than 1,048,576 bytes"),
+    ('[["é","1.0.0"],\n ["b" "1.0.0"]]', "2:6: error 19 BadLine: a comma is missing"),
+]
+# The same of an object, which says what a lock was made of.
+BEHIND = ',\n "revision":1,"selected":[["a","1.0.0"]]}'
+UNMADE = [
+    ('{"needs":["a@^1"]' + BEHIND, '1:11: error 19 BadLine: each item of "needs" is a pair of a name and a requirement, as ["b","^1"]; did you mean ["a", "^1"]?'),
+    ('{"needs":null' + BEHIND, '1:10: error 19 BadLine: "needs" is an array of pairs of a name and a requirement, as [["b","^1"]], not null'),
+    ('{"needs":[]' + BEHIND.replace("1,", "true,"), '2:13: error 19 BadLine: "revision" is a number in digits, not true or false'),
+    ('{"needs":[]' + BEHIND.replace("1,", "-1,"), '2:13: error 19 BadLine: "revision" is a whole number from 0 to 4,294,967,295 in digits alone, not -1'),
+    ('{"needs":[]' + BEHIND.replace("1,", '"12",'), '2:13: error 19 BadLine: "revision" is a number in digits, not a text; did you mean 12?'),
+    ('{"needs":[],\n "revision":1,"selected":{"a":"1.0.0"}}', '2:26: error 19 BadLine: "selected" is ' + PAIRS + ', not an object; did you mean [["a", "1.0.0"]]?'),
+    ('{"needs":[],\n "revision":1,"selected":[["a"]]}', '2:27: error 19 BadLine: each item of "selected" is a pair of a name and a version, as ["b","1.0.0"]'),
+    ('{"needs":[],"selected":[]}', '1:26: error 19 BadLine: a lock file has no "revision", which it must have'),
+    ('{"needs":[],\n "revision":1}', '2:14: error 19 BadLine: a lock file has no "selected", which it must have'),
+    ('{"need":[],"revision":1,"selected":[]}', '1:2: error 19 BadLine: a lock file has no member "need"; did you mean "needs"?'),
+    ('{"needs":[["A","*"],["b","q"]]' + BEHIND.replace("1.0.0", "1"),
+     '1:13: error 1 BadName: the capital letter "A", byte 1 of the name "A", is none of a-z, 0-9, - and _; did you mean "a"?'),
+    ('{"needs":[["b","q"]]' + BEHIND.replace("1.0.0", "1"), '2:34: error 2 BadVersion: the version "1" has no minor number; did you mean "1.0.0"?'),
+    ('{"needs":[["b",">=1 <2"]]' + BEHIND,
+     '1:21: error 3 BadRequirement: a comma is missing between two comparators of ">=1 <2"; did you mean ">=1, <2"?'),
+    ('{"needs":[["b","*"],["b","^1"]]' + BEHIND, '1:22: error 4 RepeatedDependency: b stands twice in "needs"'),
+    (json.dumps({"needs": [[f"a{it}", "*"] for it in range(65)], "revision": 1, "selected": []}), "1:899: error 6 TooManyDependencies: 65 needs, and 64 are the most"),
+    ('{"needs":[]' + BEHIND + "\n{}", "3:1: error 19 BadLine: something stands behind the lock: one file has one lock"),
+]
 # two locks, and what changed
 CHANGED = [
     ([], [], []),
@@ -47,25 +83,27 @@ class Lists(unittest.TestCase):
         for row in table:
             text = row["text"] if isinstance(row["text"], str) else "".join(piece * count for piece, count in row["text"])
             if isinstance(row["gives"], list):
-                self.assertEqual(read_lock(text.encode()), Lock(dict(row["gives"])))
+                self.assertEqual(read_lock(text.encode(), "x.lock"), Lock(dict(row["gives"])))
             else:
-                self.refused(text.encode(), row["gives"]["refused"])
+                self.refused(text.encode(), f"[0-9]+:[0-9]+: error {row['gives']['refused']} ")
 
-    def refused(self, text, number):
+    def refused(self, text, said):
         with self.assertRaises(Unread) as told:
-            read_lock(text)
-        self.assertEqual(str(told.exception).split(" ")[0], str(number), text[:100])
+            read_lock(text, "x.lock")
+        self.assertRegex(str(told.exception), rf"\Ax.lock:{said}", text[:100])
+
+    def test_what_is_refused(self):
+        for text, said in (*UNREAD, *UNMADE):
+            self.refused(text.encode(), re.escape(said) + r"\Z")
 
     def test_what_else_is_refused(self):
         for text in (b"\xff", b'[["a","\\ud800"]]', b'[["\\udfff","1.0.0"]]', b"[" * 100_000, b"[[1e999,1]]", b"null", b'[["a"]]', b'[{"a":"1.0.0"}]', b"[] x"):
-            self.refused(text, 19)
+            self.refused(text, "1:[0-9]+: error 19 BadLine: ")
         many = [[f"a{number}", "1.0.0"] for number in range(MOST_LOCK_LINES + 1)]
         text = json.dumps(many, separators=(",", ":")).encode()
         # so many lines are longer than a lock may be: they are refused for that
         self.assertGreater(len(text), 1_048_576)
-        self.refused(text, 19)
-        self.assertRaisesRegex(Unread, rf"\A6 TooManyDependencies: {len(many)} lines\Z", judged, many)
-        self.assertEqual(len(judged(many[1:])), MOST_LOCK_LINES)
+        self.refused(text, "1:1: error 19 BadLine: ")
 
     def test_what_is_written(self):
         # in byte order of the names, a pair a line
@@ -82,17 +120,13 @@ class Lists(unittest.TestCase):
         for old, new, _ in CHANGED:
             for lines in (old, new):
                 for lock in (Lock(versions(lines)), Lock(versions(lines), [["b", ">=1, <3"]], 3)):
-                    self.assertEqual(read_lock(lock_text(lock).encode()), lock)
+                    self.assertEqual(read_lock(lock_text(lock).encode(), "x.lock"), lock)
 
-    def test_what_says_wrongly_what_it_was_made_of(self):
+    def test_what_says_what_it_was_made_of(self):
         made = {"needs": [["a", "*"]], "revision": 1, "selected": [["a", "1.0.0"]]}
-        self.assertEqual(read_lock(json.dumps(made).encode()), Lock({"a": "1.0.0"}, [["a", "*"]], 1))
-        for wrong in ({"needs": ["a"]}, {"needs": [["a", "\ud800"]]}, {"needs": None}, {"revision": -1}, {"revision": "1"}, {"revision": True},
-                      {"selected": {"a": "1.0.0"}}, {"selected": [["a"]]}, {"more": 1}):
-            self.refused(json.dumps({**made, **wrong}).encode(), 19)
-        for missing in made:
-            self.refused(json.dumps({name: value for name, value in made.items() if name != missing}).encode(), 19)
-        self.refused(json.dumps({**made, "selected": [["a", "1"]]}).encode(), 2)
+        self.assertEqual(read_lock(json.dumps(made).encode(), "x.lock"), Lock({"a": "1.0.0"}, [["a", "*"]], 1))
+        self.refused(json.dumps({**made, "more": 1}).encode(), "1:[0-9]+: error 19 ")
+        self.refused(json.dumps({**made, "needs": [["a", "\ud800"]]}).encode(), "1:[0-9]+: error 19 ")
 
     def test_what_takes_the_place_of_a_file(self):
         old, request = Lock({"a": "1.0.0"}, [["a", "*"]], 4), {"needs": [["a", "*"]]}
@@ -231,10 +265,10 @@ class Kept(Folder):
     def test_what_is_no_lock(self):
         good, bad = self.path("good", '[["a","1.0.0"]]\n'), self.path("bad", '[["a","1.0"]]')
         self.hold(publish("a", "1.0.0"))
-        for words, told in ((["diff", good, bad], 'bad is no lock file: 2 BadVersion: "1.0" is no version'), (["diff", bad, good], "2 BadVersion"),
+        for words, told in ((["diff", good, bad], 'bad:1:11: error 2 BadVersion: the version "1.0" has no patch number; did you mean "1.0.0"?'), (["diff", bad, good], "2 BadVersion"),
                             (["resolve", "a", "--lock", bad], "2 BadVersion"), (["diff", good, self.path("nowhere")], "nowhere: there is no such lock file"),
                             (["diff", good, self.path("x1", '[["A","1.0.0"]]')], "1 BadName"), (["diff", good, self.path("x2", '[["a",1]]')], "19 BadLine"),
-                            (["diff", good, self.path("x3", '[["a","1.0.0"],["a","2.0.0"]]')], '4 RepeatedDependency: "a" comes twice'),
+                            (["diff", good, self.path("x3", '[["a","1.0.0"],["a","2.0.0"]]')], 'x3:1:17: error 4 RepeatedDependency: a stands twice in "lock"'),
                             (["diff", good, self.folder], "Is a directory"), (["tree", "a", "--lock", bad], "2 BadVersion"),
                             (["resolve", "a", "--write", bad], "2 BadVersion"), (["outdated", "--lock", bad], "2 BadVersion"), (["upgrade", "--lock", bad], "2 BadVersion")):
             status, printed, fault = self.registry(*words)

@@ -100,9 +100,10 @@ class Ends(Printed):
                 raise OSError(28, "No space left on device")
         for run, words in ((lambda *_: 0, ()), (mock.Mock(side_effect=Refused("no")), ()), (mock.Mock(side_effect=Refused("no")), ("show", "a", "--json")),
                            (lambda _, out: out.give([1], []), ("show", "a", "--json"))):
-            with mock.patch.object(sys, "stdout", Full()), mock.patch.object(main, "open_streams"):
+            with mock.patch.object(sys, "stdout", Full()), mock.patch.object(main, "open_streams"), mock.patch.object(main, "write_no_more") as ended:
                 self.assertEqual(self.obeyed(run, *words), FAILED)
-            self.assertEqual(self.said(), "registry: No space left on device\n")
+            ended.assert_called_with()
+            self.assertEqual(self.said(), "registry: standard output: No space left on device\n")
 
     def test_words_that_are_no_texts(self):
         for words, told in ((["\udc80"], "word 1 is not UTF-8"), (["show", "\udcff"], "word 2 is not UTF-8"), (["show", "a", "\ud800"], "word 3 is not UTF-8"), (["show", "\udfff"], "word 2 is not UTF-8")):

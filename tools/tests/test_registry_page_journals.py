@@ -117,7 +117,7 @@ class Command(Served):
 
     def test_it_shows_the_journal_until_a_key_ends_it(self):
         self.hold(*WORKED)
-        for words, ends, status in (([], signal.SIGINT, 0), (["--json"], signal.SIGTERM, 143)):
+        for words, ends, status in (([], signal.SIGINT, 130), (["--json"], signal.SIGTERM, 143)):
             with in_time(), self.begun(*words) as running:
                 line = running.stdout.readline()
                 port = json.loads(line)["port"] if words else int(re.fullmatch(r"http://127\.0\.0\.1:(\d+)/\n", line)[1])

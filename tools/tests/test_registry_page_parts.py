@@ -255,10 +255,9 @@ class Command(unittest.TestCase):
                 mock.patch.dict(os.environ), mock.patch.multiple(sys, stdout=io.StringIO(), stderr=io.StringIO()):
             for name in ("REGISTRY_JOURNAL", "REGISTRY_CONNECT"):
                 os.environ.pop(name, None)
-            try:
-                self.assertIsNone(page.run(given, Output(is_json)))
-            except Failed as fault:
-                made.append(str(fault))
+            with self.assertRaises(type(end)) as ended:
+                page.run(given, Output(is_json))
+            self.assertIs(ended.exception, end)
             warn.assert_called_once_with("j", b"text")
             held.leave.assert_called_once_with()
             return made, sys.stdout.getvalue(), sys.stderr.getvalue()
@@ -268,7 +267,7 @@ class Command(unittest.TestCase):
         self.assertEqual(self.shown(), ([("File", "registry.journal", [], 10), (True, 0)], "http://there/\n", told))
         self.assertEqual(self.shown(journal="k", port=8000, seconds=3, any=True), ([("File", "k", ["--any"], 3), (True, 8000)], "http://there/\n", told))
         self.assertEqual(self.shown(is_json=True, connect="there", newest=True), ([("Service", "there", ["--newest"], 10), (True, 0)], '{"address":"http://there/","port":7}\n', ""))
-        self.assertEqual(self.shown(end=Failed("no"))[0][2:], ["no"])
+        self.shown(end=Failed("no"))
 
 
 if __name__ == "__main__":

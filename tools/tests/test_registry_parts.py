@@ -29,7 +29,8 @@ class Needs(unittest.TestCase):
         self.folder = self.enterContext(tempfile.TemporaryDirectory())
 
     def test_needs(self):
-        for text, wanted in (("app@^1", ["app", "^1"]), ("app ^1", ["app", "^1"]), ("app", ["app", "*"]), ("app@", ["app", ""]), ("app@ >=1, <2 ", ["app", ">=1, <2"]), ("a b@c", ["a", "b@c"]), ("@", ["", ""])):
+        for text, wanted in (("app@^1", ["app", "^1"]), ("app ^1", ["app", "^1"]), ("app", ["app", "*"]), ("app@", ["app", ""]), ("app@ >=1, <2 ", ["app", ">=1, <2"]), ("a b@c", ["a", "b@c"]), ("@", ["", ""]),
+                             ("app\t^1", ["app", "^1"]), (" app  @ ^1 ", ["app", "^1"]), ("app ", ["app", "*"]), ("app@^1, <2", ["app", "^1, <2"]), ("", ["", "*"]), ("a b" + " " * 10 ** 5 + "c", ["a", "b" + " " * 10 ** 5 + "c"])):
             self.assertEqual(needs.need_of(text), wanted, text)
         self.assertEqual([needs.needs_path(it) for it in ("a.lock", "a", "a.lock.b")], ["a.needs", "a.needs", "a.lock.b.needs"])
 
@@ -43,6 +44,11 @@ class Needs(unittest.TestCase):
         self.assertIsNot(needs.write_needs(path, [["app", "^2"]]), False)
         with open(path, "rb") as file:
             self.assertEqual(file.read(), b"app ^2\n")
+        with open(path, "wb") as file:
+            file.write(b"app ^2 # yet\nlog ^1 ^2\n")
+        self.assertRaisesRegex(Failed, rf"\A{path}:2:8: error 3 BadRequirement: a comma is missing ", needs.read_needs, path)
+        self.assertTrue(needs.write_needs(path, [["app", "^2"]]))  # what can't be read is written over
+        self.assertEqual(needs.read_needs(path), [["app", "^2"]])
         with open(path, "wb") as file:
             file.write(b"\xff")
         self.assertRaisesRegex(Failed, rf"\A{path} is not UTF-8\Z", needs.read_needs, path)

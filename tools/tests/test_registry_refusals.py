@@ -14,7 +14,7 @@ A = {"op": "publish", "name": "a", "version": "1.0.0", "needs": []}
 SAID = [
     (1, {**A, "name": "A"}, 'the capital letter "A", byte 1 of the name "A", is none of a-z, 0-9, - and _; did you mean "a"?'),
     (2, {**A, "version": "1"}, 'the version "1" has no minor number; did you mean "1.0.0"?'),
-    (3, {**A, "needs": [["b", "?"]]}, '"?" stands where the major number of the requirement "?" should'),
+    (3, {**A, "needs": [["c", "*"], ["b", "?"]]}, 'b@?: "?" stands where the major number of the requirement "?" should'),
     (4, {**A, "needs": [["c", "*"], ["b", "^1"], ["b", "<2"]]}, "b comes twice: join its requirements with a comma"),
     (4, {"op": "resolve", "needs": [["c", "*"]], "lock": [["b", "1.0.0"], ["b", "1.0.1"]]}, "b comes twice: join its requirements with a comma"),
     (5, A, "a 1.0.0 can't need a itself"),

@@ -32,6 +32,15 @@ needed by
         self.hold(publish("a", "1.0.0-a"), publish("a", "1.0.0-b"), yank("a", "1.0.0-b"))
         self.assertEqual(self.registry("show", "a"), (0, "a\n  1.0.0-b  yanked\n  1.0.0-a\n1.0.0-a needs nothing\nneeded by nothing\n", ""))
 
+    def test_a_version_that_is_named(self):
+        self.hold(publish("a", "1.0.0+x", ["b *"]), publish("a", "2.0.0"))
+        told = "a\n  2.0.0\n  1.0.0+x\n1.0.0+x needs\n  b *\nneeded by nothing\n"
+        for words in (["a", "1.0.0"], ["a@1.0.0"]):
+            self.assertEqual(self.registry("show", *words), (0, told, ""), words)
+        self.assertEqual(json.loads(self.registry("show", "a@1.0.0", "--json")[1])["newest"], "2.0.0")
+        for text in ("3.0.0", "1"):
+            self.assertEqual(self.registry("show", f"a@{text}"), (1, "", f"registry: a {text} is not published; there are 2.0.0 and 1.0.0+x\n"))
+
     def test_one_whose_versions_are_all_yanked(self):
         self.hold(publish("a", "1.0.0", ["b *"]), publish("a", "2.0.0", ["c *"]), yank("a", "1.0.0"), yank("a", "2.0.0"))
         self.assertEqual(self.registry("show", "a"), (0, "a\n  2.0.0  yanked\n  1.0.0  yanked\n2.0.0 needs\n  c *\nneeded by nothing\n", ""))
@@ -74,7 +83,7 @@ class Lists(Folder):
 
     def test_wrong_words(self):
         self.hold()
-        for words in (["show"], ["show", "a", "b"], ["search"], ["search", "a", "b"], ["list", "a"], ["list", "--all"]):
+        for words in (["show"], ["show", "a", "1.0.0", "b"], ["search"], ["search", "a", "b"], ["list", "a"], ["list", "--all"]):
             status, said, fault = self.registry(*words)
             self.assertEqual((status, said, fault.count("\n"), fault[:10]), (2, "", 1, "registry: "), words)
 

@@ -15,7 +15,7 @@ from registry.table import COMMON, SUBCOMMANDS, Subcommand, Word, flag, option, 
 NONE = {"journal": None, "connect": None, "json": False}
 SELECTING = {"newest": False, "any": False}
 ASKING = {"need": [], "lock": None, "budget": None, **SELECTING}
-IMPORTING = {"from": None, "newest": None, "lines": False, "ask": False, "wait": None}
+IMPORTING = {"from": None, "newest": None, "lines": False, "ask": False, "both_spellings": False, "wait": None}
 # command lines, and the values that are read from them
 READ = [
     ("publish log 1.3.0", {"name": "log", "version": "1.3.0", "need": [], "wait": None}), ("publish log 1.3.0 a@^1 --wait 0 b", {"name": "log", "version": "1.3.0", "need": ["a@^1", "b"], "wait": 0}),
@@ -23,7 +23,9 @@ READ = [
     ("--json unyank log 1.3.0", {"name": "log", "version": "1.3.0", "json": True, "wait": None}),
     ("import crates-io d --from a b --newest 2", {**IMPORTING, "dir": "d", "from": ["a", "b"], "newest": 2}),
     ("import cargo d --index i --write w --lines --ask", {**IMPORTING, "dir": "d", "index": "i", "write": "w", "lines": True, "ask": True}),
-    ("import debian", {**IMPORTING, "file": None}), ("import debian f", {**IMPORTING, "file": "f"}), ("show log --journal j", {"name": "log", "journal": "j"}),
+    ("import debian", {**IMPORTING, "file": None}), ("import debian f", {**IMPORTING, "file": "f"}), ("show log --journal j", {"name": "log", "version": None, "journal": "j"}),
+    ("show --json log@1.0.0", {"name": "log", "version": "1.0.0", "json": True}), ("yank log@1.0.0 --wait 3", {"name": "log", "version": "1.0.0", "wait": 3}),
+    ("publish a@1.0.0@x b@^1", {"name": "a", "version": "1.0.0@x", "need": ["b@^1"], "wait": None}), ("publish --wait 3 a 1.0.0 b@^1", {"name": "a", "version": "1.0.0", "need": ["b@^1"], "wait": 3}),
     ("search lo --connect c", {"text": "lo", "connect": "c"}), ("list", {}), ("resolve a --lock l --write w --budget 5 --any b", {"need": ["a", "b"], "lock": "l", "write": "w",
                                                                                                                          "budget": 5, "newest": False, "any": True, "locked": False}),
     ("resolve --locked", {**ASKING, "write": None, "locked": True}), ("tree a --invert b --depth 0 --newest", {**ASKING, "need": ["a"], "invert": "b", "depth": 0, "newest": True}),

@@ -435,7 +435,6 @@ NOT = [(["app *"], [], "log 1.0.0", "log 1.0.0 can be selected; log 2.1.0 was, w
         "a selection with log 2.1.0 changes besides:\n  ~ app 1.0.0 -> 1.1.0"),
        (["app *"], [], "tiny 1.0.0", "tiny 1.0.0 can be selected; no version of tiny was selected, since nothing that was selected needs one\n"
                                      "a selection with it changes nothing else"),
-       (["app *"], [], "log 3.0.0", "log 3.0.0 is not published"), (["app *"], [], "zed 3.0.0", "zed 3.0.0 is not published"),
        (["app *"], [], "app 1.1.0+x", "app 1.1.0 is what was selected"),
        (["log ^2"], [], "log 1.0.0", "log 1.0.0 can't be selected: the request depends on log ^2"),
        (["app *"], [], "log 2.2.0", "app *: log 2.2.0 can't be selected\n"
@@ -565,14 +564,16 @@ class Typed(unittest.TestCase):
                ((*asked, *told("other", [*replies[:-1], '{"refused":true,"revision":9}'])), 1, "reply 5 is not of revision 4"),
                ((*asked, "--told", os.path.join(self.folder, "nowhere")), 3, "No such file"), ((*files, "--request", "2"), 1, "request 2 is no request"),
                (self.session(lines, "short"), 1, "no request"), (("--journal", damaged, "foo *"), 3, "damaged: line 4 is at fault"),
-               (("--journal", journal, "foo *", "--lock", journal), 3, "journal is no lock file: 19 BadLine"),
+               (("--journal", journal, "foo *", "--lock", journal), 3, "journal:1:1: error 19 BadLine: a lock list is"),
                (("--journal", journal, "foo *", "foo *"), 1, "foo comes twice"), (("--journal", journal, "app"), 0, ""),
                (("--journal", journal, "app@nonsense"), 1, 'of the requirement "nonsense"'), (("--journal", journal, "A"), 1, 'the name "A"'),
                ((*asked, *told("unselected", [*replies[:-1], '{"revision":4,"selected":5}'])), 1, "no request is refused"),
                ((*asked, *told("unselected", [*replies[:-1], '{"revision":4,"selected":5}']), "--request", "5"), 1, "no selection of the right form"),
                ((*asked, *told("unclosed", [*replies[:-1], '{"revision":4,"selected":[["foo","1.0.0"]]}']), "--request", "5", "--picture",
                  os.path.join(self.folder, "x.svg")), 1, "lacks what it needs"),
-               (("--journal", journal, "p1 *", "--not", "zed", "1.0.0", "--picture", os.path.join(self.folder, "x.svg")), 1, "nothing to draw")]
+               (("--journal", journal, "p1 *", "--not", "zed", "1.0.0"), 1, "no version of zed is published"),
+               (("--journal", journal, "foo *", "--not", "foo", "9.0.0"), 1, "foo 9.0.0 is not published; there "),
+               (("--journal", journal, "bar *", "--not", "bar", "2.0.0", "--picture", os.path.join(self.folder, "x.svg")), 1, "nothing to draw")]
         for words, status, told in bad:
             ended, _, fault = self.why(*words)
             self.assertEqual((ended, fault.count("\n"), fault[:10]), (status, *((1, "registry: ") if status else (0, ""))), (words, fault))

@@ -69,7 +69,6 @@ a *: a 2.0.0 can't be selected
 a *: a 2.0.0 can't be selected
   Because a 2.0.0 is asked for and a 2.0.0 is yanked, a 2.0.0 can't be selected.
 """),
-    "nobody published it": ([publish("a", "1.0.0")], ["a"], [], "a 2.0.0", "\na 2.0.0 is not published\n"),
     "it is lower": ([publish("a", "1.0.0"), publish("a", "2.0.0")], ["a"], [], "a 1.0.0",
                     "\na 1.0.0 can be selected; a 2.0.0 was, which is higher\na selection with it changes nothing else\n"),
 }

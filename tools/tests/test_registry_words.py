@@ -24,7 +24,8 @@ FAULTY = [
     (["publsh", "a", "1.0.0"], "there is no subcommand publsh; publish may be meant: `registry --help` has all"),
     (["frobnicate"], "there is no subcommand frobnicate: `registry --help` has all"),
     (["--jurnal", "x", "list"], "there is no option --jurnal before a subcommand: `registry --help` has all"),
-    (["list", "--jurnal", "x"], "unrecognized arguments: --jurnal x: see `registry list --help`"),
+    (["list", "--jurnal", "x"], "unrecognized arguments: --jurnal x; did you mean --journal?: see `registry list --help`"),
+    (["list", "--jurnal=x"], "unrecognized arguments: --jurnal=x; did you mean --journal?: see `registry list --help`"),
     (["list", "--jou", "x"], "unrecognized arguments: --jou x: see `registry list --help`"),
     (["import"], "import goes with one of crates-io, cargo, debian: `registry --help` has all"),
     (["import", "npm", "x"], "import goes with one of crates-io, cargo, debian, not with npm: `registry --help` has all"),
@@ -105,7 +106,7 @@ class Completed(Folder):
         self.hold(*self.LINES)
         for words, wanted in ((["pub"], ["publish"]), (["import", ""], ["cargo", "crates-io", "debian"]), (["import", "c"], ["cargo", "crates-io"]),
                               (["--j"], ["--journal", "--json"]), (["--journal", ""], "file"), (["--json", "unya"], ["unyank"]),
-                              (["show", "lo"], ["lock", "log"]), (["show", "log", ""], []), (["yank", "log", ""], ["1.0.0", "1.1.0"]),
+                              (["show", "lo"], ["lock", "log"]), (["show", "log", ""], ["1.0.0", "1.1.0"]), (["show", "log", "1.0.0", ""], []), (["yank", "log", ""], ["1.0.0", "1.1.0"]),
                               (["yank", "log", "1.1"], ["1.1.0"]), (["yank", "zebra", ""], []), (["publish", ""], ["app", "lock", "log"]),
                               (["publish", "x", ""], []), (["publish", "x", "1.0.0", "lo"], ["lock", "log"]), (["publish", "x", "1.0.0", "log@*", "a"], ["app"]),
                               (["resolve", "--l"], ["--lock", "--locked"]), (["resolve", "--lock", ""], "file"), (["resolve", "--lock", "x", "a"], ["app"]),
@@ -189,9 +190,10 @@ class Ends(Folder):
 
     def test_an_output_that_takes_nothing(self):
         self.hold(publish("a", "1.0.0"))
-        with open("/dev/full", "w", encoding="ascii") as full:
-            done = typed("list", "--journal", self.journal, stdout=full)
-        self.assertEqual((done.returncode, done.stderr), (3, b"registry: No space left on device\n"))
+        for words, unbuffered in ((["list", "--journal", self.journal], ""), (["list", "--journal", self.journal], "1"), (["--manual"], "")):
+            with open("/dev/full", "w", encoding="ascii") as full:
+                done = typed(*words, stdout=full, env={"PYTHONUNBUFFERED": unbuffered})
+            self.assertEqual((done.returncode, done.stderr), (3, b"registry: standard output: No space left on device\n"))
         for closed in (">&-", "2>&-", "<&-", ">&- 2>&- <&-"):
             done = subprocess.run(f"{COMMAND} list --journal {self.journal} {closed}", shell=True, env={**os.environ, "REGISTRY_PROGRAM": PROGRAM}, stdout=subprocess.PIPE,
                                   stderr=subprocess.PIPE)

@@ -5,6 +5,7 @@ import sys
 from limits import MOST_LINE_BYTES
 
 from ..failures import DONE, REFUSED, Failed, told
+from ..lines.fault import placed
 from ..lines.judging import faults
 
 
@@ -18,7 +19,7 @@ def run(given, out):
             if out.is_json:
                 found.append(as_json(count, it))
             else:
-                out.give(None, [in_words(name, count, it, out)])
+                out.give(None, [placed(name, count, it, out.style)])
     if out.is_json:
         out.give({"faults": found, "file": name, "lines": count, "refused": wrong}, [])
     lines = f"{count:,} line{'' if count == 1 else 's'}"
@@ -37,12 +38,6 @@ def lines_of(path):
                 yield line.removesuffix(b"\n")
     except OSError as fault:
         raise Failed(told(fault)) from None
-
-
-def in_words(name, line, fault, out):
-    """A fault in the way of compilers."""
-    place, number = out.style(f"{name}:{line}:{fault.place + 1}:", "bold"), out.style(f"error {fault.number} {fault.name}:", "red")
-    return f"{place} {number} {fault.told}"
 
 
 def as_json(line, fault):

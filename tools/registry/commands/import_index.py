@@ -4,8 +4,9 @@ import sys
 
 from limits import MOST_VERSIONS
 
+from ..alone import Alone
 from ..bar import Bar, busy
-from ..failures import REFUSED, Usage
+from ..failures import REFUSED, Refused, Usage
 from ..files import read_bounded, write_file
 from ..indexes.cargo import Cargo
 from ..indexes.crates_io import CratesIo
@@ -13,9 +14,9 @@ from ..indexes.debian import Debian
 from ..locks import Lock, lock_text
 from ..needs import needs_path, write_needs
 from ..output import say
-from ..refusals import english
-from ..session import writing
-from ..shelf import Shelf, choose, commands_of, counted, noted, request, roots
+from ..refusals import english, listed
+from ..session import reading, writing
+from ..shelf import Shelf, choose, commands_of, counted, noted, other_spellings, request, roots
 
 THERE_ALREADY = (7, 12)  # it is published, or yanked, already
 
@@ -57,6 +58,8 @@ def published(given, commands, chosen, notes, out):
     """Sends the commands, and says what became of them."""
     accepted, there, refused, reply, bar = 0, 0, {}, {"revision": 0}, Bar("importing", len(commands))
     with writing(given) as session:
+        if not given.both_spellings:
+            refuse_spellings(other_spellings(chosen, listed(session)))
         for command, reply in zip(commands, session.each(commands)):
             bar.step()
             if "error" not in reply:
@@ -69,12 +72,23 @@ def published(given, commands, chosen, notes, out):
     if there:
         notes = [*notes, f"passed over: commands that were carried out before: {there}"]
     notes += [f"refused: {said}: {len(of)} (first: {of[0]})" for said, of in refused.items()]
-    out.give({"accepted": accepted, "passed_over": there, "refused": sum(map(len, refused.values())), "revision": reply["revision"], "notes": notes},
-             [f"imported: {counted(chosen)} (revision {reply['revision']})"])
+    with reading(given) as session:
+        alone = Alone(session, [name for name, releases in chosen.items() if releases])
+    out.give({"accepted": accepted, "passed_over": there, "refused": sum(map(len, refused.values())), "revision": reply["revision"], "notes": notes,
+              "alone": alone.value()}, [f"imported: {counted(chosen)} (revision {reply['revision']})"])
     sys.stdout.flush()
     if not out.is_json:
-        say(*notes)
+        say(*notes, *alone.lines())
     return REFUSED if refused else None
+
+
+def refuse_spellings(pairs):
+    """Ends an import of names that the journal has in another spelling: what is needed would be found under one of the two alone."""
+    if pairs:
+        name, there = pairs[0]
+        count = f"{len(pairs)} name{'s differ' if len(pairs) > 1 else ' differs'}"
+        raise Refused(f"nothing is imported: {count} from the journal's only in - and _ (first: {name}, which is {there} there): "
+                      "import into another journal, which --journal FILE names, or add --both-spellings")
 
 
 def keep(path, locked, needs, out):

@@ -20,7 +20,5 @@ def run(given, out):
                 out.note(f"{journal.path} is shown there, to this machine alone; Ctrl-C ends it")
             sys.stdout.flush()
             server.serve_forever()
-    except KeyboardInterrupt:
-        pass
     finally:
         journal.leave()

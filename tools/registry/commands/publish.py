@@ -1,11 +1,11 @@
 """`registry publish`: a version of a package, with what it needs."""
-from ..needs import need_of
+from ..needs import needs_of
 from ..refusals import accepted, listed, unpublished
 from ..session import writing
 
 
 def run(given, out):
-    command = {"op": "publish", "name": given.name, "version": given.version, "needs": [need_of(it) for it in given.need]}
+    command = {"op": "publish", "name": given.name, "version": given.version, "needs": needs_of(given.need)}
     with writing(given) as session:
         (reply,) = session.ask(command)
         accepted(session, command, reply)

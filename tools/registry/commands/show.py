@@ -7,20 +7,21 @@ def run(given, out):
     with reading(given) as session:
         catalog = Catalog(session)
     versions, newest = catalog.versions(given.name), catalog.newest(given.name)
+    told_of = catalog.version(given.name, given.version) if given.version else newest
     needing = list(catalog.needing(given.name))
     out.give({"name": given.name,
               "versions": [{"version": it.text, "yanked": it.is_yanked, "needs": it.needs} for it in versions],
               "newest": newest.text,
               "needed_by": [{"name": name, "version": it.text, "requirement": requirement} for name, it, requirement in needing]},
-             told(given.name, versions, newest, needing, out))
+             told(given.name, versions, told_of, needing, out))
 
 
-def told(name, versions, newest, needing, out):
+def told(name, versions, told_of, needing, out):
     yield out.style(name, "bold")
     for it in versions:
         yield f"  {it.text}" + (out.style("  yanked", "yellow") if it.is_yanked else "")
-    yield out.style(f"{newest.text} needs", "bold") + ("" if newest.needs else " nothing")
-    for target, requirement in newest.needs:
+    yield out.style(f"{told_of.text} needs", "bold") + ("" if told_of.needs else " nothing")
+    for target, requirement in told_of.needs:
         yield f"  {target} {requirement}"
     yield out.style("needed by", "bold") + ("" if needing else " nothing")
     for other, it, requirement in needing:

@@ -3,6 +3,7 @@ import sys
 
 from ..failures import Refused
 from ..nearest import nearest
+from ..needs import need_of
 from ..requests import answered, needs_of, refused, request_of
 from ..session import reading
 
@@ -22,7 +23,7 @@ def run(given, out):
     roots = [name for name, _ in request["needs"]]
     if given.invert:
         if given.invert not in selected:
-            near = nearest(given.invert, selected)
+            near = nearest(need_of(given.invert)[0], selected)
             raise Refused(f"{given.invert} is not selected" + (f"; {near} is, which may be meant" if near else ""))
         roots, below = [given.invert], inverted(below)
     out.give({"revision": reply["revision"], "roots": roots,

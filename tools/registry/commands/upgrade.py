@@ -3,6 +3,7 @@ from ..failures import REFUSED, Refused
 from ..files import write_file
 from ..locks import DEFAULT, changed, changes, coloured, counted, lock_of, lock_text, renewed
 from ..nearest import nearest
+from ..needs import need_of
 from ..refusals import listed
 from ..requests import answered, lock_notes, refused, request_of
 from ..session import reading
@@ -31,7 +32,7 @@ def without(path, lock, names):
     """A lock without these packages; without any where none are named."""
     for it in names:
         if it not in lock:
-            near = nearest(it, lock)
+            near = nearest(need_of(it)[0], lock)
             raise Refused(f"{path} has no {it}" + (f"; it has {near}" if near else ""))
     return {name: text for name, text in lock.items() if names and name not in names}
 

@@ -40,6 +40,11 @@ class Fault(NamedTuple):
         return self.what + remedy
 
 
+def placed(file, line, fault, style=lambda text, _: text):
+    """A fault in the way of compilers: the file, the line and the column, the error, what is wrong, and what was probably meant."""
+    return f"{style(f'{file}:{line}:{fault.place + 1}:', 'bold')} {style(f'error {fault.number} {fault.name}:', 'red')} {fault.told}"
+
+
 def shown(text):
     """A text in quotes, cut where it is long, with nothing in it that a terminal obeys."""
     cut = text if len(text) <= MOST_SHOWN else text[:MOST_SHOWN - 1] + "…"

@@ -128,12 +128,13 @@ def no_escape(text, at):
     return Bad(at, f"\\{behind if behind.isprintable() else ''} is no escape of JSON", (at, at + 1, "\\\\"))
 
 
-def behind_the_value(text, at):
-    """What stands behind the whole value of a line."""
+def behind_the_value(text, at, whose):
+    """What stands behind the whole value of a line or a file."""
+    of = {"line": "request", "file": "lock"}[whose]
     if text[at] == ",":
-        return Bad(at, "lines are not parted by commas", (at, at + 1, ""))
+        return Bad(at, f"{whose}s are not parted by commas", (at, at + 1, ""))
     if text[at] in "]}":
         return Bad(at, f"one {text[at]} too many", (at, at + 1, ""))
     if text[at] in '"{[' or text[at].isalnum():
-        return Bad(at, "something stands behind the request: one line has one request")
-    return strange(text, at) or Bad(at, f"{shown(text[at])} stands behind the request")
+        return Bad(at, f"something stands behind the {of}: one {whose} has one {of}")
+    return strange(text, at) or Bad(at, f"{shown(text[at])} stands behind the {of}")

@@ -26,13 +26,13 @@ class Value:
         self.held, self.start, self.end, self.names = held, start, end, names
 
 
-def read(text):
+def read(text, whose="line"):
     """The value of a text, or Bad."""
     reader = Reader(text)
     value = reader.value(reader.space(0))
     end = reader.space(value.end)
     if end < len(text):
-        raise json_slips.behind_the_value(text, end)
+        raise json_slips.behind_the_value(text, end, whose)
     return value
 
 

@@ -50,7 +50,9 @@ def bad_name(text):
 
 
 def name_meant(text):
-    """The name that a text would be in small letters without accents, with - for what a name can't have."""
+    """The name that a text would be in small letters without accents, with - for what a name can't have; none of one with a requirement."""
+    if re.search("[=<>~^!]|.@", text):
+        return None
     plain = "".join(it for it in unicodedata.normalize("NFKD", text) if not unicodedata.combining(it))
     # @scope/name, as npm has it
     folded = re.sub(r"[^a-z0-9_-]+", "-", plain.strip().lower().lstrip("@")).strip("-")

@@ -1,0 +1,60 @@
+"""How many of some packages have a selection where each is requested alone, and what stands in the way of the others."""
+from itertools import combinations
+
+from .bar import Bar
+
+MOST_ASKED = 2_000  # of more packages some are asked, at even distances
+BUDGET = 100  # conflicts of each request
+MOST_TOLD = 5
+
+
+class Alone:
+    """The answers to a request for each of some packages alone."""
+
+    def __init__(self, session, names):
+        self.count, self.asked = len(names), names[::-(-len(names) // MOST_ASKED) or 1]
+        self.selected, self.obstacles = 0, {}  # by obstacle the packages in whose way it stands
+        bar = Bar("requesting each alone", len(self.asked))
+        for name, reply in zip(self.asked, session.each([request(it) for it in self.asked])):
+            bar.step()
+            self.selected += "selected" in reply
+            for it in obstacles(reply):
+                self.obstacles.setdefault(it, []).append(name)
+        bar.end()
+
+    def ranked(self):
+        """The obstacles with their packages, those of the most packages first."""
+        return sorted(self.obstacles.items(), key=lambda it: -len(it[1]))
+
+    def lines(self):
+        some = "" if len(self.asked) == self.count else f" that were requested, of {self.count}"
+        yield f"resolve alone: {self.selected} of {len(self.asked)} crates{some}"
+        for told, names in self.ranked()[:MOST_TOLD]:
+            yield f"in the way: {told}: {len(names)} (first: {names[0]})"
+
+    def value(self):
+        """The same for JSON."""
+        return {"requested": len(self.asked), "selected": self.selected,
+                "in_the_way": [{"what": told, "packages": names} for told, names in self.ranked()]}
+
+
+def request(name):
+    return {"op": "resolve", "needs": [[name, "*"]], "explain": True, "budget": BUDGET}
+
+
+def obstacles(reply):
+    """What a refusal rests on: requirements that no version meets, and packages of which two versions are needed; else what is yanked."""
+    if "error" in reply:
+        return [f"no answer within {BUDGET} conflicts" if reply["error"] == 22 else reply["name"]]
+    facts = [cause for row in reply.get("derivation", []) for cause in row["causes"]]
+    premises = [it for it in facts if it.get("fact") == "premise"]
+    told = [f'no version of {it["target"]} meets "{it["need"]}"' for it in premises if not it["within"]]
+    targets = dict.fromkeys(it["target"] for it in premises)
+    told += [f"two versions of {it} are needed, and a selection has one" for it in targets if is_divided(it, premises)]
+    return list(dict.fromkeys(told or [f"versions of {it['name']} are yanked" for it in facts if it.get("fact") == "disallowed"]))
+
+
+def is_divided(target, premises):
+    """Whether two of the dependencies on a package leave no version in common."""
+    within = {frozenset(it["within"]) for it in premises if it["target"] == target and it["within"]}
+    return any(one.isdisjoint(other) for one, other in combinations(within, 2))
