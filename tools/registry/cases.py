@@ -48,6 +48,7 @@ class Case:
         self.request = {"op": "resolve", "needs": request["needs"], "lock": request.get("lock", [])}
         self.registry, self.ask, self.put, self.names, self.told = registry, ask, put, names, told
         self.reply = reply or self.again()
+        self.refuted = None  # the derivation that was told
         self.draw = None  # once it was told: what draws it, of a derivation at most so many lines unfolded
 
     @property
@@ -95,6 +96,7 @@ class Case:
         return self.english(self.derivation(title, request, reply, asked), title, failed)
 
     def english(self, derivation, title, failed):
+        self.refuted = derivation
         self.draw = lambda most: drawing().draw_derivation(derivation, title, failed, most)
         return [title, *("  " + it if it else "" for it in (*Telling(derivation, failed).lines(), *hints(derivation)))]
 

@@ -18,9 +18,14 @@ class Parser(argparse.ArgumentParser):
         raise Usage(f"{message}: see `{self.prog} --help`")
 
 
+def asked_help(words):
+    """A command line in which `help` stands before a subcommand, as one that has `--help` behind it."""
+    return [*asked_help(words[1:]), "--help"] if words[:1] == ["help"] else words
+
+
 def split(words):
     """The subcommand of a command line, none where it names none, and the other words."""
-    valued = {it.flag: bool(it.names) for it in COMMON}
+    valued = {flag: bool(it.names) for it in COMMON for flag in flags(it)}
     at = 0
     while at < len(words) and words[at].startswith("-") and words[at] not in GENERAL:
         known = words[at].partition("=")[0]
@@ -34,6 +39,11 @@ def split(words):
         if found:
             return found, words[:at] + words[at + length:]
     raise Usage(unknown(words[at], words[at + 1:at + 2]))
+
+
+def flags(of):
+    """The ways to write an option: in short, and whole."""
+    return [it for it in (of.short, of.flag) if it]
 
 
 def unknown(first, following):
@@ -65,7 +75,7 @@ def add(parser, of):
     if of.flag:
         told["dest"] = of.member
     if of.flag and not of.names:
-        parser.add_argument(of.flag, action="store_true", **told)
+        parser.add_argument(*flags(of), action="store_true", **told)
         return
     if isinstance(of.takes, tuple):
         told["choices"] = of.takes
@@ -94,7 +104,7 @@ def overview():
                     description="A package registry with a version solver, over one file.\n\nsubcommands:\n"
                     + "\n".join(f"  {it.name.ljust(wide)}  {it.summary}" for it in SUBCOMMANDS),
                     epilog=shown(("registry publish log 1.3.0", "registry publish app 1.0.0 log@^1.2", "registry resolve app"))
-                    + "\n\n`registry SUBCOMMAND --help` has the words of each, with examples.")
+                    + "\n\n`registry help SUBCOMMAND` shows its arguments, options and examples.")
     for it in COMMON:
         add(parser, it)
     parser.add_argument("-V", "--version", action="store_true", help="the version of the program")

@@ -14,6 +14,11 @@ class Refused(Failure):
     status = REFUSED
 
 
+class Unanswered(Failure):
+    """A search that was ended before it had an answer."""
+    status = REFUSED
+
+
 class Usage(Failure):
     """The words are wrong."""
     status = USAGE

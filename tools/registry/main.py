@@ -5,7 +5,7 @@ import sys
 
 from . import command_line
 from .failures import DONE, FAILED, INTERRUPTED, NO_READER, USAGE, Failure, Usage, told
-from .output import Output, say
+from .output import Output, choose, fail
 
 
 def run(words):
@@ -13,11 +13,13 @@ def run(words):
     for place, it in enumerate(words, 1):
         if any("\ud800" <= letter <= "\udfff" for letter in it):
             raise Usage(f"word {place} is not UTF-8")
-    of, rest = command_line.split(words)
+    choose()
+    of, rest = command_line.split(command_line.asked_help(words))
     if of is None:
         return general(rest)
     given = command_line.reader(of).parse_intermixed_args(rest)
     given.subcommand = of.name
+    choose(given)
     module = importlib.import_module(f".commands.{of.module}", __package__)
     return module.run(given, Output(given.json)) or DONE
 
@@ -57,15 +59,17 @@ def guarded(words):
         sys.stdout.flush()
         return status
     except Failure as fault:
-        Output.note(fault)
+        sys.stdout.flush()
+        fail(fault)
         return fault.status
     except BrokenPipeError:
         raise
     except OSError as fault:
-        say(f"registry: {told(fault)}")
+        fail(told(fault))
         return FAILED
     except MemoryError:
-        Output.note("there is not enough memory")
+        sys.stdout.flush()
+        fail("there is not enough memory")
         return FAILED
 
 

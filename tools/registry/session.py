@@ -15,6 +15,7 @@ import tied
 from . import near_limits
 from .failures import Failed, Refused, Usage, told
 from .program import program
+from .searching import asking
 from .waiting import SECONDS, InUse, Queue
 
 DEFAULT, VARIABLE, SERVICE = "registry.journal", "REGISTRY_JOURNAL", "REGISTRY_CONNECT"
@@ -136,6 +137,7 @@ def reason(said, path):
 
 class Session:
     """A program that answers request lines, begun with these words."""
+    quicker = ", and --any takes the first selection that is found"  # what else helps where a search takes too long
     group = None  # of processes: that of this command, so that a key that ends it ends the program too
 
     def __init__(self, path, words, handed=()):
@@ -178,7 +180,12 @@ class Session:
 
     def ask(self, *requests):
         """The replies to requests, together."""
-        return list(self.each(requests))
+        with asking(self, requests):
+            return list(self.each(requests))
+
+    def end_search(self):
+        """Ends the program, since nothing else ends a search. What it was told as accepted is kept."""
+        self.process.kill()
 
     def ended(self):
         """Why the program has ended, or is ended since it wrote no reply."""

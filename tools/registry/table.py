@@ -7,6 +7,7 @@ from limits import MOST_VERSIONS
 FILE, FOLDER, PACKAGE, NEED, VERSION, TEXT = "file", "folder", "package", "need", "version", "text"
 BUDGETS, COUNTS, VERSIONS = range(2 ** 32), range(1, 2 ** 32), range(4097)
 MODES = ("600", "660", "666")
+COLORS = ("auto", "always", "never")
 
 
 class Word(NamedTuple):
@@ -18,6 +19,7 @@ class Word(NamedTuple):
     many: str = ""
     kept_as: str = ""  # under which name its value is found, where its own can't be one
     default: object = None  # its value where it isn't given
+    short: str = ""  # its flag in short, as -q
 
     @property
     def member(self):
@@ -42,20 +44,24 @@ def option(flag, name, about, takes=TEXT, many="", default=None):
     return Word((name,), about, takes, flag, many, default=default)
 
 
-def flag(name, about):
-    return Word((), about, flag=name)
+def flag(name, about, short=""):
+    return Word((), about, flag=name, short=short)
 
 
 COMMON = (
     option("--journal", "FILE", "the journal (else: REGISTRY_JOURNAL, else registry.journal in this folder)", FILE),
     option("--connect", "ADDRESS", "a service in place of a journal: its socket's path, or HOST:PORT (else: REGISTRY_CONNECT)", FILE),
     flag("--json", "the answer as JSON, one line"),
+    option("--color", "WHEN", "whether lines are in colour: auto (on a terminal), always or never", COLORS),
+    flag("--quiet", "no notes on standard error, only errors", "-q"),
+    flag("--verbose", "tell what the program is asked, and how long each answer takes", "-v"),
 )
 WAIT = option("--wait", "SECONDS", "wait so long for another session on the journal (else: 10)", range(86_401))
 NEEDS = word("NEED", "a package and a requirement, as app@^1; app alone is app@*", NEED, "*")
 LOCK = option("--lock", "FILE", "a lock file: its versions are preferred", FILE)
 LOCK_FILE = option("--lock", "FILE", "the lock file (else: registry.lock)", FILE)
 BUDGET = option("--budget", "N", "give up after N conflicts", BUDGETS)
+SECONDS = Word(("N",), "end a search after N seconds; 0 is never (else: 30)", range(86_401), "--seconds", kept_as="limit", default=30)
 SELECTING = (flag("--newest", "take the newest selection, which is the same for everyone (else: as the program selects)"),
              flag("--any", "take the first selection that a search finds"))
 NOT = Word(("NAME", "VERSION"), "why this version is not what is selected", PACKAGE, flag="--not", kept_as="version")
@@ -101,16 +107,17 @@ SUBCOMMANDS = (
                (word("TEXT", "a part of the name"),), ("registry search json",)),
     Subcommand("list", "listing", "List all packages, each with its newest version", (), ("registry list",)),
     Subcommand("resolve", "resolve", "Select versions that fit together",
-               (NEEDS, LOCK, option("--write", "FILE", "keep the selection as a lock file, and beside it what was needed", FILE), BUDGET, *SELECTING),
+               (NEEDS, LOCK, option("--write", "FILE", "keep the selection as a lock file, and beside it what was needed", FILE), BUDGET, SECONDS, *SELECTING),
                ("registry resolve app@^1 zlib", "registry resolve app@^1 --write registry.lock", "registry resolve --lock registry.lock"),
                BESIDE),
     Subcommand("tree", "tree", "Show a selection as a tree of who needs whom",
                (NEEDS, LOCK, option("--invert", "NAME", "who needs this package, in place of what is needed", PACKAGE),
-                option("--depth", "N", "no more than N steps deep", BUDGETS), BUDGET, *SELECTING),
+                option("--depth", "N", "no more than N steps deep", BUDGETS), BUDGET, SECONDS, *SELECTING),
                ("registry tree app@^1", "registry tree app@^1 --invert log", "registry tree --lock registry.lock --depth 1"),
                "The needs of a package are shown once: (*) marks it where it comes again. " + BESIDE),
     Subcommand("why", "why", "Tell why a request is refused, or why a version is not selected",
-               (NEEDS, LOCK, BUDGET, *SELECTING, NOT, option("--picture", "FILE", "draw it too, as SVG: the derivation, or the selection", FILE),
+               (NEEDS, LOCK, BUDGET, SECONDS, *SELECTING, NOT, option("--picture", "FILE", "draw it too, as SVG: the derivation, or the selection", FILE),
+                flag("--full", "tell all of an explanation that takes more than a screenful of a terminal"),
                 flag("--unfolded", "draw each line of a derivation, however long it is"),
                 option("--asked", "FILE", "the request lines of a session; without --told each followed by its reply", FILE),
                 option("--told", "FILE", "the reply lines of that session", FILE),
@@ -120,13 +127,13 @@ SUBCOMMANDS = (
                "A refusal is told from its derivation alone, and only where that follows. Of a session whose packages are a journal's, "
                "as a race prints it, --journal names that: each reply is told at its revision. " + BESIDE),
     Subcommand("outdated", "outdated", "Tell what in a lock file is not the newest, and what holds it back",
-               (NEEDS, LOCK_FILE, option("--budget", "N", "give a question up after N conflicts (else: 10000)", BUDGETS), *SELECTING),
+               (NEEDS, LOCK_FILE, option("--budget", "N", "give a question up after N conflicts (else: 10000)", BUDGETS), SECONDS, *SELECTING),
                ("registry outdated", "registry outdated --lock app.lock"),
                "Of each package it tells what is locked, what an upgrade of all would select, the newest version that is not yanked, and "
                "why that is not selected. " + BESIDE),
     Subcommand("upgrade", "upgrade", "Take packages off a lock file, and keep what is selected then",
                (word("NAME", "a package of the lock file; without any all are taken off", PACKAGE, "*"), LOCK_FILE,
-                option("--need", "NEED", "what is needed, in place of what the needs file says", NEED, "+"), BUDGET, *SELECTING,
+                option("--need", "NEED", "what is needed, in place of what the needs file says", NEED, "+"), BUDGET, SECONDS, *SELECTING,
                 flag("--yes", "write it without a question")),
                ("registry upgrade log", "registry upgrade --yes", "registry upgrade --lock app.lock --need app@^2"),
                "It shows what would change and asks before it writes. " + BESIDE),

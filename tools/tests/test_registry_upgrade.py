@@ -142,7 +142,7 @@ class Upgrade(Locked):
             ended, shown = at_terminal(words, {"REGISTRY_PROGRAM": PROGRAM}, typed)
             self.assertEqual(ended, status)
             self.assertIn(f"write this to {self.lock}? [y/N] ", shown)
-            self.assertTrue(shown.rstrip().endswith(f"registry: {self.lock} {last}"), shown)
+            self.assertTrue(shown.rstrip().endswith(f"registry:\x1b[0m {self.lock} {last}"), shown)
             # what changed stands above the question, in colour
             self.assertIn("\x1b[33m~ log 1.2.0 -> 1.3.0\x1b[0m", shown.partition("write this")[0])
             self.assertEqual(self.text("registry.lock"), LOCK.replace("1.2.0", "1.3.0") if status == 0 else LOCK)

@@ -113,7 +113,7 @@ class Completed(Folder):
                               (["diff", ""], "file"), (["diff", "a", ""], "file"), (["diff", "a", "b", ""], []), (["import", "cargo", ""], "folder"),
                               (["import", "cargo", "x", "--index", ""], "folder"), (["import", "debian", ""], "file"), (["tree", "a", "--invert", "a"], ["app"]),
                               (["why", "app", "--not", "l"], ["lock", "log"]), (["why", "app", "--not", "log", "1.0"], ["1.0.0"]),
-                              (["why", "app", "--not", "log", "1.0.0", "a"], ["app"]), (["upgrade", "--need", "app", "l"], ["lock", "log"]), (["nonsense", ""], []), (["list", "--"], ["--connect", "--help", "--journal", "--json"])):
+                              (["why", "app", "--not", "log", "1.0.0", "a"], ["app"]), (["upgrade", "--need", "app", "l"], ["lock", "log"]), (["nonsense", ""], []), (["list", "--"], ["--color", "--connect", "--help", "--journal", "--json", "--quiet", "--verbose"])):
             self.assertEqual(self.offered(*words), wanted, words)
         self.assertTrue({"publish", "import", "--journal", "--help"} <= set(self.offered("")))
 

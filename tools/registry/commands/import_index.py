@@ -12,7 +12,7 @@ from ..indexes.crates_io import CratesIo
 from ..indexes.debian import Debian
 from ..locks import lock_text
 from ..needs import needs_path, write_needs
-from ..output import say
+from ..output import aside
 from ..refusals import english
 from ..session import writing
 from ..shelf import Shelf, choose, commands_of, counted, noted, request, roots
@@ -36,7 +36,7 @@ def run(given, out):
         for it in [*commands, *([asked] if asked else [])]:
             print(json.dumps(it, separators=(",", ":")))
         sys.stdout.flush()
-        say(f"written: {counted(chosen)}", *noted(shelf, chosen, most, index.notes))
+        aside(f"written: {counted(chosen)}", *noted(shelf, chosen, most, index.notes))
         return None
     status = published(given, commands, chosen, noted(shelf, chosen, most, index.notes), out)
     if lock_file:
@@ -73,7 +73,7 @@ def published(given, commands, chosen, notes, out):
              [f"imported: {counted(chosen)} (revision {reply['revision']})"])
     sys.stdout.flush()
     if not out.is_json:
-        say(*notes)
+        aside(*notes)
     return REFUSED if refused else None
 
 

@@ -1,9 +1,12 @@
 """`registry why`: in English why a request is refused, or why a version was not selected, from a derivation that is checked first."""
 import math
+import sys
 
 from check_derivation import (NAME, RESOLVE, demand, formed, read_journal, read_lines, read_version, session as replayed)
 
+from ..bar import timed
 from ..cases import Case
+from ..explaining import tell
 from ..failures import Failed, Refused, Usage
 from ..files import write_file
 from ..folding import MOST_SHOWN
@@ -18,10 +21,12 @@ def run(given, out):
     picture, answers = None, []
     try:
         for case in of_files(given) if given.asked else of_journal(given):
-            lines = case.why_not(*given.version) if given.version else case.answer()
+            with timed("explaining"):
+                lines = case.why_not(*given.version) if given.version else case.answer()
             answers.append({"request": case.request, "reply": case.reply, "told": lines})
             if not out.is_json:
-                out.give(None, [""] * (len(answers) > 1) + lines)
+                out.give(None, [""] * (len(answers) > 1))
+                tell(case, lines, sys.stdout, given.full or not sys.stdout.isatty(), "--full tells all of them")
             picture = case.draw
         if out.is_json:
             out.give(answers, [])
