@@ -37,7 +37,7 @@ def hints(derivation):
         else:
             said = unpublished(name, published)
         if ";" in said:
-            yield said[0].upper() + said[1:] + "."
+            yield said[0].upper() + said[1:] + "." * (not said.endswith("?"))
 
 
 class Case:
@@ -125,9 +125,9 @@ class Case:
         further = ["  " + it for it in changes(selected, other) if it.split()[1] != name]
         forbidden = self.forbidden(name, text, self.before(name, text, selected), failed)
         if forbidden:
-            return [*forbidden, f"a selection with {name} {text} changes besides:", *further]
+            return [*forbidden, f"a selection with {name} {text} also changes:", *further]
         lines = [f"{name} {text} can be selected; {self.instead(name, text, selected)}",
-                 "a selection with it changes besides:" if further else "a selection with it changes nothing else"]
+                 "a selection with it also changes:" if further else "a selection with it changes nothing else"]
         self.request = question.request
         self.selection(f"{title}: a selection with {name} {text}", other)
         return [*lines, *further]
@@ -165,4 +165,4 @@ class Case:
         chosen, locked = selected[name], dict(self.request["lock"]).get(name)
         one, other = read_version(chosen), read_version(text)
         how = "which the lock names" if locked and read_version(locked) == one else "which is " + ("higher" if one > other else "lower")
-        return f"{name} {chosen} was, {how}"
+        return f"{name} {chosen} was selected, {how}"

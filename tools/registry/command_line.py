@@ -6,7 +6,7 @@ from .failures import Usage
 from .nearest import nearest
 from .table import COMMON, SUBCOMMANDS, subcommand
 
-SEE = "`registry --help` has all"
+HELP = "`registry --help`"
 WIDE = 78  # of sentences in the help
 GENERAL = ("--help", "-h", "--version", "-V", "--manual", "--completion", "--complete")
 
@@ -30,7 +30,7 @@ def split(words):
     while at < len(words) and words[at].startswith("-") and words[at] not in GENERAL:
         known = words[at].partition("=")[0]
         if known not in valued:
-            raise Usage(f"there is no option {known} before a subcommand: {SEE}")
+            raise Usage(f"there is no option {known} before a subcommand: see {HELP}")
         at += 2 if valued[known] and known == words[at] else 1
     if at >= len(words) or words[at] in GENERAL:
         return None, words
@@ -50,9 +50,9 @@ def unknown(first, following):
     """What is said of words that name no subcommand."""
     below = [it.name.split(" ")[1] for it in SUBCOMMANDS if it.name.startswith(first + " ")]
     if below:
-        return f"{first} goes with one of {', '.join(below)}" + (f", not with {following[0]}" if following else "") + f": {SEE}"
+        return f"{first} needs one of {', '.join(below)}" + (f", not {following[0]}" if following else "") + f": see {HELP}"
     near = nearest(first, dict.fromkeys(it.name.split(" ")[0] for it in SUBCOMMANDS))
-    return f"there is no subcommand {first}" + (f"; {near} may be meant" if near else "") + f": {SEE}"
+    return f"there is no subcommand {first}" + (f"; did you mean {near}? See {HELP}" if near else f": see {HELP}")
 
 
 def reader(of):

@@ -22,7 +22,7 @@ def judged(value):
     for number, told, faults in (
             (1, "BadName: {} is no package name", [name for name, _ in value if not NAME.fullmatch(name)]),
             (2, "BadVersion: {} is no version", [version for _, version in value if read_version(version) is None]),
-            (4, "RepeatedDependency: {} comes twice", repeated(name for name, _ in value)),
+            (4, "RepeatedDependency: {} appears twice", repeated(name for name, _ in value)),
             (6, f"TooManyDependencies: {len(value)} lines", value[MOST_LOCK_LINES:])):
         if faults:
             raise Unread(f"{number} {told.format(json.dumps(faults[0]))}")
@@ -62,7 +62,7 @@ def lock_text(versions):
 
 
 def changes(old, new):
-    """A line for each package whose version two locks don't share, by name: what came, what went, and from what to what."""
+    """A line for each package whose version two locks don't share, by name: what was added or removed, and from what to what."""
     lines = []
     for name in sorted({*old, *new}):
         if name not in old:
@@ -76,7 +76,7 @@ def changes(old, new):
 
 def counted(lines):
     """How many of such lines tell of what."""
-    return ", ".join(f"{sum(line[0] == mark for line in lines)} {told}" for mark, told in (("+", "came"), ("-", "went"), ("~", "changed")))
+    return ", ".join(f"{sum(line[0] == mark for line in lines)} {told}" for mark, told in (("+", "added"), ("-", "removed"), ("~", "changed")))
 
 
 def coloured(lines, out):

@@ -42,7 +42,7 @@ class Limit:
 @contextlib.contextmanager
 def asking(session, requests):
     """Meanwhile a session is asked."""
-    begun, is_search = time.monotonic(), all(it["op"] == "resolve" for it in requests)
+    begun, is_search = time.monotonic(), all(it.get("op") == "resolve" for it in requests)
     seconds = output.chosen.seconds if is_search else 0
     for it in requests if output.chosen.is_verbose else ():
         text = json.dumps(it, separators=(",", ":"))

@@ -91,7 +91,7 @@ class Lists(unittest.TestCase):
 
     def test_how_it_is_told(self):
         lines = CHANGED[-1][2]
-        self.assertEqual((counted(lines), counted(lines[-2:]), counted([])), ("1 came, 1 went, 8 changed", "1 came, 1 went, 0 changed", "0 came, 0 went, 0 changed"))
+        self.assertEqual((counted(lines), counted(lines[-2:]), counted([])), ("1 added, 1 removed, 8 changed", "1 added, 1 removed, 0 changed", "0 added, 0 removed, 0 changed"))
         styled = mock.Mock(style=lambda text, name: f"{name} {text[0]}")
         self.assertEqual(coloured(lines[-3:], styled), ["yellow ~", "red -", "green +"])
 
@@ -105,7 +105,7 @@ class Kept(Folder):
         self.hold(*self.OLD)
         path, selected = self.path("app.lock"), "app 1.0.0\nlog 1.0.0\n"
         self.assertEqual(self.registry("resolve", "app", "--write", path),
-                         (0, selected, "registry: app.lock is written: 2 came, 0 went, 0 changed\nregistry: app.needs is written: what app.lock was made for\n"))
+                         (0, selected, "registry: app.lock is written: 2 added, 0 removed, 0 changed\nregistry: app.needs is written: the needs of app.lock\n"))
         self.assertEqual((self.text("app.lock"), self.text("app.needs")), (self.LOCK, "app *\n"))
         self.hold(*self.OLD, publish("log", "1.1.0"), publish("app", "1.1.0", ["log *"]))
         self.assertEqual(self.registry("resolve", "app@^1", "log@>=1.0.0, <3", "--lock", path, "--budget", "7"), (0, selected, ""))
@@ -113,8 +113,8 @@ class Kept(Folder):
         self.assertEqual(self.registry("resolve", "app"), (0, "app 1.1.0\nlog 2.0.0\n", ""))
         new = self.path("new.lock")
         self.assertEqual(self.registry("resolve", "app", "--write", new)[0], 0)
-        self.assertEqual(self.registry("diff", path, new), (0, "~ app 1.0.0 -> 1.1.0\n~ log 1.0.0 -> 2.0.0 (beyond ^1.0.0)\n0 came, 0 went, 2 changed\n", ""))
-        self.assertEqual(self.registry("diff", path, path), (0, "0 came, 0 went, 0 changed\n", ""))
+        self.assertEqual(self.registry("diff", path, new), (0, "~ app 1.0.0 -> 1.1.0\n~ log 1.0.0 -> 2.0.0 (beyond ^1.0.0)\n0 added, 0 removed, 2 changed\n", ""))
+        self.assertEqual(self.registry("diff", path, path), (0, "0 added, 0 removed, 0 changed\n", ""))
         told = [{"name": "app", "from": "1.0.0", "to": "1.1.0"}, {"name": "log", "from": "1.0.0", "to": "2.0.0"}]
         self.assertEqual(json.loads(self.registry("diff", path, new, "--json")[1]), told)
         self.assertEqual(json.loads(self.registry("diff", self.path("none.lock", "[]"), path, "--json")[1])[0], {"name": "app", "from": None, "to": "1.0.0"})
@@ -146,9 +146,9 @@ class Kept(Folder):
         self.hold(publish("a", "1.0.0"), publish("b", "1.0.0"), publish("b", "2.0.0"))
         path = self.path("x.lock")
         self.path("x.needs", "# what x asks for\n\na\n  b  >=1, <2  \n")
-        self.assertEqual(self.registry("resolve", "--write", path), (0, "a 1.0.0\nb 1.0.0\n", "registry: x.lock is written: 2 came, 0 went, 0 changed\n"))
+        self.assertEqual(self.registry("resolve", "--write", path), (0, "a 1.0.0\nb 1.0.0\n", "registry: x.lock is written: 2 added, 0 removed, 0 changed\n"))
         # needs that are typed go before those of the file, and are kept where they are others
-        self.assertEqual(self.registry("resolve", "a@*", "b@>=1, <2", "--write", path)[2], "registry: x.lock is written: 0 came, 0 went, 0 changed\n")
+        self.assertEqual(self.registry("resolve", "a@*", "b@>=1, <2", "--write", path)[2], "registry: x.lock is written: 0 added, 0 removed, 0 changed\n")
         self.assertIn("# what x asks for", self.text("x.needs"))
         self.assertEqual(self.registry("resolve", "b", "--write", path)[:2], (0, "b 2.0.0\n"))
         self.assertEqual(self.text("x.needs"), "b *\n")
@@ -176,14 +176,14 @@ class Kept(Folder):
         self.assertEqual((self.text("kept.lock"), os.path.islink(link), stat.S_IMODE(os.stat(path).st_mode)), (self.LOCK, True, 0o640))
         self.assertEqual(sorted(os.listdir(self.folder)), ["app.lock", "app.needs", "kept.lock", "registry.journal"])
         status, said, fault = self.registry("resolve", "app", "--write", self.path("nowhere/app.lock"))
-        self.assertEqual((status, said, fault), (3, "app 1.0.0\nlog 1.0.0\n", "registry: nowhere/app.lock is as it was: No such file or directory\n"))
+        self.assertEqual((status, said, fault), (3, "app 1.0.0\nlog 1.0.0\n", "registry: nowhere/app.lock is not written: No such file or directory\n"))
 
     def test_a_write_that_fails_leaves_the_file(self):
         self.hold(*self.OLD)
         path = self.path("app.lock", "[]\n")
         for call in ("os.fsync", "os.replace", "os.fchmod", "tempfile.mkstemp"):
             with mock.patch(call, side_effect=OSError(28, "No space left on device")):
-                self.assertEqual(self.registry("resolve", "app", "--write", path), (3, "app 1.0.0\nlog 1.0.0\n", "registry: app.lock is as it was: No space left on device\n"))
+                self.assertEqual(self.registry("resolve", "app", "--write", path), (3, "app 1.0.0\nlog 1.0.0\n", "registry: app.lock is not written: No space left on device\n"))
             self.assertEqual((self.text("app.lock"), sorted(os.listdir(self.folder))), ("[]\n", ["app.lock", "registry.journal"]), call)
 
     def test_what_is_no_lock(self):
@@ -192,7 +192,7 @@ class Kept(Folder):
         for words, told in ((["diff", good, bad], 'bad is no lock file: 2 BadVersion: "1.0" is no version'), (["diff", bad, good], "2 BadVersion"),
                             (["resolve", "a", "--lock", bad], "2 BadVersion"), (["diff", good, self.path("nowhere")], "nowhere: there is no such lock file"),
                             (["diff", good, self.path("x1", '[["A","1.0.0"]]')], "1 BadName"), (["diff", good, self.path("x2", '[["a",1]]')], "19 BadLine"),
-                            (["diff", good, self.path("x3", '[["a","1.0.0"],["a","2.0.0"]]')], '4 RepeatedDependency: "a" comes twice'),
+                            (["diff", good, self.path("x3", '[["a","1.0.0"],["a","2.0.0"]]')], '4 RepeatedDependency: "a" appears twice'),
                             (["diff", good, self.folder], "Is a directory"), (["tree", "a", "--lock", bad], "2 BadVersion"),
                             (["resolve", "a", "--write", bad], "2 BadVersion"), (["outdated", "--lock", bad], "2 BadVersion"), (["upgrade", "--lock", bad], "2 BadVersion")):
             status, printed, fault = self.registry(*words)

@@ -49,10 +49,10 @@ EDGES = [("resolve a --budget", 0, 4_294_967_295), ("tree a --depth", 0, 4_294_9
 LIMITS = [f"{it} --seconds" for it in ("resolve", "tree", "why", "outdated", "upgrade")]
 EDGES += [(it, 0, 86_400) for it in LIMITS]
 WRONG = [
-    (["publsh"], "there is no subcommand publsh; publish may be meant: `registry --help` has all"), (["frobnicate"], "there is no subcommand frobnicate: `registry --help` has all"),
-    (["--jurnal", "x", "list"], "there is no option --jurnal before a subcommand: `registry --help` has all"), (["--json=1", "--x=2"], "there is no option --x before a subcommand: `registry --help` has all"),
-    (["import"], "import goes with one of crates-io, cargo, debian: `registry --help` has all"), (["journal", "x", "y"], "journal goes with one of verify, repair, renew, not with x: `registry --help` has all"),
-    (["jurnal", "verify"], "there is no subcommand jurnal; journal may be meant: `registry --help` has all"),
+    (["publsh"], "there is no subcommand publsh; did you mean publish? See `registry --help`"), (["frobnicate"], "there is no subcommand frobnicate: see `registry --help`"),
+    (["--jurnal", "x", "list"], "there is no option --jurnal before a subcommand: see `registry --help`"), (["--json=1", "--x=2"], "there is no option --x before a subcommand: see `registry --help`"),
+    (["import"], "import needs one of crates-io, cargo, debian: see `registry --help`"), (["journal", "x", "y"], "journal needs one of verify, repair, renew, not x: see `registry --help`"),
+    (["jurnal", "verify"], "there is no subcommand jurnal; did you mean journal? See `registry --help`"),
 ]
 SMALL = Subcommand("cut here", "cut", "Cut something off", (word("FILE", "a file of 100 %", table.FILE), option("--most", "N", "no more", range(1, 5), default=3), flag("--all", "all of it")),
                    ("registry cut here x",), "It cuts " + "and cuts " * 20 + "off.")

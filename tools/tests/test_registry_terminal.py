@@ -113,7 +113,7 @@ class Shown(Folder):
         for words in (["resolve"], ["journal", "verify"]):
             self.assertEqual(registry("help", *words), registry(*words, "--help"))
         self.assertEqual(registry("help"), registry("--help"))
-        self.assertEqual(registry("help", "publsh"), (2, "", "registry: there is no subcommand publsh; publish may be meant: `registry --help` has all\n"))
+        self.assertEqual(registry("help", "publsh"), (2, "", "registry: there is no subcommand publsh; did you mean publish? See `registry --help`\n"))
         self.assertEqual(self.registry("shell", given="help yank\n")[1], registry("yank", "--help")[1])
 
     # ---- long explanations

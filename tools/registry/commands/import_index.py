@@ -22,7 +22,7 @@ THERE_ALREADY = (7, 12)  # it is published, or yanked, already
 
 def run(given, out):
     if given.ask and not given.lines:
-        raise Usage("--ask goes with --lines: `registry resolve` asks the registry")
+        raise Usage("--ask needs --lines: `registry resolve` asks the registry")
     lock_file = getattr(given, "write", None)
     with busy("reading the index"):
         index = opened(given)
@@ -67,7 +67,7 @@ def published(given, commands, chosen, notes, out):
                 refused.setdefault(english(command, reply, dict), []).append(f"{command['name']} {command['version']}")
     bar.end()
     if there:
-        notes = [*notes, f"passed over: commands that were carried out before: {there}"]
+        notes = [*notes, f"skipped: commands that were carried out before: {there}"]
     notes += [f"refused: {said}: {len(of)} (first: {of[0]})" for said, of in refused.items()]
     out.give({"accepted": accepted, "passed_over": there, "refused": sum(map(len, refused.values())), "revision": reply["revision"], "notes": notes},
              [f"imported: {counted(chosen)} (revision {reply['revision']})"])

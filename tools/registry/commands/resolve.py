@@ -31,4 +31,4 @@ def keep(path, before, needs, selected, out):
     lines = changes(before, selected)
     out.note(f"{path} is written: {counted(lines)}")
     if write_needs(needs_path(path), needs):
-        out.note(f"{needs_path(path)} is written: what {path} was made for")
+        out.note(f"{needs_path(path)} is written: the needs of {path}")

@@ -40,15 +40,15 @@ def run(given, out):
 def check(given):
     """Words that don't go together."""
     if given.asked and (given.need or given.lock or given.budget is not None):
-        raise Usage("--asked reads requests from a file: it goes with no needs, no --lock and no --budget")
+        raise Usage("--asked reads requests from a file: it can't be used with needs, --lock or --budget")
     if given.asked and given.connect:
-        raise Usage("--asked goes without --connect: it reads a session from files")
+        raise Usage("--asked can't be used with --connect: it reads a session from files")
     if given.unfolded and not given.picture:
-        raise Usage("--unfolded goes with --picture FILE")
+        raise Usage("--unfolded needs --picture FILE")
     if not given.asked and (given.told or given.request):
-        raise Usage("--told and --request go with --asked FILE")
+        raise Usage("--told and --request need --asked FILE")
     if given.version and not (NAME.fullmatch(given.version[0]) and read_version(given.version[1])):
-        raise Usage(f"these are no package name and version: {' '.join(given.version)!r}")
+        raise Usage(f"these are not a package name and a version: {' '.join(given.version)!r}")
 
 
 def of_journal(given):
