@@ -1,21 +1,57 @@
-"""What standard error says while something takes long: what it is, and how far; nothing where that is no terminal."""
+"""What standard error says while something takes long: what it is, and how far; nothing where that is no terminal, or --quiet is given."""
 import contextlib
 import sys
+import threading
+import time
+
+from . import output
 
 WIDE, ERASE = 30, "\r\x1b[K"
+TICK = 1  # seconds
+
+
+def is_seen():
+    return sys.stderr.isatty() and not output.chosen.is_quiet
+
+
+def show(text):
+    print(text, end="", file=sys.stderr, flush=True)
 
 
 @contextlib.contextmanager
 def busy(said):
     """Says what is being done, as long as it is."""
-    is_seen = sys.stderr.isatty()
-    if is_seen:
-        print(said, end="", file=sys.stderr, flush=True)
+    seen = is_seen()
+    if seen:
+        show(said)
     try:
         yield
     finally:
-        if is_seen:
-            print(ERASE, end="", file=sys.stderr, flush=True)
+        if seen:
+            show(ERASE)
+
+
+@contextlib.contextmanager
+def timed(said, limit=0):
+    """The same, for how many seconds, once it has taken one; and the seconds that it may take, if those are limited."""
+    if not is_seen():
+        yield
+        return
+    is_over, begun = threading.Event(), time.monotonic()
+
+    def tell():
+        most = f", at most {limit} s" if limit else ""
+        while not is_over.wait(TICK):
+            show(f"{ERASE}{said} for {time.monotonic() - begun:.0f} s{most}; Ctrl-C ends it")
+    telling = threading.Thread(target=tell, daemon=True)
+    telling.start()
+    try:
+        yield
+    finally:
+        is_over.set()
+        telling.join()
+        if time.monotonic() - begun >= TICK:
+            show(ERASE)
 
 
 class Bar:
@@ -23,7 +59,7 @@ class Bar:
 
     def __init__(self, said, whole):
         self.said, self.whole, self.done, self.shown = said, whole, 0, None
-        self.is_seen = sys.stderr.isatty() and whole > 0
+        self.is_seen = is_seen() and whole > 0
 
     def step(self):
         """One more step is done. The line is written anew with each percent."""
@@ -33,9 +69,9 @@ class Bar:
         percent, full = 100 * self.done // self.whole, WIDE * self.done // self.whole
         if percent != self.shown:
             self.shown = percent
-            print(f"\r{self.said} [{'#' * full}{'.' * (WIDE - full)}] {percent}%, {self.done} of {self.whole}", end="", file=sys.stderr, flush=True)
+            show(f"\r{self.said} [{'#' * full}{'.' * (WIDE - full)}] {percent}%, {self.done} of {self.whole}")
 
     def end(self):
         """Takes the line away."""
         if self.is_seen:
-            print(ERASE, end="", file=sys.stderr, flush=True)
+            show(ERASE)

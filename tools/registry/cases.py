@@ -37,7 +37,7 @@ def hints(derivation):
         else:
             said = unpublished(name, published)
         if ";" in said:
-            yield said[0].upper() + said[1:] + "."
+            yield said[0].upper() + said[1:] + "." * (not said.endswith("?"))
 
 
 class Case:
@@ -48,6 +48,7 @@ class Case:
         self.request = {"op": "resolve", "needs": request["needs"], "lock": request.get("lock", [])}
         self.registry, self.ask, self.put, self.names, self.told = registry, ask, put, names, told
         self.reply = reply or self.again()
+        self.refuted = None  # the derivation that was told
         self.draw = None  # once it was told: what draws it, of a derivation at most so many lines unfolded
 
     @property
@@ -95,6 +96,7 @@ class Case:
         return self.english(self.derivation(title, request, reply, asked), title, failed)
 
     def english(self, derivation, title, failed):
+        self.refuted = derivation
         self.draw = lambda most: drawing().draw_derivation(derivation, title, failed, most)
         return [title, *("  " + it if it else "" for it in (*Telling(derivation, failed).lines(), *hints(derivation)))]
 
@@ -124,9 +126,9 @@ class Case:
         further = ["  " + it for it in changes(selected, other) if it.split()[1] != name]
         forbidden = self.forbidden(name, text, self.before(name, text, selected), failed)
         if forbidden:
-            return [*forbidden, f"a selection with {name} {text} changes besides:", *further]
+            return [*forbidden, f"a selection with {name} {text} also changes:", *further]
         lines = [f"{name} {text} can be selected; {self.instead(name, text, selected)}",
-                 "a selection with it changes besides:" if further else "a selection with it changes nothing else"]
+                 "a selection with it also changes:" if further else "a selection with it changes nothing else"]
         self.request = question.request
         self.selection(f"{title}: a selection with {name} {text}", other)
         return [*lines, *further]
@@ -164,4 +166,4 @@ class Case:
         chosen, locked = selected[name], dict(self.request["lock"]).get(name)
         one, other = read_version(chosen), read_version(text)
         how = "which the lock names" if locked and read_version(locked) == one else "which is " + ("higher" if one > other else "lower")
-        return f"{name} {chosen} was, {how}"
+        return f"{name} {chosen} was selected, {how}"

@@ -6,7 +6,7 @@ from .failures import Usage
 from .nearest import nearest
 from .table import COMMON, SUBCOMMANDS, subcommand
 
-SEE = "`registry --help` has all"
+HELP = "`registry --help`"
 WIDE = 78  # of sentences in the help
 GENERAL = ("--help", "-h", "--version", "-V", "--manual", "--completion", "--complete")
 
@@ -22,18 +22,23 @@ class Parser(argparse.ArgumentParser):
 
     def error(self, message):
         meant = nearest(message.partition(" --")[2].partition(" ")[0].partition("=")[0], [it[2:] for it in self._option_string_actions])
-        hint = f"; did you mean --{meant}?" if meant and message.startswith("unrecognized") else ""
-        raise Usage(f"{message}{hint}: see `{self.prog} --help`")
+        hint = f"; did you mean --{meant}? See" if meant and message.startswith("unrecognized") else ": see"
+        raise Usage(f"{message}{hint} `{self.prog} --help`")
+
+
+def asked_help(words):
+    """A command line in which `help` stands before a subcommand, as one that has `--help` behind it."""
+    return [*asked_help(words[1:]), "--help"] if words[:1] == ["help"] else words
 
 
 def split(words):
     """The subcommand of a command line, none where it names none, and the other words."""
-    valued = {it.flag: bool(it.names) for it in COMMON}
+    valued = {flag: bool(it.names) for it in COMMON for flag in flags(it)}
     at = 0
     while at < len(words) and words[at].startswith("-") and words[at] not in GENERAL:
         known = words[at].partition("=")[0]
         if known not in valued:
-            raise Usage(f"there is no option {known} before a subcommand: {SEE}")
+            raise Usage(f"there is no option {known} before a subcommand: see {HELP}")
         at += 2 if valued[known] and known == words[at] else 1
     if at >= len(words) or words[at] in GENERAL:
         return None, words
@@ -44,18 +49,24 @@ def split(words):
     raise Usage(unknown(words[at], words[at + 1:at + 2]))
 
 
+def flags(of):
+    """The ways to write an option: in short, and whole."""
+    return [it for it in (of.short, of.flag) if it]
+
+
 def unknown(first, following):
     """What is said of words that name no subcommand."""
     below = [it.name.split(" ")[1] for it in SUBCOMMANDS if it.name.startswith(first + " ")]
     if below:
-        return f"{first} goes with {'one of ' * (len(below) > 1)}{', '.join(below)}" + (f", not with {following[0]}" if following else "") + f": {SEE}"
+        some = "one of " * (len(below) > 1) + ", ".join(below)
+        return f"{first} needs {some}" + (f", not {following[0]}" if following else "") + f": see {HELP}"
     near = ELSEWHERE.get(first) or nearest(first, dict.fromkeys(it.name.split(" ")[0] for it in SUBCOMMANDS))
-    return f"there is no subcommand {first}" + (f"; {near} may be meant" if near else "") + f": {SEE}"
+    return f"there is no subcommand {first}" + (f"; did you mean {near}? See {HELP}" if near else f": see {HELP}")
 
 
 def parted(of, words):
     """The words of a subcommand, a package and its version apart where they stand in one word, as `log@1.0.0`."""
-    options = {it.flag: it for it in (*of.words, *COMMON) if it.flag}
+    options = {flag: it for it in (*of.words, *COMMON) for flag in flags(it)}
     made, places, awaited = [], [it.names[0] for it in of.words if not it.flag], []
     for it in words:
         if it in options:
@@ -90,7 +101,7 @@ def add(parser, of):
     if of.flag:
         told["dest"] = of.member
     if of.flag and not of.names:
-        parser.add_argument(of.flag, action="store_true", **told)
+        parser.add_argument(*flags(of), action="store_true", **told)
         return
     if isinstance(of.takes, tuple):
         told["choices"] = of.takes
@@ -119,7 +130,7 @@ def overview():
                     description="A package registry with a version solver, over one file.\n\nsubcommands:\n"
                     + "\n".join(f"  {it.name.ljust(wide)}  {it.summary}" for it in SUBCOMMANDS),
                     epilog=shown(("registry publish log 1.3.0", "registry publish app 1.0.0 log@^1.2", "registry resolve app"))
-                    + "\n\n`registry SUBCOMMAND --help` has the words of each, with examples.")
+                    + "\n\n`registry help SUBCOMMAND` shows its arguments, options and examples.")
     for it in COMMON:
         add(parser, it)
     parser.add_argument("-V", "--version", action="store_true", help="the version of the program")

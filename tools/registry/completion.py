@@ -50,6 +50,7 @@ UNBOUNDED = 10 ** 9  # words that an option takes
 def complete(words):
     """The lines that are answered for words of which the last one is being typed: `file`, `folder` or `words`, then words."""
     *before, current = words or [""]
+    before = before[before[:1] == ["help"]:]
     kind, offered = candidates(before, current)
     return [kind, *sorted({it for it in offered if it.startswith(current)})]
 
@@ -65,7 +66,7 @@ def candidates(before, current):
         first = " ".join(it for place, it in enumerate(before) if not it.startswith("-") and before[place - 1] not in valued)
         return "words", [it.name.split(" ")[1] for it in SUBCOMMANDS if it.name.startswith(first + " ")]
     if of is None:
-        return "words", [*(it.name.split(" ")[0] for it in SUBCOMMANDS), *flags(COMMON), *GENERAL]
+        return "words", [*(it.name.split(" ")[0] for it in SUBCOMMANDS), "help", *flags(COMMON), *GENERAL]
     if current.startswith("-"):
         return "words", [*flags(of.words), *flags(COMMON), "--help"]
     takes, given = awaited(of, rest)

@@ -12,6 +12,7 @@ from collections import deque
 from . import near_limits
 from .failures import Failed, Refused
 from .journal_file import commands_in
+from .searching import asking
 from .session import EMPTY
 
 PATIENCE, PAUSE = 10, 0.2  # seconds in which a service that is begun again is waited for
@@ -61,6 +62,8 @@ def line_of(request):
 class Connected:
     """It answers what a session over a journal's file does, as the registry stands when it is asked."""
 
+    quicker, is_ended = "", False
+
     def __init__(self, address):
         self.path, self.revision, self.text = address, 0, b""
         self.open()
@@ -72,7 +75,14 @@ class Connected:
 
     def ask(self, *requests):
         """The replies to requests, together."""
-        return list(self.each(requests))
+        with asking(self, requests):
+            return list(self.each(requests))
+
+    def end_search(self):
+        """Waits no longer: a service ends a search by itself."""
+        self.is_ended = True
+        with contextlib.suppress(OSError):
+            self.connection.shutdown(socket.SHUT_RDWR)
 
     def each(self, requests):
         """The replies to requests, each as it comes."""
@@ -88,6 +98,8 @@ class Connected:
                     self.revision, limit = reply["revision"], time.monotonic() + PATIENCE
                     yield reply
             except (Lost, OSError):
+                if self.is_ended:
+                    raise Failed(f"the service at {self.path} was not waited for") from None
                 done = self.again(limit)
 
     def exchange(self, requests):

@@ -18,6 +18,11 @@ class Refused(Failure):
     status, kind = REFUSED, "refused"
 
 
+class Unanswered(Failure):
+    """A search that was ended before it had an answer."""
+    status, kind = REFUSED, "refused"
+
+
 class Usage(Failure):
     """The words are wrong."""
     status, kind = USAGE, "usage"

@@ -20,7 +20,7 @@ def read_bounded(path):
     with open(path, "rb") as file:
         text = file.read(MOST_BYTES + 1)
     if len(text) > MOST_BYTES:
-        raise Failed(f"{path} has more than {MOST_BYTES:,} bytes, the most that are read")
+        raise Failed(f"{path} has more than {MOST_BYTES:,} bytes, which is the limit")
     return text
 
 
@@ -52,7 +52,7 @@ def write_file(path, text):
     except OSError as fault:
         if new and os.path.exists(new):
             os.unlink(new)
-        raise Failed(f"{path} is as it was: {fault.strerror or fault}") from None
+        raise Failed(f"{path} is not written: {fault.strerror or fault}") from None
 
 
 def umask():

@@ -9,7 +9,7 @@ from . import completion
 from .table import FILE, FOLDER
 
 VERSIONED = re.compile(r"([^@]+)@([=^~<>]*)")
-OWN = ("exit", "help")
+OWN = ("exit",)
 
 
 def complete(text, state):

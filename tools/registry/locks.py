@@ -84,7 +84,7 @@ def renewed(before, request, reply):
 
 
 def changes(old, new):
-    """A line for each package whose version two locks don't share, by name: what came, what went, and from what to what."""
+    """A line for each package whose version two locks don't share, by name: what was added or removed, and from what to what."""
     lines = []
     for name in sorted({*old, *new}):
         if name not in old:
@@ -103,7 +103,7 @@ def changed(old, new):
 
 def counted(lines):
     """How many of such lines tell of what."""
-    return ", ".join(f"{sum(line[0] == mark for line in lines)} {told}" for mark, told in (("+", "came"), ("-", "went"), ("~", "changed")))
+    return ", ".join(f"{sum(line[0] == mark for line in lines)} {told}" for mark, told in (("+", "added"), ("-", "removed"), ("~", "changed")))
 
 
 def coloured(lines, out):

@@ -6,7 +6,7 @@ import sys
 
 from . import command_line
 from .failures import DONE, FAILED, INTERRUPTED, NO_READER, USAGE, Failed, Failure, Usage, told
-from .output import Output, say
+from .output import Output, choose, fail
 
 FULL = (errno.ENOSPC, errno.EDQUOT, errno.EFBIG, errno.EIO)  # errors of a write
 
@@ -16,11 +16,13 @@ def run(words, out):
     for place, it in enumerate(words, 1):
         if any("\ud800" <= letter <= "\udfff" for letter in it):
             raise Usage(f"word {place} is not UTF-8")
-    of, rest = command_line.split(words)
+    choose()
+    of, rest = command_line.split(command_line.asked_help(words))
     if of is None:
         return general(rest)
     given = command_line.reader(of).parse_intermixed_args(rest)
     given.subcommand = of.name
+    choose(given)
     module = importlib.import_module(f".commands.{of.module}", __package__)
     return module.run(given, out) or DONE
 
@@ -77,7 +79,7 @@ def failed(out, fault):
     except BrokenPipeError:
         raise
     except OSError as other:  # nor can standard output be written
-        say(f"registry: {unwritten(other)}")
+        fail(unwritten(other))
         return FAILED
     return fault.status
 

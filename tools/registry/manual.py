@@ -1,4 +1,5 @@
 """The manual page registry.1, made of the table."""
+from .command_line import flags
 from .table import COMMON, SUBCOMMANDS
 
 ABOUT = ("`registry` is what people type to a package registry with a version solver. It keeps packages, their versions and what those need "
@@ -12,7 +13,7 @@ STATUSES = ((0, "What was asked for is done."),
 VARIABLES = (("REGISTRY_JOURNAL", "The journal, where --journal does not name one."),
              ("REGISTRY_CONNECT", "The service to ask, where neither --connect nor --journal is given."),
              ("REGISTRY_PROGRAM", "The program that is asked, in place of registryd."),
-             ("NO_COLOR", "No colour, also on a terminal, where it is set and not empty."))
+             ("NO_COLOR", "No colour, also on a terminal, where it is set and not empty and --color is not always."))
 FILES = (("registry.journal", "The journal, in the folder where the command is given, where nothing names another."),
          ("registry.lock", "The lock file, in that folder, of subcommands that need one: what is selected, a name and a version a line, and the needs and the revision that "
                            "it was made for."),
@@ -42,7 +43,8 @@ def item(head, text):
 
 
 def flagged(it):
-    return f"\\fB{escaped(it.flag)}\\fR" + "".join(f" \\fI{escaped(name)}\\fR" for name in it.names) if it.flag else f"\\fI{escaped(it.names[0])}\\fR"
+    written = ", ".join(f"\\fB{escaped(flag)}\\fR" for flag in flags(it)) or f"\\fI{escaped(it.names[0])}\\fR"
+    return written + "".join(f" \\fI{escaped(name)}\\fR" for name in it.names if it.flag)
 
 
 def sentence(text):

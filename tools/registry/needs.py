@@ -83,7 +83,7 @@ def faulty(path, number, found):
     said = "" if NAME.fullmatch(name) else slip(found[0])
     fault = Fault(1, at, said) if said else text_fault(1, name_fault, name, at)
     fault = fault or text_fault(3, requirement_fault, requirement, found.start(2))
-    return placed(path, number, fault or Fault(4, at, f"{name} stands twice: join its requirements with a comma"))
+    return placed(path, number, fault or Fault(4, at, f"{name} appears twice: join its requirements with a comma"))
 
 
 def write_needs(path, needs):

@@ -1,13 +1,54 @@
-"""Where answers go: lines for people, in colour on a terminal, or JSON where `--json` asks for it; and standard error."""
+"""Where answers go: lines for people, wrapped and in colour on a terminal, or JSON where `--json` asks for it; and standard error."""
 import os
+import re
 import sys
+from typing import NamedTuple
 
 STYLES = {"bold": "1", "faint": "2", "red": "31", "green": "32", "yellow": "33"}
+MARK = os.urandom(8).hex()  # stands for the beginning of a colour's code until a line is printed: no text has it by chance
+STYLED = re.compile(f"{MARK}[0-9;]+m")
+INDENT = re.compile(r" *(?:registry: |\([0-9]+\) +)?")  # further rows of a line are indented as far as this
+NARROWEST = 20  # columns that wrapped text has
+
+
+class Choice(NamedTuple):
+    """What the options of a command line say of all that it prints and asks."""
+    color: str = ""
+    is_quiet: bool = False
+    is_verbose: bool = False
+    seconds: int = 0  # that a search may take; 0 is any time
+
+
+usual = chosen = Choice()  # of the shell that obeys a command line, and of that line
+
+
+def choose(given=None):
+    """Obeys these options, and where they say nothing those of the shell."""
+    global chosen
+    chosen = Choice(given.color or usual.color, given.quiet or usual.is_quiet, given.verbose or usual.is_verbose,
+                    getattr(given, "limit", 0)) if given else usual
+
+
+def keep_choice(kept):
+    """Has the command lines of a shell begin with these options; answers those of before."""
+    global usual, chosen
+    before, usual, chosen = usual, kept, kept
+    return before
 
 
 def is_coloured(stream):
-    """Whether colour may go there: only to a terminal that knows it, and not against https://no-color.org."""
-    return stream is not None and stream.isatty() and not os.environ.get("NO_COLOR") and os.environ.get("TERM") != "dumb"
+    """Whether colour may go there: as --color says, else only to a terminal that knows it, and not against https://no-color.org."""
+    if stream is None or chosen.color in ("always", "never"):
+        return stream is not None and chosen.color == "always"
+    return stream.isatty() and not os.environ.get("NO_COLOR") and os.environ.get("TERM") != "dumb"
+
+
+def size(stream):
+    """The columns and lines of a terminal; 0 of what is none, or does not say."""
+    try:
+        return os.get_terminal_size(stream.fileno()) if stream.isatty() else (0, 0)
+    except (OSError, ValueError):
+        return 0, 0
 
 
 def visible(text):
@@ -19,18 +60,62 @@ def numbered(code):
     return f"\\x{code:02x}" if code < 0x100 else f"\\u{code:04x}" if code < 0x10000 else f"\\U{code:08x}"
 
 
+def wrapped(line, columns):
+    """A line broken between words into rows of so many columns."""
+    plain = STYLED.sub("", line)
+    indent = len(INDENT.match(plain)[0])
+    if not columns or len(plain) <= columns or columns - indent < NARROWEST:
+        return line
+    parts, at = [], 0
+    for word in re.findall(" *[^ ]+", line):
+        wide = len(STYLED.sub("", word))
+        if at > indent and at + wide > columns:
+            parts.append("\n" + " " * indent)
+            word, wide, at = word.lstrip(" "), wide - len(word) + len(word.lstrip(" ")), indent
+        parts.append(word)
+        at += wide
+    return "".join(parts)
+
+
+def style(text, stream, *styles):
+    """A text in some of the STYLES, plain where there is no colour."""
+    return f"{MARK}{';'.join(STYLES[it] for it in styles)}m{text}{MARK}0m" if text and is_coloured(stream) else text
+
+
+def write(stream, lines):
+    columns, _ = size(stream)
+    for it in lines:
+        print(wrapped(visible(it), columns).replace(MARK, "\x1b["), file=stream, flush=stream is sys.stderr)
+
+
 def say(*lines):
     """Lines on standard error."""
-    for it in lines:
-        print(visible(it), file=sys.stderr, flush=True)
+    write(sys.stderr, lines)
+
+
+def aside(*lines):
+    """Lines on standard error beside an answer, where --quiet does not leave them out."""
+    if not chosen.is_quiet:
+        sys.stdout.flush()
+        say(*lines)
+
+
+def fail(text):
+    """One line on standard error: why what was asked for is not done."""
+    say(f"{style('registry:', sys.stderr, 'bold', 'red')} {text}")
+
+
+def detail(text):
+    """One line on standard error, where --verbose asks for it: what is done."""
+    if chosen.is_verbose:
+        Output.note(text)
 
 
 class Output:
     """Standard output and standard error of one subcommand."""
 
     def __init__(self, is_json=False):
-        self.is_json, self.is_coloured, self.has_answered = is_json, not is_json and is_coloured(sys.stdout), False
-        self.mark = os.urandom(8).hex()  # stands for the beginning of a colour's code until a line is printed: no text has it by chance
+        self.is_json, self.has_answered = is_json, False
 
     def give(self, value, lines):
         """An answer: the value as one line of JSON where that is wanted, else these lines."""
@@ -38,25 +123,24 @@ class Output:
             self.has_answered = True
             print(as_json(value))
         else:
-            for line in lines:
-                print(visible(line).replace(self.mark, "\x1b["))
+            write(sys.stdout, lines)
 
     def style(self, text, *styles):
-        """A text in some of the STYLES, plain where there is no colour."""
-        return f"{self.mark}{';'.join(STYLES[it] for it in styles)}m{text}{self.mark}0m" if self.is_coloured and text else text
+        """A text for standard output in some of the STYLES."""
+        return text if self.is_json else style(text, sys.stdout, *styles)
 
     def fail(self, fault):
         """Why there is no answer, or no more than was given: on standard error and, in place of an answer in JSON, on standard output."""
-        self.note(fault)
+        sys.stdout.flush()
+        fail(fault)
         if self.is_json and not self.has_answered:
             self.give({"error": fault.kind, "message": str(fault), **fault.members}, [])
             sys.stdout.flush()
 
     @staticmethod
     def note(text):
-        """One line on standard error: what is worth knowing, and no answer."""
-        sys.stdout.flush()
-        say(f"registry: {text}")
+        """One such line: what is worth knowing, and no answer."""
+        aside(f"{style('registry:', sys.stderr, 'bold')} {text}")
 
     @staticmethod
     def ask(question):

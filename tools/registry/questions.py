@@ -43,7 +43,7 @@ class Question:
         lines = [*reached(commands, dict(self.request["needs"])), *made]
         lines += [{"op": "yank", "name": it.name, "version": it.text} for it in releases_of(commands).values() if self.bars(it)]
         if len(lines) > MOST_COMMANDS:
-            raise Refused(f"the question takes {len(lines):,} commands, and {MOST_COMMANDS:,} are the most of a session")
+            raise Refused(f"the question takes {len(lines):,} commands; the limit of a session is {MOST_COMMANDS:,}")
         lock = [[name, text] for name, text in request["lock"] if name not in self.barring or self.has(name, text)]
         with Over("the question", journal_text([line_of(it) for it in lines]), words) as session:
             (reply,) = session.ask({**request, "needs": needs, "lock": lock})

@@ -28,7 +28,7 @@ def versions_told(versions):
 def unpublished(name, names):
     """What is said of a package that has no publication."""
     near = nearest(name, names) if len(name) >= SHORTEST else None
-    return f"no version of {name} is published" + (f"; {near} is, which may be meant" if near else "")
+    return f"no version of {name} is published" + (f"; did you mean {near}?" if near else "")
 
 
 def unmatched(name, requirement, versions):
@@ -66,18 +66,18 @@ def english(request, reply, packages):
         1: lambda: misspelled(request, 1),
         2: lambda: misspelled(request, 2),
         3: lambda: misspelled(request, 3),
-        4: lambda: f"{repeated(needs) if repeated(needs) in dict(needs) else repeated(lock)} comes twice: join its requirements with a comma",
+        4: lambda: f"{repeated(needs) if repeated(needs) in dict(needs) else repeated(lock)} appears twice: join its requirements with a comma",
         5: lambda: f"{subject} can't need {request['name']} itself",
-        6: lambda: f"there are {len(needs)} needs, and {MOST_NEEDS} are the most",
+        6: lambda: f"there are {len(needs)} needs; the limit is {MOST_NEEDS}",
         7: lambda: f"{subject} is published already, and a publication is permanent: choose another version",
-        8: lambda: f"{request.get('name')} has {MOST_VERSIONS:,} versions, which are the most",
-        9: lambda: f"{MOST_PACKAGES:,} names are known, which are the most: `registry journal renew` begins a smaller journal",
+        8: lambda: f"{request.get('name')} has {MOST_VERSIONS:,} versions, which is the limit",
+        9: lambda: f"{MOST_PACKAGES:,} names are known, which is the limit: `registry journal renew` begins a smaller journal",
         10: lambda: "the journal is full: `registry journal renew` begins a smaller one",
         11: lambda: not_there(request, packages()),
         12: lambda: f"{subject} is yanked already",
         13: lambda: f"{subject} is not yanked",
-        18: lambda: "there was no memory for it",
-        22: lambda: "no answer was found within the budget of conflicts: raise it by --budget",
+        18: lambda: "there is not enough memory for it",
+        22: lambda: "no answer was found within the budget (--budget), or within the time of the service (its --seconds)",
     }.get(reply["error"])
     return said() if said else f"the program refuses it: {reply['error']} {reply['name']}"
 

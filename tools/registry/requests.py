@@ -1,10 +1,11 @@
 """Requests to select versions, and what is told of their answers."""
+import sys
+
 from check_derivation import read_version
 
 from .failures import REFUSED
 from .locks import lock_of
 from .needs import needs_given
-from .output import say
 from .refusals import accepted
 
 
@@ -25,13 +26,17 @@ def answered(session, request):
 
 def refused(session, request, reply, out):
     """Tells why no selection meets a request, and answers the exit status."""
+    from .bar import timed
     from .cases import Case
+    from .explaining import tell
     from .packages import registry_of
     out.give(reply, [])
     commands = session.commands()
     names = {it["name"] for it in commands if it["op"] == "publish"}
     case = Case(request, reply, lambda named: registry_of(commands, named), lambda it: session.ask(it)[0], names)
-    say(*case.answer())
+    with timed("explaining"):
+        lines = case.answer()
+    tell(case, lines, sys.stderr, False, "`registry why` tells all of them")
     return REFUSED
 
 

@@ -15,6 +15,7 @@ import tied
 from . import near_limits
 from .failures import Failed, Refused, Usage, told
 from .program import program
+from .searching import asking
 from .waiting import SECONDS, InUse, Turn
 
 DEFAULT, VARIABLE, SERVICE = "registry.journal", "REGISTRY_JOURNAL", "REGISTRY_CONNECT"
@@ -25,11 +26,11 @@ IN_USE = r"journal .*: in use by another session"
 # what the program says as it ends, and what is told of that
 REASONS = [
     (IN_USE, "{path} is in use by another session: try again once that has ended"),
-    (r"journal (?:.*: )?line (\d+)(?: .*)?", "{path}: line {0} is at fault: `registry journal verify {path}` says more, and `registry journal "
-                                             "repair {path}` keeps what stands before it"),
+    (r"journal (?:.*: )?line (\d+)(?: .*)?", "{path}: line {0} is at fault: `registry journal verify {path}` says why, and `registry journal "
+                                             "repair {path}` keeps what is before it"),
     (r"journal .*?: (.+?)(?: \(os error \d+\))?", "{path}: {0}: --journal FILE names another"),
     (r"input failed", "{path} can't be read"),
-    (r"output failed", "{path} can't be written: what was told as accepted before stands in it"),
+    (r"output failed", "{path} can't be written: it has the commands that were accepted before"),
     (r"no memory", "there is not enough memory for {path}"),
 ]
 
@@ -45,7 +46,7 @@ def journal_of(given):
 def service_of(given):
     """The address of the service that the words name, else, where they name no journal, that of the shell or the environment."""
     if given.connect and given.journal:
-        raise Usage("--connect goes without --journal: a service has one of its own")
+        raise Usage("--connect can't be used with --journal: a service has its own journal")
     if given.connect or given.journal:
         return given.connect
     return standing.service if standing else os.environ.get(SERVICE)
@@ -61,7 +62,7 @@ def selecting(given):
     """The words of the program that say which selection answers a request; none where that is left to the program."""
     newest, takes_any = (getattr(given, it, None) is True for it in ("newest", "any"))
     if newest and takes_any:
-        raise Usage("--newest goes without --any")
+        raise Usage("--newest can't be used with --any")
     return ["--newest"] * newest + ["--any"] * takes_any
 
 
@@ -136,6 +137,7 @@ def reason(said, path):
 
 class Session:
     """A program that answers request lines, begun with these words."""
+    quicker = ", and --any takes the first selection that is found"  # what else helps where a search takes too long
     group = None  # of processes: that of this command, so that a key that ends it ends the program too
 
     def __init__(self, path, words, handed=()):
@@ -178,7 +180,12 @@ class Session:
 
     def ask(self, *requests):
         """The replies to requests, together."""
-        return list(self.each(requests))
+        with asking(self, requests):
+            return list(self.each(requests))
+
+    def end_search(self):
+        """Ends the program, since nothing else ends a search. What it was told as accepted is kept."""
+        self.process.kill()
 
     def ended(self):
         """Why the program has ended, or is ended since it wrote no reply."""

@@ -154,7 +154,7 @@ def roots(index, crates):
         for name, requirement in asked:
             if not index.has(name):
                 near = nearest(name, index.names())
-                raise Unusable(f"there is no crate {name} in the index" + (f"; there is {near}" if near else ""))
+                raise Unusable(f"there is no crate {name} in the index" + (f"; did you mean {near}?" if near else ""))
             if read_requirement(requirement) is None:
                 raise Unusable(misspelled({"op": "resolve", "needs": [[name, requirement]]}, 3))
         return asked

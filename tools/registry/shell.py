@@ -6,7 +6,7 @@ import shlex
 import signal
 import sys
 
-from . import near_limits, session
+from . import near_limits, output, session
 from .failures import DONE, INTERRUPTED, USAGE, Refused
 from .main import EndedBySignal, guarded
 
@@ -73,12 +73,14 @@ class Standing:
 def run(path, service=None, patience=session.SECONDS):
     """Obeys lines until they end; answers the status of the last one, 0 at a terminal."""
     session.standing = Standing(path, service, patience)
+    before = output.keep_choice(output.chosen)
     try:
         if not service:
             near_limits.warn(path)
         is_typed = sys.stdin.isatty() and sys.stdout.isatty()
         return typed() if is_typed else read(sys.stdin)
     finally:
+        output.keep_choice(before)
         standing, session.standing = session.standing, None
         standing.close()
 
@@ -133,10 +135,9 @@ def words_of(line):
     try:
         words = shlex.split(line, comments=True)
     except ValueError:
-        print("registry: a quote does not end, or nothing stands behind a backslash", file=sys.stderr)
+        output.fail("a quote is not closed, or nothing follows a backslash")
         return None
-    words = words[1:] if words[:1] == ["registry"] else words
-    return [*words[1:], "--help"] if words[:1] == ["help"] else words
+    return words[1:] if words[:1] == ["registry"] else words
 
 
 def obey(words):
@@ -144,12 +145,12 @@ def obey(words):
     if words is None:
         return USAGE
     if words[:1] == ["shell"]:
-        print("registry: this is the shell: Ctrl-D ends it", file=sys.stderr)
+        output.fail("this is the shell already: Ctrl-D ends it")
         return USAGE
     try:
         return guarded(words)
     except KeyboardInterrupt:
-        print("registry: interrupted", file=sys.stderr)
+        output.fail("interrupted")
         return INTERRUPTED
     except EndedBySignal:
         raise

@@ -7,6 +7,7 @@ from limits import MOST_VERSIONS
 FILE, FOLDER, PACKAGE, NEED, VERSION, TEXT = "file", "folder", "package", "need", "version", "text"
 BUDGETS, COUNTS, VERSIONS = range(2 ** 32), range(1, 2 ** 32), range(4097)
 MODES = ("600", "660", "666")
+COLORS = ("auto", "always", "never")
 
 
 class Word(NamedTuple):
@@ -18,6 +19,7 @@ class Word(NamedTuple):
     many: str = ""
     kept_as: str = ""  # under which name its value is found, where its own can't be one
     default: object = None  # its value where it isn't given
+    short: str = ""  # its flag in short, as -q
 
     @property
     def member(self):
@@ -42,14 +44,17 @@ def option(flag, name, about, takes=TEXT, many="", default=None):
     return Word((name,), about, takes, flag, many, default=default)
 
 
-def flag(name, about):
-    return Word((), about, flag=name)
+def flag(name, about, short=""):
+    return Word((), about, flag=name, short=short)
 
 
 COMMON = (
     option("--journal", "FILE", "the journal (else: REGISTRY_JOURNAL, else registry.journal in this folder)", FILE),
     option("--connect", "ADDRESS", "a service in place of a journal: its socket's path, or HOST:PORT (else: REGISTRY_CONNECT)", FILE),
     flag("--json", "the answer as JSON, one line"),
+    option("--color", "WHEN", "whether lines are in colour: auto (on a terminal), always or never", COLORS),
+    flag("--quiet", "no notes on standard error, only errors", "-q"),
+    flag("--verbose", "tell what the program is asked, and how long each answer takes", "-v"),
 )
 WAIT = option("--wait", "SECONDS", "wait so long for another session on the journal (else: 10)", range(86_401))
 NEEDS = word("NEED", "a package and a requirement, as app@^1; app alone is app@*", NEED, "*")
@@ -57,11 +62,12 @@ LOCK = option("--lock", "FILE", "a lock file: its versions are preferred", FILE)
 LOCKED = flag("--locked", "end with status 1 unless exactly the lock file's versions are selected (--lock, else registry.lock)")
 LOCK_FILE = option("--lock", "FILE", "the lock file (else: registry.lock)", FILE)
 BUDGET = option("--budget", "N", "give up after N conflicts", BUDGETS)
-SELECTING = (flag("--newest", "take the newest selection, which is the same for everyone (else: as the program selects)"),
+SECONDS = Word(("N",), "end a search after N seconds; 0 is never (else: 30)", range(86_401), "--seconds", kept_as="limit", default=30)
+SELECTING = (flag("--newest", "take the newest selection, which is the same for everyone (default)"),
              flag("--any", "take the first selection that a search finds"))
 NOT = Word(("NAME", "VERSION"), "why this version is not what is selected", PACKAGE, flag="--not", kept_as="version")
-BESIDE = ("Where no NEED is typed, the needs file beside the lock file says what is needed: its name has .needs for .lock, and each of its "
-          "lines a name and a requirement. Without a lock file it is registry.needs. A lock file that says what it was made for "
+BESIDE = ("Without NEED, the needs file beside the lock file says what is needed: its name ends in .needs instead of .lock, and each of its "
+          "lines has a name and a requirement. Without a lock file it is registry.needs. A lock file that says what it was made for "
           "needs no such file.")
 IMPORTING = (
     option("--from", "CRATE", "only these and what they need, as rand or rand@^0.8 (else: all, or of a workspace its own packages)", NEED, "+"),
@@ -71,16 +77,16 @@ IMPORTING = (
     flag("--both-spellings", "import also names that differ from the journal's only in - and _"),
     WAIT,
 )
-IMPORTED = ("Nothing is fetched. What is published already is passed over. What is left out, or told otherwise than it stands there, is counted "
-            "on standard error, each kind with its first example; and at the end how many crates have a selection where each is requested "
-            "alone, and what stands in the way of most of the others.")
+IMPORTED = ("Nothing is fetched. Versions that are published already are skipped. What is left out or rewritten is counted "
+            "on standard error, each kind with its first example; at the end it says how many crates have a selection when each is "
+            "requested alone, and what is in the way of most of the others.")
 
 SUBCOMMANDS = (
     Subcommand("publish", "publish", "Publish a version of a package",
                (word("NAME", "the package", PACKAGE), word("VERSION", "the version, as 1.0.0"), NEEDS, WAIT),
                ("registry publish log 1.3.0", "registry publish app 1.0.0 log@^1.2 zlib"),
                "A publication is permanent. What it needs may be published later."),
-    Subcommand("yank", "yank", "Keep a version from being selected anew",
+    Subcommand("yank", "yank", "Keep a version out of new selections",
                (word("NAME", "the package", PACKAGE), word("VERSION", "the version", VERSION), WAIT),
                ("registry yank log 1.3.0", "registry yank log@1.3.0"),
                "Nothing is deleted: a lock file that names the version still has it."),
@@ -100,71 +106,72 @@ SUBCOMMANDS = (
                (word("FILE", "a file Packages, or what `apt-cache dumpavail` printed; without it apt-cache is asked", FILE, "?"), *IMPORTING),
                ("registry import debian --from reqwest", "registry import debian --from cargo --lines --ask"), IMPORTED),
     Subcommand("show", "show", "Show a package: its versions, what the newest needs, and who needs it",
-               (word("NAME", "the package", PACKAGE), word("VERSION", "tell what this version needs (else: the newest one)", VERSION, "?")),
+               (word("NAME", "the package", PACKAGE), word("VERSION", "show what this version needs (else: the newest one)", VERSION, "?")),
                ("registry show log", "registry show log@1.3.0"),
-               "Versions stand by precedence, the newest first. Of each package that needs it the newest version that does is told."),
+               "Versions are listed by precedence, the newest first. Of each package that needs it, the newest version that does is shown."),
     Subcommand("search", "listing", "Find packages whose names have a text in them",
                (word("TEXT", "a part of the name"),), ("registry search json",)),
     Subcommand("list", "listing", "List all packages, each with its newest version", (), ("registry list",)),
     Subcommand("resolve", "resolve", "Select versions that fit together",
-               (NEEDS, LOCK, option("--write", "FILE", "keep the selection as a lock file, and beside it what was needed", FILE), LOCKED, BUDGET, *SELECTING),
+               (NEEDS, LOCK, option("--write", "FILE", "keep the selection as a lock file, and beside it what was needed", FILE), LOCKED, BUDGET, SECONDS, *SELECTING),
                ("registry resolve app@^1 zlib", "registry resolve app@^1 --write registry.lock", "registry resolve --lock registry.lock --locked"),
                BESIDE),
     Subcommand("tree", "tree", "Show a selection as a tree of who needs whom",
                (NEEDS, LOCK, option("--invert", "NAME", "who needs this package, in place of what is needed", PACKAGE),
-                option("--depth", "N", "no more than N steps deep", BUDGETS), BUDGET, *SELECTING),
+                option("--depth", "N", "no more than N steps deep", BUDGETS), BUDGET, SECONDS, *SELECTING),
                ("registry tree app@^1", "registry tree app@^1 --invert log", "registry tree --lock registry.lock --depth 1"),
                "The needs of a package are shown once: (*) marks it where it comes again. " + BESIDE),
-    Subcommand("why", "why", "Tell why a request is refused, or why a version is not selected",
-               (NEEDS, LOCK, BUDGET, *SELECTING, NOT, option("--picture", "FILE", "draw it too, as SVG: the derivation, or the selection", FILE),
+    Subcommand("why", "why", "Explain why a request is refused, or why a version is not selected",
+               (NEEDS, LOCK, BUDGET, SECONDS, *SELECTING, NOT, option("--picture", "FILE", "draw it too, as SVG: the derivation, or the selection", FILE),
+                flag("--full", "tell all of an explanation that takes more than a screenful of a terminal"),
                 flag("--unfolded", "draw each line of a derivation, however long it is"),
                 option("--asked", "FILE", "the request lines of a session; without --told each followed by its reply", FILE),
                 option("--told", "FILE", "the reply lines of that session", FILE),
                 option("--request", "N", "of a session this request line alone, counted from 1", COUNTS)),
                ("registry why app@^1 log@^2", "registry why app@^1 --not log 1.2.0", "registry why app@^1 --picture why.svg",
                 "registry why --asked asked.lines --told told.lines"),
-               "A refusal is told from its derivation alone, and only where that follows. Of a session whose packages are a journal's, "
-               "as a race prints it, --journal names that: each reply is told at its revision. " + BESIDE),
-    Subcommand("outdated", "outdated", "Tell what in a lock file is not the newest, and what holds it back",
-               (NEEDS, LOCK_FILE, option("--budget", "N", "give a question up after N conflicts (else: 10000)", BUDGETS), *SELECTING,
-                flag("--exit-status", "end with status 1 where it has a package to tell of")),
+               "A refusal is explained by its derivation, after that was checked. If a session's packages are in a journal, "
+               "as those of a race are, --journal names it: each reply is explained at its revision. " + BESIDE),
+    Subcommand("outdated", "outdated", "Show what in a lock file is not the newest, and what holds it back",
+               (NEEDS, LOCK_FILE, option("--budget", "N", "give a question up after N conflicts (else: 10000)", BUDGETS), SECONDS, *SELECTING,
+                flag("--exit-status", "end with status 1 if it shows a package")),
                ("registry outdated", "registry outdated --lock app.lock", "registry outdated --exit-status"),
-               "Of each package it tells what is locked, what an upgrade of all would select, the newest version that is not yanked, and "
+               "Of each package it shows what is locked, what an upgrade of all would select, the newest version that is not yanked, and "
                "why that is not selected. " + BESIDE),
-    Subcommand("upgrade", "upgrade", "Take packages off a lock file, and keep what is selected then",
-               (word("NAME", "a package of the lock file; without any all are taken off", PACKAGE, "*"), LOCK_FILE,
-                option("--need", "NEED", "what is needed, in place of what the needs file says", NEED, "+"), BUDGET, *SELECTING,
+    Subcommand("upgrade", "upgrade", "Unlock packages of a lock file, and write what is selected then",
+               (word("NAME", "a package to unlock (else: all of the lock file)", PACKAGE, "*"), LOCK_FILE,
+                option("--need", "NEED", "what is needed, in place of what the needs file says", NEED, "+"), BUDGET, SECONDS, *SELECTING,
                 flag("--yes", "write it without a question")),
                ("registry upgrade log", "registry upgrade --yes", "registry upgrade --lock app.lock --need app@^2"),
                "It shows what would change and asks before it writes. " + BESIDE),
-    Subcommand("diff", "diff", "Tell what changed between two lock files",
-               (word("OLD", "a lock file", FILE), word("NEW", "another one", FILE), flag("--exit-status", "end with status 1 where they differ")),
+    Subcommand("diff", "diff", "Show what changed between two lock files",
+               (word("OLD", "a lock file", FILE), word("NEW", "another one", FILE), flag("--exit-status", "end with status 1 if they differ")),
                ("registry diff old.lock new.lock", "registry diff --exit-status old.lock new.lock"),
-               "A line begins with + where a package came, with - where it went, with ~ where its version changed."),
+               "Added packages are marked with +, removed ones with -, and changed ones with ~."),
     Subcommand("lock check", "lock_check", "Check that a lock file holds: each version is there, not yanked, and has what it needs",
                (word("FILE", "a lock file", FILE), NEEDS), ("registry lock check registry.lock", "registry lock check app.lock app@^1"),
-               "It tells each fault in a line, and its exit status is 1 where there is any. Where no NEED is typed, what is needed is said by the "
-               "needs file beside the lock file, else by the lock file itself."),
+               "It shows each fault in a line. If there is one, the exit status is 1. Without NEED, the needs file beside the lock file says what is "
+               "needed, else the lock file itself."),
     Subcommand("check", "check", "Check request lines: where each would be refused, why, and what was probably meant",
                (word("FILE", "a file of request lines; - is standard input", FILE),),
                ("registry check team.lines", "registry check - < team.lines"),
-               "Nothing is asked of a registry: a line is judged for its form, its names, versions and requirements, and what it repeats "
+               "No registry is asked: a line is judged for its form, its names, versions and requirements, and what it repeats "
                "(refusals 1 to 6 and 19). The first fault of a line is the refusal that it would be answered."),
-    Subcommand("journal verify", "journal_verify", "Tell what stands in a journal's file, and the first line that is at fault",
+    Subcommand("journal verify", "journal_verify", "Check a journal's file, and show the first line that is at fault",
                (word("FILE", "a journal", FILE),), ("registry journal verify registry.journal",),
                "A file without its end, as a session has it while it runs and leaves it where it is killed, is cut, and no fault: a session "
-               "goes on with it. The exit status is 1 where a line is at fault."),
+               "continues it. The exit status is 1 where a line is at fault."),
     Subcommand("journal repair", "journal_repair", "Keep the longest lawful beginning of a journal's file, in a new file",
                (word("FILE", "a journal", FILE), option("--output", "NEW", "the new file (else: FILE.repaired)", FILE)),
                ("registry journal repair registry.journal", "registry journal repair old.journal --output registry.journal"),
-               "It tells what it dropped. The file itself stays as it is, and no file is written over."),
+               "It says what it dropped. The file itself is not changed, and no file is overwritten."),
     Subcommand("journal renew", "journal_renew", "Begin a smaller journal, for a registry that nears its limits",
                (word("OLD", "a journal", FILE), word("NEW", "the new file", FILE),
                 option("--lock", "FILE", "lock files that have to be selected as before", FILE, "+"),
                 option("--newest", "N", "keep the N newest versions of each package that are not yanked (else: 3)", VERSIONS)),
                ("registry journal renew registry.journal new.journal --lock app.lock tools.lock", "registry journal renew old.journal new.journal --newest 1"),
                "Kept is what the lock files select, the newest versions of each package, and what those need, in the order of before. Yanks are "
-               "kept, and what was learnt is not. It tells what it left out."),
+               "kept, and what was learnt is not. It says what it left out."),
     Subcommand("shell", "shell", "Open a prompt for these subcommands, over one session that stays open", (WAIT,),
                ("registry shell", "registry shell --journal team.journal", "registry shell < some.commands"),
                "Words are quoted as a shell of the system quotes them. Ctrl-C ends a line or a search, Ctrl-D the shell. Where its input is no "
@@ -183,7 +190,7 @@ SUBCOMMANDS = (
                 option("--metrics-port", "N", "answer /metrics, /health and /journal over HTTP on this port, too", range(65_536))),
                ("registry serve --socket registry.socket", "registry serve --journal team.journal --port 7000 --seconds 5 --log service.log"),
                "Clients speak the lines of registryd(1), and each has its replies in order. A request that takes too long is answered BudgetSpent. "
-               "SIGTERM and Ctrl-C end it within 5 seconds, with all answered that came. A first line in HTTP asks for /metrics, /health or /journal."),
+               "SIGTERM and Ctrl-C end it within 5 seconds, after all lines that came are answered. A first line in HTTP asks for /metrics, /health or /journal."),
     Subcommand("page", "page", "Show the journal on a page in a browser of this machine",
                (option("--port", "N", "the port (else: one that is free)", range(65_536)),
                 option("--seconds", "N", "end a search after N seconds (else: 10)", range(1, 3_601)), *SELECTING),

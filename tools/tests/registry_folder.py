@@ -1,8 +1,11 @@
 """A folder with a journal for each test of the command `registry`, and short ways to call it there."""
+import fcntl
 import os
 import pty
+import struct
 import subprocess
 import tempfile
+import termios
 import unittest
 
 from called import registry
@@ -47,9 +50,11 @@ def pigeons(count):
     return lines, [f"pigeon-{number}" for number in range(count)]
 
 
-def at_terminal(words, environment, typed=b""):
-    """The status of a command whose standard streams are a terminal, and all that the terminal shows; what is typed, is typed at once."""
+def at_terminal(words, environment, typed=b"", columns=0, lines=0):
+    """The status of a command whose standard streams are a terminal, which may say its size, and all that the terminal shows; what is
+    typed, is typed at once."""
     ours, theirs = pty.openpty()
+    fcntl.ioctl(theirs, termios.TIOCSWINSZ, struct.pack("4H", lines, columns, 0, 0))
     with subprocess.Popen(words, stdin=theirs, stdout=theirs, stderr=theirs, env={**os.environ, "TERM": "xterm", **environment}) as running:
         os.close(theirs)
         os.write(ours, typed)

@@ -52,17 +52,17 @@ class Lines(unittest.TestCase):
                 (b"", ["1: error 19 BadLine: the line is empty"]),
                 (b" \t\r", ["4: error 19 BadLine: the line is empty"]),
                 (b'{"op":"list"}\r', []),
-                (b'\xef\xbb\xbf{"op":"list"}', ["1: error 19 BadLine: a byte order mark, the bytes EF BB BF, stands here; leave it out"]),
+                (b'\xef\xbb\xbf{"op":"list"}', ["1: error 19 BadLine: there is a byte order mark here, the bytes EF BB BF; leave it out"]),
                 (b'{"op":"list"\xc2\xa0}', ["13: error 19 BadLine: the character U+00A0 is no white space of JSON"]),
                 (b'{"op":\xe2\x80\x8b"list"}', ["7: error 19 BadLine: the character U+200B is no white space of JSON"]),
-                (b'{"op":"list\t"}', ["12: error 19 BadLine: the control character U+0009 stands in a text as an escape alone; did you mean \\t?"]),
-                (b'{"op":"list\0"}', ["12: error 19 BadLine: the control character U+0000 stands in a text as an escape alone; did you mean \\u0000?"]),
+                (b'{"op":"list\t"}', ["12: error 19 BadLine: the control character U+0009 must be written as an escape in a text; did you mean \\t?"]),
+                (b'{"op":"list\0"}', ["12: error 19 BadLine: the control character U+0000 must be written as an escape in a text; did you mean \\u0000?"]),
                 ('{"op":"yank","name":"é","version":"1'.encode() + b'\xe9"}',
                  ["37: error 19 BadLine: byte 38 of the line, 0xE9, is not UTF-8: in Latin-1 it is \"\u00e9\""]),
                 (b'\xff\xfe{\0"\0', ["1: error 19 BadLine: byte 1 of the line, 0xFF, is not UTF-8: the file begins as one in UTF-16"]),
                 (b'{"op":"\xed\xa0\x80"}', ["8: error 19 BadLine: byte 8 of the line, 0xED, is not UTF-8"]),
                 (b'{"op":"yank","name":"\x1b[31m","version":"1"}',
-                 ["22: error 19 BadLine: the control character U+001B stands in a text as an escape alone; did you mean \\u001b?"]),
+                 ["22: error 19 BadLine: the control character U+001B must be written as an escape in a text; did you mean \\u001b?"]),
                 (b"[" * 128, ["128: error 19 BadLine: more than 127 brackets are open"]),
                 (b'{"op":"list"}' + b" " * (LIMIT - 13), []),
                 (b'{"op":"list"}' + b" " * (LIMIT - 12), ["1: error 19 BadLine: the line has more than 1,048,576 bytes"])):
@@ -78,7 +78,7 @@ class Lines(unittest.TestCase):
     def test_a_need_too_many(self):
         needs = [f"n{number} *" for number in range(66)]
         line = publish("a", "1.0.0", needs)
-        self.assertEqual(in_words(line.encode()), [f"{line.index('n64') }: error 6 TooManyDependencies: 66 needs, and 64 are the most"])
+        self.assertEqual(in_words(line.encode()), [f"{line.index('n64') }: error 6 TooManyDependencies: 66 needs; the limit is 64"])
         self.assertEqual(in_words(publish("a", "1.0.0", needs[:64]).encode()), [])
 
     def test_damaged_lines(self):
@@ -112,19 +112,19 @@ class Command(Folder):
         path = self.path("some.lines", '{"op":"list"}\n{"op":"publsh"}\n{"op":"yank","name":"A","version":"1"}\n{"op":"list"}')
         self.assertEqual(self.check(path), (1, (
             'some.lines:2:7: error 19 BadLine: there is no op "publsh"; did you mean "publish"?\n'
-            'some.lines:3:22: error 1 BadName: the capital letter "A", byte 1 of the name "A", is none of a-z, 0-9, - and _; did you mean "a"?\n'
+            'some.lines:3:22: error 1 BadName: the capital letter "A", byte 1 of the name "A", is not one of a-z, 0-9, - and _; did you mean "a"?\n'
             'some.lines:3:37: error 2 BadVersion: the version "1" has no minor number; did you mean "1.0.0"?\n'),
             "registry: some.lines: 2 of 4 lines would be refused\n"))
 
     def test_no_faults(self):
         path = self.path("good.lines", publish("a", "1.0.0") + "\n")
-        self.assertEqual(self.check(path), (0, "", "registry: good.lines: 1 line, and nothing is wrong with what they say\n"))
-        self.assertEqual(self.check("-"), (0, "", "registry: <stdin>: 0 lines, and nothing is wrong with what they say\n"))
+        self.assertEqual(self.check(path), (0, "", "registry: good.lines: 1 line, and no errors\n"))
+        self.assertEqual(self.check("-"), (0, "", "registry: <stdin>: 0 lines, and no errors\n"))
 
     def test_as_json(self):
         status, printed, _ = self.check("--json", "-", given='{"op":"list",}\n{"op":"list"}\n')
         self.assertEqual((status, json.loads(printed)), (1, {"file": "<stdin>", "lines": 2, "refused": 1, "faults": [
-            {"line": 1, "column": 13, "error": 19, "name": "BadLine", "what": "a comma stands before what closes", "meant": None}]}))
+            {"line": 1, "column": 13, "error": 19, "name": "BadLine", "what": "there is a trailing comma", "meant": None}]}))
         self.assertEqual(printed.count("\n"), 1)
 
     def test_a_line_without_an_end(self):
@@ -142,7 +142,7 @@ class Command(Folder):
         status, shown = at_terminal([os.path.join(TOP, "registry"), "check", path], {"NO_COLOR": ""})
         self.assertEqual((status, shown.replace(self.folder + os.sep, "").splitlines()), (1, [
             '\x1b[1msome.lines:1:7:\x1b[0m \x1b[31merror 19 BadLine:\x1b[0m there is no op "lists"; did you mean "list"?',
-            "registry: some.lines: 1 of 1 line would be refused"]))
+            "\x1b[1mregistry:\x1b[0m some.lines: 1 of 1 line would be refused"]))
 
     def test_a_file_that_is_not_there(self):
         self.assertEqual(self.check(self.path("none.lines")), (3, "", "registry: none.lines: No such file or directory\n"))

@@ -35,7 +35,7 @@ class Colours(Folder):
                 (["show", "zlib"], f"{b('zlib')}\n  2.0.0\n  1.0.0\n  0.9.0{styled(33, '  yanked')}\n{b('2.0.0 needs')} nothing\n{b('needed by')}\n  log 1.0.0, as zlib ^1\n  web 1.0.0, as zlib *\n"),
                 (["resolve", "log"], f"{b('log')} 1.0.0\n{b('zlib')} 1.0.0\n"),
                 (["tree", "web", "log"], f"{b('web')} 1.0.0\n├── {b('log')} 1.0.0\n│   └── {b('zlib')} 1.0.0\n└── {b('zlib')} 1.0.0\n{b('log')} 1.0.0{styled(2, ' (*)')}\n"),
-                (["diff", old, new], f"{styled(31, '- app 1.0.0')}\n{styled(32, '+ web 1.0.0')}\n{styled(33, '~ zlib 1.0.0 -> 2.0.0 (beyond ^1.0.0)')}\n1 came, 1 went, 1 changed\n"),
+                (["diff", old, new], f"{styled(31, '- app 1.0.0')}\n{styled(32, '+ web 1.0.0')}\n{styled(33, '~ zlib 1.0.0 -> 2.0.0 (beyond ^1.0.0)')}\n1 added, 1 removed, 1 changed\n"),
                 (["outdated", "--lock", old], f"{'  '.join(styled(2, it) for it in ('package', 'locked', 'allowed', 'newest', 'held back by'.ljust(len(HELD))))}\n"
                                               f"{b('zlib   ')}  1.0.0   1.0.0    2.0.0   {HELD}\n")):
             self.assertEqual(self.coloured(*words)[1], wanted, words)

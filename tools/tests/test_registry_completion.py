@@ -15,13 +15,14 @@ from registry import completion, line_completion, refusals, session, table
 from registry.failures import Failed
 
 PACKAGES = {"log": ["1.0.0", "1.1.0"], "lock": ["2.0.0"], "app": ["1.0.0"]}
-COMMON = ["--connect", "--help", "--journal", "--json"]
-FIRST = ["check", "diff", "import", "journal", "list", "lock", "outdated", "page", "publish", "resolve", "search", "serve", "shell", "show", "tree", "unyank", "upgrade",
+COMMON = ["--color", "--connect", "--help", "--journal", "--json", "--quiet", "--verbose"]
+FIRST = ["check", "diff", "help", "import", "journal", "list", "lock", "outdated", "page", "publish", "resolve", "search", "serve", "shell", "show", "tree", "unyank", "upgrade",
          "why", "yank"]
 # words of which the last one is being typed, and what is said of them: a kind, or words
 OFFERED = [
-    ([], [*COMMON, "--version", *FIRST]), ([""], [*COMMON, "--version", *FIRST]), (["pub"], ["publish"]), (["s"], ["search", "serve", "shell", "show"]),
-    (["--v"], ["--version"]), (["--j"], ["--journal", "--json"]), (["x"], []), (["--json", "sho"], ["show"]), (["--journal", "a", "sho"], ["show"]),
+    ([], [*COMMON, "--version", *FIRST]), ([""], [*COMMON, "--version", *FIRST]), (["help", "pub"], ["publish"]), (["help", "journal", "v"], ["verify"]),
+    (["list", "--color", ""], ["always", "auto", "never"]), (["pub"], ["publish"]), (["s"], ["search", "serve", "shell", "show"]),
+    (["--v"], ["--verbose", "--version"]), (["--j"], ["--journal", "--json"]), (["x"], []), (["--json", "sho"], ["show"]), (["--journal", "a", "sho"], ["show"]),
     (["--journal", ""], "file"), (["--connect", ""], "file"), (["list", "--journal", "x"], "file"), (["list", "--json", ""], []),
     (["import", ""], ["cargo", "crates-io", "debian"]), (["import", "c"], ["cargo", "crates-io"]), (["--json", "import", ""], ["cargo", "crates-io", "debian"]),
     (["--journal", "a", "import", ""], ["cargo", "crates-io", "debian"]), (["journal", ""], ["renew", "repair", "verify"]), (["nonsense", ""], []), (["--nonsense", ""], []),

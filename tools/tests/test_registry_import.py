@@ -40,8 +40,8 @@ REACHED = [
     'left out: versions that need another version of their own crate: 1 (first: pad-left 1.0.0 needs pad-left "^0.9")',
     'left out: versions that need what is refused as a name or a requirement: 1 (first: io 1.2.0 needs fog ">0.1 <0.4")',
     "left out: versions whose precedence another one has: 1 (first: maker 1.2.0+second)",
-    'told otherwise: crates needed by several requirements, all of which have to be met: 1 (first: fog 0.3.0 needs q "^0.1, >=0.1.1")',
-    "told otherwise: versions of crates with capitals in their names, in small letters: 2 (first: Pad-Left)"]
+    'rewritten: crates needed by several requirements, all of which have to be met: 1 (first: fog 0.3.0 needs q "^0.1, >=0.1.1")',
+    "rewritten: versions of crates with capitals in their names, in small letters: 2 (first: Pad-Left)"]
 ALONE = ["left out: dependencies from another registry: 1 (first: solitary 2.0.0 needs away)",
          'left out: dependencies of a version on itself: 1 (first: solitary 2.0.0 needs solitary "^2")',
          'missing: requirements on crates that are not there: 1 (first: solitary 2.0.0 needs gone "^5")']
@@ -57,8 +57,8 @@ PACKAGED_COUNTS = [
     "left out: packages of features, with what they need: 1 (first: librust-fog+net-dev)",
     'missing: requirements on crates that are not there: 2 (first: big 0.3.60 needs none "^9.1")',
     'missing: requirements that no version there meets: 1 (first: sha-1 0.9.8 needs q "^0.2")',
-    'told otherwise: crates needed by several requirements, all of which have to be met: 1 (first: pad-left 2.0.0 needs io "~1.2, =1.2.3")',
-    "told otherwise: pre-releases, which Debian provides by their numbers alone: 1 (first: pad-left 2.0.0~rc.1)"]
+    'rewritten: crates needed by several requirements, all of which have to be met: 1 (first: pad-left 2.0.0 needs io "~1.2, =1.2.3")',
+    "rewritten: pre-releases, which Debian provides by their numbers alone: 1 (first: pad-left 2.0.0~rc.1)"]
 
 
 def made(*words):
@@ -148,7 +148,7 @@ class CratesIo(Imported):
         self.assert_lines(lines, [publish("a", "1.0.0"), publish("a", "1.1.0")])
         left = entry("b", "1.0.0")[:60]
         self.assertEqual((told, status), ([written(2, 1), f"left out: lines that are of no known form: 1 (first: 1/a:1: {left})",
-                                           "told otherwise: versions of crates with capitals in their names, in small letters: 1 (first: A)"], 0))
+                                           "rewritten: versions of crates with capitals in their names, in small letters: 1 (first: A)"], 0))
 
     def test_a_line_that_nests_deeply_or_has_no_texts_is_left_out(self):
         for odd in ("[" * 100_000, '{"name":"a","vers":"1.0.0","deps":' + "[" * 100_000, entry("a", "1.0.0", "b ^1").replace('"b"', "7"), entry("a", "1.0.0", "b ^1").replace('"^1"', "[]")):
@@ -218,8 +218,8 @@ class Cargo(Imported):
                                   publish("io", "1.1.0", ["fog =0.3.2", "maker =1.2.3"]),
                                   publish("lib", "0.1.0", ["pad-left 1", "maker >=1.2, <1.3"]),
                                   publish("maker", "1.2.3"), publish("pad-left", "1.0.1"), publish("q", "0.1.1")])
-        self.assertEqual((told, status), ([written(7, 7), "told otherwise: versions that Cargo.lock alone has, as needing what was "
-                                           "taken for them: 5 (first: fog 0.3.2)"], 0))
+        self.assertEqual((told, status), ([written(7, 7), "rewritten: versions that only Cargo.lock has, with the dependencies "
+                                           "that it locks: 5 (first: fog 0.3.2)"], 0))
 
     def test_a_lock_with_two_versions_of_a_crate(self):
         lock = """
@@ -293,7 +293,7 @@ class Cargo(Imported):
         self.assertEqual([it.partition(" (")[0] for it in told], [
             written(4, 4), "left out: dev dependencies: 1", "left out: manifests that can't be read: 1", "left out: optional dependencies: 2",
             "missing: requirements on crates that are not there: 5",
-            "told otherwise: dependencies without a version, of git or on a path outside, as on any version: 2"])
+            "rewritten: dependencies without a version, of git or on a path outside, as dependencies on any version: 2"])
         self.assertEqual(status, 0)
 
 
@@ -366,7 +366,7 @@ class Published(Folder):
         self.registry("import", "crates-io", CRATES_IO, "--from", "io")
         status, said, counts = self.registry("import", "crates-io", CRATES_IO)
         self.assertEqual((status, said), (0, "imported: 13 versions of 6 crates, 1 of them yanked (revision 14)\n"))
-        self.assertEqual(counts.splitlines()[-3:], ["passed over: commands that were carried out before: 13", *TRIED])
+        self.assertEqual(counts.splitlines()[-3:], ["skipped: commands that were carried out before: 13", *TRIED])
         status, said, counts = self.registry("import", "crates-io", CRATES_IO, "--json")
         told = json.loads(said)
         self.assertEqual((status, counts, told["accepted"], told["passed_over"], told["refused"], told["revision"]), (0, "", 0, 14, 0, 14))
@@ -437,18 +437,18 @@ class Words(unittest.TestCase):
         with tempfile.TemporaryDirectory() as bare:
             for words, status, told in [(["crates-io", bare], 1, "has no file at the place"), (["cargo", bare], 1, "neither a Cargo.toml"),
                                         (["crates-io", CRATES_IO, "--from", "zed"], 1, "there is no crate zed in the index"),
-                                        (["debian", DEBIAN, "--from", "padleft"], 1, "there is no crate padleft in the index; there is pad-left"),
-                                        (["crates-io", CRATES_IO, "--from", "io@new"], 1, 'io@new: "n" stands where the major number of the requirement "new" should'),
+                                        (["debian", DEBIAN, "--from", "padleft"], 1, "there is no crate padleft in the index; did you mean pad-left?"),
+                                        (["crates-io", CRATES_IO, "--from", "io@new"], 1, 'io@new: expected the major number of the requirement "new", not "n"'),
                                         (["crates-io", CRATES_IO, "--from", "io>=1"], 2, '"io>=1" has no @ between the package and the requirement; did you mean "io@>=1"?'),
                                         (["crates-io", CRATES_IO, "--ask"], 1, "name it by --from"),
                                         (["debian", os.path.join(bare, "none")], 3, "No such file"),
                                         (["crates-io", CRATES_IO, "--newest", "0"], 2, f"0 is no number from 1 to {MOST_VERSIONS}"),
-                                        (["crates-io"], 2, "required: DIR"), (["npm", bare], 2, "not with npm")]:
+                                        (["crates-io"], 2, "required: DIR"), (["npm", bare], 2, "not npm")]:
                 lines, said, ended = made(*words)
                 self.assertEqual((lines, ended, len(said)), ([], status, 1), words)
                 self.assertIn(told, said[-1])
-        self.assertEqual(registry("import"), (2, "", "registry: import goes with one of crates-io, cargo, debian: `registry --help` has all\n"))
-        self.assertEqual(registry("import", "debian", DEBIAN, "--ask"), (2, "", "registry: --ask goes with --lines: `registry resolve` asks the registry\n"))
+        self.assertEqual(registry("import"), (2, "", "registry: import needs one of crates-io, cargo, debian: see `registry --help`\n"))
+        self.assertEqual(registry("import", "debian", DEBIAN, "--ask"), (2, "", "registry: --ask needs --lines: `registry resolve` asks the registry\n"))
 
     def test_a_file_that_may_have_no_end_is_told(self):
         places = (("crates-io", "1/a"), ("cargo", "Cargo.toml"), ("cargo", "in/Cargo.toml"), ("cargo", "Cargo.lock"))
@@ -460,10 +460,10 @@ class Words(unittest.TestCase):
                     make(path)
                     self.assertEqual(made(form, top), ([], [f"registry: {path} is no plain file"], 3))
         with mock.patch.object(files, "MOST_BYTES", 4_096):
-            self.assertEqual(made("debian", "/dev/zero"), ([], ["registry: /dev/zero has more than 4,096 bytes, the most that are read"], 3))
+            self.assertEqual(made("debian", "/dev/zero"), ([], ["registry: /dev/zero has more than 4,096 bytes, which is the limit"], 3))
             with tempfile.TemporaryDirectory() as top:
                 path = os.path.join(fill(top, {"1/a": entry("a", "1.0.0") + " " * 4_096}), "1/a")
-                self.assertEqual(made("crates-io", top), ([], [f"registry: {path} has more than 4,096 bytes, the most that are read"], 3))
+                self.assertEqual(made("crates-io", top), ([], [f"registry: {path} has more than 4,096 bytes, which is the limit"], 3))
 
     def test_a_pipe_that_is_named_itself_is_read(self):
         ours, theirs = os.pipe()

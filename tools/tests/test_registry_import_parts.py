@@ -55,11 +55,11 @@ class Imported(unittest.TestCase):
             return status, sys.stdout.getvalue(), sys.stderr.getvalue(), sent
 
     def test_what_becomes_of_each_command(self):
-        self.assertEqual(self.run_it(REPLIES), (1, "imported: 6 versions (revision 2)\n", "left out: 2\npassed over: commands that were carried out before: 2\n"
+        self.assertEqual(self.run_it(REPLIES), (1, "imported: 6 versions (revision 2)\n", "left out: 2\nskipped: commands that were carried out before: 2\n"
                                                                                          "refused: it is refused by 9: 2 (first: d 1.0.0)\nread alone: ['a']\n", COMMANDS))
         status, said, noted, _ = self.run_it(REPLIES, is_json=True)
         self.assertEqual((status, noted, json.loads(said)), (1, "", {"accepted": 2, "passed_over": 2, "refused": 2, "revision": 2,
-                                                                    "notes": ["left out: 2", "passed over: commands that were carried out before: 2", "refused: it is refused by 9: 2 (first: d 1.0.0)"],
+                                                                    "notes": ["left out: 2", "skipped: commands that were carried out before: 2", "refused: it is refused by 9: 2 (first: d 1.0.0)"],
                                                                     "alone": ["a"]}))
         well = [{"ok": True, "revision": number} for number in range(1, 7)]
         self.assertEqual(self.run_it(well)[:3], (None, "imported: 6 versions (revision 6)\n", "left out: 2\nread alone: ['a']\n"))
@@ -82,7 +82,7 @@ class Imported(unittest.TestCase):
         self.assertEqual(self.run_it(lines=True), (None, lines, told, []))
         asked = '{"op":"resolve","needs":[["a","^1"]],"lock":[["a","1.0.0"]]}\n'
         self.assertEqual(self.run_it(lines=True, ask=True), (None, lines + asked, told, []))
-        with self.assertRaisesRegex(Usage, "--ask goes with --lines: `registry resolve` asks the registry"):
+        with self.assertRaisesRegex(Usage, "--ask needs --lines: `registry resolve` asks the registry"):
             self.run_it(ask=True)
 
     def test_what_is_chosen_of(self):

@@ -45,22 +45,22 @@ FAULTS = [  # a text, the line at fault, and why
     (whole(A, head="registry-journal 3"), 1, 'the first line is "registry-journal 3": a journal begins with registry-journal 1 or registry-journal 2'),
     (text(HEAD, A, "end 2"), 3, 'it is "end 2", where end 1 should stand'),
     (text(HEAD, A, "end 01"), 3, 'it is "end 01", where end 1 should stand'),
-    (text(HEAD, A, "end 1", B), 4, "something stands behind the end"),
-    (text(HEAD, A, "end 1") + "x", 4, "something stands behind the end"),
-    (whole(A.replace('"a",', '"a", ')), 2, "column 13: white space stands here, and the program writes it otherwise"),
-    (whole(C + "\r"), 2, "column 57: white space stands here, and the program writes it otherwise"),
-    (whole(C.replace("c", "\\u0063", 1)), 2, "column 10: an escape stands here, and the program writes it otherwise"),
-    (whole(C, '{"op":"yank","name":"c","version":"1.0.0"}'), 3, "column 3: the members do not stand once each, in order of their names, and the program "
-     "writes it otherwise"),
-    (whole(C, '{"name":"c","name":"c","op":"yank","version":"1.0.0"}'), 3, "column 14: the members do not stand once each, in order of their names, and "
-     "the program writes it otherwise"),
-    (whole(C, YANK[:-1]), 3, "column 42: the line ends and the object that begins at column 1 is not closed: a request stands whole on one line"),
+    (text(HEAD, A, "end 1", B), 4, "there is something after the end line"),
+    (text(HEAD, A, "end 1") + "x", 4, "there is something after the end line"),
+    (whole(A.replace('"a",', '"a", ')), 2, "column 13: there is white space here, and the program writes it differently"),
+    (whole(C + "\r"), 2, "column 57: there is white space here, and the program writes it differently"),
+    (whole(C.replace("c", "\\u0063", 1)), 2, "column 10: there is an escape here, and the program writes it differently"),
+    (whole(C, '{"op":"yank","name":"c","version":"1.0.0"}'), 3, "column 3: the members are not once each in the order of their names, and the program "
+     "writes it differently"),
+    (whole(C, '{"name":"c","name":"c","op":"yank","version":"1.0.0"}'), 3, "column 14: the members are not once each in the order of their names, and "
+     "the program writes it differently"),
+    (whole(C, YANK[:-1]), 3, "column 42: the line ends and the object that begins at column 1 is not closed: a request must be on one line"),
     (whole(C, C), 3, "7 AlreadyPublished: c 1.0.0 is published already, and a publication is permanent: choose another version"),
     (whole(YANK), 2, "11 NoSuchVersion: no version of c is published"),
     (whole(C, YANK, YANK), 4, "12 AlreadyYanked: c 1.0.0 is yanked already"),
-    (whole(C.replace('"c"', '"C"')), 2, 'column 10: 1 BadName: the capital letter "C", byte 1 of the name "C", is none of a-z, 0-9, - and _; did you mean "c"?'),
-    (whole(A.replace("^1.0.0", "~> 1")), 2, "column 28: 3 BadRequirement: the operator ~> of Ruby is none of Cargo's, which are ^ ~ = > >= < <=; did you mean \"^1\"?"),
-    (whole('{"op":"list"}'), 2, "it is no publication, yank or unyank, and nothing that was learnt"),
+    (whole(C.replace('"c"', '"C"')), 2, 'column 10: 1 BadName: the capital letter "C", byte 1 of the name "C", is not one of a-z, 0-9, - and _; did you mean "c"?'),
+    (whole(A.replace("^1.0.0", "~> 1")), 2, "column 28: 3 BadRequirement: the operator ~> of Ruby is not one of Cargo's, which are ^ ~ = > >= < <=; did you mean \"^1\"?"),
+    (whole('{"op":"list"}'), 2, "it is not a publication, yank, unyank or learnt line"),
     (whole('{"name":"c","needs":[],"op":"yank","version":"1.0.0"}'), 2, 'column 13: 19 BadLine: a yank line has no member "needs"; it has "op", "name" and "version"'),
     (whole("[]"), 2, "it is no object"),
     (whole("x" * 1_048_577), 2, "the line has more than 1,048,576 bytes"),
@@ -95,8 +95,8 @@ class Verify(Folder):
         many = whole(*(f'{{"name":"p{number // 4096}","needs":[],"op":"publish","version":"{number}.0.0"}}' for number in range(49_153)))
         learnt = [LEARN.replace('"versions":[0],"within":[0]}],', f'"versions":[0],"within":[0,{number}]}}],').replace("[0]]],", f"[0,{number}]]],")
                   for number in range(1, 4098)]
-        for said, line, reason in ((many, 49_154, "49,152 commands stand before it, which are the most"),
-                                   (whole(A, B, C, *learnt), 4101, "4,096 are stored before it, which are the most")):
+        for said, line, reason in ((many, 49_154, "49,152 commands are before it, which is the limit"),
+                                   (whole(A, B, C, *learnt), 4101, "4,096 are stored before it, which is the limit")):
             with self.subTest(reason=reason):
                 journal, told = self.read(said)
                 self.assertEqual((journal.line, told, len(journal.items)), (line, reason, line - 2))
@@ -149,9 +149,9 @@ class Verify(Folder):
         verify = lambda *words: self.registry("journal", "verify", *words)
         self.assertEqual(verify(good), (0, "good.journal: whole: format 2, 3 commands and 1 learnt, revision 3\n", ""))
         self.assertEqual(verify(cut), (0, "cut.journal: cut: format 2, 1 command and 0 learnt, revision 1; its last line is 3, which is not finished "
-                                          "or missing: a session goes on with it\n", ""))
+                                          "or missing: a session continues it\n", ""))
         self.assertEqual(verify(bad), (1, "bad.journal:3: at fault: 7 AlreadyPublished: a 1.0.0 is published already, and a publication is permanent: "
-                                          "choose another version\nwhat stands before it: format 2, 1 command and 0 learnt, revision 1; "
+                                          "choose another version\nbefore it: format 2, 1 command and 0 learnt, revision 1; "
                                           "`registry journal repair bad.journal` keeps that\n", ""))
         self.assertEqual(verify(empty), (1, "empty.journal:1: at fault: " + FAULTS[0][2] + "\n", ""))
         status, printed, _ = verify("--json", bad)
@@ -174,7 +174,7 @@ class Repair(Folder):
             "  line 5: publish c 1.0.0\n"
             "  line 6: yank c 1.0.0\n"
             "  line 7: what was learnt\n"
-            "the commands among them stand in bad.journal as request lines, which can be sent again\n"), ""))
+            "these commands are still in bad.journal as request lines, which can be sent again\n"), ""))
         self.assertEqual(self.text("bad.journal.repaired"), whole(A, B))
         self.assertEqual(self.text("bad.journal"), whole(A, B, "rubbish", C, YANK, LEARN))
         self.assertEqual(stat.S_IMODE(os.stat(path + ".repaired").st_mode), 0o640)
@@ -184,7 +184,7 @@ class Repair(Folder):
         path, other = self.path("bad.journal", whole(A) + text(B, "")), self.path("other.journal")
         self.assertEqual(self.repair(path, "--output", other)[:2], (0, (
             f"other.journal is written: 1 item, revision 1\ndropped from line 4 on: 1 line, {len(B)} bytes:\n  line 4: publish b 1.0.0\n"
-            "the commands among them stand in bad.journal as request lines, which can be sent again\n")))
+            "these commands are still in bad.journal as request lines, which can be sent again\n")))
         self.assertEqual(self.text("other.journal"), whole(A))
 
     def test_a_wrong_end(self):

@@ -52,6 +52,7 @@ WRONG = [
     ("registry list", {}), ("registry list", [{"name": "A", "newest": "1.0.0", "versions": 1, "yanked": 0}]), ("registry list", [{"name": "a", "newest": "1.0.0", "versions": 0, "yanked": 0}]),
     ("registry diff", [{"name": "a", "from": "1", "to": None}]), ("registry diff", [{"name": "a", "from": None, "to": None, "more": 1}]), ("registry resolve", {"refused": True, "revision": 1}),
     ("registry lock check", {"file": "x", "packages": 1, "revision": 1, "faults": ["x"]}), ("registry lock check", {"file": "x", "packages": -1, "revision": 1, "faults": []}),
+    ("registry import debian", {"accepted": 1, "passed_over": 0, "refused": 0, "revision": 1, "notes": [], "alone": {"requested": 1, "selected": 1}}),
     ("registry journal repair", {"file": "x", "state": "cut", "written": None}), ("registry outdated", [{"name": "a", "locked": "1.0.0"}]),
 ]
 
@@ -116,7 +117,7 @@ class Json(Folder):
 
     def test_an_answer_that_is_given_stays_the_one_line(self):
         told, fault = self.answered(3, "resolve log --write none/x.lock")
-        self.assertEqual((told["selected"], fault), ([["log", "2.0.0"]], "registry: none/x.lock is as it was: No such file or directory\n"))
+        self.assertEqual((told["selected"], fault), ([["log", "2.0.0"]], "registry: none/x.lock is not written: No such file or directory\n"))
 
     def test_its_names_are_none_of_the_lines(self):
         self.assertEqual(set(lines_schema.KINDS) & set(lines_schema.ANSWERS["$defs"]), set())

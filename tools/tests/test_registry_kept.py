@@ -112,7 +112,7 @@ class Shelves(unittest.TestCase):
             "left out: versions whose precedence another one has: 1 (first: a 1.0.0+x)",
             "left out: versions whose text, or whose crate's name, is refused: 1 (first: a x)",
             "left out: versions with more than 64 dependencies: 1 (first: a 4.0.0)",
-            "told otherwise: crates needed by several requirements, all of which have to be met: 1 (first: a 1.0.0 needs b \"^1, <2\")"])
+            "rewritten: crates needed by several requirements, all of which have to be met: 1 (first: a 1.0.0 needs b \"^1, <2\")"])
         with mock.patch.object(shelf, "MOST_VERSIONS", 2):
             self.assertEqual([it.version for it in shelf.Shelf(self.index(a=[("1.0.0", []), ("3.0.0", []), ("2.0.0", [])])).crate("a").releases], ["3.0.0", "2.0.0"])
 
@@ -149,8 +149,8 @@ class Shelves(unittest.TestCase):
     def test_what_is_begun_with(self):
         index = self.index(Some_Name=[])
         self.assertEqual(shelf.roots(index, ["some-name@^1"]), [("some_name", "^1")])
-        for crates, told_of in ((["some-nam"], "there is no crate some-nam in the index; there is some_name"), (["zzzzzzzz"], r"there is no crate zzzzzzzz in the index\Z"),
-                                (["some-name@^^"], '"\\^\\^" is no requirement')):
+        for crates, told_of in ((["some-nam"], "there is no crate some-nam in the index; did you mean some_name\?"), (["zzzzzzzz"], r"there is no crate zzzzzzzz in the index\Z"),
+                                (["some-name@^^"], r"\Asome_name@\^\^: the operator \^\^ is not one of Cargo's")):
             self.assertRaisesRegex(Unusable, told_of, shelf.roots, index, crates)
         index.own = lambda: [("Some-Name", "1.0.0"), ("a", "x")]
         self.assertEqual(shelf.roots(index, []), [("some_name", "=1.0.0")])

@@ -36,7 +36,7 @@ CHECKED = [
     ([], ["app"], ["app 1.0.0", "log 1.2.0+x", "zlib 1.0.0"], []),  # a version of equal precedence is the same
     ([yank("log", "1.2.0"), yank("zlib", "1.0.0")], ["app"], LOCK, [("log", "log 1.2.0 is yanked"), ("zlib", "zlib 1.0.0 is yanked")]),
     ([], [], ["app 1.0.0", "log 1.9.9", "zlib 1.0.0"], [("log", "log 1.9.9 is not published; there are 1.2.0 and 1.0.0")]),
-    ([], [], [*LOCK, "lgo 1.0.0"], [("lgo", "no version of lgo is published; log is, which may be meant")]),
+    ([], [], [*LOCK, "lgo 1.0.0"], [("lgo", "no version of lgo is published; did you mean log?")]),
     ([], ["app"], LOCK[:2], [("app", "app 1.0.0 depends on zlib *; the lock has no zlib")]),
     ([publish("log", "2.0.0")], [], ["app 1.0.0", "log 2.0.0", "zlib 1.0.0"], [("app", "app 1.0.0 depends on log ^1; the lock has 2.0.0")]),
     ([], ["app@^2", "log@=1.2.0", "web"], LOCK, [("app", "the request depends on app ^2; the lock has 1.0.0"), ("web", "the request depends on web *; the lock has no web")]),
@@ -132,8 +132,8 @@ class Check(Locked):
         self.hold(*OLD)
         path = self.lock(LOCK)
         for words, status, told in (([self.path("none")], 3, "none: there is no such lock file"), ([self.path("bad", "{}")], 3, "bad:1:1: error 19 BadLine"),
-                                    ([], 2, "the following arguments are required: FILE"), ([path, "App"], 1, 'the capital letter "A"'), ([path, "app@q"], 1, '"q" stands where'),
-                                    ([path, "app", "app@^1"], 1, "app comes twice"), ([path, *(f"a{it}" for it in range(65))], 1, "there are 65 needs, and 64 are the most")):
+                                    ([], 2, "the following arguments are required: FILE"), ([path, "App"], 1, 'the capital letter "A"'), ([path, "app@q"], 1, 'the requirement "q", not "q"'),
+                                    ([path, "app", "app@^1"], 1, "app appears twice"), ([path, *(f"a{it}" for it in range(65))], 1, "there are 65 needs; the limit is 64")):
             ended, said, fault = self.registry("lock", "check", *words)
             self.assertEqual((ended, said, fault.count("\n")), (status, "", 1), words)
             self.assertIn(told, fault)
@@ -142,7 +142,7 @@ class Check(Locked):
 class Statuses(Locked):
     def test_of_a_diff(self):
         old, new = self.lock(LOCK), self.path("new.lock", json.dumps(pairs(LOCK[:2])))
-        for words, status, told in (([old, new], 1, "- zlib 1.0.0\n0 came, 1 went, 0 changed\n"), ([old, old], 0, "0 came, 0 went, 0 changed\n")):
+        for words, status, told in (([old, new], 1, "- zlib 1.0.0\n0 added, 1 removed, 0 changed\n"), ([old, old], 0, "0 added, 0 removed, 0 changed\n")):
             self.assertEqual(self.registry("diff", *words), (0, told, ""))
             self.assertEqual(self.registry("diff", *words, "--exit-status"), (status, told, ""))
         self.assertEqual(self.registry("diff", old, self.path("none"), "--exit-status")[0], 3)
@@ -161,19 +161,19 @@ class Written(Locked):
     def test_by_an_upgrade(self):
         self.hold(*OLD, publish("log", "1.3.0"))
         path = self.lock(LOCK, needs=[["app", "*"]], revision=4)
-        self.assertEqual(self.registry("upgrade", "log", "--lock", path, "--need", "app", "--yes")[:2], (0, "~ log 1.2.0 -> 1.3.0\n0 came, 0 went, 1 changed\n"))
+        self.assertEqual(self.registry("upgrade", "log", "--lock", path, "--need", "app", "--yes")[:2], (0, "~ log 1.2.0 -> 1.3.0\n0 added, 0 removed, 1 changed\n"))
         made = {"needs": [["app", "*"]], "revision": 5, "selected": [["app", "1.0.0"], ["log", "1.3.0"], ["zlib", "1.0.0"]]}
         self.assertEqual(json.loads(self.text("x.lock")), made)
         self.hold(*OLD, publish("log", "1.3.0"), publish("zed", "1.0.0"))
         self.assertEqual(self.registry("upgrade", "--lock", path, "--need", "app", "--yes")[2], "registry: nothing changes in x.lock\n")
         # other needs that select the same are written, since the file says what it was made for
-        self.assertEqual(self.registry("upgrade", "--lock", path, "--need", "app@^1", "--yes")[1:], ("0 came, 0 went, 0 changed\n", "registry: x.lock is written\n"))
+        self.assertEqual(self.registry("upgrade", "--lock", path, "--need", "app@^1", "--yes")[1:], ("0 added, 0 removed, 0 changed\n", "registry: x.lock is written\n"))
         self.assertEqual(json.loads(self.text("x.lock")), {**made, "needs": [["app", "^1"]], "revision": 6})
 
     def test_by_an_upgrade_without_needs_that_are_typed(self):
         self.hold(*OLD, publish("log", "1.3.0"))
         path = self.lock(LOCK, needs=[["app", "^1"]], revision=4)
-        self.assertEqual(self.registry("upgrade", "--lock", path, "--yes")[:2], (0, "~ log 1.2.0 -> 1.3.0\n0 came, 0 went, 1 changed\n"))
+        self.assertEqual(self.registry("upgrade", "--lock", path, "--yes")[:2], (0, "~ log 1.2.0 -> 1.3.0\n0 added, 0 removed, 1 changed\n"))
 
     def test_a_renewed_journal_selects_it_as_before(self):
         self.hold(*OLD, publish("log", "1.1.0"))

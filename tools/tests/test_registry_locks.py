@@ -22,10 +22,10 @@ UNREAD = [
     ("{}", "1:1: error 19 BadLine: a lock list is " + PAIRS + ", not an object; did you mean []?"), ("", "1:1: error 19 BadLine: a lock list is " + PAIRS),
     ('[["A","1","x"]]', '1:2: error 19 BadLine: each item of a lock list is a pair of a name and a version, as ["b","1.0.0"]'),
     ('[["a","1.0.0"],\n  ["A",1]]', '2:3: error 19 BadLine: each item of a lock list is a pair of a name and a version, as ["b","1.0.0"]'),
-    ("[]\n[]", "2:1: error 19 BadLine: something stands behind the lock: one file has one lock"), ("[],", "1:3: error 19 BadLine: files are not parted by commas; leave it out"),
-    ('[["a","1"],\n["A","1.0.0"]]', '2:3: error 1 BadName: the capital letter "A", byte 1 of the name "A", is none of a-z, 0-9, - and _; did you mean "a"?'),
+    ("[]\n[]", "2:1: error 19 BadLine: there is something after the lock: each file has one lock"), ("[],", "1:3: error 19 BadLine: files are not separated by commas; leave it out"),
+    ('[["a","1"],\n["A","1.0.0"]]', '2:3: error 1 BadName: the capital letter "A", byte 1 of the name "A", is not one of a-z, 0-9, - and _; did you mean "a"?'),
     ('[["a","1.0.0"],["a","1"]]', '1:23: error 2 BadVersion: the version "1" has no minor number; did you mean "1.0.0"?'),
-    ('[["a","1.0.0"],\n["b","1.0.0"],\n["a","1.1.0"]]', '3:2: error 4 RepeatedDependency: a stands twice in "lock"'),
+    ('[["a","1.0.0"],\n["b","1.0.0"],\n["a","1.1.0"]]', '3:2: error 4 RepeatedDependency: a appears twice in "lock"'),
     ("[]" + " " * 1_048_575, "1:1: error 19 BadLine: the file has more than 1,048,576 bytes"),
     ('[["é","1.0.0"],\n ["b" "1.0.0"]]', "2:6: error 19 BadLine: a comma is missing"),
 ]
@@ -35,7 +35,7 @@ UNMADE = [
     ('{"needs":["a@^1"]' + BEHIND, '1:11: error 19 BadLine: each item of "needs" is a pair of a name and a requirement, as ["b","^1"]; did you mean ["a", "^1"]?'),
     ('{"needs":null' + BEHIND, '1:10: error 19 BadLine: "needs" is an array of pairs of a name and a requirement, as [["b","^1"]], not null'),
     ('{"needs":[]' + BEHIND.replace("1,", "true,"), '2:13: error 19 BadLine: "revision" is a number in digits, not true or false'),
-    ('{"needs":[]' + BEHIND.replace("1,", "-1,"), '2:13: error 19 BadLine: "revision" is a whole number from 0 to 4,294,967,295 in digits alone, not -1'),
+    ('{"needs":[]' + BEHIND.replace("1,", "-1,"), '2:13: error 19 BadLine: "revision" is a whole number from 0 to 4,294,967,295 in digits only, not -1'),
     ('{"needs":[]' + BEHIND.replace("1,", '"12",'), '2:13: error 19 BadLine: "revision" is a number in digits, not a text; did you mean 12?'),
     ('{"needs":[],\n "revision":1,"selected":{"a":"1.0.0"}}', '2:26: error 19 BadLine: "selected" is ' + PAIRS + ', not an object; did you mean [["a", "1.0.0"]]?'),
     ('{"needs":[],\n "revision":1,"selected":[["a"]]}', '2:27: error 19 BadLine: each item of "selected" is a pair of a name and a version, as ["b","1.0.0"]'),
@@ -43,13 +43,13 @@ UNMADE = [
     ('{"needs":[],\n "revision":1}', '2:14: error 19 BadLine: a lock file has no "selected", which it must have'),
     ('{"need":[],"revision":1,"selected":[]}', '1:2: error 19 BadLine: a lock file has no member "need"; did you mean "needs"?'),
     ('{"needs":[["A","*"],["b","q"]]' + BEHIND.replace("1.0.0", "1"),
-     '1:13: error 1 BadName: the capital letter "A", byte 1 of the name "A", is none of a-z, 0-9, - and _; did you mean "a"?'),
+     '1:13: error 1 BadName: the capital letter "A", byte 1 of the name "A", is not one of a-z, 0-9, - and _; did you mean "a"?'),
     ('{"needs":[["b","q"]]' + BEHIND.replace("1.0.0", "1"), '2:34: error 2 BadVersion: the version "1" has no minor number; did you mean "1.0.0"?'),
     ('{"needs":[["b",">=1 <2"]]' + BEHIND,
      '1:21: error 3 BadRequirement: a comma is missing between two comparators of ">=1 <2"; did you mean ">=1, <2"?'),
-    ('{"needs":[["b","*"],["b","^1"]]' + BEHIND, '1:22: error 4 RepeatedDependency: b stands twice in "needs"'),
-    (json.dumps({"needs": [[f"a{it}", "*"] for it in range(65)], "revision": 1, "selected": []}), "1:899: error 6 TooManyDependencies: 65 needs, and 64 are the most"),
-    ('{"needs":[]' + BEHIND + "\n{}", "3:1: error 19 BadLine: something stands behind the lock: one file has one lock"),
+    ('{"needs":[["b","*"],["b","^1"]]' + BEHIND, '1:22: error 4 RepeatedDependency: b appears twice in "needs"'),
+    (json.dumps({"needs": [[f"a{it}", "*"] for it in range(65)], "revision": 1, "selected": []}), "1:899: error 6 TooManyDependencies: 65 needs; the limit is 64"),
+    ('{"needs":[]' + BEHIND + "\n{}", "3:1: error 19 BadLine: there is something after the lock: each file has one lock"),
 ]
 # two locks, and what changed
 CHANGED = [
@@ -145,7 +145,7 @@ class Lists(unittest.TestCase):
 
     def test_how_it_is_told(self):
         lines = CHANGED[-1][2]
-        self.assertEqual((counted(lines), counted(lines[-2:]), counted([])), ("1 came, 1 went, 8 changed", "1 came, 1 went, 0 changed", "0 came, 0 went, 0 changed"))
+        self.assertEqual((counted(lines), counted(lines[-2:]), counted([])), ("1 added, 1 removed, 8 changed", "1 added, 1 removed, 0 changed", "0 added, 0 removed, 0 changed"))
         styled = mock.Mock(style=lambda text, name: f"{name} {text[0]}")
         self.assertEqual(coloured(lines[-3:], styled), ["yellow ~", "red -", "green +"])
 
@@ -161,7 +161,7 @@ class Kept(Folder):
         self.hold(*self.OLD)
         path, selected = self.path("app.lock"), "app 1.0.0\nlog 1.0.0\n"
         self.assertEqual(self.registry("resolve", "app", "--write", path),
-                         (0, selected, "registry: app.lock is written: 2 came, 0 went, 0 changed\nregistry: app.needs is written: what app.lock was made for\n"))
+                         (0, selected, "registry: app.lock is written: 2 added, 0 removed, 0 changed\nregistry: app.needs is written: the needs of app.lock\n"))
         self.assertEqual((self.text("app.lock"), self.text("app.needs")), (self.LOCK, "app *\n"))
         self.hold(*self.OLD, publish("log", "1.1.0"), publish("app", "1.1.0", ["log *"]))
         self.assertEqual(self.registry("resolve", "app@^1", "log@>=1.0.0, <3", "--lock", path, "--budget", "7"), (0, selected, ""))
@@ -169,8 +169,8 @@ class Kept(Folder):
         self.assertEqual(self.registry("resolve", "app"), (0, "app 1.1.0\nlog 2.0.0\n", ""))
         new = self.path("new.lock")
         self.assertEqual(self.registry("resolve", "app", "--write", new)[0], 0)
-        self.assertEqual(self.registry("diff", path, new), (0, "~ app 1.0.0 -> 1.1.0\n~ log 1.0.0 -> 2.0.0 (beyond ^1.0.0)\n0 came, 0 went, 2 changed\n", ""))
-        self.assertEqual(self.registry("diff", path, path), (0, "0 came, 0 went, 0 changed\n", ""))
+        self.assertEqual(self.registry("diff", path, new), (0, "~ app 1.0.0 -> 1.1.0\n~ log 1.0.0 -> 2.0.0 (beyond ^1.0.0)\n0 added, 0 removed, 2 changed\n", ""))
+        self.assertEqual(self.registry("diff", path, path), (0, "0 added, 0 removed, 0 changed\n", ""))
         told = [{"name": "app", "from": "1.0.0", "to": "1.1.0"}, {"name": "log", "from": "1.0.0", "to": "2.0.0"}]
         self.assertEqual(json.loads(self.registry("diff", path, new, "--json")[1]), told)
         self.assertEqual(json.loads(self.registry("diff", self.path("none.lock", "[]"), path, "--json")[1])[0], {"name": "app", "from": None, "to": "1.0.0"})
@@ -180,7 +180,7 @@ class Kept(Folder):
         path = self.path("app.lock")
         self.registry("resolve", "app", "--write", path)
         self.hold(*self.OLD, publish("zed", "1.0.0"))
-        self.assertEqual(self.registry("resolve", "--lock", path, "--write", path), (0, "app 1.0.0\nlog 1.0.0\n", "registry: app.lock is written: 0 came, 0 went, 0 changed\n"))
+        self.assertEqual(self.registry("resolve", "--lock", path, "--write", path), (0, "app 1.0.0\nlog 1.0.0\n", "registry: app.lock is written: 0 added, 0 removed, 0 changed\n"))
         self.assertEqual(self.text("app.lock"), self.LOCK)
         self.registry("resolve", "app", "zed", "--lock", path, "--write", path)
         self.assertEqual(json.loads(self.text("app.lock")),
@@ -222,9 +222,9 @@ class Kept(Folder):
         self.hold(publish("a", "1.0.0"), publish("b", "1.0.0"), publish("b", "2.0.0"))
         path = self.path("x.lock")
         self.path("x.needs", "# what x asks for\n\na\n  b  >=1, <2  \n")
-        self.assertEqual(self.registry("resolve", "--write", path), (0, "a 1.0.0\nb 1.0.0\n", "registry: x.lock is written: 2 came, 0 went, 0 changed\n"))
+        self.assertEqual(self.registry("resolve", "--write", path), (0, "a 1.0.0\nb 1.0.0\n", "registry: x.lock is written: 2 added, 0 removed, 0 changed\n"))
         # needs that are typed go before those of the file, and are kept where they are others
-        self.assertEqual(self.registry("resolve", "a@*", "b@>=1, <2", "--write", path)[2], "registry: x.lock is written: 0 came, 0 went, 0 changed\n")
+        self.assertEqual(self.registry("resolve", "a@*", "b@>=1, <2", "--write", path)[2], "registry: x.lock is written: 0 added, 0 removed, 0 changed\n")
         self.assertIn("# what x asks for", self.text("x.needs"))
         self.assertEqual(self.registry("resolve", "b", "--write", path)[:2], (0, "b 2.0.0\n"))
         self.assertEqual(self.text("x.needs"), "b *\n")
@@ -252,14 +252,14 @@ class Kept(Folder):
         self.assertEqual((self.text("kept.lock"), os.path.islink(link), stat.S_IMODE(os.stat(path).st_mode)), (self.PLAIN, True, 0o640))
         self.assertEqual(sorted(os.listdir(self.folder)), ["app.lock", "app.needs", "kept.lock", "registry.journal"])
         status, said, fault = self.registry("resolve", "app", "--write", self.path("nowhere/app.lock"))
-        self.assertEqual((status, said, fault), (3, "app 1.0.0\nlog 1.0.0\n", "registry: nowhere/app.lock is as it was: No such file or directory\n"))
+        self.assertEqual((status, said, fault), (3, "app 1.0.0\nlog 1.0.0\n", "registry: nowhere/app.lock is not written: No such file or directory\n"))
 
     def test_a_write_that_fails_leaves_the_file(self):
         self.hold(*self.OLD)
         path = self.path("app.lock", "[]\n")
         for call in ("os.fsync", "os.replace", "os.fchmod", "tempfile.mkstemp"):
             with mock.patch(call, side_effect=OSError(28, "No space left on device")):
-                self.assertEqual(self.registry("resolve", "app", "--write", path), (3, "app 1.0.0\nlog 1.0.0\n", "registry: app.lock is as it was: No space left on device\n"))
+                self.assertEqual(self.registry("resolve", "app", "--write", path), (3, "app 1.0.0\nlog 1.0.0\n", "registry: app.lock is not written: No space left on device\n"))
             self.assertEqual((self.text("app.lock"), sorted(os.listdir(self.folder))), ("[]\n", ["app.lock", "registry.journal"]), call)
 
     def test_what_is_no_lock(self):
@@ -268,7 +268,7 @@ class Kept(Folder):
         for words, told in ((["diff", good, bad], 'bad:1:11: error 2 BadVersion: the version "1.0" has no patch number; did you mean "1.0.0"?'), (["diff", bad, good], "2 BadVersion"),
                             (["resolve", "a", "--lock", bad], "2 BadVersion"), (["diff", good, self.path("nowhere")], "nowhere: there is no such lock file"),
                             (["diff", good, self.path("x1", '[["A","1.0.0"]]')], "1 BadName"), (["diff", good, self.path("x2", '[["a",1]]')], "19 BadLine"),
-                            (["diff", good, self.path("x3", '[["a","1.0.0"],["a","2.0.0"]]')], 'x3:1:17: error 4 RepeatedDependency: a stands twice in "lock"'),
+                            (["diff", good, self.path("x3", '[["a","1.0.0"],["a","2.0.0"]]')], 'x3:1:17: error 4 RepeatedDependency: a appears twice in "lock"'),
                             (["diff", good, self.folder], "Is a directory"), (["tree", "a", "--lock", bad], "2 BadVersion"),
                             (["resolve", "a", "--write", bad], "2 BadVersion"), (["outdated", "--lock", bad], "2 BadVersion"), (["upgrade", "--lock", bad], "2 BadVersion")):
             status, printed, fault = self.registry(*words)

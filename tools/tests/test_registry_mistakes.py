@@ -17,7 +17,7 @@ FILES = {
     "last.lock": '[\n  ["log", "1.0.0"],\n]\n', "short.lock": '[\n  ["log", "1.0"]\n]\n', "object.lock": '{"log": "1.0.0"}', "text.lock": "log 1.0.0\n",
     "again.lock": '[\n["log", "1.0.0"],\n["log", "1.2.0"]]', "some.lines": '{"op":"list",}\n',
 }
-LETTERS = "is none of a-z, 0-9, - and _"
+LETTERS = "is not one of a-z, 0-9, - and _"
 NO_AT = "has no @ between the package and the requirement"
 NO_PACKAGE = "has no package before the requirement"
 # The words, the exit status, what is said on standard error, and the words that were meant, where they are known.
@@ -40,45 +40,45 @@ MISTAKES = [
     ("resolve registry.lock", 2, '"registry.lock" is no package; did you mean "--lock registry.lock"?', "resolve --lock registry.lock"),
     # a requirement in other words
     ("resolve 'log@>=1 <2'", 1, 'log@>=1 <2: a comma is missing between two comparators of ">=1 <2"; did you mean ">=1, <2"?', "resolve 'log@>=1, <2'"),
-    ("resolve zlib log@latest", 1, 'log@latest: "l" stands where the major number of the requirement "latest" should; did you mean "*"?', "resolve zlib 'log@*'"),
+    ("resolve zlib log@latest", 1, 'log@latest: expected the major number of the requirement "latest", not "l"; did you mean "*"?', "resolve zlib 'log@*'"),
     ("resolve log@", 1, 'log@: a requirement is empty; did you mean "*"?', "resolve 'log@*'"),
     ("resolve zlib log@1.0.0.0", 1, 'log@1.0.0.0: a comparator of the requirement "1.0.0.0" has more than three numbers', ""),
-    ("resolve log@^1 log@^1.2", 1, "log comes twice: join its requirements with a comma", "resolve 'log@^1, ^1.2'"),
+    ("resolve log@^1 log@^1.2", 1, "log appears twice: join its requirements with a comma", "resolve 'log@^1, ^1.2'"),
     # names and versions
     ("resolve Log", 1, f'the capital letter "L", byte 1 of the name "Log", {LETTERS}; did you mean "log"?', "resolve log"),
-    ("show lgo", 1, "no version of lgo is published; log is, which may be meant", "show log"),
+    ("show lgo", 1, "no version of lgo is published; did you mean log?", "show log"),
     ("publish log 1.3", 1, 'the version "1.3" has no patch number; did you mean "1.3.0"?', "publish log 1.3.0"),
-    ("publish log v1.3.0", 1, '"v" stands where the major number of the version "v1.3.0" should; did you mean "1.3.0"?', "publish log 1.3.0"),
+    ("publish log v1.3.0", 1, 'expected the major number of the version "v1.3.0", not "v"; did you mean "1.3.0"?', "publish log 1.3.0"),
     ("publish log 1.2.0", 1, "log 1.2.0 is published already, and a publication is permanent: choose another version", ""),
     ("publish log", 2, "the following arguments are required: VERSION: see `registry publish --help`", ""),
     ("yank log 1.1.0", 1, "log 1.1.0 is not published; there are 1.2.0 and 1.0.0", "yank log 1.2.0"),
     ("show log@1.1.0", 1, "log 1.1.0 is not published; there are 1.2.0 and 1.0.0", "show log@1.2.0"),
     ("why app --not nosuch 1.0.0", 1, "no version of nosuch is published", ""),
-    ("why app --not lgo@1.0.0", 1, "no version of lgo is published; log is, which may be meant", "why app --not log@1.0.0"),
+    ("why app --not lgo@1.0.0", 1, "no version of lgo is published; did you mean log?", "why app --not log@1.0.0"),
     ("why app --not log 1.1.0", 1, "log 1.1.0 is not published; there are 1.2.0 and 1.0.0", "why app --not log 1.2.0"),
-    ("tree app --invert log@1.0.0", 1, "log@1.0.0 is not selected; log is, which may be meant", "tree app --invert log"),
-    ("upgrade log@1.2.0 --yes", 1, "registry.lock has no log@1.2.0; it has log", "upgrade log --yes"),
+    ("tree app --invert log@1.0.0", 1, "log@1.0.0 is not selected; did you mean log?", "tree app --invert log"),
+    ("upgrade log@1.2.0 --yes", 1, "registry.lock has no log@1.2.0; did you mean log?", "upgrade log --yes"),
     # files of needs and of locks
     ("resolve --lock sign.lock", 3, f'sign.needs:2:1: error 1 BadName: "log>=1" {NO_AT}; did you mean "log@>=1"?', ""),
     ("resolve --lock comma.lock", 3, 'comma.needs:2:9: error 3 BadRequirement: a comma is missing between two comparators of ">=1 <2"; did you mean ">=1, <2"?', ""),
     ("resolve --lock capital.lock", 3, f'capital.needs:1:3: error 1 BadName: the capital letter "L", byte 1 of the name "Log", {LETTERS}; did you mean "log"?', ""),
-    ("resolve --lock twice.lock", 3, "twice.needs:3:1: error 4 RepeatedDependency: log stands twice: join its requirements with a comma", ""),
-    ("resolve log --lock mark.lock", 3, "mark.lock:1:1: error 19 BadLine: a byte order mark, the bytes EF BB BF, stands here; leave it out", ""),
-    ("resolve log --lock last.lock", 3, "last.lock:2:19: error 19 BadLine: a comma stands before what closes; leave it out", ""),
+    ("resolve --lock twice.lock", 3, "twice.needs:3:1: error 4 RepeatedDependency: log appears twice: join its requirements with a comma", ""),
+    ("resolve log --lock mark.lock", 3, "mark.lock:1:1: error 19 BadLine: there is a byte order mark here, the bytes EF BB BF; leave it out", ""),
+    ("resolve log --lock last.lock", 3, "last.lock:2:19: error 19 BadLine: there is a trailing comma; leave it out", ""),
     ("resolve log --lock short.lock", 3, 'short.lock:2:15: error 2 BadVersion: the version "1.0" has no patch number; did you mean "1.0.0"?', ""),
     ("resolve log --lock object.lock", 3, 'object.lock:1:1: error 19 BadLine: a lock list is an array of pairs of a name and a version, as [["b","1.0.0"]], not an object; '
                                           'did you mean [["log", "1.0.0"]]?', ""),
     ("resolve log --lock text.lock", 3, 'text.lock:1:1: error 19 BadLine: a lock list is an array of pairs of a name and a version, as [["b","1.0.0"]]', ""),
-    ("diff registry.lock again.lock", 3, 'again.lock:3:2: error 4 RepeatedDependency: log stands twice in "lock"', ""),
+    ("diff registry.lock again.lock", 3, 'again.lock:3:2: error 4 RepeatedDependency: log appears twice in "lock"', ""),
     ("resolve app --lock none.lock", 3, "none.lock: there is no such lock file: `registry resolve NEED .. --write none.lock` makes one", "resolve app --write none.lock"),
     # subcommands and options
-    ("install log", 2, "there is no subcommand install; resolve may be meant: `registry --help` has all", "resolve log"),
-    ("remove log 1.0.0", 2, "there is no subcommand remove; yank may be meant: `registry --help` has all", "yank log 1.0.0"),
-    ("update --yes", 2, "there is no subcommand update; upgrade may be meant: `registry --help` has all", "upgrade --yes"),
-    ("reslove log", 2, "there is no subcommand reslove; resolve may be meant: `registry --help` has all", "resolve log"),
-    ("list --jsn", 2, "unrecognized arguments: --jsn; did you mean --json?: see `registry list --help`", "list --json"),
+    ("install log", 2, "there is no subcommand install; did you mean resolve? See `registry --help`", "resolve log"),
+    ("remove log 1.0.0", 2, "there is no subcommand remove; did you mean yank? See `registry --help`", "yank log 1.0.0"),
+    ("update --yes", 2, "there is no subcommand update; did you mean upgrade? See `registry --help`", "upgrade --yes"),
+    ("reslove log", 2, "there is no subcommand reslove; did you mean resolve? See `registry --help`", "resolve log"),
+    ("list --jsn", 2, "unrecognized arguments: --jsn; did you mean --json? See `registry list --help`", "list --json"),
     ("resolve log --budget many", 2, "argument --budget: many is no number from 0 to 4294967295: see `registry resolve --help`", "resolve log --budget 100"),
-    ("import npm there", 2, "import goes with one of crates-io, cargo, debian, not with npm: `registry --help` has all", ""),
+    ("import npm there", 2, "import needs one of crates-io, cargo, debian, not npm: see `registry --help`", ""),
     ("list --connect none.socket", 3, "no service answers at none.socket: No such file or directory", ""),
 ]
 

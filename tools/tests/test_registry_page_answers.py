@@ -65,7 +65,7 @@ class Answers(unittest.TestCase):
         found = [answers.package(self.journal, {"name": [name]}) for name in ("zlib", "loger")]
         self.assertEqual([(it["versions"], it["newest"], it["near"], len(it["needed_by"])) for it in found], [([], None, None, 1), ([], None, "logger", 0)])
         self.assertRaisesRegex(NotThere, r"\Ano version of  is published\Z", answers.package, self.journal, {})
-        self.assertRaisesRegex(NotThere, r"\Ano version of lgo is published; log is, which may be meant\Z", answers.package, self.journal, {"name": ["lgo"]})
+        self.assertRaisesRegex(NotThere, r"\Ano version of lgo is published; did you mean log\?\Z", answers.package, self.journal, {"name": ["lgo"]})
 
     def test_a_selection(self):
         self.reply = {"revision": 9, "selected": [["app", "1.0.0"], ["log", "1.10.0+b"], ["logger", "0.1.0"]]}

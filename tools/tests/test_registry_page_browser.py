@@ -40,8 +40,8 @@ class Packages(InBrowser):
         self.assertEqual(len(self.texts("#found li")), 5)
         self.browser.type("/")  # a key that leads to the search
         self.browser.type("zlbi")
-        self.browser.until("document.querySelector('main p').textContent.includes('may be meant')")
-        self.assertEqual(self.texts("main p"), ["There is none. zlib may be meant."])
+        self.browser.until("document.querySelector('main p').textContent.includes('Did you mean')")
+        self.assertEqual(self.texts("main p"), ["There is none. Did you mean zlib?"])
         self.said_nothing()
 
     def test_a_package(self):
@@ -62,7 +62,7 @@ class Packages(InBrowser):
         self.heading("app")
         self.browser.open(self.server.address + "#/package/apps")
         self.heading("apps")
-        self.assertEqual(self.texts("main p")[0], "No version of apps is published. app is, which may be meant.")
+        self.assertEqual(self.texts("main p")[0], "No version of apps is published. Did you mean app?")
         self.said_nothing()
 
     def test_many_versions(self):
@@ -88,7 +88,7 @@ class Packages(InBrowser):
         self.journal = self.path(bad.replace("/", ""))
         self.show("", *WORKED)
         for path, said in ((f"#/search?text={quote(bad)}", bad.lower()), (f"#/package/{quote(bad)}", bad), (f"#/{quote(bad)}", "no such view"),
-                           (f"#/resolve?{urlencode({'need': bad})}", "is none")):
+                           (f"#/resolve?{urlencode({'need': bad})}", "is not one")):
             self.browser.open(f"{self.server.address}{path}")
             self.browser.until(f"document.querySelector('main').textContent.includes({json.dumps(said)})"
                                " && document.getElementById('about').textContent.includes('<img')")

@@ -126,7 +126,7 @@ class Refusals(InBrowser):
     def test_what_is_missing(self):
         self.show("#/resolve?need=web", *WORKED)
         self.browser.until("document.querySelector('.sentences')")
-        self.assertEqual(self.texts(".hints li"), ["No version of apps is published; app is, which may be meant."])
+        self.assertEqual(self.texts(".hints li"), ["No version of apps is published; did you mean app?"])
         self.assertIn("apps (not published)", self.texts("svg.graph text"))
 
     def test_a_long_one_is_folded(self):

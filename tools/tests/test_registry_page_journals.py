@@ -129,7 +129,7 @@ class Command(Served):
                 said = running.stderr.read()
             self.assertEqual((taken[0], taken[2].count("\n")), (3, 1))
             self.assertIn(f"port {port} can't be taken", taken[2])
-            self.assertEqual(said, "" if words else f"registry: {self.journal} is shown there, to this machine alone; Ctrl-C ends it\n")
+            self.assertEqual(said, "" if words else f"registry: {self.journal} is shown there, to this machine only; Ctrl-C ends it\n")
 
     def test_words(self):
         self.assertEqual(self.registry("page")[0], 3)  # there is no journal

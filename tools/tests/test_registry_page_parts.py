@@ -263,7 +263,7 @@ class Command(unittest.TestCase):
             return made, sys.stdout.getvalue(), sys.stderr.getvalue()
 
     def test_what_is_shown_and_where_that_is_told(self):
-        told = "registry: j is shown there, to this machine alone; Ctrl-C ends it\n"
+        told = "registry: j is shown there, to this machine only; Ctrl-C ends it\n"
         self.assertEqual(self.shown(), ([("File", "registry.journal", [], 10), (True, 0)], "http://there/\n", told))
         self.assertEqual(self.shown(journal="k", port=8000, seconds=3, any=True), ([("File", "k", ["--any"], 3), (True, 8000)], "http://there/\n", told))
         self.assertEqual(self.shown(is_json=True, connect="there", newest=True), ([("Service", "there", ["--newest"], 10), (True, 0)], '{"address":"http://there/","port":7}\n', ""))

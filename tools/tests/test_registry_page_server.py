@@ -194,7 +194,7 @@ class Answers(Served):
         apps = self.told("package", name="apps")
         self.assertEqual((apps["versions"], apps["newest"], apps["near"]), ([], None, "app"))
         self.assertEqual(apps["needed_by"], [{"name": "web", "version": "0.1.0", "requirement": "^1"}])
-        self.assertEqual(self.told("package", 404, name="appz"), {"error": "no version of appz is published; app is, which may be meant"})
+        self.assertEqual(self.told("package", 404, name="appz"), {"error": "no version of appz is published; did you mean app?"})
         self.assertEqual(self.told("package", 404), {"error": "no version of  is published"})
 
     def test_selections(self):
@@ -207,7 +207,7 @@ class Answers(Served):
         self.assertEqual([(it["version"], it["newest"]) for it in told["selected"]], [("1.0.0", "1.2.0"), ("1.0.0", None)])
 
     def test_what_can_t_be_asked(self):
-        for needs, said in (([], "name what is needed"), (["app@nonsense"], '"nonsense"'), (["A"], 'did you mean "a"?'), (["app", "app@1"], "app comes twice"),
+        for needs, said in (([], "name what is needed"), (["app@nonsense"], '"nonsense"'), (["A"], 'did you mean "a"?'), (["app", "app@1"], "app appears twice"),
                             ([f"p{it}" for it in range(65)], "65 needs"), ([f"p{it}" for it in range(150)], "fields")):
             self.assertIn(said, self.told("resolve", 400, need=needs)["error"])
 

@@ -70,7 +70,7 @@ class Needs(unittest.TestCase):
         files.write_file("/dev/null", "x")
         for place, call in ((os, "fsync"), (tempfile, "mkstemp"), (os, "replace")):
             with mock.patch.object(place, call, side_effect=OSError(28, "No space left on device")):
-                self.assertRaisesRegex(Failed, rf"\A{path} is as it was: No space left on device\Z", files.write_file, path, "three")
+                self.assertRaisesRegex(Failed, rf"\A{path} is not written: No space left on device\Z", files.write_file, path, "three")
         self.assertEqual((sorted(os.listdir(self.folder)), files.read_file(path)), (["a", "link"], b"two"))
         self.assertRaisesRegex(Failed, rf"\A{path}/b: Not a directory\Z", files.read_file, path + "/b")
         self.assertEqual([told(OSError("x")), told(OSError(2, "No such file", "p")), told(OSError(2, "No such file"))], ["x", "p: No such file", "No such file"])
@@ -211,20 +211,20 @@ class Faults(unittest.TestCase):
         begins = "a journal begins with registry-journal 1 or registry-journal 2"
         for text, line, wanted in (
                 (b"", 1, f"the file is empty: {begins}"), (b"x\n", 1, f"the first line is \"x\": {begins}"), (b"x", 1, f"the first line is \"x\" without a line feed: {begins}"),
-                (head + b"end 0\nx", 3, "something stands behind the end"), (head + a, 2, "is not finished: it has no line feed"), (head, 2, "the end is missing"),
+                (head + b"end 0\nx", 3, "there is something after the end line"), (head + a, 2, "is not finished: it has no line feed"), (head, 2, "the end is missing"),
                 (head + b"end 1\n", 2, "it is \"end 1\", where end 0 should stand"), (head + a + b"\nend 2\n", 3, "it is \"end 2\", where end 1 should stand"),
                 (head + b"\xff\n", 2, "byte 1, 0xFF, is not UTF-8"), (head + b"a\xc3\n", 2, "byte 2, 0xC3, is not UTF-8"), (head + b"{\n", 2, "column 2: "), (head + b"[]\n", 2, "it is no object"),
-                (head + a.replace(b":", b": ", 1) + b"\n", 2, "column 9: white space stands here, and the program writes it otherwise"),
-                (head + a.replace(b'"a"', b'"\\u0061"') + b"\n", 2, "column 10: an escape stands here, and the program writes it otherwise"),
-                (head + b'{"op":"list","name":"a"}\n', 2, "column 3: the members do not stand once each, in order of their names, and the program writes it otherwise"),
-                (head + b'{"op":"list"}\n', 2, "it is no publication, yank or unyank, and nothing that was learnt"),
+                (head + a.replace(b":", b": ", 1) + b"\n", 2, "column 9: there is white space here, and the program writes it differently"),
+                (head + a.replace(b'"a"', b'"\\u0061"') + b"\n", 2, "column 10: there is an escape here, and the program writes it differently"),
+                (head + b'{"op":"list","name":"a"}\n', 2, "column 3: the members are not once each in the order of their names, and the program writes it differently"),
+                (head + b'{"op":"list"}\n', 2, "it is not a publication, yank, unyank or learnt line"),
                 (head + b'{"name":"a","op":"yank","version":"x"}\n', 2, "column 36: 2 BadVersion: "), (head + b'{"op":"learn"}\n', 2, 'column 14: what was learnt has no "derivation", which it must have')):
             self.assertIn(wanted, journal_faults.why("j", self.read(text, line)), text)
         with mock.patch.object(journal_faults, "MOST_LINE_BYTES", 20):
             for count, is_long in ((20, False), (21, True)):
                 self.assertEqual("the line has more than 20 bytes" == journal_faults.why("j", self.read(head + b"x" * count + b"\n", 2)), is_long)
         with mock.patch.object(journal_faults, "MOST_COMMANDS", 1):
-            self.assertEqual(journal_faults.why("j", self.read(head + a + b"\n" + a + b"\n", 3)), "1 commands stand before it, which are the most")
+            self.assertEqual(journal_faults.why("j", self.read(head + a + b"\n" + a + b"\n", 3)), "1 commands are before it, which is the limit")
 
     def test_why_what_was_learnt_is_at_fault(self):
         chain, right = [journal_line(line) for line in CHAIN], learn(0)
@@ -239,9 +239,9 @@ class Faults(unittest.TestCase):
                                 (why(*chain, '{"derivation":[{"causes":[{"fact":"root"},{"fact":"root"}],"conclusion":[],"pivot":""}],"op":"learn"}'), "line 1 of it rests on a request")):
             self.assertIn(wanted, told_of)
         with mock.patch.object(journal_faults, "MOST_LEARNT", 1), mock.patch.object(journal_faults, "MOST_STORED", 1):
-            self.assertEqual(why(*chain, right, learn(0, 5)), "1 are learnt before it, which are the most")
+            self.assertEqual(why(*chain, right, learn(0, 5)), "1 are learnt before it, which is the limit")
         with mock.patch.object(journal_faults, "MOST_STORED", 1):
-            self.assertEqual(why(*chain, right, learn(0, 5)), "1 are stored before it, which are the most")
+            self.assertEqual(why(*chain, right, learn(0, 5)), "1 are stored before it, which is the limit")
 
     def test_a_new_journal_is_written_whole_or_not_at_all(self):
         with tempfile.TemporaryDirectory() as folder:

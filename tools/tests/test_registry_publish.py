@@ -11,21 +11,21 @@ from registry_folder import Folder
 from test_readme import blocks
 
 PERMANENT = "is published already, and a publication is permanent: choose another version"
-LETTERS = "is none of a-z, 0-9, - and _"
+LETTERS = "is not one of a-z, 0-9, - and _"
 # words, the number of the refusal and what is said, with log 1.2.0 and 1.3.0, of which the first is yanked
 REFUSED = [
     ("publish Log 1.0.0", 1, f'the capital letter "L", byte 1 of the name "Log", {LETTERS}; did you mean "log"?'),
-    ("publish app 1.0.0 log@^1 9up@*", 1, 'the name "9up" begins with no letter a-z'),
+    ("publish app 1.0.0 log@^1 9up@*", 1, 'the name "9up" does not begin with a letter a-z'),
     ("publish app 1.0 log@^1", 2, 'the version "1.0" has no patch number; did you mean "1.0.0"?'),
     ("publish app 1.0.0 log@^1 zlib@>1.x.2", 3, 'zlib@>1.x.2: behind a wildcard the requirement ">1.x.2" has no more numbers; did you mean ">1.*"?'),
     ("publish app 1.0.0 log@", 3, 'log@: a requirement is empty; did you mean "*"?'),
-    ("publish app 1.0.0 log@^1 log@<2", 4, "log comes twice: join its requirements with a comma"),
+    ("publish app 1.0.0 log@^1 log@<2", 4, "log appears twice: join its requirements with a comma"),
     ("publish app 1.0.0 app", 5, "app 1.0.0 can't need app itself"),
-    ("publish app 1.0.0 " + " ".join(f"n{number}" for number in range(65)), 6, "there are 65 needs, and 64 are the most"),
+    ("publish app 1.0.0 " + " ".join(f"n{number}" for number in range(65)), 6, "there are 65 needs; the limit is 64"),
     ("publish log 1.3.0", 7, f"log 1.3.0 {PERMANENT}"),
     ("publish log 1.3.0+again", 7, f"log 1.3.0+again {PERMANENT}"),
     ("yank log 1.4.0", 11, "log 1.4.0 is not published; there is 1.3.0"),
-    ("yank lgo 1.3.0", 11, "no version of lgo is published; log is, which may be meant"),
+    ("yank lgo 1.3.0", 11, "no version of lgo is published; did you mean log?"),
     ("unyank zebra 1.0.0", 11, "no version of zebra is published"),
     ("yank log 1.2.0", 12, "log 1.2.0 is yanked already"),
     ("unyank log 1.3.0", 13, "log 1.3.0 is not yanked"),
@@ -55,7 +55,7 @@ end 5
     def test_a_need_that_nobody_has_published_is_noted_with_the_nearest_name(self):
         self.hold(publish("serde-json", "1.0.0"))
         self.assertEqual(self.registry("publish", "app", "1.0.0", "serde_json", "serde-json"),
-                         (0, "published app 1.0.0 (revision 2)\n", "registry: so far no version of serde_json is published; serde-json is, which may be meant\n"))
+                         (0, "published app 1.0.0 (revision 2)\n", "registry: so far no version of serde_json is published; did you mean serde-json?\n"))
 
     def test_each_refusal_in_english(self):
         self.hold(publish("log", "1.2.0"), publish("log", "1.3.0"), yank("log", "1.2.0"))
@@ -70,7 +70,7 @@ end 5
     def test_limits_in_english(self):
         self.hold(*(publish("many", f"0.0.{number}") for number in range(4096)))
         status, _, said = self.registry("publish", "many", "1.0.0")
-        self.assertEqual((status, said.splitlines()[-1]), (1, "registry: many has 4,096 versions, which are the most"))
+        self.assertEqual((status, said.splitlines()[-1]), (1, "registry: many has 4,096 versions, which is the limit"))
 
     def test_the_newest_versions_are_named(self):
         for count, said in ((1, "there is 1.0.0"), (2, "there are 1.1.0 and 1.0.0"), (3, "there are 1.2.0, 1.1.0 and 1.0.0"), (4, "there are 1.3.0, 1.2.0 and 2 more"),
@@ -155,7 +155,7 @@ class Journals(Folder):
             self.path("registry.journal", text)
             for words in (["list"], ["publish", "c", "1.0.0"]):
                 self.assertEqual(self.registry(*words), (3, "", f"registry: registry.journal: line {line} is at fault: `registry journal verify registry.journal` says "
-                                                                "more, and `registry journal repair registry.journal` keeps what stands before it\n"), text)
+                                                                "why, and `registry journal repair registry.journal` keeps what is before it\n"), text)
             self.assertEqual(self.text("registry.journal"), text)
 
     def test_one_that_is_no_file(self):

@@ -109,7 +109,7 @@ class Put(unittest.TestCase):
                 if is_put:
                     self.put(question, {"error": 22}, question.request)
                 else:
-                    self.assertRaisesRegex(Refused, r"\Athe question takes 5 commands, and 4 are the most of a session\Z", self.put, question, {}, question.request)
+                    self.assertRaisesRegex(Refused, r"\Athe question takes 5 commands; the limit of a session is 4\Z", self.put, question, {}, question.request)
 
 
 class ToldBack(unittest.TestCase):

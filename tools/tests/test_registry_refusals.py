@@ -12,21 +12,21 @@ PACKAGES = {"serde": [["1.0.0", False], ["1.10.0", False], ["1.9.0", True], ["1.
 A = {"op": "publish", "name": "a", "version": "1.0.0", "needs": []}
 # By number the request, and what is said of its refusal.
 SAID = [
-    (1, {**A, "name": "A"}, 'the capital letter "A", byte 1 of the name "A", is none of a-z, 0-9, - and _; did you mean "a"?'),
+    (1, {**A, "name": "A"}, 'the capital letter "A", byte 1 of the name "A", is not one of a-z, 0-9, - and _; did you mean "a"?'),
     (2, {**A, "version": "1"}, 'the version "1" has no minor number; did you mean "1.0.0"?'),
-    (3, {**A, "needs": [["c", "*"], ["b", "?"]]}, 'b@?: "?" stands where the major number of the requirement "?" should'),
-    (4, {**A, "needs": [["c", "*"], ["b", "^1"], ["b", "<2"]]}, "b comes twice: join its requirements with a comma"),
-    (4, {"op": "resolve", "needs": [["c", "*"]], "lock": [["b", "1.0.0"], ["b", "1.0.1"]]}, "b comes twice: join its requirements with a comma"),
+    (3, {**A, "needs": [["c", "*"], ["b", "?"]]}, 'b@?: expected the major number of the requirement "?", not "?"'),
+    (4, {**A, "needs": [["c", "*"], ["b", "^1"], ["b", "<2"]]}, "b appears twice: join its requirements with a comma"),
+    (4, {"op": "resolve", "needs": [["c", "*"]], "lock": [["b", "1.0.0"], ["b", "1.0.1"]]}, "b appears twice: join its requirements with a comma"),
     (5, A, "a 1.0.0 can't need a itself"),
-    (6, {**A, "needs": [[f"p{number}", "*"] for number in range(65)]}, "there are 65 needs, and 64 are the most"),
+    (6, {**A, "needs": [[f"p{number}", "*"] for number in range(65)]}, "there are 65 needs; the limit is 64"),
     (7, A, "a 1.0.0 is published already, and a publication is permanent: choose another version"),
-    (8, A, "a has 4,096 versions, which are the most"),
-    (9, A, "65,535 names are known, which are the most: `registry journal renew` begins a smaller journal"),
+    (8, A, "a has 4,096 versions, which is the limit"),
+    (9, A, "65,535 names are known, which is the limit: `registry journal renew` begins a smaller journal"),
     (10, A, "the journal is full: `registry journal renew` begins a smaller one"),
     (12, A, "a 1.0.0 is yanked already"),
     (13, A, "a 1.0.0 is not yanked"),
-    (18, A, "there was no memory for it"),
-    (22, A, "no answer was found within the budget of conflicts: raise it by --budget"),
+    (18, A, "there is not enough memory for it"),
+    (22, A, "no answer was found within the budget (--budget), or within the time of the service (its --seconds)"),
     (19, A, "the program refuses it: 19 BadLine"),
 ]
 
@@ -40,11 +40,11 @@ class Refusals(unittest.TestCase):
 
     def test_what_is_not_there(self):
         for name, said in (("serde", "serde 2.0.0 is not published; there are 1.10.0, 1.2.0 and 2 more"), ("old", "old 2.0.0 is not published; there is 1.0.0, yanked"),
-                           ("serda", "no version of serda is published; serde is, which may be meant"), ("zed", "no version of zed is published"),
+                           ("serda", "no version of serda is published; did you mean serde?"), ("zed", "no version of zed is published"),
                            # of so short a name any other would be near
                            ("lo", "no version of lo is published")):
             self.assertEqual(english({"op": "yank", "name": name, "version": "2.0.0"}, {"error": 11, "name": "NoSuchVersion"}, lambda: PACKAGES), said)
-        self.assertEqual(unpublished("lgo", PACKAGES), "no version of lgo is published; log is, which may be meant")
+        self.assertEqual(unpublished("lgo", PACKAGES), "no version of lgo is published; did you mean log?")
         self.assertEqual(unmatched("log", "^9", PACKAGES["log"]), "no version of log matches ^9; there is 0.4.0")
 
     def test_how_many_are_named(self):

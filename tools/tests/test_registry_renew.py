@@ -114,12 +114,12 @@ class Renew(Folder):
         self.assertEqual(self.renew("--newest", "4097")[0], 2)
         self.path("registry.journal", self.text("registry.journal").replace('"log"', '"LOG"', 1))
         self.assertEqual(self.renew(), (1, "", "registry: registry.journal: line 2 is at fault: `registry journal repair registry.journal` keeps what "
-                                               "stands before it\n"))
+                                               "is before it\n"))
         self.assertEqual(os.listdir(self.folder), ["registry.journal"])
 
     def test_a_journal_in_use(self):
         self.path("registry.journal", written(*LOGS).replace("end 5\n", ""))
-        self.assertEqual(self.renew("--newest", "5")[2], "registry: registry.journal has no end: what a session adds from now on is not taken over\n")
+        self.assertEqual(self.renew("--newest", "5")[2], "registry: registry.journal has no end line: what a session adds from now on is not copied\n")
         self.assertEqual(self.text("new.journal"), written(*LOGS))
 
     def test_random_registries(self):

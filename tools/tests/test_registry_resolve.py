@@ -43,8 +43,8 @@ class Resolve(Folder):
     def test_a_refusal_tells_what_there_is(self):
         self.hold(*(publish("rand", it) for it in ("0.8.1", "0.8.5", "0.8.4", "0.6.0", "0.5.0")), yank("rand", "0.6.0"), publish("serde-json", "1.0.0"))
         for needs, hint in ((["rand@^0.7"], "No version of rand matches ^0.7; there are 0.8.5, 0.8.4 and 2 more."),
-                            (["serde-jsn"], "No version of serde-jsn is published; serde-json is, which may be meant."),
-                            (["serde_json"], "No version of serde_json is published; serde-json is, which may be meant.")):
+                            (["serde-jsn"], "No version of serde-jsn is published; did you mean serde-json?"),
+                            (["serde_json"], "No version of serde_json is published; did you mean serde-json?")):
             self.assertEqual(self.registry("resolve", *needs)[2].splitlines()[-1], "  " + hint)
         self.assertEqual(self.registry("resolve", "zebra")[2].splitlines()[1:],
                          ["  Because the request depends on zebra * and no version of zebra is published, resolving failed."])
@@ -55,14 +55,14 @@ class Resolve(Folder):
         lines, needs = pigeons(5)
         self.hold(*lines)
         self.assertEqual(self.registry("resolve", *needs, "--budget", "3"),
-                         (1, "", "registry: no answer was found within the budget of conflicts: raise it by --budget\n"))
+                         (1, "", "registry: no answer was found within the budget (--budget), or within the time of the service (its --seconds)\n"))
         self.assertEqual(json.loads(self.registry("resolve", *needs, "--budget", "3", "--json")[1])["error"], 22)
         self.assertIn("resolving failed.", self.registry("resolve", *needs, "--budget", "100000")[2])
 
     def test_needs_that_are_none(self):
         self.hold(*LINES)
-        for needs, said in ((["App"], 'the capital letter "A"'), (["app@1.x.x.x"], "has more than three numbers"), (["app", "app@^1"], "app comes twice"),
-                            ([f"n{number}" for number in range(65)], "there are 65 needs, and 64 are the most")):
+        for needs, said in ((["App"], 'the capital letter "A"'), (["app@1.x.x.x"], "has more than three numbers"), (["app", "app@^1"], "app appears twice"),
+                            ([f"n{number}" for number in range(65)], "there are 65 needs; the limit is 64")):
             status, told, fault = self.registry("resolve", *needs)
             self.assertEqual((status, told, fault.count("\n")), (1, "", 1))
             self.assertIn(said, fault)
@@ -88,7 +88,7 @@ app 1.0.0
     def test_inverted(self):
         self.hold(*LINES)
         self.assertEqual(self.registry("tree", "app", "--invert", "log"), (0, "log 1.0.0\n├── app 1.0.0\n└── web 1.2.0\n    └── app 1.0.0\n", ""))
-        self.assertEqual(self.registry("tree", "app", "--invert", "lgo"), (1, "", "registry: lgo is not selected; log is, which may be meant\n"))
+        self.assertEqual(self.registry("tree", "app", "--invert", "lgo"), (1, "", "registry: lgo is not selected; did you mean log?\n"))
         self.assertEqual(self.registry("tree", "app", "--invert", "zebra"), (1, "", "registry: zebra is not selected\n"))
 
     def test_a_depth(self):

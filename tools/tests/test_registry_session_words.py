@@ -23,10 +23,10 @@ TELLING = 'exec 2> /dev/null; for last; do :; done; echo "{\\"words\\":\\"$*\\"}
 # what the program says as it ends, by docs/FORMATS.md, and what is told of that of a journal `j`
 SAID = [
     ("registryd: journal j: in use by another session\n", "j is in use by another session: try again once that has ended"),
-    ("registryd: journal line 7\n", "j: line 7 is at fault: `registry journal verify j` says more, and `registry journal repair j` keeps what stands before it"),
-    ("registryd: journal j: line 12\n", "j: line 12 is at fault: `registry journal verify j` says more, and `registry journal repair j` keeps what stands before it"),
+    ("registryd: journal line 7\n", "j: line 7 is at fault: `registry journal verify j` says why, and `registry journal repair j` keeps what is before it"),
+    ("registryd: journal j: line 12\n", "j: line 12 is at fault: `registry journal verify j` says why, and `registry journal repair j` keeps what is before it"),
     ("registryd: journal j: can't be opened: Permission denied (os error 13)\n", "j: can't be opened: Permission denied: --journal FILE names another"),
-    ("registryd: input failed\n", "j can't be read"), ("registryd: output failed\n", "j can't be written: what was told as accepted before stands in it"),
+    ("registryd: input failed\n", "j can't be read"), ("registryd: output failed\n", "j can't be written: it has the commands that were accepted before"),
     ("registryd: no memory\n", "there is not enough memory for j"), ("registryd: building\n", ""), ("no memory\n", ""), ("registryd: no memory", ""), ("", ""),
 ]
 
@@ -46,7 +46,7 @@ class Which(unittest.TestCase):
         for words, wanted in (({}, []), ({"newest": False, "any": False}, []), ({"newest": True, "any": False}, ["--newest"]), ({"newest": False, "any": True}, ["--any"]), ({"newest": 3}, []),
                               ({"any": True}, ["--any"])):
             self.assertEqual(session.selecting(SimpleNamespace(**words)), wanted)
-        self.assertRaisesRegex(Usage, r"\A--newest goes without --any\Z", session.selecting, SimpleNamespace(newest=True, any=True))
+        self.assertRaisesRegex(Usage, r"\A--newest can't be used with --any\Z", session.selecting, SimpleNamespace(newest=True, any=True))
 
     def test_one_of_a_file(self):
         self.assertIs(session.reading(given(journal="j", any=True)), self.made["Reading"].return_value)

@@ -55,7 +55,7 @@ class Journals(unittest.TestCase):
         with mock.patch.dict(os.environ, {session.SERVICE: "s", session.VARIABLE: "v"}):
             self.assertEqual([session.service_of(it) for it in (given(), given("c"), given(None, "j"))], ["s", "c", None])
             self.assertEqual([session.journal_of(it) for it in (given(), given(None, "j"))], ["v", "j"])
-            self.assertRaisesRegex(Usage, "--connect goes without --journal", session.service_of, given("c", "j"))
+            self.assertRaisesRegex(Usage, "--connect can't be used with --journal", session.service_of, given("c", "j"))
             with mock.patch.object(session, "standing", SimpleNamespace(path="p", service=None)):
                 self.assertEqual((session.service_of(given()), session.journal_of(given())), (None, "p"))
             del os.environ[session.SERVICE], os.environ[session.VARIABLE]

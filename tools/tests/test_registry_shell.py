@@ -121,8 +121,8 @@ class Typed(Folder):
             self.assertEqual(shell.answer("publish app 1.0.0 'log@>=1, <2'"), "published app 1.0.0 (revision 2)\n")
             self.assertEqual(shell.answer("registry resolve app"), "app 1.0.0\nlog 1.0.0\n")
             self.assertEqual(shell.answer("yank log 2.0.0"), "registry: log 2.0.0 is not published; there is 1.0.0\n")
-            self.assertEqual(shell.answer("show 'log"), "registry: a quote does not end, or nothing stands behind a backslash\n")
-            self.assertEqual(shell.answer("shell"), "registry: this is the shell: Ctrl-D ends it\n")
+            self.assertEqual(shell.answer("show 'log"), "registry: a quote is not closed, or nothing follows a backslash\n")
+            self.assertEqual(shell.answer("shell"), "registry: this is the shell already: Ctrl-D ends it\n")
             self.assertEqual(shell.answer(""), "")
             self.assertEqual(shell.child(), child)
             said = subprocess.run([COMMAND, "publish", "other", "1.0.0", "--wait", "0"], cwd=self.folder, env={**os.environ, "REGISTRY_PROGRAM": PROGRAM},

@@ -38,18 +38,18 @@ class Lines(unittest.TestCase):
 
     def test_words(self):
         for line, words in (("", []), ("  \n", []), ("# all of it", []), ("show a # b", ["show", "a"]), ("publish 'a b' \"c\\\"d\" e\\ f", ["publish", "a b", 'c"d', "e f"]), ("registry show a", ["show", "a"]),
-                            ("registry", []), ("show registry", ["show", "registry"]), ("help", ["--help"]), ("help journal verify", ["journal", "verify", "--help"]), ("registry help show", ["show", "--help"]),
+                            ("registry", []), ("show registry", ["show", "registry"]), ("help", ["help"]), ("registry help show", ["help", "show"]),
                             ("show help", ["show", "help"])):
             self.assertEqual(shell.words_of(line), words, line)
         self.assertEqual(self.said.getvalue(), "")
         for line in ("show 'a", 'show "a', "show a\\"):
             self.assertIsNone(shell.words_of(line))
-        self.assertEqual(self.said.getvalue(), "registry: a quote does not end, or nothing stands behind a backslash\n" * 3)
+        self.assertEqual(self.said.getvalue(), "registry: a quote is not closed, or nothing follows a backslash\n" * 3)
 
     def test_how_a_line_ends(self):
         self.ends = {"refused": 1, "key": KeyboardInterrupt(), "helped": SystemExit(), "wrong": SystemExit(2)}
         for words, status, told in ((["list"], 0, ""), (["refused"], 1, ""), (["key", "x"], 130, "registry: interrupted\n"), (["helped"], 0, ""), (["wrong"], 2, ""), (None, 2, ""),
-                                    (["shell"], 2, "registry: this is the shell: Ctrl-D ends it\n"), (["shell", "--json"], 2, "registry: this is the shell: Ctrl-D ends it\n")):
+                                    (["shell"], 2, "registry: this is the shell already: Ctrl-D ends it\n"), (["shell", "--json"], 2, "registry: this is the shell already: Ctrl-D ends it\n")):
             self.assertEqual((shell.obey(words), self.said.getvalue()), (status, told), words)
             self.said.seek(0)
             self.said.truncate()

@@ -55,8 +55,8 @@ needed by
 
     def test_one_that_is_not_there(self):
         self.hold(*LINES)
-        for name, said in (("lgo", "no version of lgo is published; log is, which may be meant"), ("json-2", "no version of json-2 is published"),
-                           ("json_log", "no version of json_log is published; json-log is, which may be meant"), ("Log", "no version of Log is published; log is, which may be meant")):
+        for name, said in (("lgo", "no version of lgo is published; did you mean log?"), ("json-2", "no version of json-2 is published"),
+                           ("json_log", "no version of json_log is published; did you mean json-log?"), ("Log", "no version of Log is published; did you mean log?")):
             self.assertEqual(self.registry("show", name), (1, "", f"registry: {said}\n"))
 
 
@@ -77,7 +77,7 @@ class Lists(Folder):
             status, said, fault = self.registry("search", text)
             self.assertEqual((status, [line.split()[0] for line in said.splitlines()], fault), (0, found, ""))
             self.assertEqual([it["name"] for it in json.loads(self.registry("search", text, "--json")[1])], found)
-        self.assertEqual(self.registry("search", "lgo"), (1, "", "registry: no package's name has lgo in it; log may be meant\n"))
+        self.assertEqual(self.registry("search", "lgo"), (1, "", "registry: no package's name has lgo in it; did you mean log?\n"))
         self.assertEqual(self.registry("search", "zebra"), (1, "", "registry: no package's name has zebra in it\n"))
         self.assertEqual(self.registry("search", "zebra", "--json")[:2], (1, "[]\n"))
 

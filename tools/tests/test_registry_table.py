@@ -12,9 +12,9 @@ from registry import command_line, table
 from registry.failures import Usage
 from registry.table import COMMON, SUBCOMMANDS, Subcommand, Word, flag, option, subcommand, word
 
-NONE = {"journal": None, "connect": None, "json": False}
+NONE = {"journal": None, "connect": None, "json": False, "color": None, "quiet": False, "verbose": False}
 SELECTING = {"newest": False, "any": False}
-ASKING = {"need": [], "lock": None, "budget": None, **SELECTING}
+ASKING = {"need": [], "lock": None, "budget": None, "limit": 30, **SELECTING}
 IMPORTING = {"from": None, "newest": None, "lines": False, "ask": False, "both_spellings": False, "wait": None}
 # command lines, and the values that are read from them
 READ = [
@@ -27,13 +27,15 @@ READ = [
     ("show --json log@1.0.0", {"name": "log", "version": "1.0.0", "json": True}), ("yank log@1.0.0 --wait 3", {"name": "log", "version": "1.0.0", "wait": 3}),
     ("publish a@1.0.0@x b@^1", {"name": "a", "version": "1.0.0@x", "need": ["b@^1"], "wait": None}), ("publish --wait 3 a 1.0.0 b@^1", {"name": "a", "version": "1.0.0", "need": ["b@^1"], "wait": 3}),
     ("search lo --connect c", {"text": "lo", "connect": "c"}), ("list", {}), ("resolve a --lock l --write w --budget 5 --any b", {"need": ["a", "b"], "lock": "l", "write": "w",
-                                                                                                                         "budget": 5, "newest": False, "any": True, "locked": False}),
+                                                                                                                         "budget": 5, "limit": 30, "newest": False, "any": True, "locked": False}),
+    ("resolve -q --color never", {**ASKING, "write": None, "locked": False, "quiet": True, "color": "never"}),
+    ("-v resolve --seconds 0", {**ASKING, "limit": 0, "write": None, "locked": False, "verbose": True}),
     ("resolve --locked", {**ASKING, "write": None, "locked": True}), ("tree a --invert b --depth 0 --newest", {**ASKING, "need": ["a"], "invert": "b", "depth": 0, "newest": True}),
-    ("why a --not log 1.0.0 --picture p --unfolded", {**ASKING, "need": ["a"], "version": ["log", "1.0.0"], "picture": "p", "unfolded": True, "asked": None, "told": None,
+    ("why a --not log 1.0.0 --picture p --unfolded", {**ASKING, "need": ["a"], "version": ["log", "1.0.0"], "picture": "p", "full": False, "unfolded": True, "asked": None, "told": None,
                                                       "request": None}),
-    ("why --asked a --told t --request 3", {**ASKING, "version": None, "picture": None, "unfolded": False, "asked": "a", "told": "t", "request": 3}),
-    ("outdated --lock l --budget 7 --exit-status", {**ASKING, "lock": "l", "budget": 7, "exit_status": True}), ("upgrade", {"name": [], "lock": None, "need": None, "budget": None, **SELECTING, "yes": False}),
-    ("upgrade a b --need c d --yes", {"name": ["a", "b"], "lock": None, "need": ["c", "d"], "budget": None, **SELECTING, "yes": True}), ("diff a b", {"old": "a", "new": "b", "exit_status": False}),
+    ("why --asked a --told t --request 3", {**ASKING, "version": None, "picture": None, "full": False, "unfolded": False, "asked": "a", "told": "t", "request": 3}),
+    ("outdated --lock l --budget 7 --exit-status", {**ASKING, "lock": "l", "budget": 7, "exit_status": True}), ("upgrade", {"name": [], "lock": None, "need": None, "budget": None, "limit": 30, **SELECTING, "yes": False}),
+    ("upgrade a b --need c d --yes", {"name": ["a", "b"], "lock": None, "need": ["c", "d"], "budget": None, "limit": 30, **SELECTING, "yes": True}), ("diff a b", {"old": "a", "new": "b", "exit_status": False}),
     ("lock check l a@^1 b", {"file": "l", "need": ["a@^1", "b"]}),
     ("check -", {"file": "-"}), ("journal verify f", {"file": "f"}), ("journal repair f --output n", {"file": "f", "output": "n"}),
     ("journal renew a b --lock c d --newest 0", {"old": "a", "new": "b", "lock": ["c", "d"], "newest": 0}), ("shell", {"wait": None}), ("page --port 0 --seconds 1 --any", {"port": 0, "seconds": 1,
@@ -48,12 +50,14 @@ EDGES = [("resolve a --budget", 0, 4_294_967_295), ("tree a --depth", 0, 4_294_9
          ("import debian --newest", 1, 4096), ("journal renew a b --newest", 0, 4096), ("page --port", 0, 65_535), ("page --seconds", 1, 3600), ("serve --port", 0, 65_535),
          ("serve --metrics-port", 0, 65_535), ("serve --readers", 1, 64), ("serve --workers", 1, 64), ("serve --seconds", 1, 3600), ("serve --clients", 1, 100_000),
          ("serve --budget", 0, 4_294_967_295), ("publish a 1.0.0 --wait", 0, 86_400), ("shell --wait", 0, 86_400), ("upgrade --budget", 0, 4_294_967_295)]
+LIMITS = [f"{it} --seconds" for it in ("resolve", "tree", "why", "outdated", "upgrade")]
+EDGES += [(it, 0, 86_400) for it in LIMITS]
 WRONG = [
-    (["publsh"], "there is no subcommand publsh; publish may be meant: `registry --help` has all"), (["frobnicate"], "there is no subcommand frobnicate: `registry --help` has all"),
-    (["--jurnal", "x", "list"], "there is no option --jurnal before a subcommand: `registry --help` has all"), (["--json=1", "--x=2"], "there is no option --x before a subcommand: `registry --help` has all"),
-    (["import"], "import goes with one of crates-io, cargo, debian: `registry --help` has all"), (["journal", "x", "y"], "journal goes with one of verify, repair, renew, not with x: `registry --help` has all"),
-    (["lock"], "lock goes with check: `registry --help` has all"), (["lock", "chekc"], "lock goes with check, not with chekc: `registry --help` has all"),
-    (["jurnal", "verify"], "there is no subcommand jurnal; journal may be meant: `registry --help` has all"),
+    (["publsh"], "there is no subcommand publsh; did you mean publish? See `registry --help`"), (["frobnicate"], "there is no subcommand frobnicate: see `registry --help`"),
+    (["--jurnal", "x", "list"], "there is no option --jurnal before a subcommand: see `registry --help`"), (["--json=1", "--x=2"], "there is no option --x before a subcommand: see `registry --help`"),
+    (["import"], "import needs one of crates-io, cargo, debian: see `registry --help`"), (["journal", "x", "y"], "journal needs one of verify, repair, renew, not x: see `registry --help`"),
+    (["lock"], "lock needs check: see `registry --help`"), (["lock", "chekc"], "lock needs check, not chekc: see `registry --help`"),
+    (["jurnal", "verify"], "there is no subcommand jurnal; did you mean journal? See `registry --help`"),
 ]
 SMALL = Subcommand("cut here", "cut", "Cut something off", (word("FILE", "a file of 100 %", table.FILE), option("--most", "N", "no more", range(1, 5), default=3), flag("--all", "all of it")),
                    ("registry cut here x",), "It cuts " + "and cuts " * 20 + "off.")
@@ -72,11 +76,11 @@ class Words(unittest.TestCase):
 
     def test_numbers(self):
         for line, least, most in EDGES:
-            member = line.rpartition(" --")[2].replace("-", "_")
+            member = "limit" if line in LIMITS else line.rpartition(" --")[2].replace("-", "_")
             for value in (least, most):
                 self.assertEqual(read(f"{line} {value}")[member], value, line)
             for value in (least - 1, most + 1, "x", "1.0", "\u0663", "1_0"):
-                with self.assertRaisesRegex(Usage, rf"\Aargument --{member.replace('_', '-')}: {value} is no number from {least} to {most}: see `registry .* --help`\Z" if value != -1 else "argument"):
+                with self.assertRaisesRegex(Usage, rf"\Aargument {line.split()[-1]}: {value} is no number from {least} to {most}: see `registry .* --help`\Z" if value != -1 else "argument"):
                     read(f"{line} {value}")
 
     def test_one_of_some_words(self):
@@ -100,6 +104,11 @@ class Words(unittest.TestCase):
         self.assertRaisesRegex(Usage, r"\Aunrecognized arguments: --jou x: see `registry list --help`\Z", read, "list --jou x")
         for line, missing in (("show", "NAME"), ("publish", "NAME, VERSION"), ("publish a", "VERSION"), ("journal renew a", "NEW"), ("import cargo --lines", "DIR")):
             self.assertRaisesRegex(Usage, rf"\Athe following arguments are required: {missing}: see `registry .* --help`\Z", read, line)
+
+
+    def test_help_before_a_subcommand(self):
+        for words, wanted in ((["help", "journal", "verify"], ["journal", "verify", "--help"]), (["help"], ["--help"]), (["help", "help"], ["--help", "--help"]), (["show", "help"], ["show", "help"]), ([], [])):
+            self.assertEqual(command_line.asked_help(words), wanted)
 
 
 class Table(unittest.TestCase):
@@ -145,9 +154,11 @@ class Help(unittest.TestCase):
         said = command_line.overview()
         self.assertTrue(said.startswith("usage: registry SUBCOMMAND ..\n\nA package registry with a version solver, over one file.\n\nsubcommands:\n"
                                         "  publish           Publish a version of a package\n"), said)
-        self.assertRegex(said, r"\n  --json +the answer as JSON, one line\n  -V, --version +the version of the program\n\nexamples:\n")
+        self.assertRegex(said, r"\n  --json +the answer as JSON, one line\n  --color WHEN +whether lines are in colour: auto \(on a terminal\), always or never\n"
+                               r"  -q, --quiet +no notes on standard error, only errors\n  -v, --verbose +tell what the program is asked, and how long each answer takes\n"
+                               r"  -V, --version +the version of the program\n\nexamples:\n")
         self.assertTrue(said.endswith("\nexamples:\n  registry publish log 1.3.0\n  registry publish app 1.0.0 log@^1.2\n  registry resolve app\n\n"
-                                      "`registry SUBCOMMAND --help` has the words of each, with examples.\n"), said)
+                                      "`registry help SUBCOMMAND` shows its arguments, options and examples.\n"), said)
         self.assertNotIn("-h", said.split())
 
 

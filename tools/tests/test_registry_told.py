@@ -64,7 +64,7 @@ class HeldBack(unittest.TestCase):
     def test_the_request_and_what_is_not_found_out(self):
         self.assertEqual(self.told({}, (("zlib", "^1"), ("app", "^1"))), ("the request depends on zlib ^1", []))
         self.assertEqual(self.told({**NOW, "log": "1.1.0"}, (("zlib", ">=1"),)), ("with it log 1.0.0 -> 1.1.0", [[["zlib", "=2.0.0"]]]))
-        self.assertEqual(self.told({}, reply=Refused("too long"))[0], "not found out: too long")
+        self.assertEqual(self.told({}, reply=Refused("too long"))[0], "not known: too long")
 
     def test_which_facts_are_told_first(self):
         # those on the package, its own, what is missing there, those on what it depends on, and then others
@@ -130,7 +130,7 @@ class Repaired(unittest.TestCase):
         self.assertEqual(self.repaired([HEAD, a, *dropped, b"end 5", b""], 3), (
             {"file": "f", "state": "at fault", "written": "f.repaired", "items": 1, "revision": 1, "line": 3, "dropped": [it.decode() for it in dropped]},
             ["f.repaired is written: 1 item, revision 1", f"dropped from line 3 on: 4 lines, {len(b''.join(dropped))} bytes:", '  line 3: "rubbish"', "  line 4: publish c 1.0.0",
-             "  line 5: yank c 1.0.0", "  line 6: what was learnt", "the commands among them stand in f as request lines, which can be sent again"], b"\n".join([HEAD, a, b"end 1", b""])))
+             "  line 5: yank c 1.0.0", "  line 6: what was learnt", "these commands are still in f as request lines, which can be sent again"], b"\n".join([HEAD, a, b"end 1", b""])))
         self.assertEqual(self.repaired([b"regis"], 1, "new")[1:], (["new is written: 0 items, revision 0", "dropped from line 1 on: 1 line, 5 bytes:", '  line 1: "regis"'], HEAD + b"\nend 0\n"))
         with self.assertRaisesRegex(Refused, "/f has nothing to keep: its first line is at fault, and `registry journal verify .*/f` says why"):
             self.repaired([b"x", b""], 1)
@@ -146,9 +146,9 @@ class Verified(unittest.TestCase):
     def test_how_a_journal_stands(self):
         item = b'{"name":"a","needs":[],"op":"publish","version":"1.0.0"}'
         for lines, line, state, told in (([HEAD, item, b"end 1", b""], 0, "whole", ["f: whole: format 2, 1 command and 0 learnt, revision 1"]),
-                                         ([HEAD, item, item, b""], 4, "cut", ["f: cut: format 2, 2 commands and 0 learnt, revision 2; its last line is 4, which is not finished or missing: a session goes on with it"]),
-                                         ([b"regis"], 1, "cut", ["f: cut: no items, revision 0; its last line is 1, which is not finished or missing: a session goes on with it"]),
-                                         ([HEAD, b"x", b""], 2, "at fault", ["f:2: at fault: since", "what stands before it: format 2, 0 commands and 0 learnt, revision 0; `registry journal repair f` keeps that"]),
+                                         ([HEAD, item, item, b""], 4, "cut", ["f: cut: format 2, 2 commands and 0 learnt, revision 2; its last line is 4, which is not finished or missing: a session continues it"]),
+                                         ([b"regis"], 1, "cut", ["f: cut: no items, revision 0; its last line is 1, which is not finished or missing: a session continues it"]),
+                                         ([HEAD, b"x", b""], 2, "at fault", ["f:2: at fault: since", "before it: format 2, 0 commands and 0 learnt, revision 0; `registry journal repair f` keeps that"]),
                                          ([b"x", b""], 1, "at fault", ["f:1: at fault: since"])):
             journal, out = Journal(b"\n".join(lines), lines, line), Plain()
             with mock.patch.object(journal_verify, "read_journal", return_value=journal), mock.patch("registry.journal_faults.why", lambda path, it: "since"), \

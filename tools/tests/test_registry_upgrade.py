@@ -30,7 +30,7 @@ class Locked(Folder):
 class Outdated(Locked):
     def test_nothing_is(self):
         self.hold(*OLD)
-        self.assertEqual(self.outdated(), (0, "", "registry: all that registry.lock has is the newest\n"))
+        self.assertEqual(self.outdated(), (0, "", "registry: everything in registry.lock is the newest version\n"))
         self.assertEqual(self.outdated("--json")[:2], (0, "[]\n"))
 
     def test_newer_ones_and_what_holds_them_back(self):
@@ -84,7 +84,7 @@ class Outdated(Locked):
         self.hold(*(publish("app", version, ["mid *"]) for version in ("1.0.0", "1.1.0")), publish("mid", "1.0.0", ["log ^1"]),
                   publish("mid", "1.1.0", ["log ^1.2"]), publish("log", "1.2.0"), *NEW[4:6], publish("zlib", "1.0.0"))
         told = self.outdated("--budget", "1")[1].splitlines()
-        self.assertEqual(told[1], "log      1.2.0   1.3.0    2.0.0   not found out: app ^1: no answer was found within the budget of conflicts: raise it by --budget")
+        self.assertEqual(told[1], "log      1.2.0   1.3.0    2.0.0   not known: app ^1: no answer was found within the budget (--budget), or within the time of the service (its --seconds)")
 
     def test_where_nothing_can_be_selected(self):
         self.hold(*NEW, yank("app", "1.0.0"), yank("app", "1.1.0"))
@@ -113,24 +113,24 @@ class Outdated(Locked):
 class Upgrade(Locked):
     def test_one_package(self):
         self.hold(*NEW)
-        self.assertEqual(self.upgrade("log", "--yes"), (0, "~ log 1.2.0 -> 1.3.0\n0 came, 0 went, 1 changed\n", "registry: registry.lock is written\n"))
+        self.assertEqual(self.upgrade("log", "--yes"), (0, "~ log 1.2.0 -> 1.3.0\n0 added, 0 removed, 1 changed\n", "registry: registry.lock is written\n"))
         self.assertEqual(self.text("registry.lock"), LOCK.replace("1.2.0", "1.3.0"))
-        self.assertEqual(self.upgrade("log", "--yes"), (0, "0 came, 0 went, 0 changed\n", "registry: nothing changes in registry.lock\n"))
+        self.assertEqual(self.upgrade("log", "--yes"), (0, "0 added, 0 removed, 0 changed\n", "registry: nothing changes in registry.lock\n"))
 
     def test_all(self):
         self.hold(*NEW)
-        self.assertEqual(self.upgrade("--yes")[:2], (0, "~ log 1.2.0 -> 1.3.0\n~ zlib 1.0.0 -> 1.1.0\n0 came, 0 went, 2 changed\n"))
+        self.assertEqual(self.upgrade("--yes")[:2], (0, "~ log 1.2.0 -> 1.3.0\n~ zlib 1.0.0 -> 1.1.0\n0 added, 0 removed, 2 changed\n"))
         self.assertEqual(self.text("registry.lock"), LOCK.replace("1.2.0", "1.3.0").replace('"zlib", "1.0.0"', '"zlib", "1.1.0"'))
 
     def test_several_and_other_needs(self):
         self.hold(*NEW)
-        self.assertEqual(self.upgrade("zlib", "log", "--need", "app@^1", "log@~1.2", "--yes")[:2], (0, "~ zlib 1.0.0 -> 1.1.0\n0 came, 0 went, 1 changed\n"))
+        self.assertEqual(self.upgrade("zlib", "log", "--need", "app@^1", "log@~1.2", "--yes")[:2], (0, "~ zlib 1.0.0 -> 1.1.0\n0 added, 0 removed, 1 changed\n"))
         self.assertEqual(self.upgrade("app", "--need", "app@=1.0.0", "zlib@2", "--yes")[:2],
-                         (0, "~ app 1.1.0 -> 1.0.0 (older)\n~ zlib 1.1.0 -> 2.0.0 (beyond ^1.1.0)\n0 came, 0 went, 2 changed\n"))
+                         (0, "~ app 1.1.0 -> 1.0.0 (older)\n~ zlib 1.1.0 -> 2.0.0 (beyond ^1.1.0)\n0 added, 0 removed, 2 changed\n"))
 
     def test_nothing_is_written_where_nobody_can_be_asked(self):
         self.hold(*NEW)
-        told = (1, "~ log 1.2.0 -> 1.3.0\n0 came, 0 went, 1 changed\n", "registry: registry.lock is as it was: --yes writes it without a question\n")
+        told = (1, "~ log 1.2.0 -> 1.3.0\n0 added, 0 removed, 1 changed\n", "registry: registry.lock is unchanged: --yes writes it without a question\n")
         self.assertEqual(self.upgrade("log"), told)
         self.assertEqual(json.loads(self.upgrade("log", "--json")[1]), [{"name": "log", "from": "1.2.0", "to": "1.3.0"}])
         self.assertEqual(self.text("registry.lock"), LOCK)
@@ -138,18 +138,18 @@ class Upgrade(Locked):
     def test_a_question_on_a_terminal(self):
         self.hold(*NEW)
         words = [f"{TOP}/registry", "upgrade", "log", "--lock", self.lock, "--journal", self.journal]
-        for typed, status, last in ((b"n\n", 1, "is as it was"), (b"\n", 1, "is as it was"), (b"\x04", 1, "is as it was"), (b"y\n", 0, "is written")):
+        for typed, status, last in ((b"n\n", 1, "is unchanged"), (b"\n", 1, "is unchanged"), (b"\x04", 1, "is unchanged"), (b"y\n", 0, "is written")):
             ended, shown = at_terminal(words, {"REGISTRY_PROGRAM": PROGRAM}, typed)
             self.assertEqual(ended, status)
             self.assertIn(f"write this to {self.lock}? [y/N] ", shown)
-            self.assertTrue(shown.rstrip().endswith(f"registry: {self.lock} {last}"), shown)
+            self.assertTrue(shown.rstrip().endswith(f"registry:\x1b[0m {self.lock} {last}"), shown)
             # what changed stands above the question, in colour
             self.assertIn("\x1b[33m~ log 1.2.0 -> 1.3.0\x1b[0m", shown.partition("write this")[0])
             self.assertEqual(self.text("registry.lock"), LOCK.replace("1.2.0", "1.3.0") if status == 0 else LOCK)
 
     def test_what_came_and_went_and_a_yanked_entry_that_stays(self):
         self.hold(*NEW, publish("app", "1.2.0", ["log ^1", "json *"]), publish("json", "1.0.0"), yank("log", "1.2.0"))
-        self.assertEqual(self.upgrade("app", "--yes"), (0, "~ app 1.1.0 -> 1.2.0\n+ json 1.0.0\n- zlib 1.0.0\n1 came, 1 went, 1 changed\n",
+        self.assertEqual(self.upgrade("app", "--yes"), (0, "~ app 1.1.0 -> 1.2.0\n+ json 1.0.0\n- zlib 1.0.0\n1 added, 1 removed, 1 changed\n",
                                                         "registry: registry.lock names log 1.2.0, which is yanked\nregistry: registry.lock is written\n"))
 
     def test_where_nothing_can_be_selected_the_lock_is_as_it_was(self):
@@ -160,7 +160,7 @@ class Upgrade(Locked):
 
     def test_words(self):
         self.hold(*NEW)
-        self.assertEqual(self.upgrade("lgo"), (1, "", "registry: registry.lock has no lgo; it has log\n"))
+        self.assertEqual(self.upgrade("lgo"), (1, "", "registry: registry.lock has no lgo; did you mean log?\n"))
         self.assertEqual(self.upgrade("zebra"), (1, "", "registry: registry.lock has no zebra\n"))
         for words in (["--no"], ["--budget", "x"], ["--need"], ["--lock"]):
             status, said, fault = self.upgrade(*words)

@@ -424,15 +424,15 @@ class Pictures(unittest.TestCase):
 ASKED = [publish("app", "1.0.0", ["log ^1"]), publish("app", "1.1.0", ["log ^2"]), publish("tiny", "1.0.0"),
          *(publish("log", it) for it in ("1.0.0", "2.0.0", "2.1.0", "2.2.0")), yank("log", "2.2.0")]
 # needs and a lock, a version, and what is said of it
-NOT = [(["app *"], [], "log 1.0.0", "log 1.0.0 can be selected; log 2.1.0 was, which is higher\na selection with it changes besides:\n  ~ app 1.1.0 -> 1.0.0 (older)"),
-       (["app *"], [], "log 2.0.0", "log 2.0.0 can be selected; log 2.1.0 was, which is higher\na selection with it changes nothing else"),
-       (["app *"], [], "app 1.0.0", "app 1.0.0 can be selected; app 1.1.0 was, which is higher\na selection with it changes besides:\n  ~ log 2.1.0 -> 1.0.0 (older)"),
-       (["app *"], ["log 2.0.0"], "log 2.1.0", "log 2.1.0 can be selected; log 2.0.0 was, which the lock names\na selection with it changes nothing else"),
+NOT = [(["app *"], [], "log 1.0.0", "log 1.0.0 can be selected; log 2.1.0 was selected, which is higher\na selection with it also changes:\n  ~ app 1.1.0 -> 1.0.0 (older)"),
+       (["app *"], [], "log 2.0.0", "log 2.0.0 can be selected; log 2.1.0 was selected, which is higher\na selection with it changes nothing else"),
+       (["app *"], [], "app 1.0.0", "app 1.0.0 can be selected; app 1.1.0 was selected, which is higher\na selection with it also changes:\n  ~ log 2.1.0 -> 1.0.0 (older)"),
+       (["app *"], ["log 2.0.0"], "log 2.1.0", "log 2.1.0 can be selected; log 2.0.0 was selected, which the lock names\na selection with it changes nothing else"),
        (["app *"], ["app 1.0.0"], "log 2.1.0",
         "app *: log 2.1.0 can't be selected with app 1.0.0, which comes before it\n"
         "  Because the selection has app 1.0.0 which depends on log ^1, the selection requires log ^1.\n"
         "  And because log 2.1.0 is asked for, log 2.1.0 can't be selected.\n"
-        "a selection with log 2.1.0 changes besides:\n  ~ app 1.0.0 -> 1.1.0"),
+        "a selection with log 2.1.0 also changes:\n  ~ app 1.0.0 -> 1.1.0"),
        (["app *"], [], "tiny 1.0.0", "tiny 1.0.0 can be selected; no version of tiny was selected, since nothing that was selected needs one\n"
                                      "a selection with it changes nothing else"),
        (["app *"], [], "app 1.1.0+x", "app 1.1.0 is what was selected"),
@@ -501,7 +501,7 @@ class Typed(unittest.TestCase):
         self.assertEqual(self.why("--asked", self.file("turns", turns)), (0, said, ""))
         self.assertEqual(self.why(*files, "--request", "10"), (0, "request 10, b *: selected at revision 8\n  b 2.0.0\n", ""))
         self.assertEqual(self.why(*files, "--request", "10", "--not", "b", "1.0.0"),
-                         (0, "b 1.0.0 can be selected; b 2.0.0 was, which is higher\na selection with it changes nothing else\n", ""))
+                         (0, "b 1.0.0 can be selected; b 2.0.0 was selected, which is higher\na selection with it changes nothing else\n", ""))
 
     def test_a_journal_and_needs(self):
         journal = self.journal(BRANCHING[0])
@@ -565,7 +565,7 @@ class Typed(unittest.TestCase):
                ((*asked, "--told", os.path.join(self.folder, "nowhere")), 3, "No such file"), ((*files, "--request", "2"), 1, "request 2 is no request"),
                (self.session(lines, "short"), 1, "no request"), (("--journal", damaged, "foo *"), 3, "damaged: line 4 is at fault"),
                (("--journal", journal, "foo *", "--lock", journal), 3, "journal:1:1: error 19 BadLine: a lock list is"),
-               (("--journal", journal, "foo *", "foo *"), 1, "foo comes twice"), (("--journal", journal, "app"), 0, ""),
+               (("--journal", journal, "foo *", "foo *"), 1, "foo appears twice"), (("--journal", journal, "app"), 0, ""),
                (("--journal", journal, "app@nonsense"), 1, 'of the requirement "nonsense"'), (("--journal", journal, "A"), 1, 'the name "A"'),
                ((*asked, *told("unselected", [*replies[:-1], '{"revision":4,"selected":5}'])), 1, "no request is refused"),
                ((*asked, *told("unselected", [*replies[:-1], '{"revision":4,"selected":5}']), "--request", "5"), 1, "no selection of the right form"),

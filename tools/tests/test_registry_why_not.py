@@ -27,7 +27,7 @@ WORKED = {
 y *, x *: y 2.0.0 can't be selected with x 2.0.0, which comes before it
   Because the selection has x 2.0.0 which depends on y "=1.0.0", the selection requires y "=1.0.0".
   And because y 2.0.0 is asked for, y 2.0.0 can't be selected.
-a selection with y 2.0.0 changes besides:
+a selection with y 2.0.0 also changes:
   ~ x 2.0.0 -> 1.0.0 (older)
 """),
     "what it needs is at odds with what comes before it": (
@@ -36,7 +36,7 @@ a selection with y 2.0.0 changes besides:
 a *, c *, z *: z 2.0.0 can't be selected with a 2.0.0, which comes before it
   Because z 2.0.0 depends on a ~1.0 and the selection has a 2.0.0, z 2.0.0 is forbidden.
   And because z 2.0.0 is asked for, z 2.0.0 can't be selected.
-a selection with z 2.0.0 changes besides:
+a selection with z 2.0.0 also changes:
   ~ a 2.0.0 -> 1.0.0 (older)
 """),
     "the lock names the one before it": (
@@ -45,7 +45,7 @@ a selection with z 2.0.0 changes besides:
 app *: log 2.0.0 can't be selected with app 1.0.0, which comes before it
   Because the selection has app 1.0.0 which depends on log ^1, the selection requires log ^1.
   And because log 2.0.0 is asked for, log 2.0.0 can't be selected.
-a selection with log 2.0.0 changes besides:
+a selection with log 2.0.0 also changes:
   ~ app 1.0.0 -> 2.0.0 (beyond ^1.0.0)
 """),
     "the lock names it": (
@@ -54,7 +54,7 @@ a selection with log 2.0.0 changes besides:
 a *, b *: b 1.0.0 can't be selected with a 2.0.0, which comes before it
   Because the selection has a 2.0.0 which depends on b "=2.0.0", the selection requires b "=2.0.0".
   And because b 1.0.0 is asked for, b 1.0.0 can't be selected.
-a selection with b 1.0.0 changes besides:
+a selection with b 1.0.0 also changes:
   ~ a 2.0.0 -> 1.0.0 (older)
 """),
     "it is what was selected": ([publish("a", "1.0.0"), publish("a", "2.0.0", ["b *"])], ["a"], [], "a 1.0.0", "\na 1.0.0 is what was selected\n"),
@@ -70,7 +70,7 @@ a *: a 2.0.0 can't be selected
   Because a 2.0.0 is asked for and a 2.0.0 is yanked, a 2.0.0 can't be selected.
 """),
     "it is lower": ([publish("a", "1.0.0"), publish("a", "2.0.0")], ["a"], [], "a 1.0.0",
-                    "\na 1.0.0 can be selected; a 2.0.0 was, which is higher\na selection with it changes nothing else\n"),
+                    "\na 1.0.0 can be selected; a 2.0.0 was selected, which is higher\na selection with it changes nothing else\n"),
 }
 LONG = "1.0.0-" + "x" * 250  # of as many bytes as a version may have: `=` and this are too many for a requirement
 
@@ -133,7 +133,7 @@ class Told(Folder):
         pairs = [[name, "*"] for name in "abcz"]
         reader_of(lines, pairs, [], "z", "2.0.0", [("a", "2.0.0"), ("b", "2.0.0")]).read(self.english(said))
         # b keeps the version that was selected where a does not
-        self.assertIn("a selection with z 2.0.0 changes besides:\n  ", said)
+        self.assertIn("a selection with z 2.0.0 also changes:\n  ", said)
 
     def test_one_of_more_packages_than_a_request_may_need(self):
         for count in (62, 90, 200):
@@ -144,7 +144,7 @@ class Told(Folder):
 app *: z 2.0.0 can't be selected with part-005 2.0.0, which comes before it
   Because z 2.0.0 depends on part-005 "=1.0.0" and z 2.0.0 is asked for, the selection requires part-005 "=1.0.0".
   And because the selection has part-005 2.0.0, z 2.0.0 can't be selected.
-a selection with z 2.0.0 changes besides:
+a selection with z 2.0.0 also changes:
   ~ part-005 2.0.0 -> 1.0.0 (older)
 """)
             reader_of(lines, [["app", "*"]], [], "z", "2.0.0", [("part-005", "2.0.0")]).read(self.english(said))
@@ -183,7 +183,7 @@ a selection with z 2.0.0 changes besides:
         # the first selection that is found has a 2.0.0, and nothing before it rules a 3.0.0 out
         self.hold(publish("a", "1.0.0"), publish("a", "2.0.0"), publish("a", "3.0.0", ["b =1.0.0"]), publish("b", "1.0.0"), publish("b", "2.0.0"))
         self.assertEqual(self.why_not(["a", "b"], "a 3.0.0", "--any"),
-                         "a 3.0.0 can be selected; a 2.0.0 was, which is lower\na selection with it changes besides:\n  ~ b 2.0.0 -> 1.0.0 (older)\n")
+                         "a 3.0.0 can be selected; a 2.0.0 was selected, which is lower\na selection with it also changes:\n  ~ b 2.0.0 -> 1.0.0 (older)\n")
 
     def test_a_request_that_has_as_many_needs_as_may_be(self):
         self.hold(*(publish(f"p{number}", "1.0.0") for number in range(65)))
@@ -196,14 +196,14 @@ a selection with z 2.0.0 changes besides:
                   publish("r", "2.0.0", ["p >=2.0.0"]))
         # one that is asked about
         self.assertEqual(self.why_not(["p@>=1.0.0-a"], f"p {LONG}"),
-                         f"p {LONG} can be selected; p 2.0.0 was, which is higher\na selection with it changes nothing else\n")
+                         f"p {LONG} can be selected; p 2.0.0 was selected, which is higher\na selection with it changes nothing else\n")
         # and one that comes before what is asked about
         said = self.why_not(["p@>=1.0.0-a, <2.0.0", "r"], "r 2.0.0")
         self.assertEqual(said.splitlines()[0], f"p >=1.0.0-a, <2.0.0, r *: r 2.0.0 can't be selected")
         lock = [["p", LONG]]
         said = self.why_not(["p@>=1.0.0-a", "r"], "r 2.0.0", lock=lock)
         self.assertEqual(said.splitlines()[0], f"p >=1.0.0-a, r *: r 2.0.0 can't be selected with p {LONG}, which comes before it")
-        self.assertEqual(said.splitlines()[-2:], ["a selection with r 2.0.0 changes besides:", f"  ~ p {LONG} -> 2.0.0 (beyond ^{LONG})"])
+        self.assertEqual(said.splitlines()[-2:], ["a selection with r 2.0.0 also changes:", f"  ~ p {LONG} -> 2.0.0 (beyond ^{LONG})"])
         reader_of([publish("p", LONG), publish("p", LONG[:-1]), publish("p", "2.0.0"), publish("r", "1.0.0"), publish("r", "2.0.0", ["p >=2.0.0"])],
                   [["p", ">=1.0.0-a"], ["r", "*"]], lock, "r", "2.0.0", [("p", LONG)]).read(self.english(said))
 

@@ -21,14 +21,14 @@ from registry import command_line, completion, manual, table
 COMMAND = os.path.join(TOP, "registry")
 FAULTY = [
     ([], None), (["--journal"], None), (["--json"], None), (["--journal", "x"], None),
-    (["publsh", "a", "1.0.0"], "there is no subcommand publsh; publish may be meant: `registry --help` has all"),
-    (["frobnicate"], "there is no subcommand frobnicate: `registry --help` has all"),
-    (["--jurnal", "x", "list"], "there is no option --jurnal before a subcommand: `registry --help` has all"),
-    (["list", "--jurnal", "x"], "unrecognized arguments: --jurnal x; did you mean --journal?: see `registry list --help`"),
-    (["list", "--jurnal=x"], "unrecognized arguments: --jurnal=x; did you mean --journal?: see `registry list --help`"),
+    (["publsh", "a", "1.0.0"], "there is no subcommand publsh; did you mean publish? See `registry --help`"),
+    (["frobnicate"], "there is no subcommand frobnicate: see `registry --help`"),
+    (["--jurnal", "x", "list"], "there is no option --jurnal before a subcommand: see `registry --help`"),
+    (["list", "--jurnal", "x"], "unrecognized arguments: --jurnal x; did you mean --journal? See `registry list --help`"),
+    (["list", "--jurnal=x"], "unrecognized arguments: --jurnal=x; did you mean --journal? See `registry list --help`"),
     (["list", "--jou", "x"], "unrecognized arguments: --jou x: see `registry list --help`"),
-    (["import"], "import goes with one of crates-io, cargo, debian: `registry --help` has all"),
-    (["import", "npm", "x"], "import goes with one of crates-io, cargo, debian, not with npm: `registry --help` has all"),
+    (["import"], "import needs one of crates-io, cargo, debian: see `registry --help`"),
+    (["import", "npm", "x"], "import needs one of crates-io, cargo, debian, not npm: see `registry --help`"),
     (["show"], "the following arguments are required: NAME: see `registry show --help`"),
     (["resolve", "a", "--budget", "many"], "argument --budget: many is no number from 0 to 4294967295: see `registry resolve --help`"),
     (["--completion", "tcsh"], "--completion takes one of bash, zsh, fish"), (["--completion"], "--completion takes one of bash, zsh, fish"),
@@ -113,7 +113,7 @@ class Completed(Folder):
                               (["diff", ""], "file"), (["diff", "a", ""], "file"), (["diff", "a", "b", ""], []), (["import", "cargo", ""], "folder"),
                               (["import", "cargo", "x", "--index", ""], "folder"), (["import", "debian", ""], "file"), (["tree", "a", "--invert", "a"], ["app"]),
                               (["why", "app", "--not", "l"], ["lock", "log"]), (["why", "app", "--not", "log", "1.0"], ["1.0.0"]),
-                              (["why", "app", "--not", "log", "1.0.0", "a"], ["app"]), (["upgrade", "--need", "app", "l"], ["lock", "log"]), (["nonsense", ""], []), (["list", "--"], ["--connect", "--help", "--journal", "--json"])):
+                              (["why", "app", "--not", "log", "1.0.0", "a"], ["app"]), (["upgrade", "--need", "app", "l"], ["lock", "log"]), (["nonsense", ""], []), (["list", "--"], ["--color", "--connect", "--help", "--journal", "--json", "--quiet", "--verbose"])):
             self.assertEqual(self.offered(*words), wanted, words)
         self.assertTrue({"publish", "import", "--journal", "--help"} <= set(self.offered("")))
 

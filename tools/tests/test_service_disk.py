@@ -208,7 +208,7 @@ class Failing(Faulty):
             client.ask(publish("log", "2.0.0"))
             status, said = service.end(signal.SIGTERM)
         self.assertEqual(status, 3)
-        self.assertIn("has no end: what was told as accepted stands in it", said)
+        self.assertIn("has no end line: it has all accepted commands", said)
 
 
 if __name__ == "__main__":

@@ -29,7 +29,7 @@ def read_metrics(text):
     for line in text.splitlines():
         if line.startswith("# HELP "):
             current = line.split(" ")[2]
-            assert current not in kinds, f"{current} comes twice"
+            assert current not in kinds, f"{current} appears twice"
         elif line.startswith("# TYPE "):
             _, _, name, kind = line.split(" ")
             assert name == current and kind in ("counter", "gauge", "histogram"), line
@@ -40,7 +40,7 @@ def read_metrics(text):
             assert family == current, f"{line} stands below {current}"
             assert kinds[family] != "counter" or name.endswith("_total"), line
             key = name, tuple(sorted(re.findall(r'(\w+)="((?:[^"\\]|\\.)*)"', labels or "")))
-            assert key not in samples, f"{line} comes twice"
+            assert key not in samples, f"{line} appears twice"
             samples[key] = float(value.replace("Inf", "inf"))
     return samples
 
@@ -195,7 +195,7 @@ class Watching(Case):
     def test_wrong_words(self):
         for words, told in ((["--port", "0", "--socket", "x"], "a service listens on one of --socket PATH and --port N"),
                             (["--group", "nobody-of-this-name", "--socket", "x"], "there is no group nobody-of-this-name"),
-                            (["--port", "0", "--group", "daemon"], "--group goes with --socket"),
+                            (["--port", "0", "--group", "daemon"], "--group needs --socket"),
                             (["--port", "0", "--mode", "777"], "argument --mode: invalid choice: '777' (choose from '600', '660', '666')"),
                             (["--port", "0", "--log", "/nowhere/log"], "/nowhere/log: No such file or directory"),
                             (["--socket", "/nowhere/socket"], "/nowhere/socket: a socket can't be made there: No such file or directory")):

@@ -23,7 +23,7 @@ def run(given, out):
     if out.is_json:
         out.give({"faults": found, "file": name, "lines": count, "refused": wrong}, [])
     lines = f"{count:,} line{'' if count == 1 else 's'}"
-    out.note(f"{name}: {wrong:,} of {lines} would be refused" if wrong else f"{name}: {lines}, and nothing is wrong with what they say")
+    out.note(f"{name}: {wrong:,} of {lines} would be refused" if wrong else f"{name}: {lines}, and no errors")
     return REFUSED if wrong else DONE
 
 

@@ -13,7 +13,7 @@ from ..indexes.crates_io import CratesIo
 from ..indexes.debian import Debian
 from ..locks import Lock, lock_text
 from ..needs import needs_path, write_needs
-from ..output import say
+from ..output import aside
 from ..refusals import english, listed
 from ..session import reading, writing
 from ..shelf import Shelf, choose, commands_of, counted, noted, other_spellings, request, roots
@@ -23,7 +23,7 @@ THERE_ALREADY = (7, 12)  # it is published, or yanked, already
 
 def run(given, out):
     if given.ask and not given.lines:
-        raise Usage("--ask goes with --lines: `registry resolve` asks the registry")
+        raise Usage("--ask needs --lines: `registry resolve` asks the registry")
     lock_file = getattr(given, "write", None)
     with busy("reading the index"):
         index = opened(given)
@@ -37,7 +37,7 @@ def run(given, out):
         for it in [*commands, *([asked] if asked else [])]:
             print(json.dumps(it, separators=(",", ":")))
         sys.stdout.flush()
-        say(f"written: {counted(chosen)}", *noted(shelf, chosen, most, index.notes))
+        aside(f"written: {counted(chosen)}", *noted(shelf, chosen, most, index.notes))
         return None
     status = published(given, commands, chosen, noted(shelf, chosen, most, index.notes), out)
     if lock_file:
@@ -70,7 +70,7 @@ def published(given, commands, chosen, notes, out):
                 refused.setdefault(english(command, reply, dict), []).append(f"{command['name']} {command['version']}")
     bar.end()
     if there:
-        notes = [*notes, f"passed over: commands that were carried out before: {there}"]
+        notes = [*notes, f"skipped: commands that were carried out before: {there}"]
     notes += [f"refused: {said}: {len(of)} (first: {of[0]})" for said, of in refused.items()]
     with reading(given) as session:
         alone = Alone(session, [name for name, releases in chosen.items() if releases])
@@ -78,7 +78,7 @@ def published(given, commands, chosen, notes, out):
               "alone": alone.value()}, [f"imported: {counted(chosen)} (revision {reply['revision']})"])
     sys.stdout.flush()
     if not out.is_json:
-        say(*notes, *alone.lines())
+        aside(*notes, *alone.lines())
     return REFUSED if refused else None
 
 

@@ -13,10 +13,10 @@ MOST_TOLD = 20
 def run(given, out):
     old = read_journal(given.old)
     if old.state == FAULTY:
-        raise Refused(f"{given.old}: line {old.line} is at fault: `registry journal repair {given.old}` keeps what stands before it")
+        raise Refused(f"{given.old}: line {old.line} is at fault: `registry journal repair {given.old}` keeps what is before it")
     refuse_existing(given.new)
     if old.state == CUT:
-        out.note(f"{given.old} has no end: what a session adds from now on is not taken over")
+        out.note(f"{given.old} has no end line: what a session adds from now on is not copied")
     releases = releases_of(old.commands())
     most = NEWEST if given.newest is None else given.newest
     locks = [Lock(path, lock_of(path).selected, releases) for path in given.lock or []]

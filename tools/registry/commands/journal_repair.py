@@ -41,7 +41,7 @@ def in_words(path, new, journal, dropped):
     if len(dropped) > MOST_TOLD:
         yield f"  and {len(dropped) - MOST_TOLD:,} more"
     if any(described(it).startswith(("publish ", "yank ", "unyank ")) for _, it in dropped):
-        yield f"the commands among them stand in {path} as request lines, which can be sent again"
+        yield f"these commands are still in {path} as request lines, which can be sent again"
 
 
 def described(line):

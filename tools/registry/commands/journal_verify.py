@@ -21,9 +21,9 @@ def in_words(path, journal, reason, out):
     if journal.state == FAULTY:
         yield f"{out.style(f'{path}:{journal.line}:', 'bold')} {out.style('at fault:', 'red')} {reason}"
         if journal.format:
-            yield f"what stands before it: {held}; `registry journal repair {path}` keeps that"
+            yield f"before it: {held}; `registry journal repair {path}` keeps that"
     elif journal.state == CUT:
-        yield f"{path}: cut: {held}; its last line is {journal.line}, which is not finished or missing: a session goes on with it"
+        yield f"{path}: cut: {held}; its last line is {journal.line}, which is not finished or missing: a session continues it"
     else:
         yield f"{path}: whole: {held}"
 

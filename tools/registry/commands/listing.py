@@ -17,7 +17,7 @@ def run(given, out):
     out.give([vars(it) for it in rows], lines(rows, out))
     if text and not found:
         near = nearest(text, packages)
-        out.note(f"no package's name has {text} in it" + (f"; {near} may be meant" if near else ""))
+        out.note(f"no package's name has {text} in it" + (f"; did you mean {near}?" if near else ""))
         return REFUSED
     return None
 

@@ -29,7 +29,7 @@ def run(given, out):
         rows = outdated(session, lock, request, reply, listed(session), given.budget or BUDGET, selecting(given))
     out.give([vars(it) for it in rows], lines(rows, out))
     if not rows:
-        out.note(f"all that {path} has is the newest")
+        out.note(f"everything in {path} is the newest version")
     return REFUSED if rows and given.exit_status else None
 
 
@@ -82,7 +82,7 @@ def held_back(case, name, newest, selected):
             return "with it " + "; ".join([*further[:MOST_TOLD], *([f"{len(further) - MOST_TOLD} more"] if len(further) > MOST_TOLD else [])])
         return "; ".join(facts(case.derivation(case.title(), asked.request, reply, (name, newest)), name))
     except Refused as fault:
-        return f"not found out: {fault}"
+        return f"not known: {fault}"
 
 
 def facts(derivation, name):

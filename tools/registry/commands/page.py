@@ -17,7 +17,7 @@ def run(given, out):
         with Server(journal, given.port or 0) as server:
             out.give({"address": server.address, "port": server.port}, [server.address])
             if not out.is_json:
-                out.note(f"{journal.path} is shown there, to this machine alone; Ctrl-C ends it")
+                out.note(f"{journal.path} is shown there, to this machine only; Ctrl-C ends it")
             sys.stdout.flush()
             server.serve_forever()
     finally:

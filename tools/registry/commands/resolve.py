@@ -49,4 +49,4 @@ def keep(path, before, request, reply, out):
     lines = changes(before.selected if before else {}, lock.selected)
     out.note(f"{path} is written: {counted(lines)}")
     if write_needs(needs_path(path), request["needs"]):
-        out.note(f"{needs_path(path)} is written: what {path} was made for")
+        out.note(f"{needs_path(path)} is written: the needs of {path}")

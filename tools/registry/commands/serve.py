@@ -12,7 +12,7 @@ def run(given, out):
     if given.connect:
         raise Usage("a service keeps a journal itself: --journal FILE names it, and --connect is for those who ask it")
     if given.group and not given.socket:
-        raise Usage("--group goes with --socket")
+        raise Usage("--group needs --socket")
     return asyncio.run(serve(journal_of(given), given, out))
 
 
@@ -26,5 +26,5 @@ async def serve(path, given, out):
     await service.signalled.wait()
     if await service.end():
         return None
-    out.note(f"{path} has no end: what was told as accepted stands in it, and the next session goes on with it")
+    out.note(f"{path} has no end line: it has all accepted commands, and the next session continues it")
     return FAILED

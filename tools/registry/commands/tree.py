@@ -24,7 +24,7 @@ def run(given, out):
     if given.invert:
         if given.invert not in selected:
             near = nearest(need_of(given.invert)[0], selected)
-            raise Refused(f"{given.invert} is not selected" + (f"; {near} is, which may be meant" if near else ""))
+            raise Refused(f"{given.invert} is not selected" + (f"; did you mean {near}?" if near else ""))
         roots, below = [given.invert], inverted(below)
     out.give({"revision": reply["revision"], "roots": roots,
               "packages": [{"name": name, "version": version, "needs": needs[name]} for name, version in selected.items()]},

@@ -33,7 +33,7 @@ def without(path, lock, names):
     for it in names:
         if it not in lock:
             near = nearest(need_of(it)[0], lock)
-            raise Refused(f"{path} has no {it}" + (f"; it has {near}" if near else ""))
+            raise Refused(f"{path} has no {it}" + (f"; did you mean {near}?" if near else ""))
     return {name: text for name, text in lock.items() if names and name not in names}
 
 
@@ -44,7 +44,7 @@ def settled(path, before, new, given, out):
         return None
     is_wanted = True if given.yes else out.ask(f"write this to {path}?")
     if not is_wanted:
-        out.note(f"{path} is as it was" + ("" if is_wanted is False else ": --yes writes it without a question"))
+        out.note(f"{path} is unchanged" + ("" if is_wanted is False else ": --yes writes it without a question"))
         return REFUSED
     write_file(path, lock_text(new))
     out.note(f"{path} is written")

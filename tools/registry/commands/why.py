@@ -1,9 +1,12 @@
 """`registry why`: in English why a request is refused, or why a version was not selected, from a derivation that is checked first."""
 import math
+import sys
 
 from check_derivation import (NAME, RESOLVE, demand, formed, read_journal, read_lines, read_version, session as replayed)
 
+from ..bar import timed
 from ..cases import Case
+from ..explaining import tell
 from ..failures import Failed, Refused, Usage
 from ..files import write_file
 from ..folding import MOST_SHOWN
@@ -18,10 +21,12 @@ def run(given, out):
     picture, answers = None, []
     try:
         for case in of_files(given) if given.asked else of_journal(given):
-            lines = case.why_not(*given.version) if given.version else case.answer()
+            with timed("explaining"):
+                lines = case.why_not(*given.version) if given.version else case.answer()
             answers.append({"request": case.request, "reply": case.reply, "told": lines})
             if not out.is_json:
-                out.give(None, [""] * (len(answers) > 1) + lines)
+                out.give(None, [""] * (len(answers) > 1))
+                tell(case, lines, sys.stdout, given.full or not sys.stdout.isatty(), "--full tells all of them")
             picture = case.draw
         if out.is_json:
             out.give(answers, [])
@@ -35,15 +40,15 @@ def run(given, out):
 def check(given):
     """Words that don't go together."""
     if given.asked and (given.need or given.lock or given.budget is not None):
-        raise Usage("--asked reads requests from a file: it goes with no needs, no --lock and no --budget")
+        raise Usage("--asked reads requests from a file: it can't be used with needs, --lock or --budget")
     if given.asked and given.connect:
-        raise Usage("--asked goes without --connect: it reads a session from files")
+        raise Usage("--asked can't be used with --connect: it reads a session from files")
     if given.unfolded and not given.picture:
-        raise Usage("--unfolded goes with --picture FILE")
+        raise Usage("--unfolded needs --picture FILE")
     if not given.asked and (given.told or given.request):
-        raise Usage("--told and --request go with --asked FILE")
+        raise Usage("--told and --request need --asked FILE")
     if given.version and not (NAME.fullmatch(given.version[0]) and read_version(given.version[1])):
-        raise Usage(f"these are no package name and version: {' '.join(given.version)!r}")
+        raise Usage(f"these are not a package name and a version: {' '.join(given.version)!r}")
 
 
 def of_journal(given):

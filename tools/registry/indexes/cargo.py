@@ -92,7 +92,7 @@ class Cargo(Index):
             return self.index.crate(self.index.spelled(name))
         for it in (it for spelling, held in self.lock.items() if spelling.lower() == name for it in held):
             if read_version(it["version"]) not in known:
-                crate.notes.otherwise("versions that Cargo.lock alone has, as needing what was taken for them", f"{name} {it['version']}")
+                crate.notes.otherwise("versions that only Cargo.lock has, with the dependencies that it locks", f"{name} {it['version']}")
                 crate.releases.append(Release(it["version"], [self.taken(text) for text in it["dependencies"]]))
         crate.releases = by_precedence(crate.releases)
         return crate
@@ -129,7 +129,7 @@ class Cargo(Index):
             elif path in self.manifests and self.named(path):
                 needs.append((name, f"={self.named(path)[1]}"))
             else:
-                crate.notes.otherwise("dependencies without a version, of git or on a path outside, as on any version", need(crate.name, version, name))
+                crate.notes.otherwise("dependencies without a version, of git or on a path outside, as dependencies on any version", need(crate.name, version, name))
                 needs.append((name, "*"))
         return needs
 

@@ -25,7 +25,7 @@ class Notes:
         self.add(("left out", kind), example)
 
     def otherwise(self, kind, example):
-        self.add(("told otherwise", kind), example)
+        self.add(("rewritten", kind), example)
 
     def missing(self, kind, example):
         self.add(("missing", kind), example)

@@ -76,7 +76,7 @@ class Forms:
             return
         if type(held) in (int, float):
             meant = str(int(held)) if held == int(held) and 0 <= held < BEYOND_WHOLE else None
-            self.fault(value.start, f"{whose} is a whole number from 0 to {BEYOND_WHOLE - 1:,} in digits alone, not {shown(self.raw(value))[1:-1]}",
+            self.fault(value.start, f"{whose} is a whole number from 0 to {BEYOND_WHOLE - 1:,} in digits only, not {shown(self.raw(value))[1:-1]}",
                        meant and (value.start, value.end, meant))
             return
         digits = isinstance(held, str) and held.isascii() and held.isdigit()

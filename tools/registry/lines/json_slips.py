@@ -17,7 +17,7 @@ def no_value(text, at):
     """Where a value should begin and none does."""
     first = text[at:at + 1]
     if not first:
-        return Bad(at, "the line ends where a value should stand" if text.strip() else "the line is empty")
+        return Bad(at, "the line ends where a value is expected" if text.strip() else "the line is empty")
     odd = strange(text, at)
     if odd:
         return odd
@@ -41,7 +41,7 @@ def quoted_otherwise(text, at):
     end = text.find(OPENING[text[at]], at + 1)
     edit = (at, end + 1, json.dumps(text[at + 1:end], ensure_ascii=False)) if end > 0 else None
     told = "double quotes, not in single ones" if text[at] == "'" else f"straight double quotes, not in {text[at]}"
-    return Bad(at, f"a text stands in {told}", edit)
+    return Bad(at, f"a text must be in {told}", edit)
 
 
 def bare_word(at, word):
@@ -58,7 +58,7 @@ def strange(text, at):
     """What stands in a line where nothing may, or none."""
     first = text[at:at + 1]
     if first == "\ufeff":
-        return Bad(at, "a byte order mark, the bytes EF BB BF, stands here", (at, at + 1, ""))
+        return Bad(at, "there is a byte order mark here, the bytes EF BB BF", (at, at + 1, ""))
     if text.startswith(("//", "/*", "#", "--"), at):
         return Bad(at, "JSON has no comments")
     if first.isspace() or unicodedata.category(first) in ("Cf", "Cc"):
@@ -70,7 +70,7 @@ def no_name(text, at):
     """Where a member's name should begin."""
     first = text[at:at + 1]
     if not first:
-        return Bad(at, "the line ends where a member should stand")
+        return Bad(at, "the line ends where a member is expected")
     if first in OPENING:
         return quoted_otherwise(text, at)
     if first == ",":
@@ -84,9 +84,9 @@ def no_name(text, at):
 def no_colon(text, end, at):
     """What stands between a name, which ended, and a value."""
     if at == len(text):
-        return Bad(at, "the line ends behind the name of a member")
+        return Bad(at, "the line ends after the name of a member")
     if text[at] == "=":
-        return Bad(at, "a colon stands between a name and its value, not =", (at, at + 2 if text.startswith("=>", at) else at + 1, ":"))
+        return Bad(at, "expected a colon between a name and its value, not =", (at, at + 2 if text.startswith("=>", at) else at + 1, ":"))
     if text[at] in ",}":
         return Bad(end, "this member has a name and no value")
     return strange(text, at) or Bad(end, "a colon is missing between a name and its value", (end, end, ":"))
@@ -97,24 +97,24 @@ def no_comma(text, opened, end, at):
     bracket = text[opened]
     if at == len(text):
         kind = f"the {KINDS[bracket]} that begins at column {opened + 1}"
-        return Bad(at, f"the line ends and {kind} is not closed: a request stands whole on one line", (end, end, CLOSING[bracket]))
+        return Bad(at, f"the line ends and {kind} is not closed: a request must be on one line", (end, end, CLOSING[bracket]))
     first = text[at]
     if first in "]}":
         return Bad(at, f"{first} closes what {bracket} opened at column {opened + 1}", (at, at + 1, CLOSING[bracket]))
     if first == ";":
-        return Bad(at, "items are parted by commas", (at, at + 1, ","))
+        return Bad(at, "items are separated by commas", (at, at + 1, ","))
     if first == ":" and bracket == "[":
         return Bad(at, "an array has items and no names", (at, at + 1, ","))
     if first in '"{[' or first.isalnum() or first in OPENING:
         return Bad(end, "a comma is missing", (end, end, ","))
-    return strange(text, at) or Bad(at, f"a comma or {CLOSING[bracket]} should stand here, not {shown(first)}")
+    return strange(text, at) or Bad(at, f"a comma or {CLOSING[bracket]} is expected here, not {shown(first)}")
 
 
 def no_letter(text, opened, at):
     """What a text in quotes may not have as it stands."""
     if at == len(text):
         return Bad(opened, "this text has no closing quote")
-    return Bad(at, f"the control character U+{ord(text[at]):04X} stands in a text as an escape alone",
+    return Bad(at, f"the control character U+{ord(text[at]):04X} must be written as an escape in a text",
                (at, at + 1, json.dumps(text[at])[1:-1]))
 
 
@@ -122,9 +122,9 @@ def no_escape(text, at):
     """A backslash with something behind it that makes no escape."""
     behind = text[at + 1:at + 2]
     if not behind:
-        return Bad(at, "the line ends behind a backslash")
+        return Bad(at, "the line ends after a backslash")
     if behind == "u":
-        return Bad(at, "four hexadecimal digits stand behind \\u")
+        return Bad(at, "four hexadecimal digits must follow \\u")
     return Bad(at, f"\\{behind if behind.isprintable() else ''} is no escape of JSON", (at, at + 1, "\\\\"))
 
 
@@ -132,9 +132,9 @@ def behind_the_value(text, at, whose):
     """What stands behind the whole value of a line or a file."""
     of = {"line": "request", "file": "lock"}[whose]
     if text[at] == ",":
-        return Bad(at, f"{whose}s are not parted by commas", (at, at + 1, ""))
+        return Bad(at, f"{whose}s are not separated by commas", (at, at + 1, ""))
     if text[at] in "]}":
         return Bad(at, f"one {text[at]} too many", (at, at + 1, ""))
     if text[at] in '"{[' or text[at].isalnum():
-        return Bad(at, f"something stands behind the {of}: one {whose} has one {of}")
-    return strange(text, at) or Bad(at, f"{shown(text[at])} stands behind the {of}")
+        return Bad(at, f"there is something after the {of}: each {whose} has one {of}")
+    return strange(text, at) or Bad(at, f"{shown(text[at])} can't follow the {of}")

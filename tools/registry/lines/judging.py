@@ -93,7 +93,7 @@ class Judge:
         if own:
             found += [Fault(5, it[0].start, f"{own[0].held} depends on itself") for it in needs if it[0].held == own[0].held]
         if len(needs) > MOST_NEEDS:
-            found.append(Fault(6, needs[MOST_NEEDS][0].start, f"{len(needs):,} needs, and {MOST_NEEDS} are the most"))
+            found.append(Fault(6, needs[MOST_NEEDS][0].start, f"{len(needs):,} needs; the limit is {MOST_NEEDS}"))
         return found
 
     def texts(self, number, fault_of, values):
@@ -111,6 +111,6 @@ class Judge:
         seen, found = set(), []
         for name, _ in pairs:
             if name.held in seen:
-                found.append(Fault(4, name.start, f"{name.held} stands twice in {shown(whose)}"))
+                found.append(Fault(4, name.start, f"{name.held} appears twice in {shown(whose)}"))
             seen.add(name.held)
         return found

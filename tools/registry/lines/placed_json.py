@@ -115,7 +115,7 @@ class Reader:
             raise json_slips.no_comma(self.text, opened, end, place)
         behind = self.space(place + 1)
         if self.text[behind:behind + 1] in ("]", "}"):
-            raise Bad(place, "a comma stands before what closes", (place, place + 1, ""))
+            raise Bad(place, "there is a trailing comma", (place, place + 1, ""))
         return behind
 
     def number(self, found):
@@ -153,7 +153,7 @@ class Reader:
             return chr(first), at + 6
         second = self.unit(at + 6) if self.text.startswith("\\u", at + 6) else 0
         if not 0xdc00 <= second < 0xe000:
-            raise Bad(at, "the first half of a pair of surrogates has no second one behind it")
+            raise Bad(at, "the first half of a pair of surrogates has no second one after it")
         return chr(0x10000 + ((first - 0xd800) << 10) + (second - 0xdc00)), at + 12
 
     def unit(self, at):

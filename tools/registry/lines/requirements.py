@@ -25,14 +25,14 @@ def requirement_fault(text):
 def read_requirement(text):
     """Reads a requirement: a wildcard alone, or comparators that commas part."""
     if len(text.encode()) > MOST_REQUIREMENT_BYTES:
-        raise Bad(0, f"a requirement of {len(text.encode())} bytes, and {MOST_REQUIREMENT_BYTES} are the most")
+        raise Bad(0, f"a requirement of {len(text.encode())} bytes; the limit is {MOST_REQUIREMENT_BYTES}")
     at = SPACES.match(text).end()
     if at == len(text):
         raise Bad(at, "a requirement is empty")
     if text[at] in WILDCARDS:
         behind = SPACES.match(text, at + 1).end()
         if behind < len(text):
-            raise Bad(behind, f"{shown(text[at])} is a requirement alone, with nothing behind it")
+            raise Bad(behind, f"{shown(text[at])} must be the whole requirement, with nothing after it")
         return
     for _ in range(MOST_COMPARATORS):
         at = comparator(text, at)
@@ -56,7 +56,7 @@ def comparator(text, at):
         raise Bad(at, f"a comparator of the requirement {shown(text)} is missing" if not found
                   else f"the operator {found[0]} of the requirement {shown(text)} has no version behind it")
     if first in WILDCARDS:
-        raise Bad(at, f"{shown(first)} stands alone in a requirement, without an operator or a comma")
+        raise Bad(at, f"{shown(first)} must be the whole requirement, without an operator or a comma")
     at, parts = number(text, at, "major", "requirement"), ["minor", "patch"]
     is_wild = False
     while parts and text.startswith(".", at):
@@ -75,8 +75,8 @@ def comparator(text, at):
 def unknown_operator(at, signs):
     whose = f" of {ABROAD[signs[:2]]}" if signs[:2] in ABROAD else ""
     if signs[0] == "|":
-        return Bad(at, f"the operator {signs}{whose} is none of Cargo's, which has no \"or\": all comparators of a requirement must hold")
-    return Bad(at, f"the operator {signs}{whose} is none of Cargo's, which are ^ ~ = > >= < <=")
+        return Bad(at, f"the operator {signs}{whose} is not one of Cargo's, which has no \"or\": all comparators of a requirement must hold")
+    return Bad(at, f"the operator {signs}{whose} is not one of Cargo's, which are ^ ~ = > >= < <=")
 
 
 def no_comma(text, at):
@@ -85,14 +85,14 @@ def no_comma(text, at):
     if signs and signs[0][0] in "|&!":
         return unknown_operator(at, signs[0])
     if text[at] == "-" and text.startswith(" ", at - 1):
-        return Bad(at, "the operator - of npm, a range, is none of Cargo's")
+        return Bad(at, "the operator - of npm, a range, is not one of Cargo's")
     if text[at] in "-+":
-        return Bad(at, f"a pre-release or build metadata stands behind three numbers alone, as in 1.2.0{text[at]}rc, not in {shown(text)}")
+        return Bad(at, f"a pre-release or build metadata needs three numbers before it, as in 1.2.0{text[at]}rc, not in {shown(text)}")
     if text[at] == ".":
         return Bad(at, f"a comparator of the requirement {shown(text)} has more than three numbers")
     if text[at - 1] == " " or signs:
         return Bad(at, f"a comma is missing between two comparators of {shown(text)}")
-    return Bad(at, f"{shown(text[at])} stands behind a comparator of the requirement {shown(text)}")
+    return Bad(at, f"{shown(text[at])} can't follow a comparator of the requirement {shown(text)}")
 
 
 # ---- what was probably meant

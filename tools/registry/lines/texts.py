@@ -43,10 +43,10 @@ def bad_name(text):
         letter = outside[0]
         kind = "the capital letter" if letter.isascii() and letter.isupper() else "the character"
         return Bad(outside.start(), f"{kind} {shown(letter)}, byte {len(text[:outside.start()].encode()) + 1} of the name {shown(text)}, "
-                   "is none of a-z, 0-9, - and _", meant)
+                   "is not one of a-z, 0-9, - and _", meant)
     if not "a" <= text[0] <= "z":
-        return Bad(0, f"the name {shown(text)} begins with no letter a-z", meant)
-    return Bad(MOST_NAME_BYTES, f"a name of {len(text)} bytes, and {MOST_NAME_BYTES} are the most")
+        return Bad(0, f"the name {shown(text)} does not begin with a letter a-z", meant)
+    return Bad(MOST_NAME_BYTES, f"a name of {len(text)} bytes; the limit is {MOST_NAME_BYTES}")
 
 
 def name_meant(text):
@@ -68,20 +68,20 @@ def version_fault(text):
 def read_version(text):
     """Reads a version: three numbers, a pre-release and build metadata behind them if there are any."""
     if len(text.encode()) > MOST_VERSION_BYTES:
-        raise Bad(0, f"a version of {len(text.encode())} bytes, and {MOST_VERSION_BYTES} are the most")
+        raise Bad(0, f"a version of {len(text.encode())} bytes; the limit is {MOST_VERSION_BYTES}")
     if not text:
         raise Bad(0, "a version is empty")
     at = number(text, 0, "major", "version")
     for part in PARTS[1:]:
         if not text.startswith(".", at):
             raise Bad(at, f"the version {shown(text)} has no {part} number" if at == len(text) or text[at] in "-+"
-                      else f"{shown(text[at])} stands behind a number of the version {shown(text)}")
+                      else f"{shown(text[at])} can't follow a number of the version {shown(text)}")
         at = number(text, at + 1, part, "version")
     at = tail(text, at)
     if at < len(text):
         more = text[at] == "."
         raise Bad(at, f"the version {shown(text)} has more than three numbers" if more
-                  else f"{shown(text[at])} stands behind what is whole of the version {shown(text)}")
+                  else f"{shown(text[at])} can't follow the end of the version {shown(text)}")
 
 
 def number(text, at, part, whose):
@@ -89,7 +89,7 @@ def number(text, at, part, whose):
     found = DIGITS.match(text, at)
     if not found:
         raise Bad(at, f"the {part} number of the {whose} {shown(text)} is missing" if at == len(text)
-                  else f"{shown(text[at])} stands where the {part} number of the {whose} {shown(text)} should")
+                  else f"expected the {part} number of the {whose} {shown(text)}, not {shown(text[at])}")
     if len(found[0]) > 1 and found[0][0] == "0":
         raise Bad(at, f"the {part} number {shown(found[0])[1:-1]} of the {whose} {shown(text)} has a leading zero")
     if len(found[0]) > 20 or int(found[0]) >= BEYOND_NUMBERS:

@@ -5,14 +5,10 @@ import threading
 
 from .. import near_limits
 from ..catalog import Catalog
-from ..failures import Failed, Failure
+from ..failures import Failed, Unanswered
 from ..session import Reading, snapshot
 
 MOST_PAGES = 1_000  # whose last search is known
-
-
-class Unanswered(Failure):
-    """A search that was ended before it had an answer."""
 
 
 class File:

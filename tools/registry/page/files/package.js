@@ -14,7 +14,7 @@ export async function showPackage(at, shown) {
 
 function summary(told) {
   if (!told.newest) {
-    return el("p", {}, `No version of ${told.name} is published. `, told.near ? [packageLink(told.near), " is, which may be meant."] : null);
+    return el("p", {}, `No version of ${told.name} is published. `, told.near ? ["Did you mean ", packageLink(told.near), "?"] : null);
   }
   const yanked = told.versions.filter((it) => it.yanked).length;
   const need = `${told.name}@^${told.newest.split("+")[0]}`;

@@ -15,7 +15,7 @@ export async function showSearch(at, shown) {
 
 function said(told) {
   if (!told.found) {
-    return told.near ? ["There is none. ", packageLink(told.near), " may be meant."] : ["There is none."];
+    return told.near ? ["There is none. Did you mean ", packageLink(told.near), "?"] : ["There is none."];
   }
   const rest = told.found - told.packages.length;
   return [rest ? `${told.packages.length} of ${counted(told.found, "name")}: type more of a name to see others.` : `${counted(told.found, "name")}.`];

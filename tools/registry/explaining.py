@@ -1,0 +1,50 @@
+"""Explanations as people read them: in colour where there is some, and of a long one no more than fits on a screen."""
+import re
+
+from . import output
+
+SCREENFUL, LEAST = 40, 10  # lines
+# words of the sentences, which may be names of packages too: as such they are not marked
+WORDS = frozenset("a and any are asked at because both but can come comes depends every failed for forbidden has in incompatible is it lock matches meets met must no not "
+                  "nothing of on or published refused request require requires resolving revision said selected selection that the there thus together version versions "
+                  "which with yanked".split())
+
+
+def tell(case, lines, stream, is_full, remedy):
+    """Prints an explanation; unless all of it is wanted, no more than a screenful, and how to see the rest."""
+    kept = lines if is_full else shortened(lines, *room(stream))
+    output.write(stream, coloured(kept, case, stream))
+    if kept is not lines:
+        output.Output.note(f"{len(lines) - len(kept) + 1:,} of {len(lines):,} lines are left out: {remedy}")
+
+
+def room(stream):
+    """How many lines an explanation may have on a stream, and how wide they are; 0 where that is not known."""
+    columns, lines = output.size(stream)
+    return max(LEAST, min(SCREENFUL, lines - 4)) if lines else SCREENFUL, columns
+
+
+def shortened(lines, most, columns):
+    """The first line, and of the others as many of the last ones as there is room for: what a refusal ends with is what it comes to."""
+    def rows(line):
+        return output.wrapped(output.visible(line), columns).count("\n") + 1
+    if sum(map(rows, lines)) <= most:
+        return lines
+    left, at = most - rows(lines[0]) - 1, len(lines)
+    while at > 1 and rows(lines[at - 1]) <= left:
+        at -= 1
+        left -= rows(lines[at])
+    kept = lines[at:]
+    return [lines[0], "  ..", *kept[kept[:1] == [""]:]]
+
+
+def coloured(lines, case, stream):
+    """The lines of a refusal with the names of packages in bold, and in red what nothing published meets."""
+    derivation = case.refuted
+    if derivation is None or not output.is_coloured(stream):
+        return lines
+    unmet = [form for name, requirement in derivation.lacking() for form in (
+        rf'{re.escape(name)} "?{re.escape(requirement)}"?', rf'[Nn]o version of {re.escape(name)} (?:matches "?{re.escape(requirement)}"?|is published)')]
+    names = {*dict(case.request["needs"]), *(name for step in derivation.reached() for name in step.terms if name)} - WORDS
+    found = re.compile(rf"(?<![\w.+-])(?:(?P<red>refused(?= at revision)|{'|'.join(unmet) or '(?!)'})|{'|'.join(map(re.escape, names)) or '(?!)'})(?![\w.-]*\w)")
+    return [found.sub(lambda it: output.style(it[0], stream, *(("bold", "red") if it["red"] else ("bold",))), line) for line in lines]
