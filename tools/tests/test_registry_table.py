@@ -32,7 +32,7 @@ READ = [
     ("why --asked a --told t --request 3", {**ASKING, "version": None, "picture": None, "unfolded": False, "asked": "a", "told": "t", "request": 3}),
     ("outdated --lock l --budget 7", {**ASKING, "lock": "l", "budget": 7}), ("upgrade", {"name": [], "lock": None, "need": None, "budget": None, **SELECTING, "yes": False}),
     ("upgrade a b --need c d --yes", {"name": ["a", "b"], "lock": None, "need": ["c", "d"], "budget": None, **SELECTING, "yes": True}), ("diff a b", {"old": "a", "new": "b"}),
-    ("check -", {"file": "-"}), ("journal verify f", {"file": "f"}), ("journal repair f --output n", {"file": "f", "output": "n"}),
+    ("log", {"after": None, "follow": False}), ("log --follow --after 3", {"after": 3, "follow": True}), ("check -", {"file": "-"}), ("journal verify f", {"file": "f"}), ("journal repair f --output n", {"file": "f", "output": "n"}),
     ("journal renew a b --lock c d --newest 0", {"old": "a", "new": "b", "lock": ["c", "d"], "newest": 0}), ("shell", {"wait": None}), ("page --port 0 --seconds 1 --any", {"port": 0, "seconds": 1,
                                                                                                                                                "newest": False, "any": True}),
     ("serve", {"socket": None, "port": None, "mode": "600", "group": None, "readers": 2, "seconds": 10, "budget": None, **SELECTING, "workers": 1, "clients": 1000, "log": None,
@@ -41,7 +41,7 @@ READ = [
                                                                         "workers": 1, "clients": 1000, "log": "-", "metrics_port": 9}),
 ]
 # the least and the most of each number
-EDGES = [("resolve a --budget", 0, 4_294_967_295), ("tree a --depth", 0, 4_294_967_295), ("why a --request", 1, 4_294_967_295), ("outdated --budget", 0, 4_294_967_295),
+EDGES = [("resolve a --budget", 0, 4_294_967_295), ("log --after", 0, 4_294_967_295), ("tree a --depth", 0, 4_294_967_295), ("why a --request", 1, 4_294_967_295), ("outdated --budget", 0, 4_294_967_295),
          ("import debian --newest", 1, 4096), ("journal renew a b --newest", 0, 4096), ("page --port", 0, 65_535), ("page --seconds", 1, 3600), ("serve --port", 0, 65_535),
          ("serve --metrics-port", 0, 65_535), ("serve --readers", 1, 64), ("serve --workers", 1, 64), ("serve --seconds", 1, 3600), ("serve --clients", 1, 100_000),
          ("serve --budget", 0, 4_294_967_295), ("publish a 1.0.0 --wait", 0, 86_400), ("shell --wait", 0, 86_400), ("upgrade --budget", 0, 4_294_967_295)]
