@@ -168,7 +168,8 @@ SUBCOMMANDS = (
                 option("--workers", "N", "how many threads of each program resolve (else: 1)", range(1, 65), default=1),
                 option("--clients", "N", "no more than N clients at a time (else: 1000)", range(1, 100_001), default=1_000),
                 option("--log", "FILE", "log each line that is answered; - is standard output", FILE),
-                option("--metrics-port", "N", "answer /metrics, /health, /journal and /log over HTTP on this port, too", range(65_536))),
+                option("--metrics-port", "N", "answer /metrics, /health, /journal and /log over HTTP on this port, too", range(65_536)),
+                option("--page-port", "N", "show the page of `registry page` on this port of this machine; 0 is one that is free", range(65_536))),
                ("registry serve --socket registry.socket", "registry serve --journal team.journal --port 7000 --seconds 5 --log service.log"),
                "Clients speak the lines of registryd(1), and each has its replies in order. A request that takes too long is answered BudgetSpent. "
                "SIGTERM and Ctrl-C end it within 5 seconds, with all answered that came. A first line in HTTP asks for /metrics, /health, /journal or /log."),

@@ -2,6 +2,7 @@
 import asyncio
 
 from ..failures import FAILED, Usage
+from ..service.pages import show
 from ..service.service import Service
 from ..session import journal_of
 
@@ -25,6 +26,7 @@ async def serve(path, given, out):
         where = names[:len(names) - (given.metrics_port is not None)]
         out.give({"listening": where[0], "also": where[1:], "revision": service.keeper.revision},
                  [f"{path} is served at {' and '.join(where)} (revision {service.keeper.revision})"])
+        await show(service, where[0], out)
         await service.signalled.wait()
         if await service.end():
             return None
