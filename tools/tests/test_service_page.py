@@ -45,7 +45,7 @@ class Typed(unittest.TestCase):
 
     def test_its_numbers_are_those_of_the_service(self):
         text = page(PAGE)
-        for said in (f"while {client.MOST_ASKED} are without a reply", f"disconnects it after {client.STALLED} seconds", "for a quarter of a second",
+        for said in (f"or {client.MOST_ASKED} commands are without a reply", f"disconnects it after {client.STALLED} seconds", "for a quarter of a second",
                      f"more than {ops.LONG:,} bytes", f"A request over HTTP has {http.PATIENCE} seconds"):
             self.assertIn(said, text)
         self.assertEqual((readers.PATIENCE, watching.SLOW, http.MOST_COPIES, disk.LOOKS), (0.25, 1.0, 4, (1, 60)))
