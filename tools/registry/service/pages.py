@@ -18,7 +18,8 @@ class Shower:
     """`registry page` as a child of the service. `gone` is a future with the reason why it has ended."""
 
     def __init__(self, threads, words):
-        self.process = Tied([sys.executable, "-B", os.path.join(TOP, "registry"), "page", *words], stdin=PIPE, stdout=PIPE, stderr=PIPE, text=True, process_group=0)
+        self.process = Tied([sys.executable, "-B", os.path.join(TOP, "registry"), "page", *words], stdin=PIPE, stdout=PIPE, stderr=PIPE,
+                            text=True, process_group=0)
         self.kill = self.process.kill
         self.gone = asyncio.get_running_loop().run_in_executor(threads, self.ended)
 

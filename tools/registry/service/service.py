@@ -24,7 +24,7 @@ class Service:
         self.path, self.given, self.loop = path, given, asyncio.get_running_loop()
         self.now, self.servers, self.is_stopping, self.is_over = self.loop.time, [], False, False
         self.clients, self.pages, self.guests = set(), set(), set()  # connections: of lines, of HTTP, and those beyond the clients that may be
-        self.copying, self.left = asyncio.Semaphore(MOST_COPIES), ExitStack()  # that removes what is gone with it, also where it can't begin
+        self.copying, self.left = asyncio.Semaphore(MOST_COPIES), ExitStack()  # it removes the socket, also where this can't begin
         self.watch, self.signalled = Watch(given.log), asyncio.Event()
         self.keeper = Keeper(path, self.watch, selecting(given))
         self.times, self.readers = Times(self.keeper), Readers(path, self.watch, self.keeper, given)

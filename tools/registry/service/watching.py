@@ -117,8 +117,8 @@ class Watch:
             kind = error[2].decode() if error else next((kind for begin, kind in KINDS if asked.reply.startswith(begin)), "other")
             accepted = ACCEPTED.match(asked.reply)
             self.note(client=asked.client.name, connection=asked.client.number, op=op, **(command_of(asked.line) if op in COMMANDS else {}),
-                      seconds=f"{seconds:.6f}", reply=kind, **({"revision": int(accepted[1])} if accepted else {}), request_bytes=len(asked.line),
-                      reply_bytes=len(asked.reply))
+                      seconds=f"{seconds:.6f}", reply=kind, **({"revision": int(accepted[1])} if accepted else {}),
+                      request_bytes=len(asked.line), reply_bytes=len(asked.reply))
 
     def restarted(self, which, why):
         self.counts["restarts_total", f'program="{which}"'] += 1
@@ -136,7 +136,8 @@ class Watch:
         lines = []
         for name, about in COUNTS.items():
             given = gauges.get(name, 0)
-            found = {labels: count for (other, labels), count in self.counts.items() if other == name} or (given if isinstance(given, dict) else {"": given})
+            counted = {labels: count for (other, labels), count in self.counts.items() if other == name}
+            found = counted or (given if isinstance(given, dict) else {"": given})
             lines += [f"# HELP registryd_{name} {about}", f"# TYPE registryd_{name} {'gauge' if name in gauges else 'counter'}"]
             lines += [f"registryd_{name}{labels and '{' + labels + '}'} {int(value)}" for labels, value in sorted(found.items())]
         return "\n".join([*lines, *(line for family in TIMES for line in self.histogram(family)), ""]).encode()
