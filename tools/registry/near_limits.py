@@ -1,6 +1,5 @@
 """How near a journal is to what a session takes: told from nine tenths of a limit on."""
 import re
-from collections import Counter
 
 from limits import MOST_COMMANDS, MOST_PACKAGES, MOST_VERSIONS
 
@@ -16,19 +15,17 @@ def warnings(path, text):
     if len(text) < SHORTEST:
         return
     commands = text.count(b"\n") - 1 - len(LEARNT.findall(text)) - text.endswith(b"end %d\n" % (text.count(b"\n") - 2))
-    versions = Counter(it.decode() for it in PUBLISHED.findall(text))
-    yield from told(path, commands, len(set(NAMED.findall(text))), versions)
-
-
-def told(path, commands, names, versions):
-    """The same of so many commands and names, and so many versions by package."""
     if is_near(commands, MOST_COMMANDS):
         yield f"{path} has {commands:,} of {MOST_COMMANDS:,} commands: {REMEDY}"
+    names = len(set(NAMED.findall(text)))
     if is_near(names, MOST_PACKAGES):
         yield f"{path} names {names:,} of {MOST_PACKAGES:,} packages: {REMEDY}"
+    versions = {}
+    for name in PUBLISHED.findall(text):
+        versions[name] = versions.get(name, 0) + 1
     for name, count in versions.items():
         if is_near(count, MOST_VERSIONS):
-            yield f"{path} has {count:,} of {MOST_VERSIONS:,} versions of {name}: {REMEDY}"
+            yield f"{path} has {count:,} of {MOST_VERSIONS:,} versions of {name.decode()}: {REMEDY}"
 
 
 def is_near(used, most):

@@ -73,9 +73,9 @@ class Shown(unittest.TestCase):
 
 class Views(Shown):
     def test_what_is_shown(self):
-        with mock.patch.object(journal.near_limits, "told", lambda path, commands, names, versions: [f"{path} {commands} {names} {versions}"]):
+        with mock.patch.object(journal.near_limits, "warnings", lambda path, text: [f"{path} {len(text)}"]):
             made = View(self.source)
-        self.assertEqual((made.names, made.revision, made.counts, made.warnings), (["app", "log", "zlib"], 6, {"packages": 2, "versions": 5, "yanked": 1}, ["j 6 3 {'log': 3, 'app': 2}"]))
+        self.assertEqual((made.names, made.revision, made.counts, made.warnings), (["app", "log", "zlib"], 6, {"packages": 2, "versions": 5, "yanked": 1}, [f"j {len(made.text)}"]))
         self.assertEqual([[*made.users(name)] for name in ("log", "zlib", "app", "none")], [["app"], ["app"], [], []])
         self.assertEqual([it.text for it in made.versions("log")], ["1.10.0", "1.9.0", "1.0.0"])
         self.assertIs(made.versions("log"), made.versions("log"))  # worked out once

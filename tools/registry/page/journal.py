@@ -79,7 +79,7 @@ class View(Catalog):
             for it in COMMAND.findall(self.lines):  # while the program loads it
                 self.take(*it)
             self.names = sorted({*self.listed, *TARGET.findall(self.lines)})
-            self.warnings = list(near_limits.told(self.path, self.revision, len(self.names), {name: len(it) for name, it in self.listed.items()}))
+            self.warnings = list(near_limits.warnings(self.path, self.text))
             self.session.ask(EMPTY)  # it says where a line is at fault
         except BaseException:
             self.session.leave()
