@@ -132,10 +132,14 @@ class Connected:
                     raise Failed(f"the service at {self.path} broke off before it had answered, and does not come back: a command that was "
                                  f"under way may have been accepted") from fault
 
-    def commands(self):
-        """The accepted commands, in order, at the revision of the last reply."""
+    def journal(self):
+        """The journal's text at the revision of the last reply."""
         self.text = journal_of_service(self.path, self.revision)
-        return [json.loads(it) for it in commands_in(self.text)]
+        return self.text
+
+    def commands(self):
+        """The accepted commands, in order, at the same revision."""
+        return [json.loads(it) for it in commands_in(self.journal())]
 
     def close(self):
         """Nothing is to be waited for: what was told as accepted is kept."""

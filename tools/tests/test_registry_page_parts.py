@@ -14,7 +14,7 @@ from program import TOP, in_time, publish, yank
 from test_journals import journal as text_of
 
 sys.path.insert(0, os.path.join(TOP, "tools"))
-from registry import connected
+from registry import catalog, connected
 from registry.commands import page
 from registry.failures import Failed
 from registry.output import Output
@@ -28,7 +28,7 @@ REQUEST = {"op": "resolve", "needs": []}
 
 class Program:
     """A session in the place of the program's. What it is asked waits until it is let go, where that is wanted."""
-    begun = []
+    begun, warnings = [], []
 
     def __init__(self, path, text, words=()):
         self.given, self.text, self.is_left = (path, words), text, False
@@ -73,9 +73,9 @@ class Shown(unittest.TestCase):
 
 class Views(Shown):
     def test_what_is_shown(self):
-        with mock.patch.object(journal.near_limits, "warnings", lambda path, text: [f"{path} {len(text)}"]):
+        with mock.patch.object(Program, "warnings", ["near"]):
             made = View(self.source)
-        self.assertEqual((made.names, made.revision, made.counts, made.warnings), (["app", "log", "zlib"], 6, {"packages": 2, "versions": 5, "yanked": 1}, [f"j {len(made.text)}"]))
+        self.assertEqual((made.names, made.revision, made.counts, made.warnings), (["app", "log", "zlib"], 6, {"packages": 2, "versions": 5, "yanked": 1}, ["near"]))
         self.assertEqual([[*made.users(name)] for name in ("log", "zlib", "app", "none")], [["app"], ["app"], [], []])
         self.assertEqual([it.text for it in made.versions("log")], ["1.10.0", "1.9.0", "1.0.0"])
         self.assertIs(made.versions("log"), made.versions("log"))  # worked out once
@@ -94,13 +94,13 @@ class Views(Shown):
         """However many versions there are, none is read before it is shown, and the program does not list them."""
         text = text_of([publish(f"p{number:04}", f"1.{minor}.0", ["p0000 ^1"] if number else []) for minor in range(4) for number in range(500)])
         self.source.text = lambda: text
-        with mock.patch.object(journal.json, "loads", side_effect=AssertionError), mock.patch.object(Program, "ask", return_value=[{}]) as asked:
+        with mock.patch.object(catalog.json, "loads", side_effect=AssertionError), mock.patch.object(Program, "ask", return_value=[{}]) as asked:
             made = View(self.source)
             self.assertEqual((len(made.names), made.counts), (500, {"packages": 500, "versions": 2000, "yanked": 0}))
             self.assertEqual([call.args for call in asked.call_args_list], [({"op": "resolve", "needs": []},)])
             self.assertEqual(made.users("p0000"), {f"p{number:04}" for number in range(1, 500)})
         read, loads = [], json.loads
-        with mock.patch.object(journal.json, "loads", lambda text: read.append(text) or loads(text)):
+        with mock.patch.object(catalog.json, "loads", lambda text: read.append(text) or loads(text)):
             self.assertEqual(made.newest("p0007"), ("1.3.0", False, [["p0000", "^1"]]))
         self.assertEqual(read, ['[["p0000","^1"]]'] * 4)
 

@@ -5,7 +5,7 @@ from ..session import reading
 
 def run(given, out):
     with reading(given) as session:
-        catalog = Catalog(session)
+        catalog = Catalog(session.journal())
     versions, newest = catalog.versions(given.name), catalog.newest(given.name)
     needing = list(catalog.needing(given.name))
     out.give({"name": given.name,

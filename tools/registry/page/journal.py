@@ -5,17 +5,12 @@ import os
 import re
 import threading
 
-from check_derivation import read_version
-
-from .. import near_limits
 from ..catalog import Catalog
 from ..failures import Failed, Failure
 from ..journal_file import commands_in
 from ..session import EMPTY, Reading, snapshot
 
 MOST_PAGES = 1_000  # whose last search is known
-# a command as a journal has it, byte for byte: the program loads no other
-COMMAND = re.compile(r'^\{"name":"([^"]+)",(?:"needs":(.*),)?"op":"(\w+)","version":"([^"]+)"\}$', re.M)
 TARGET = re.compile(r'\["([^"]+)","')  # how a dependency begins
 
 
@@ -60,43 +55,22 @@ class Service:
             return None
 
 
-class Needs(dict):
-    """By package and version what that needs: text that is read where it is asked for."""
-
-    def __getitem__(self, version):
-        return json.loads(super().__getitem__(version))
-
-
 class View(Catalog):
-    """A journal as it stood at one moment. Its text is read once, and of a command only what is shown of all: 49,152 would take seconds."""
+    """A journal as it stood at one moment."""
 
     def __init__(self, source):
         self.path, self.words, self.text, self.searches, self.ranks = source.path, source.words, source.text(), 0, {}
-        self.listed, self.needs, self.revision = {}, Needs(), 0
         self.session = Reading(self.path, self.text, self.words)
         try:
-            self.lines = self.text.decode(errors="replace")
-            for it in COMMAND.findall(self.lines):  # while the program loads it
-                self.take(*it)
+            super().__init__(self.text)  # while the program loads it
             self.names = sorted({*self.listed, *TARGET.findall(self.lines)})
-            self.warnings = list(near_limits.warnings(self.path, self.text))
+            self.warnings = self.session.warnings
             self.session.ask(EMPTY)  # it says where a line is at fault
         except BaseException:
             self.session.leave()
             raise
         self.counts = {"packages": len(self.listed), "versions": sum(map(len, self.listed.values())),
                        "yanked": sum(is_yanked for held in self.listed.values() for _, is_yanked in held)}
-
-    def take(self, name, needs, op, version):
-        """One command; a yank is of the version that has the same precedence."""
-        self.revision += 1
-        held = self.listed.setdefault(name, [])
-        if op == "publish":
-            held.append((version, False))
-            self.needs[name, version] = needs
-        else:
-            rank = read_version(version)
-            held[:] = [(it, op == "yank" if read_version(it) == rank else is_yanked) for it, is_yanked in held]
 
     @functools.cached_property
     def commands(self):
@@ -106,10 +80,6 @@ class View(Catalog):
         if name not in self.ranks:
             self.ranks[name] = super().versions(name)
         return self.ranks[name]
-
-    def users(self, name):
-        found = re.finditer(re.escape(f'["{name}","'), self.lines)
-        return {COMMAND.match(self.lines, self.lines.rindex("\n", 0, it.start()) + 1)[1] for it in found}
 
     def program(self):
         """The program over this text, begun anew where a search was ended with it."""
