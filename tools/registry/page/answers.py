@@ -2,9 +2,9 @@
 import bisect
 
 from check_derivation import read_version
+from registryd_lines.nearest import nearest
 
 from ..failures import Failure, Refused
-from ..nearest import nearest
 from ..needs import need_of
 from ..refusals import english, unpublished
 from .journal import Unanswered
