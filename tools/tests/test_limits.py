@@ -24,7 +24,7 @@ STATED = [
     *(("clients/python/registryd_lines/limits.py", rf"{name} = ([\d_]+)", name) for name in
       ("MOST_NAME_BYTES", "MOST_VERSION_BYTES", "MOST_REQUIREMENT_BYTES", "MOST_LINE_BYTES", "MOST_NEEDS")),
     ("clients/python/registryd/__init__.py", r'workers, "workers", 1, (\d+)', "MOST_WORKERS"),
-    ("clients/rust/src/session.rs", r"resolve requests, 1 to (\d+)", "MOST_WORKERS"),
+    ("clients/rust/src/culprit.rs", r"MOST_NEEDS: usize = (\d+)", "MOST_NEEDS"), ("clients/rust/src/session.rs", r"resolve requests, 1 to (\d+)", "MOST_WORKERS"),
     *((f"clients/{file}", pattern, name) for file in ("python/registryd/__init__.py", "rust/src/refusal.rs") for pattern, name in (
         (r"More than (\d+) dependencies or needs", "MOST_NEEDS"), (r"dependencies or needs, or ([\d,]+) lock lines", "MOST_LOCK_LINES"),
         (r"has more than (\d+) lines", "MOST_DERIVATION_LINES"))),
