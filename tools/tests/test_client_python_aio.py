@@ -8,6 +8,7 @@ from library import LIBRARY, needs_library
 from program import PROGRAM
 from registryd import AlreadyPublished, Ended, Listing, NoSelection, Publish, Registry, Resolve, Selection
 from registryd.aio import AsyncRegistry
+from registryd.tree import External
 
 
 def run(task):
@@ -24,6 +25,8 @@ class Calls:
                 self.assertEqual([await registry.publish("b", "1.0.0"), await registry.publish("a", "1.0.0", {"b": "^1"}), await registry.yank("b", "1.0.0")], [1, 2, 3])
                 refused = await registry.resolve({"a": "*"}, explain=True)
                 self.assertEqual((type(refused), await registry.check({"a": "*"}, refused.derivation)), (NoSelection, True))
+                why = await registry.why(refused)
+                self.assertIn(("need", "a"), [(it.kind, it.target) for it in why.causes if isinstance(it, External)])
                 self.assertEqual(await registry.resolve({"a": "*"}, {"b": "1.0.0"}, budget=0), Selection(3, {"a": "1.0.0", "b": "1.0.0"}))
                 self.assertEqual(await registry.unyank("b", "1.0.0"), 4)
                 self.assertEqual(await registry.list(), Listing(4, {"a": (("1.0.0", False),), "b": (("1.0.0", False),)}))

@@ -6,6 +6,7 @@ import unittest
 from client_python import SECONDS, Case, registryd
 from program import PROGRAM
 from registryd import Accepted, Check, Line, Listing, NoSelection, NothingSelected, Publish, Refusal, Registry, Resolve, Unyank, Yank
+from registryd.tree import External
 
 PAIR = r'is a pair of a name and a requirement, as \("log", "\^1.2"\), not '
 PAIRS = r'is a mapping or pairs of a name and a requirement, as \[\("log", "\^1.2"\)\], not '
@@ -110,6 +111,41 @@ class Told(Case):
         self.assertEqual((bool(nothing), bool(selected), nothing, nothing.request), (False, True, NoSelection(0), Resolve({"zed": "*"})))
         with self.assertRaisesRegex(NothingSelected, "^no selection meets the request at revision 0: .* explain=True"):
             nothing.selected
+
+    def walked(self, registry, needs, lock=()):
+        """The nodes of a refusal's tree, each once, the root first."""
+        nodes, open_nodes = {}, [registry.why(registry.resolve(needs, lock, explain=True))]
+        while open_nodes:
+            node = open_nodes.pop()
+            if id(node) not in nodes:
+                nodes[id(node)] = node
+                open_nodes += reversed(getattr(node, "causes", ()))
+        return list(nodes.values())
+
+    def test_the_tree_of_a_refusal(self):
+        with self.open() as registry:
+            for name, version, needs in (("log", "1.0.0", {}), ("log", "1.1.0", {}), ("app", "1.0.0", {"log": "^2"}), ("old", "1.0.0", {}), ("yet", "1.0.0", {"log": "=1.1"})):
+                registry.publish(name, version, needs)
+            registry.yank("old", "1.0.0")
+            never, dependency, need = self.walked(registry, [("app", "^1")])
+            self.assertEqual(vars(dependency), vars(External("premise", "app", ("1.0.0",), "log", "^2", ())))
+            self.assertEqual(vars(need), vars(External("need", target="app", requirement="^1")))
+            self.assertEqual((never.terms, never.causes), ({"": (True, ())}, (dependency, need)))
+            kinds = {it.kind: it for it in self.walked(registry, {"old": "*"}) if isinstance(it, External)}
+            self.assertEqual(kinds["disallowed"].versions, ("1.0.0",))
+            inner = [it for it in self.walked(registry, {"yet": "*", "log": "=1.0.0"}) if isinstance(it, External) and it.kind == "premise"]
+            self.assertEqual([vars(it) for it in inner], [vars(External("premise", "yet", ("1.0.0",), "log", "=1.1", ("1.1.0",)))])
+            with self.assertRaisesRegex(ValueError, "explain=True"):
+                registry.why(registry.resolve({"app": "^1"}))
+
+    def test_a_tree_that_is_deep(self):
+        # each version is ruled out for a reason of its own, so a line rests on the line before it
+        with self.open() as registry:
+            for future in registry.many(Publish("a", f"{number}.0.0", {f"n{number}": "*"}) for number in range(1500)):
+                future.result(SECONDS)
+            nodes = self.walked(registry, {"a": "*"})
+            self.assertEqual({it.target for it in nodes if isinstance(it, External) and it.kind == "premise"}, {f"n{number}" for number in range(1500)})
+            self.assertIn("Derived", repr(nodes[0]))
 
 
 if __name__ == "__main__":

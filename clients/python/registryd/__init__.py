@@ -48,6 +48,8 @@ from typing import TYPE_CHECKING, Any, NoReturn, Union
 if TYPE_CHECKING:
     from registryd_lines.culprit import Culprit
 
+    from .tree import Derived
+
 __version__ = "0.3.0"
 __all__ = ["Registry", "Publish", "Yank", "Unyank", "Resolve", "Check", "List", "Line", "Request", "Pairs", "Derivation", "FilePath",
            "Accepted", "Selection", "NoSelection", "Verdict", "Listing", "Reply", "RegistryError", "Ended", "NothingSelected", "Refusal", "BadName",
@@ -174,11 +176,15 @@ EXAMPLE = {"needs": '("log", "^1.2")', "lock": '("log", "1.3.0")'}
 
 def rows(pairs: Pairs, whose: str) -> str:
     """The JSON of pairs."""
-    if isinstance(pairs, (str, bytes)) or not isinstance(pairs, Iterable):
+    given: Iterable[Any]
+    if isinstance(pairs, Mapping):
+        given = pairs.items()
+    elif isinstance(pairs, (str, bytes)) or not isinstance(pairs, Iterable):
         raise TypeError(f"{whose} is a mapping or pairs of a name and a {SECOND[whose]}, as [{EXAMPLE[whose]}], not {pairs!r}")
-    given = pairs.items() if isinstance(pairs, Mapping) else tuple(pairs)
-    if given and not isinstance(pairs, Mapping) and any(isinstance(pair, str) for pair in given):
-        raise wrong_pair(given, whose)  # one of two letters would be taken apart
+    else:
+        given = tuple(pairs)
+        if any(isinstance(pair, str) for pair in given):
+            raise wrong_pair(given, whose)  # one of two letters would be taken apart
     try:
         return f"[{','.join([f'[{quoted(name)},{quoted(text)}]' for name, text in given])}]"
     except (TypeError, ValueError):
@@ -512,6 +518,11 @@ class Registry:
     def check(self, needs: Pairs, derivation: Derivation, lock: Pairs = ()) -> bool:
         """Whether the derivation of a refusal follows."""
         return self._call(Check(needs, derivation, lock)).follows
+
+    def why(self, refusal: NoSelection) -> Derived:
+        """Why no selection meets a request that was asked with explain=True: a tree to walk, for which the versions are listed."""
+        from .tree import tree
+        return tree(refusal, self.list())
 
     def _call(self, request: Request) -> Any:
         try:
