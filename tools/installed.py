@@ -30,7 +30,7 @@ COMMAND = "registry"
 # Files that are copied as they stand, by the folder that they go to; what stands in a folder of the sources keeps its place in it.
 COPIES = {
     LIB: ["tools/registry/page/files/*"],
-    SHARE: ["docs/*.schema.json", "clients/python/*.py", "clients/c/*.[ch]", "clients/c/*.rs", "clients/c/*.txt", "clients/c/*.in",
+    SHARE: ["docs/*.schema.json", "clients/python/pyproject.toml", "clients/python/*/*.py", "clients/python/*/py.typed", "clients/c/*.[ch]", "clients/c/*.rs", "clients/c/*.txt", "clients/c/*.in",
             "clients/c/Makefile", "clients/rust/*.toml", "clients/rust/Cargo.lock", "clients/rust/*.rs",
             "clients/rust/src/*.rs", "clients/rust/examples/*.rs", "clients/rust/tests/*.rs", "clients/rust/tests/common/*.rs"],
     DOC: ["docs/why.svg", "docs/selection.svg", "LICENSE*"],

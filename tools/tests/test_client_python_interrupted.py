@@ -20,8 +20,8 @@ import interrupt_sessions
 
 NAMES = [f"p{number}" for number in range(10)]
 # The files whose steps are counted, and the functions in them that make or read a line, and come before or after all that matters.
-STEPPED = ("registryd.py", "registryd_service.py", os.path.join("concurrent", "futures", "_base.py"), "threading.py")
-PASSED_OVER = ("written", "line", "rows", "answer", "__init__", "<genexpr>", "<listcomp>", "<dictcomp>")
+STEPPED = (os.path.join("registryd", "__init__.py"), os.path.join("registryd", "service.py"), os.path.join("concurrent", "futures", "_base.py"), "threading.py")
+PASSED_OVER = ("written", "line", "rows", "text_of", "number_of", "is_set", "to", "answer", "__init__", "<genexpr>", "<listcomp>", "<dictcomp>")
 
 
 class Broken(BaseException):
@@ -110,7 +110,7 @@ class Stepped:
 
     def elsewhere(self, call):
         """What a call answers or raises in another thread, which is not waited for for ever."""
-        done = registryd.Awaited()
+        done = registryd.Awaited(List())
 
         def run():
             try:

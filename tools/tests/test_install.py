@@ -80,7 +80,7 @@ class Whole(unittest.TestCase):
                      "share/bash-completion/completions/registryd", "share/zsh/site-functions/_registryd",
                      "share/fish/vendor_completions.d/registryd.fish",
                      "share/registryd/lines.schema.json", "share/registryd/registry.schema.json", "share/doc/registryd/FORMATS.md",
-                     "share/registryd/clients/python/registryd.py", "share/registryd/clients/c/registryd.h",
+                     "share/registryd/clients/python/registryd/__init__.py", "share/registryd/clients/c/registryd.h",
                      "share/registryd/clients/c/embedded.c", "share/registryd/clients/c/Makefile", "share/registryd/clients/rust/Cargo.toml",
                      "share/registryd/clients/rust/src/lib.rs"):
             self.assertIn(path, there)

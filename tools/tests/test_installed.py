@@ -188,7 +188,7 @@ exec python3 -B -S "$here/../lib/registryd/registry" "$@"
 class Tables(unittest.TestCase):
     def test_what_stands_where(self):
         found = {it.path for it in [*installed.page_pieces(), *installed.systemd_pieces("/usr")]}
-        self.assertLessEqual({"share/registryd/clients/rust/Cargo.lock", "share/registryd/clients/rust/src/lib.rs", "share/registryd/clients/python/registryd.py", "share/registryd/clients/c/Makefile",
+        self.assertLessEqual({"share/registryd/clients/rust/Cargo.lock", "share/registryd/clients/rust/src/lib.rs", "share/registryd/clients/python/registryd/__init__.py", "share/registryd/clients/python/registryd/py.typed", "share/registryd/clients/c/Makefile",
                               "share/registryd/clients/README.md", "share/registryd/lines.schema.json", "share/registryd/registry.schema.json", "share/doc/registryd/why.svg", "share/doc/registryd/CHANGELOG.md",
                               "share/doc/registryd/FORMATS.md", "share/man/man1/registryd.1", "share/man/man1/registry-tools.1", "share/man/man1/registryd-etcd.1",
                               "lib/registryd/tools/registry/page/files/page.html", "lib/systemd/system/registryd.service", "lib/sysusers.d/registryd.conf"}, found)

@@ -3,9 +3,9 @@ import contextlib
 import sys
 
 from limits import MOST_LINE_BYTES
+from registryd_lines.judging import faults
 
 from ..failures import DONE, REFUSED, Failed, told
-from ..lines.judging import faults
 
 
 def run(given, out):

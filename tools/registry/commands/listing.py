@@ -1,9 +1,10 @@
 """`registry list` and `registry search`: the packages, each with its newest version."""
 from types import SimpleNamespace
 
+from registryd_lines.nearest import nearest
+
 from ..catalog import Version, newest
 from ..failures import REFUSED
-from ..nearest import nearest
 from ..refusals import listed
 from ..session import reading
 

@@ -3,9 +3,9 @@ import bisect
 import re
 
 from check_derivation import NAME, read_requirement, read_version
+from registryd_lines.nearest import nearest
 
 from ..failures import Failure, Refused
-from ..nearest import nearest
 from ..needs import need_of
 from ..refusals import english, unpublished
 from .journal import Unanswered
