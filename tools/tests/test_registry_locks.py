@@ -14,7 +14,7 @@ sys.path.insert(0, os.path.join(TOP, "tools"))
 from limits import MOST_LOCK_LINES
 from registry.locks import Unread, changes, coloured, counted, judged, lock_text, read_lock
 
-TABLE = os.path.join(TOP, "rows", "texts", "locks.rows")
+TABLE = os.path.join(TOP, "rows", "calls", "further.rows")
 # two locks, and what changed
 CHANGED = [
     ([], [], []),
@@ -38,11 +38,6 @@ def rows(call):
 
 def versions(lines):
     return dict(line.split(" ") for line in lines)
-
-
-def an_entry_a_line(text):
-    """A lock list of the program's, which is one line, as a lock file has it."""
-    return text if text == "[]\n" else "[\n  " + text[1:-2].replace("],[", "],\n  [").replace('","', '", "') + "\n]\n"
 
 
 class Lists(unittest.TestCase):
@@ -73,12 +68,10 @@ class Lists(unittest.TestCase):
         self.assertEqual(len(judged(many[1:])), MOST_LOCK_LINES)
 
     def test_what_is_written(self):
-        # the entries of the program's own lists, in its order, one a line
-        written = [row for row in rows("write_lock") if row["gives"]["end"] == "done"]
-        self.assertGreater(len(written), 3)
-        for row in written:
-            self.assertEqual(lock_text(dict(row["lock"])), an_entry_a_line(row["gives"]["written"]))
-        self.assertEqual(lock_text({"b": "1.0.0+x", "a": "2.0.0"}), '[\n  ["a", "2.0.0"],\n  ["b", "1.0.0+x"]\n]\n')
+        # in byte order of the names, a pair a line
+        for lock, text in (({}, "[]\n"), ({"b": "1.0.0+x", "a_b": "0.2.0-rc.1", "a": "3.0.0", "a0": "1.0.0"},
+                                          '[\n  ["a", "3.0.0"],\n  ["a0", "1.0.0"],\n  ["a_b", "0.2.0-rc.1"],\n  ["b", "1.0.0+x"]\n]\n')):
+            self.assertEqual(lock_text(lock), text)
 
     def test_what_is_written_is_read(self):
         for old, new, _ in CHANGED:
