@@ -211,7 +211,7 @@ class WithService(Stepped, Case):
 
 
     def test_a_line_that_can_not_be_sent_ends_the_session(self):
-        first, second = registryd.Awaited(), registryd.Awaited()
+        first, second = (registryd.Awaited(List()) for _ in range(2))
         first.add_done_callback(leave)
         self.registry._session.send([None, None], [first, second])  # as where there is no memory to put lines together
         self.assertRaisesRegex(Ended, "a line could not be sent: TypeError", second.result, SECONDS)
