@@ -194,7 +194,8 @@ class Searches(Shown):
                 made.ask(REQUEST)
             self.assertEqual((str(caught.exception), self.waits.pop()), (f"no answer was found in {told}, and the search was ended", seconds))
             self.assertEqual((made.view.session, made.running, Program.begun[-1].is_left), (None, None, True))
-            self.assertEqual(made.ask(REQUEST)[1], {"asked": []})  # by a program that is begun anew
+            with mock.patch.object(journal.threading, "Timer"):
+                self.assertEqual(made.ask(REQUEST)[1], {"asked": []})  # by a program that is begun anew
 
     def timer(self, seconds, call, given):
         """A timer that has come to its end, once it is begun."""
