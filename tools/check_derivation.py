@@ -14,7 +14,6 @@ import json
 import re
 import sys
 from functools import lru_cache
-from pathlib import Path
 from types import SimpleNamespace
 
 NUMBER = "(0|[1-9][0-9]*)"
@@ -231,10 +230,15 @@ class Judge:
         demand(self.conclusions[-1] in ({}, NEVER), "the last line does not say that the request can't be met")
 
 
+def bytes_of(path):
+    with open(path, "rb") as file:
+        return file.read()
+
+
 def read_lines(path):
     """The object of each line of a file; an empty one for a line that has none."""
     objects = []
-    for line in Path(path).read_bytes().removesuffix(b"\n").split(b"\n"):
+    for line in bytes_of(path).removesuffix(b"\n").split(b"\n"):
         try:
             objects.append(json.loads(line.decode()))
         except (ValueError, RecursionError):
@@ -244,7 +248,7 @@ def read_lines(path):
 
 def read_journal(path):
     """The commands of a journal file."""
-    lines = Path(path).read_bytes().split(b"\n")
+    lines = bytes_of(path).split(b"\n")
     demand(lines[0] in (b"registry-journal 1", b"registry-journal 2") and lines[-2:] == [b"end %d" % (len(lines) - 3), b""], "a cut journal", ValueError)
     return [it for it in read_lines(path)[1:-1] if it.get("op") != "learn"]
 

@@ -18,11 +18,11 @@ import time
 from collections import Counter
 
 TOOLS = os.path.dirname(os.path.abspath(__file__))
-sys.path[:0] = [TOOLS, os.path.join(TOOLS, "tests")]
+sys.path[:0] = [TOOLS, os.path.join(TOOLS, "tests"), os.path.join(TOOLS, "..", "clients", "python")]
 import fuzz
 import program
 import said
-from registry.lines.judging import faults
+from registryd_lines.judging import faults
 from slipped_lines import Slips
 
 COMPARED = (1, 2, 3, 4, 5, 6, 19)

@@ -5,6 +5,8 @@ them from where it stands itself, so a prefix may be moved. Nothing is written h
 import ast
 import functools
 import glob
+import importlib.util
+import marshal
 import posixpath
 import re
 from dataclasses import dataclass
@@ -28,7 +30,7 @@ COMMAND = "registry"
 # Files that are copied as they stand, by the folder that they go to; what stands in a folder of the sources keeps its place in it.
 COPIES = {
     LIB: ["tools/registry/page/files/*"],
-    SHARE: ["docs/*.schema.json", "clients/python/*.py", "clients/c/*.[ch]", "clients/c/*.rs", "clients/c/*.txt", "clients/c/*.in",
+    SHARE: ["docs/*.schema.json", "clients/python/pyproject.toml", "clients/python/*/*.py", "clients/python/*/py.typed", "clients/c/*.[ch]", "clients/c/*.rs", "clients/c/*.txt", "clients/c/*.in",
             "clients/c/Makefile", "clients/rust/*.toml", "clients/rust/Cargo.lock", "clients/rust/*.rs",
             "clients/rust/src/*.rs", "clients/rust/examples/*.rs", "clients/rust/tests/*.rs", "clients/rust/tests/common/*.rs"],
     DOC: ["docs/why.svg", "docs/selection.svg", "LICENSE*"],
@@ -139,7 +141,17 @@ def tool_pieces():
     files = modules_below({*TOOLS.values(), *(str(it.relative_to(TOP / "tools")) for it in (TOP / "tools" / COMMAND).rglob("*.py"))})
     for file in sorted(files):
         text = (TOP / "tools" / file).read_text(encoding="utf-8").removeprefix("#!/usr/bin/env python3\n")
-        yield Piece(f"{LIB}/tools/{file}", renamed(text).encode())
+        path, data = f"{LIB}/tools/{file}", renamed(text).encode()
+        yield Piece(path, data)
+        if file.endswith(".py"):
+            yield Piece(importlib.util.cache_from_source(path), byte_code(path, data))
+
+
+def byte_code(path, data):
+    """What a Python of this version keeps of a module, which else it compiles at each start. It holds as long as the module has these
+    bytes, whatever time its file has (PEP 552: a hash that is checked)."""
+    flags = 0b11
+    return importlib.util.MAGIC_NUMBER + flags.to_bytes(4, "little") + importlib.util.source_hash(data) + marshal.dumps(compile(data, path, "exec"))
 
 
 def command_pieces():

@@ -19,7 +19,7 @@
  * sessions, keeps what the archive asks of its callers (no null, no two calls at once for a session), and opens, locks, writes and
  * syncs files.
  *
- * A session is a number. No call hands out a pointer, and none keeps one that it was given: bytes are
+ * A session is a number. No call hands out a pointer but to a text that never changes, and none keeps one that it was given: bytes are
  * copied. A number that is of no open session, a null and a length that nothing can have are
  * answered REGISTRYD_MISUSE, and nothing is done. Threads may call at once; calls for one session
  * wait for each other. A process that was forked has none of the sessions that were open: their numbers are answered
@@ -35,6 +35,8 @@
 #ifdef __cplusplus
 extern "C" {
 #endif
+
+#define REGISTRYD_VERSION "0.3.0"
 
 typedef uint64_t registryd_session;
 
@@ -149,6 +151,50 @@ int registryd_error(registryd_session session, char *words, size_t room);
  * a long search; a search in process has to end by itself first. A service goes on, and may still carry out lines that it was
  * sent. */
 int registryd_close(registryd_session session);
+
+/* The version of the library, as REGISTRYD_VERSION is that of this header. */
+const char *registryd_version(void);
+
+/* What an answer of these calls means, in English. */
+const char *registryd_strerror(int answer);
+
+/* Quotes a text as JSON for a request line: copies it with its quotes and a 0 behind them to `room`, and tells how many bytes it has
+ * without the 0. REGISTRYD_MEMORY says that there is no room: `length` tells what it has all the same, and `room` begins with a 0. */
+int registryd_quote(const char *text, char *room, size_t size, size_t *length);
+
+/* What a reply line tells. */
+enum registryd_kind {
+    /* None of the below, as the reply to a list line or a check line. */
+    REGISTRYD_OTHER = 0,
+    /* A command is accepted. */
+    REGISTRYD_ACCEPTED = 1,
+    /* A request is answered by a selection: registryd_selected has its packages. */
+    REGISTRYD_SELECTED = 2,
+    /* No selection meets a request. */
+    REGISTRYD_NOTHING = 3,
+    /* An error, with its number and name. */
+    REGISTRYD_ERROR = 4
+};
+
+struct registryd_reply {
+    enum registryd_kind kind;
+    uint32_t revision;
+    /* of an error; else 0 and empty */
+    uint32_t error;
+    char name[32];
+};
+
+struct registryd_pair {
+    char name[65];
+    char version[257];
+};
+
+/* Reads one reply line of this library's sessions, with or without its line feed. REGISTRYD_MISUSE says that it is none. */
+int registryd_read(const char *line, size_t length, struct registryd_reply *reply);
+
+/* Reads a selected package, counted from 0, of the reply line of a selection. REGISTRYD_ENDED says that it has no more, and
+ * REGISTRYD_MISUSE that it is no such line. */
+int registryd_selected(const char *line, size_t length, size_t place, struct registryd_pair *pair);
 
 #ifdef __cplusplus
 }

@@ -3,3 +3,9 @@
 `table.py` has the subcommands with their words, and each stands in a module of its own in `commands`. Nothing of the program's
 core is repeated here: what is accepted and what is selected is asked of it (`session.py`).
 """
+import os
+import sys
+
+_TOP = os.path.dirname(os.path.dirname(os.path.dirname(os.path.abspath(__file__))))
+# What tells the faults of a line belongs to the client in Python, which an installation has in its folder `share`.
+sys.path += [os.path.join(_TOP, "clients", "python"), os.path.join(_TOP, "..", "..", "share", "registryd", "clients", "python")]

@@ -2,8 +2,9 @@
 import argparse
 import textwrap
 
+from registryd_lines.nearest import nearest
+
 from .failures import Usage
-from .nearest import nearest
 from .table import COMMON, SUBCOMMANDS, subcommand
 
 HELP = "`registry --help`"

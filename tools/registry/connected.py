@@ -43,15 +43,20 @@ def connect(address):
         raise Failed(f"no service answers at {address}: {getattr(fault, 'strerror', None) or fault}") from None
 
 
-def journal_of_service(address, revision=""):
-    """The journal of a service as a file has it: as it stands, or as it stood at a revision."""
+def page_of_service(address, target):
+    """What a service answers over HTTP."""
     with connect(address) as connection:
-        connection.sendall(f"GET /journal{revision and f'?revision={revision}'} HTTP/1.0\r\n\r\n".encode())
+        connection.sendall(f"GET {target} HTTP/1.0\r\n\r\n".encode())
         with connection.makefile("rb") as answer:
             head, _, text = answer.read().partition(b"\r\n\r\n")
     if not re.match(rb"HTTP/1\.[01] 200 ", head):
         raise Failed(f"the service at {address} does not tell its journal now: {text.decode(errors='replace').strip()}")
     return text
+
+
+def journal_of_service(address, revision=""):
+    """The journal of a service as a file has it: as it stands, or as it stood at a revision."""
+    return page_of_service(address, f"/journal{revision and f'?revision={revision}'}")
 
 
 def line_of(request):
@@ -139,10 +144,14 @@ class Connected:
                     raise Failed(f"the service at {self.path} broke off before it had answered, and does not come back: a command that was "
                                  f"under way may have been accepted") from fault
 
-    def commands(self):
-        """The accepted commands, in order, at the revision of the last reply."""
+    def journal(self):
+        """The journal's text at the revision of the last reply."""
         self.text = journal_of_service(self.path, self.revision)
-        return [json.loads(it) for it in commands_in(self.text)]
+        return self.text
+
+    def commands(self):
+        """The accepted commands, in order, at the same revision."""
+        return [json.loads(it) for it in commands_in(self.journal())]
 
     def close(self):
         """Nothing is to be waited for: what was told as accepted is kept."""

@@ -44,8 +44,8 @@ def read_lock(text, path):
 
 def faulty(path, text):
     """What is wrong with a lock file: the fault for which the program would refuse it."""
-    from .lines.fault import placed
-    from .lines.judging import lock_faults
+    from registryd_lines.fault import placed
+    from registryd_lines.judging import lock_faults
     fault = lock_faults(text)[0]
     above = text.decode(errors="replace")[:fault.place].split("\n")
     return placed(path, len(above), fault._replace(place=len(above[-1])))

@@ -1,12 +1,13 @@
 """How near a journal is to what a session takes: told from nine tenths of a limit on."""
 import re
+from collections import Counter
 
 from limits import MOST_COMMANDS, MOST_PACKAGES, MOST_VERSIONS
 
 SHORTEST = 100_000  # bytes: no journal that is shorter is near a limit, so most are not looked at
-PUBLISHED = re.compile(rb'^\{"name":"([a-z0-9_-]+)","needs":', re.M)
-NAMED = re.compile(rb'(?:^\{"name":|\[)"([a-z][a-z0-9_-]*)"', re.M)
-LEARNT = re.compile(rb'"op":"learn"\}$', re.M)
+PUBLISHED = re.compile(rb'\n\{"name":"([^"]+)","needs":')
+NEEDED = re.compile(rb'\["([^"]+)"')
+LEARNT = b'"op":"learn"}\n'
 REMEDY = "`registry journal renew` begins a smaller journal"
 
 
@@ -14,15 +15,13 @@ def warnings(path, text):
     """A sentence for each limit of which a journal's text takes nine tenths."""
     if len(text) < SHORTEST:
         return
-    commands = text.count(b"\n") - 1 - len(LEARNT.findall(text)) - text.endswith(b"end %d\n" % (text.count(b"\n") - 2))
+    commands = text.count(b"\n") - 1 - text.count(LEARNT) - text.endswith(b"end %d\n" % (text.count(b"\n") - 2))
     if is_near(commands, MOST_COMMANDS):
         yield f"{path} has {commands:,} of {MOST_COMMANDS:,} commands: {REMEDY}"
-    names = len(set(NAMED.findall(text)))
+    versions = Counter(PUBLISHED.findall(text))
+    names = len({*versions, *NEEDED.findall(text)})
     if is_near(names, MOST_PACKAGES):
         yield f"{path} names {names:,} of {MOST_PACKAGES:,} packages: {REMEDY}"
-    versions = {}
-    for name in PUBLISHED.findall(text):
-        versions[name] = versions.get(name, 0) + 1
     for name, count in versions.items():
         if is_near(count, MOST_VERSIONS):
             yield f"{path} has {count:,} of {MOST_VERSIONS:,} versions of {name.decode()}: {REMEDY}"
@@ -34,12 +33,17 @@ def is_near(used, most):
 
 def warn(path, text=None):
     """Tells the warnings of a journal on standard error; of the file as it stands where no text is given."""
-    from .output import Output
     if text is None:
         try:
             with open(path, "rb") as file:
                 text = file.read()
         except OSError:
             return
-    for it in warnings(path, text):
+    tell(warnings(path, text))
+
+
+def tell(warned):
+    """Tells warnings on standard error."""
+    from .output import Output
+    for it in warned:
         Output.note(it)

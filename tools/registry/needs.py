@@ -33,8 +33,8 @@ def needs_of(words):
 def slip(word, before=""):
     """What is wrong with a word that has no package before an @, and what was probably meant, also with the word before it; nothing where
     only its letters may be wrong."""
-    from .lines.fault import shown
-    from .lines.requirements import requirement_fault
+    from registryd_lines.fault import shown
+    from registryd_lines.requirements import requirement_fault
     word = word.strip()
     found = JOINED.fullmatch(word)
     if word.endswith(".lock"):
@@ -75,10 +75,10 @@ def read_needs(path):
 
 def faulty(path, number, found):
     """What is wrong with a line of a needs file, and where: its package, its requirement, or that the package stands before it too."""
-    from .lines.fault import Fault, placed
-    from .lines.judging import text_fault
-    from .lines.requirements import requirement_fault
-    from .lines.texts import name_fault
+    from registryd_lines.fault import Fault, placed
+    from registryd_lines.judging import text_fault
+    from registryd_lines.requirements import requirement_fault
+    from registryd_lines.texts import name_fault
     (name, requirement), at = found.groups("*"), found.start(1)
     said = "" if NAME.fullmatch(name) else slip(found[0])
     fault = Fault(1, at, said) if said else text_fault(1, name_fault, name, at)

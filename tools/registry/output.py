@@ -120,6 +120,7 @@ class Output:
     def give(self, value, lines):
         """An answer: the value as one line of JSON where that is wanted, else these lines."""
         if self.is_json:
+            from registryd_lines.fault import as_json
             self.has_answered = True
             print(as_json(value))
         else:
@@ -149,10 +150,3 @@ class Output:
             return None
         print(f"{visible(question)} [y/N] ", end="", file=sys.stderr, flush=True)
         return sys.stdin.readline().strip().lower() in ("y", "yes")
-
-
-def as_json(value):
-    """A value as JSON in one line, in letters of ASCII where it has what is not visible."""
-    import json
-    text = json.dumps(value, separators=(",", ":"), ensure_ascii=False)
-    return text if text.isprintable() else json.dumps(value, separators=(",", ":")).replace("\x7f", "\\u007f")

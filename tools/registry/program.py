@@ -1,6 +1,5 @@
 """Where the program is that is asked."""
 import os
-import shutil
 import subprocess
 
 import tied
@@ -15,7 +14,10 @@ def program():
     """The words that start the program: what the environment names, else the one beside this command, else that of the path."""
     named = os.environ.get(VARIABLE)
     beside = os.path.join(TOP, "registryd")
-    found = named or (beside if os.path.isfile(beside) else shutil.which("registryd"))
+    found = named or (os.path.isfile(beside) and beside)
+    if not found:
+        import shutil
+        found = shutil.which("registryd")
     if not found:
         raise Failed(f"the program registryd is not found: put it on the path, or name it by {VARIABLE}")
     return [found]

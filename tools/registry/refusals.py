@@ -3,9 +3,9 @@ import json
 
 from check_derivation import read_version
 from limits import MOST_NEEDS, MOST_PACKAGES, MOST_VERSIONS
+from registryd_lines.nearest import nearest
 
 from .failures import Refused
-from .nearest import nearest
 
 MOST_TOLD = 3
 SHORTEST = 3  # of names that are shorter each is near to any other
@@ -45,8 +45,8 @@ def not_there(request, packages):
 
 def misspelled(request, number):
     """What is wrong with the first name, version or requirement that a request is refused for, and what was probably meant."""
-    from .lines.judging import faults
-    from .lines.requirements import requirement_fault
+    from registryd_lines.judging import faults
+    from registryd_lines.requirements import requirement_fault
     said = next(it.told for it in faults(json.dumps(request).encode()) if it.number == number)
     if number != 3:
         return said

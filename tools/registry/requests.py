@@ -3,6 +3,7 @@ import sys
 
 from check_derivation import read_version
 
+from .catalog import Catalog
 from .failures import REFUSED
 from .locks import lock_of
 from .needs import needs_given
@@ -52,5 +53,5 @@ def lock_notes(path, lock, packages):
 
 def needs_of(session, selected):
     """What each selected version needs, as pairs, by package."""
-    return {it["name"]: it["needs"] for it in session.commands()
-            if it["op"] == "publish" and selected.get(it["name"]) == it["version"]}
+    needs = Catalog(session.journal()).needs
+    return {name: needs[name, version] for name, version in selected.items()}

@@ -6,7 +6,6 @@ import os
 import re
 import subprocess
 import sys
-import tempfile
 import threading
 import time
 
@@ -19,7 +18,7 @@ from .searching import asking
 from .waiting import SECONDS, InUse, Turn
 
 DEFAULT, VARIABLE, SERVICE = "registry.journal", "REGISTRY_JOURNAL", "REGISTRY_CONNECT"
-HEAD, END = b"registry-journal 2\n", re.compile(rb"^end [0-9]+\n", re.M)
+HEAD, END = b"registry-journal 2\n", re.compile(rb"end [0-9]+\n")
 TRIES, PAUSE = 20, 0.01  # of a file that changes while it is read
 EMPTY = {"op": "resolve", "needs": []}
 IN_USE = r"journal .*: in use by another session"
@@ -67,7 +66,7 @@ def selecting(given):
 
 
 def reading(given):
-    """A session that reads. It answers `ask`, `each`, `commands` and `close`, and one over a service answers the same."""
+    """A session that reads. It answers `ask`, `each`, `journal`, `commands` and `close`, and one over a service answers the same."""
     service, path, words = service_of(given), journal_of(given), selecting(given)
     if service and words:
         raise Usage(f"{words[0]} is for a journal: a service selects as it was started")
@@ -93,7 +92,7 @@ def read_steady(path):
     for _ in range(TRIES):
         with open(path, "rb") as file:
             text = file.read()
-        found = END.search(text)
+        found = END.match(text, text.find(b"\nend ") + 1)
         if found is None or found.end() == len(text):
             break
         time.sleep(PAUSE)
@@ -120,6 +119,7 @@ def shared(text):
     if hasattr(os, "memfd_create"):
         file = open(os.memfd_create("journal"), "w+b")
     else:
+        import tempfile
         file = tempfile.TemporaryFile()
     file.write(text)
     file.seek(0)
@@ -238,13 +238,18 @@ class Reading(Session):
         self.text = snapshot(path) if text is None else text
         with shared(self.text) as file:
             super().__init__(path, [*words, f"--load=/dev/fd/{file.fileno()}"], [file.fileno()])
+        self.warnings = list(near_limits.warnings(path, self.text))  # while the program loads it
+
+    def journal(self):
+        """The journal's text."""
+        return self.text
 
     def commands(self):
         """The accepted commands, in order."""
-        return [json.loads(line) for line in self.text.split(b"\n")[1:-2] if not line.endswith(b'"op":"learn"}')]
+        return [json.loads(line) for line in self.journal().split(b"\n")[1:-2] if not line.endswith(b'"op":"learn"}')]
 
     def warn(self):
-        near_limits.warn(self.path, self.text)
+        near_limits.tell(self.warnings)
 
 
 class Writing(Session):

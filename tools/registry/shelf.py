@@ -3,9 +3,9 @@ import bisect
 
 from check_derivation import NAME, admits, read_requirement, read_version
 from limits import MOST_COMMANDS, MOST_NEEDS, MOST_PACKAGES, MOST_VERSIONS
+from registryd_lines.nearest import nearest
 
 from .indexes.index import Release, Unusable, folded, need
-from .nearest import nearest
 from .needs import needs_of
 from .refusals import misspelled
 

@@ -18,7 +18,7 @@ TICK = 0.5  # seconds
 class Kept(session.Writing):
     """The session that stays open. What a command does not read of its replies is read when that ends."""
     group = 0  # its own, since Ctrl-C at the prompt ends a line and no session
-    commands = session.Reading.commands
+    journal, commands = session.Reading.journal, session.Reading.commands
 
     def __init__(self, standing, patience):
         self.standing, self.waiting, self.is_writing = standing, 0, False

@@ -187,10 +187,16 @@ SUBCOMMANDS = (
                 option("--workers", "N", "how many threads of each program resolve (else: 1)", range(1, 65), default=1),
                 option("--clients", "N", "no more than N clients at a time (else: 1000)", range(1, 100_001), default=1_000),
                 option("--log", "FILE", "log each line that is answered; - is standard output", FILE),
-                option("--metrics-port", "N", "answer /metrics, /health and /journal over HTTP on this port, too", range(65_536))),
+                option("--metrics-port", "N", "answer /metrics, /health, /journal and /log over HTTP on this port, too", range(65_536)),
+                option("--page-port", "N", "show the page of `registry page` on this port of this machine; 0 is one that is free", range(65_536))),
                ("registry serve --socket registry.socket", "registry serve --journal team.journal --port 7000 --seconds 5 --log service.log"),
                "Clients speak the lines of registryd(1), and each has its replies in order. A request that takes too long is answered BudgetSpent. "
-               "SIGTERM and Ctrl-C end it within 5 seconds, after all lines that came are answered. A first line in HTTP asks for /metrics, /health or /journal."),
+               "SIGTERM and Ctrl-C end it within 5 seconds, after all lines that came are answered. A first line in HTTP asks for /metrics, /health, /journal or /log."),
+    Subcommand("log", "log", "Tell the commands of the journal in order, each with when it was accepted",
+               (option("--after", "N", "only those after revision N", BUDGETS), flag("--follow", "go on with those that come, until Ctrl-C")),
+               ("registry log", "registry log --follow --connect team.socket"),
+               "A line has the revision, the time, and the command. A journal has no times. A service knows those of what it accepted since it began, and "
+               "one that follows a file knows when it saw what came. Any other time is -."),
     Subcommand("page", "page", "Show the journal on a page in a browser of this machine",
                (option("--port", "N", "the port (else: one that is free)", range(65_536)),
                 option("--seconds", "N", "end a search after N seconds (else: 10)", range(1, 3_601)), *SELECTING),

@@ -9,9 +9,10 @@ import os
 import time
 from typing import NamedTuple
 
+from registryd_lines.fault import shown
+
 from .command_line import split
 from .failures import Failed, Usage
-from .lines.fault import shown
 from .output import Output
 
 SECONDS = 10  # that a session waits

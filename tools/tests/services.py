@@ -29,7 +29,7 @@ sys.exit(main(sys.argv[1:]))
 # The seconds of a stop as they are needed on a busy machine: so that all that is under way comes to its end.
 PATIENT = [("service", name, float(PATIENCE)) for name in ("GRACE", "ENDING", "READING")]
 # What a service says of a request that took longer than a second, and of a reader that it has ended since a client had two such.
-LONG = re.compile(r"\S+ (?:client=\S+ op=\w+ seconds=[1-9][0-9]*\.[0-9]+ reply=.*|event=restart program=reader why='the program ended with status -9')\n")
+LONG = re.compile(r"\S+ (?:client=\S+ connection=[0-9]+ op=\w+ (?:package=\S+ version=\S+ )?seconds=[1-9][0-9]*\.[0-9]+ reply=.*|event=restart program=reader why='the program ended with status -9')\n")
 
 
 class Client:

@@ -29,7 +29,7 @@ class Subcommands(Folder):
             self.assertEqual(self.registry("resolve", *NEEDS, *words), (0, lines(selected), ""))
 
     def test_one_of_both(self):
-        self.assertEqual(self.registry("resolve", *NEEDS, "--any", "--newest"), (2, "", "registry: --newest goes without --any\n"))
+        self.assertEqual(self.registry("resolve", *NEEDS, "--any", "--newest"), (2, "", "registry: --newest can't be used with --any\n"))
 
     def test_tree(self):
         self.assertEqual(self.registry("tree", *NEEDS, "--newest"), (0, "a 3.0.0\n└── b 1.0.0\nb 1.0.0\n", ""))

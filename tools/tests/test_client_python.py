@@ -21,7 +21,7 @@ REFUSED = [
     ("BadVersion", Unyank("a", "1.0.0\n")), ("BadRequirement", Resolve({"a": "none"})), ("RepeatedDependency", Resolve([("a", "*"), ("a", "^1")])),
     ("SelfDependency", Publish("a", "2.0.0", {"a": "*"})), ("TooManyDependencies", Resolve({f"n{number}": "*" for number in range(65)})),
     ("AlreadyPublished", Publish("a", "1.0.0+other")), ("NoSuchVersion", Yank("a", "3.0.0")), ("AlreadyYanked", Yank("a", "1.0.0")),
-    ("NotYanked", Unyank("b", "1.0.0")), ("BadLine", Resolve({}, budget=-1)), ("BadLine", Resolve({}, budget=2 ** 32)),
+    ("NotYanked", Unyank("b", "1.0.0")),
     ("BadLine", Yank("\ud800", "1.0.0")), ("BadLine", Line(b"")), ("BadLine", Line(b'{"op":"yank","name":"\xff","version":"1.0.0"}')),
     ("BadLine", Check({}, [{"causes": []}])), ("BadLine", Line(b" " * 1_048_577)),
 ]

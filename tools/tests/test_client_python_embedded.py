@@ -16,7 +16,7 @@ from registryd import Accepted, Ended, List, Listing, Publish, Registry, Resolve
 from test_journals import journal
 from two_selections import BY_DEFAULT, FIRST_FOUND, NEEDS, NEWEST, VERSIONS
 
-CLIENT = os.path.join(TOP, "clients", "python", "registryd.py")
+CLIENT = os.path.join(TOP, "clients", "python", "registryd")
 MOST = 64  # sessions that may be open at once
 
 
@@ -30,8 +30,7 @@ class Library(Case):
 
     def test_the_library_that_is_installed(self):
         client, library = self.path("share", "registryd", "clients", "python"), self.path("lib", "libregistryd.so")
-        os.makedirs(client)
-        shutil.copy(CLIENT, client)
+        shutil.copytree(CLIENT, os.path.join(client, "registryd"))
         variables = {name: value for name, value in os.environ.items() if name != "REGISTRYD_LIBRARY"}
         command = [sys.executable, "-B", "-c", "import registryd; print(registryd.library_path(None))"]
 

@@ -20,8 +20,8 @@ import interrupt_sessions
 
 NAMES = [f"p{number}" for number in range(10)]
 # The files whose steps are counted, and the functions in them that make or read a line, and come before or after all that matters.
-STEPPED = ("registryd.py", "registryd_service.py", os.path.join("concurrent", "futures", "_base.py"), "threading.py")
-PASSED_OVER = ("written", "line", "rows", "answer", "__init__", "<genexpr>", "<listcomp>", "<dictcomp>")
+STEPPED = (os.path.join("registryd", "__init__.py"), os.path.join("registryd", "service.py"), os.path.join("concurrent", "futures", "_base.py"), "threading.py")
+PASSED_OVER = ("written", "line", "rows", "text_of", "number_of", "is_set", "to", "answer", "__init__", "<genexpr>", "<listcomp>", "<dictcomp>")
 
 
 class Broken(BaseException):
@@ -110,7 +110,7 @@ class Stepped:
 
     def elsewhere(self, call):
         """What a call answers or raises in another thread, which is not waited for for ever."""
-        done = registryd.Awaited()
+        done = registryd.Awaited(List())
 
         def run():
             try:
@@ -211,7 +211,7 @@ class WithService(Stepped, Case):
 
 
     def test_a_line_that_can_not_be_sent_ends_the_session(self):
-        first, second = registryd.Awaited(), registryd.Awaited()
+        first, second = (registryd.Awaited(List()) for _ in range(2))
         first.add_done_callback(leave)
         self.registry._session.send([None, None], [first, second])  # as where there is no memory to put lines together
         self.assertRaisesRegex(Ended, "a line could not be sent: TypeError", second.result, SECONDS)

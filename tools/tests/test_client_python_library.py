@@ -231,7 +231,7 @@ class Answers(unittest.TestCase):
 
 class Calls(unittest.TestCase):
     def test_the_calls_are_those_of_the_header(self):
-        with open(os.path.join(os.path.dirname(registryd.__file__), "..", "c", "registryd.h"), encoding="utf-8") as header:
+        with open(os.path.join(os.path.dirname(registryd.__file__), "..", "..", "c", "registryd.h"), encoding="utf-8") as header:
             text = " ".join(header.read().split())
         kinds = {"const char *": ctypes.c_char_p, "char *": ctypes.c_char_p, "const void *": ctypes.c_char_p, "void *": ctypes.c_char_p, "size_t ": ctypes.c_size_t,
                  "size_t *": ctypes.POINTER(ctypes.c_size_t), "registryd_session ": ctypes.c_uint64, "registryd_session *": ctypes.POINTER(ctypes.c_uint64),
@@ -258,7 +258,7 @@ class Calls(unittest.TestCase):
                 with mock.patch.object(registryd.Path, "is_file", return_value=is_installed):
                     found = registryd.library_path(None)
                     top = os.path.dirname(os.path.abspath(registryd.__file__))
-                    self.assertEqual(os.path.normpath(found), os.path.normpath(os.path.join(top, "../../../../lib/libregistryd.so")) if is_installed else "libregistryd.so")
+                    self.assertEqual(os.path.normpath(found), os.path.normpath(os.path.join(top, "../../../../../lib/libregistryd.so")) if is_installed else "libregistryd.so")
                     self.assertEqual(registryd.library_path("given"), "given")
             with mock.patch.dict(os.environ, REGISTRYD_LIBRARY="/from/the/variable"):
                 self.assertEqual((registryd.library_path(None), registryd.library_path("given")), ("/from/the/variable", "given"))

@@ -18,7 +18,7 @@ from scripted_service import FENCE, GREETING, Scripted
 from services import Service, kill, wait_for
 from test_client_python import Calls
 
-import registryd_service
+import registryd.service
 
 
 class WithService(Calls, client_python.Case):
@@ -68,7 +68,7 @@ class Connected(client_python.Case):
             self.assertEqual(registry.list().revision, 2)
 
     def test_it_is_killed_and_begun_again_while_it_is_asked(self):
-        self.enterContext(mock.patch.object(registryd_service, "PATIENCE", SECONDS))  # so long a begin may take on a busy machine
+        self.enterContext(mock.patch.object(registryd.service, "PATIENCE", SECONDS))  # so long a begin may take on a busy machine
         service, faults, told = self.service(), [], []
 
         def ask():
@@ -125,7 +125,7 @@ class Connected(client_python.Case):
         service = self.service()
         registry = Registry(connect=service.socket)
         self.assertEqual(registry.publish("log", "1.0.0"), 1)
-        with mock.patch.object(registryd_service, "PATIENCE", 0.5):
+        with mock.patch.object(registryd.service, "PATIENCE", 0.5):
             service.end()
             told = re.escape(f"the service at {service.socket} is not there any more")
             self.ends(told, registry.list)
@@ -253,14 +253,14 @@ class Scripts(client_python.Case):
     def test_a_journal_that_is_cut_off_tells_nothing(self):
         service, registry = self.session(1, [PUBLISHED], [(1, ""), (0, "..."), (0, "..."), (0, "")])
         service.journal = service.journal.removesuffix("end 1\n")
-        with mock.patch.object(registryd_service, "PATIENCE", 3):
+        with mock.patch.object(registryd.service, "PATIENCE", 3):
             self.ends("is not there any more", lambda: registry.yank("log", "1.0.0"))
             self.assertEqual({tuple(it) for it in service.asked[1:]}, {(FENCE,)})
 
     def test_a_connection_that_is_not_ended(self):
         """A command may still be under way then, and a request asked again."""
         _, registry = self.session(1, [PUBLISHED], [(1, UNAVAILABLE + "...")])
-        with mock.patch.object(registryd_service, "PATIENCE", 0.5):
+        with mock.patch.object(registryd.service, "PATIENCE", 0.5):
             self.ends("is not there any more", lambda: registry.yank("log", "1.0.0"))
 
     def test_what_is_no_reply(self):

@@ -93,6 +93,20 @@ class Client(unittest.TestCase):
             self.check_example(folder, "embedded", "rust-embedded.journal", PAGE[3], *IN_PROCESS)
         print(f"({beside + calls + program + embedded + service} tests) ", end="")
 
+    def test_a_program_that_adds_it(self):
+        if without := why_not_built():
+            self.skipTest(without)
+        with tempfile.TemporaryDirectory() as folder:
+            given = {**os.environ, "CARGO_TARGET_DIR": os.path.join(folder, "target"), **ONCE}
+            for words in (["new", "--vcs", "none", "adds"], ["add", "--offline", "--path", HERE, "--manifest-path", "adds/Cargo.toml"]):
+                subprocess.run(["cargo", "--quiet", *words], cwd=folder, env=given, stderr=subprocess.DEVNULL, check=True)
+            os.symlink(PROGRAM, os.path.join(folder, "registryd"))
+            with open(os.path.join(folder, "adds", "src", "main.rs"), "w", encoding="utf-8") as main:
+                main.write(PAGE[0])
+            done = subprocess.run(["cargo", "run", "--quiet", "--offline", "--manifest-path", "adds/Cargo.toml"], cwd=folder, env=given,
+                                  stdout=subprocess.PIPE, stderr=subprocess.PIPE, text=True)
+            self.assertEqual((done.returncode, done.stdout.strip()), (0, PAGE[1]), done.stderr)
+
     def test_the_examples_are_those_that_are_shown(self):
         for block, name in ((PAGE[0], "first"), (PAGE[2], "embedded")):
             self.assertEqual(block, read("clients", "rust", "examples", f"{name}.rs").strip())

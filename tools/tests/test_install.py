@@ -80,7 +80,7 @@ class Whole(unittest.TestCase):
                      "share/bash-completion/completions/registryd", "share/zsh/site-functions/_registryd",
                      "share/fish/vendor_completions.d/registryd.fish",
                      "share/registryd/lines.schema.json", "share/registryd/registry.schema.json", "share/doc/registryd/FORMATS.md",
-                     "share/registryd/clients/python/registryd.py", "share/registryd/clients/c/registryd.h",
+                     "share/registryd/clients/python/registryd/__init__.py", "share/registryd/clients/c/registryd.h",
                      "share/registryd/clients/c/embedded.c", "share/registryd/clients/c/Makefile", "share/registryd/clients/rust/Cargo.toml",
                      "share/registryd/clients/rust/src/lib.rs"):
             self.assertIn(path, there)
@@ -170,9 +170,13 @@ class Whole(unittest.TestCase):
             self.assertIn(f"usage: {name} ", said.stdout)
             self.assertNotRegex(said.stdout, r"tools/|\./registryd")
 
-    def test_nothing_is_kept_beside_the_tools(self):
-        run([self.bin / "registry", "diff", "/dev/null", "/dev/null"], env={"PATH": os.environ["PATH"]})
-        self.assertEqual([it for it in below(self.prefix) if "__pycache__" in it], [])
+    def test_python_compiles_none_of_the_modules_and_keeps_nothing(self):
+        before = below(self.prefix)
+        said = run([self.bin / "registry", "diff", "/dev/null", "/dev/null"], env={"PATH": os.environ["PATH"], "PYTHONVERBOSE": "1"})
+        loaded = re.findall(rf"# code object from '?{re.escape(str(self.prefix))}/lib/registryd/tools/(.+?)'?\n", said.stderr)
+        self.assertGreater(len(loaded), 10)
+        self.assertEqual([it for it in loaded if "__pycache__" not in it], [])
+        self.assertEqual(below(self.prefix), before)
 
     def test_the_links_of_pages_lead_somewhere(self):
         count = 0

@@ -1,5 +1,7 @@
 """What is installed, file by file, of a small tree of sources in the place of this one: modules that are found by imports, names and links that
 are changed, commands, and what each answers of the program and the library that stand."""
+import importlib.util
+import marshal
 import os
 import sys
 import tempfile
@@ -72,7 +74,12 @@ class Modules(Case):
         for name, file in (("tool-one", "one.py"), ("tool-two", "two")):
             self.assertEqual(found[f"bin/{name}"], Piece(f"bin/{name}", f'#!/bin/sh\n{FIND}exec python3 -B "$here/../lib/registryd/tools/{file}" "$@"\n'.encode(), 0o755))
         modules = ["four.py", "one.py", "registry/__init__.py", "registry/main.py", "shared/__init__.py", "shared/part.py", "three.py", "two"]
-        self.assertEqual(list(found)[2:], [f"lib/registryd/tools/{it}" for it in modules])
+        kept = {importlib.util.cache_from_source(f"lib/registryd/tools/{it}"): f"lib/registryd/tools/{it}" for it in modules if it != "two"}
+        self.assertEqual(sorted(found)[2:], sorted([*kept, *(f"lib/registryd/tools/{it}" for it in modules)]))
+        for path, of in kept.items():  # as PEP 552 has it: the number of this Python's form, flags, a hash of the module, its code
+            data = found[path].data
+            self.assertEqual(data[:16], importlib.util.MAGIC_NUMBER + b"\x03\0\0\0" + importlib.util.source_hash(found[of].data))
+            self.assertEqual((marshal.loads(data[16:]).co_name, marshal.loads(data[16:]).co_filename), ("<module>", of))
         # the first line is for a checkout, and a tool speaks of others by their installed names
         self.assertEqual(found["lib/registryd/tools/one.py"], Piece("lib/registryd/tools/one.py", b'"""Run tool-two, or tools/twofold, or registry."""\nimport os\nimport shared.part\nfrom three import x\n'))
 
@@ -171,8 +178,8 @@ exec python3 -B -S "$here/../lib/registryd/registry" "$@"
             self.assertLessEqual({shell % name for name in ("registry", "registryd") for shell in shells}, set(paths))
             self.assertTrue(all(paths[shell % name].data for name in ("registry", "registryd") for shell in shells))
             self.assertEqual(paths["lib/systemd/unit"].data, b"run /a/bin and /a\n")
-            # six completions, five of programs, eight modules, eight pages, two tools and the unit
-            self.assertEqual(len(found), 30)
+            # six completions, five of programs, eight modules, seven of them compiled, eight pages, two tools and the unit
+            self.assertEqual(len(found), 37)
         with mock.patch.object(installed, "library_pieces", lambda of: [Piece(f"lib/{of}")]):
             self.assertIn(Piece("lib/x"), installed.pieces(self.program(COMPILED), library="x"))
             self.assertEqual(self.by_path(installed.pieces(self.program(COMPILED)))["lib/systemd/unit"].data, b"run /usr/bin and /usr\n")
@@ -181,7 +188,7 @@ exec python3 -B -S "$here/../lib/registryd/registry" "$@"
 class Tables(unittest.TestCase):
     def test_what_stands_where(self):
         found = {it.path for it in [*installed.page_pieces(), *installed.systemd_pieces("/usr")]}
-        self.assertLessEqual({"share/registryd/clients/rust/Cargo.lock", "share/registryd/clients/rust/src/lib.rs", "share/registryd/clients/python/registryd.py", "share/registryd/clients/c/Makefile",
+        self.assertLessEqual({"share/registryd/clients/rust/Cargo.lock", "share/registryd/clients/rust/src/lib.rs", "share/registryd/clients/python/registryd/__init__.py", "share/registryd/clients/python/registryd/py.typed", "share/registryd/clients/c/Makefile",
                               "share/registryd/clients/README.md", "share/registryd/lines.schema.json", "share/registryd/registry.schema.json", "share/doc/registryd/why.svg", "share/doc/registryd/CHANGELOG.md",
                               "share/doc/registryd/FORMATS.md", "share/man/man1/registryd.1", "share/man/man1/registry-tools.1", "share/man/man1/registryd-etcd.1",
                               "lib/registryd/tools/registry/page/files/page.html", "lib/systemd/system/registryd.service", "lib/sysusers.d/registryd.conf"}, found)

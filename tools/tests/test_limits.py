@@ -21,8 +21,11 @@ OTHERS = {"MOST_CONFLICTS", "THREAD", "BATCH_LIMIT", "READ_SIZE", "SEAT_LIMIT", 
 # Where else a limit stands by hand, since it can't be read from elsewhere.
 STATED = [
     ("clients/c/registryd.c", r"workers > (\d+)", "MOST_WORKERS"), ("clients/c/registryd.h", r"resolving threads, 1 to (\d+)", "MOST_WORKERS"),
-    ("clients/rust/src/session.rs", r"resolve requests, 1 to (\d+)", "MOST_WORKERS"),
-    *((f"clients/{file}", pattern, name) for file in ("python/registryd.py", "rust/src/refusal.rs") for pattern, name in (
+    *(("clients/python/registryd_lines/limits.py", rf"{name} = ([\d_]+)", name) for name in
+      ("MOST_NAME_BYTES", "MOST_VERSION_BYTES", "MOST_REQUIREMENT_BYTES", "MOST_LINE_BYTES", "MOST_NEEDS")),
+    ("clients/python/registryd/__init__.py", r'workers, "workers", 1, (\d+)', "MOST_WORKERS"),
+    ("clients/rust/src/culprit.rs", r"MOST_NEEDS: usize = (\d+)", "MOST_NEEDS"), ("clients/rust/src/session.rs", r"resolve requests, 1 to (\d+)", "MOST_WORKERS"),
+    *((f"clients/{file}", pattern, name) for file in ("python/registryd/__init__.py", "rust/src/refusal.rs") for pattern, name in (
         (r"More than (\d+) dependencies or needs", "MOST_NEEDS"), (r"dependencies or needs, or ([\d,]+) lock lines", "MOST_LOCK_LINES"),
         (r"has more than (\d+) lines", "MOST_DERIVATION_LINES"))),
     ("docs/FORMATS.md", r"of at most ([\d,]+) bytes without its line feed", "MOST_LINE_BYTES"), ("docs/FORMATS.md", r"[Aa]t most N threads, 1 to (\d+)", "MOST_WORKERS"),

@@ -107,7 +107,9 @@ class Made(unittest.TestCase):
         more = {"share/lintian/overrides/registryd",
                 *(f"share/doc/registryd/{it}" for it in ("changelog.gz", "changelog.Debian.gz", "copyright"))}
         self.assertEqual({it for it in below(self.usr) if not it.endswith("/")}, wanted | more)
-        self.assertEqual({it.name for it in self.tree.iterdir()}, {"usr"})
+        self.assertEqual(sorted(it for it in below(self.tree) if not it.startswith("usr/")), ["etc/", "etc/registryd/", "etc/registryd/registryd.conf"])
+        # what the operator has written there stays
+        self.assertEqual(run(["dpkg-deb", "-I", self.package, "conffiles"]).stdout, "/etc/registryd/registryd.conf\n")
 
     def test_all_is_roots_and_can_be_read(self):
         lines = run(["dpkg-deb", "-c", self.package]).stdout.splitlines()
@@ -122,6 +124,32 @@ class Made(unittest.TestCase):
         told = dict(line.split("  ")[::-1] for line in (self.folder / "told/md5sums").read_text(encoding="utf-8").splitlines())
         there = {f"usr/{it}" for it in below(self.usr) if not it.endswith("/") and not (self.usr / it).is_symlink()}
         self.assertEqual({it: hashlib.md5((self.tree / it).read_bytes(), usedforsecurity=False).hexdigest() for it in there}, told)
+
+    def script(self, name, *words, runs=True, stands=("systemctl", "systemd-sysusers"), fails=False):
+        """What a script of the package calls, where systemd runs, and what it says."""
+        with tempfile.TemporaryDirectory() as folder:
+            for it in stands:
+                path = Path(folder, it)
+                path.write_text(f'#!/bin/sh\necho {it} "$@" >> {folder}/called\n{f"[ $1 != try-restart ]" if fails else ""}\n')
+                path.chmod(0o755)
+            text = run(["dpkg-deb", "-I", self.package, name]).stdout.replace("/run/systemd/system", folder if runs else f"{folder}/none")
+            done = run(["/bin/sh", "-c", text, name, *words], env={"PATH": folder, "DPKG_ROOT": ""})
+            self.assertEqual(done.returncode, 0, done.stderr)
+            called = Path(folder, "called")
+            return called.read_text().splitlines() if called.exists() else [], done.stderr
+
+    def test_a_user_is_made_and_a_service_that_runs_is_restarted(self):
+        made, restarted = ["systemd-sysusers registryd.conf"], ["systemctl daemon-reload", "systemctl try-restart registryd.service"]
+        for version in ([""], ["0.3.0-1"]):
+            self.assertEqual(self.script("postinst", "configure", *version), (made + restarted, ""))
+        self.assertEqual(self.script("postinst", "configure", "0.3.0-1", runs=False), (made, ""))
+        self.assertEqual(self.script("postinst", "configure", "", runs=False, stands=()), ([], ""))
+        self.assertEqual(self.script("postinst", "abort-upgrade", "0.3.0-1"), ([], ""))
+        called, said = self.script("postinst", "configure", "0.3.0-1", fails=True)
+        self.assertEqual((called, said), (made + restarted, "registryd: the service did not start again: see systemctl status registryd\n"))
+        self.assertEqual(self.script("prerm", "remove"), (["systemctl disable --now registryd.service"], ""))
+        for words, runs in ((["upgrade", "0.4.0-1"], True), (["remove"], False)):
+            self.assertEqual(self.script("prerm", *words, runs=runs), ([], ""))
 
     def test_it_runs_where_it_is_unpacked(self):
         done = run([self.usr / "bin/registryd", "serve", "--workers", "1"], SESSION[0])
@@ -163,11 +191,11 @@ class Made(unittest.TestCase):
         (root / "var/lib/dpkg/info").mkdir()
         (root / "var/lib/dpkg/status").touch()
         # whatever this machine leaves out of packages
-        done = dpkg(f"--root={root}", "--path-include=*", "--force-depends", "-i", self.package)
+        done = dpkg(f"--root={root}", "--path-include=*", "--force-depends", "--force-script-chrootless", "-i", self.package)
         self.assertEqual(done.returncode, 0, done.stderr)
         self.assertEqual(run([root / "usr/bin/registryd", "serve", "--workers", "1"], SESSION[0]).stdout, SESSION[1])
         self.assertEqual(dpkg(f"--root={root}", "--verify", "registryd").stdout, "")
-        self.assertEqual(dpkg(f"--root={root}", "-P", "registryd").returncode, 0)
+        self.assertEqual(dpkg(f"--root={root}", "--force-script-chrootless", "-P", "registryd").returncode, 0)
         self.assertEqual({it for it in below(root) if not it.startswith("var/")}, set())
 
     @unittest.skipUnless(os.geteuid() == 0, "only root may run dpkg")
@@ -176,12 +204,16 @@ class Made(unittest.TestCase):
             files = [f"/usr/{it}" for it in below(self.usr) if not it.endswith("/")]
             if is_known() or any(os.path.lexists(it) for it in files):
                 self.skipTest("registryd is installed on this machine")
+            if run(["id", "registryd"]).returncode:
+                self.addCleanup(run, ["userdel", "registryd"])
             self.addCleanup(dpkg, "-P", "registryd")
             done = dpkg("-i", self.package)
             self.assertEqual(done.returncode, 0, done.stderr)
             self.assertEqual(run(["/usr/bin/registryd", "serve", "--workers", "1"], SESSION[0]).stdout, SESSION[1])
             self.assertIn("It is not proved.", run(["/usr/bin/registryd", "--version"]).stdout)
             self.assertEqual(run(["/usr/bin/registry", "--help"]).returncode, 0)
+            if shutil.which("systemd-sysusers"):
+                self.assertEqual(run(["id", "-gn", "registryd"]).stdout, "registryd\n")
             self.assertEqual(dpkg("-r", "registryd").returncode, 0)
             self.assertEqual([it for it in files if os.path.lexists(it)], [])
             self.assertEqual(dpkg("-P", "registryd").returncode, 0)

@@ -153,15 +153,16 @@ class Files(Case):
 
     def test_what_dpkg_is_told(self):
         files = [Piece("a", b"x" * 1024), Piece("b", b"x" * 1025), Piece("c", b""), Piece("d", link="a")]
-        control, sums = package.about(self.program, None, files)
-        self.assertEqual((control.path, sums.path), ("control", "md5sums"))
+        control, sums, kept, *scripts = package.about(self.program, None, files)
+        self.assertEqual((control.path, sums.path, kept), ("control", "md5sums", Piece("conffiles", b"/etc/registryd/registryd.conf\n")))
+        self.assertEqual([(it.path, it.mode, it.data[:10]) for it in scripts], [(name, 0o755, b"#!/bin/sh\n") for name in ("postinst", "prerm")])
         # in kilobytes, each file one at least
         for line in ("Package: registryd", "Version: 0.4.0~unproved-1", "Architecture: amd64", "Installed-Size: 5", "Depends: libc6 (>= 2.34)", "Section: devel",
                      "Maintainer: Daizvongu maintainers <maintainers@users.noreply.daizvongu.example>"):
             self.assertIn(f"{line}\n", control.data.decode())
         self.assertIn("\n .\n Commit c0ffee1. The program is compiled from its sources, with checks as it\n runs. It is not proved.\n .\n", control.data.decode())
         self.assertEqual(sums.data.decode(), "".join(f"{hashlib.md5(data).hexdigest()}  usr/{name}\n" for name, data in (("a", b"x" * 1024), ("b", b"x" * 1025), ("c", b""))))
-        self.assertEqual(package.about(self.program, self.library(), files)[2:], [Piece("triggers", b"activate-noawait ldconfig\n")])
+        self.assertEqual(package.about(self.program, self.library(), files)[5:], [Piece("triggers", b"activate-noawait ldconfig\n")])
 
 
 class Building(Case):
@@ -186,10 +187,10 @@ class Building(Case):
             made = package.build(self.program, to)
         self.assertEqual((made, made.read_bytes(), os.listdir(to)), (to / "registryd_0.4.0~unproved-1_amd64.deb", b"a package", ["registryd_0.4.0~unproved-1_amd64.deb"]))
         self.assertEqual((self.words, self.times, self.mode), (["dpkg-deb", "--build", "--root-owner-group", "-Zxz"], "77", "0o755"))
-        control = self.seen.pop("DEBIAN/control")
-        self.assertEqual(control[0], "0o644")
+        modes = {name: self.seen.pop(name)[0] for name in ("DEBIAN/control", "DEBIAN/conffiles", "etc/registryd/registryd.conf", "DEBIAN/postinst", "DEBIAN/prerm")}
+        self.assertEqual([*modes.values()], ["0o644"] * 3 + ["0o755"] * 2)
         sums = "".join(f"{hashlib.md5(data).hexdigest()}  usr/{name}\n" for name, data in (("a/text", b"text"), ("b/run", b"run")))
-        self.assertEqual(self.seen, {**dict.fromkeys(["DEBIAN", "usr", "usr/a", "usr/b"], ("0o755", None)), "DEBIAN/md5sums": ("0o644", sums.encode()), "usr/a/text": ("0o644", b"text"),
+        self.assertEqual(self.seen, {**dict.fromkeys(["DEBIAN", "etc", "etc/registryd", "usr", "usr/a", "usr/b"], ("0o755", None)), "DEBIAN/md5sums": ("0o644", sums.encode()), "usr/a/text": ("0o644", b"text"),
                                      "usr/b/run": ("0o755", b"run")})
 
     def test_dpkg_deb_fails(self):

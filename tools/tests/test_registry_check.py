@@ -10,8 +10,8 @@ from registry_folder import Folder, at_terminal
 
 sys.path.insert(0, os.path.join(TOP, "tools"))
 import fuzz_check
-from registry.lines.judging import faults
-from registry.nearest import distance, nearest
+from registryd_lines.judging import faults
+from registryd_lines.nearest import distance, nearest
 
 LIMIT = 1_048_576
 

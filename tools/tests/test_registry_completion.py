@@ -16,7 +16,7 @@ from registry.failures import Failed
 
 PACKAGES = {"log": ["1.0.0", "1.1.0"], "lock": ["2.0.0"], "app": ["1.0.0"]}
 COMMON = ["--color", "--connect", "--help", "--journal", "--json", "--quiet", "--verbose"]
-FIRST = ["check", "diff", "help", "import", "journal", "list", "lock", "outdated", "page", "publish", "resolve", "search", "serve", "shell", "show", "tree", "unyank", "upgrade",
+FIRST = ["check", "diff", "help", "import", "journal", "list", "lock", "log", "outdated", "page", "publish", "resolve", "search", "serve", "shell", "show", "tree", "unyank", "upgrade",
          "why", "yank"]
 # words of which the last one is being typed, and what is said of them: a kind, or words
 OFFERED = [

@@ -150,7 +150,7 @@ class Program(unittest.TestCase):
     def test_where_it_is(self):
         folder = self.enterContext(tempfile.TemporaryDirectory())
         beside = os.path.join(folder, "registryd")
-        with mock.patch.object(program, "TOP", folder), mock.patch.object(program.shutil, "which", {"registryd": "/bin/registryd"}.get) as found, mock.patch.dict(os.environ):
+        with mock.patch.object(program, "TOP", folder), mock.patch("shutil.which", {"registryd": "/bin/registryd"}.get) as found, mock.patch.dict(os.environ):
             os.environ.pop("REGISTRY_PROGRAM", None)
             self.assertEqual(program.program(), ["/bin/registryd"])
             with open(beside, "w", encoding="ascii"):
@@ -159,7 +159,7 @@ class Program(unittest.TestCase):
             self.assertEqual(program.program(), ["named"])
             del os.environ["REGISTRY_PROGRAM"]
             os.unlink(beside)
-            with mock.patch.object(program.shutil, "which", lambda _: None):
+            with mock.patch("shutil.which", lambda _: None):
                 self.assertRaisesRegex(Failed, r"\Athe program registryd is not found: put it on the path, or name it by REGISTRY_PROGRAM\Z", program.program)
         self.assertEqual(os.path.join(program.TOP, "tools", "registry"), os.path.dirname(os.path.abspath(program.__file__)))
         self.assertIsNotNone(found)

@@ -13,7 +13,7 @@ from test_registry_page_parts import Program
 sys.path.insert(0, os.path.join(TOP, "tools"))
 from registry.failures import Refused
 from registry.page import answers, journal
-from registry.page.answers import NotThere
+from registry.page.answers import AtFault, NotThere
 from registry.page.journal import Unanswered, View
 
 LINES = [publish("log", "1.0.0"), publish("log", "1.10.0+b"), publish("log", "1.9.0"), yank("log", "1.9.0"), publish("log", "2.0.0-rc.1"), publish("app", "1.0.0", ["log ^1", "zlib *"]),
@@ -51,7 +51,11 @@ class Answers(unittest.TestCase):
             self.assertEqual(self.search(*text), wanted)
         with mock.patch.object(answers, "MOST_FOUND", 2):
             self.assertEqual(self.search("log"), ("log", 3, None, ["log", "logger"]))
-        self.assertEqual(answers.search(self.journal, {"text": ["l"]}), {"revision": 10, "text": "l", "found": 5, "near": None, "packages": [
+            for before, begin, wanted in (("0", 0, ["log", "logger"]), ("1", 1, ["logger", "my-log"]), ("2", 2, ["my-log"]), ("3", 0, ["log", "logger"]), ("-1", 0, ["log", "logger"]),
+                                          ("x", 0, ["log", "logger"]), ("9" * 5_000, 0, ["log", "logger"])):
+                found = answers.search(self.journal, {"text": ["log"], "before": [before]})
+                self.assertEqual((found["before"], found["most"], found["found"], [it["name"] for it in found["packages"]]), (begin, 2, 3, wanted), before[:9])
+        self.assertEqual(answers.search(self.journal, {"text": ["l"]}), {"revision": 10, "text": "l", "found": 5, "near": None, "before": 0, "most": 100, "packages": [
             {"name": "log", "versions": 4, "newest": "1.10.0+b"}, {"name": "logger", "versions": 1, "newest": "0.1.0"}, {"name": "my-log", "versions": 1, "newest": "0.1.0"},
             {"name": "old", "versions": 1, "newest": "1.0.0"}, {"name": "zlib", "versions": 0, "newest": None}]})
 
@@ -61,7 +65,7 @@ class Answers(unittest.TestCase):
             {"version": "2.0.0-rc.1", "yanked": False, "pre_release": True, "needs": []}, {"version": "1.10.0+b", "yanked": False, "pre_release": False, "needs": []},
             {"version": "1.9.0", "yanked": True, "pre_release": False, "needs": []}, {"version": "1.0.0", "yanked": False, "pre_release": False, "needs": []}],
             "newest": "1.10.0+b", "revision": 10, "near": None, "needed_by": [{"name": "app", "version": "1.0.0", "requirement": "^1"}]})
-        self.view.above["loger"] = {}
+        self.view.names.append("loger")
         found = [answers.package(self.journal, {"name": [name]}) for name in ("zlib", "loger")]
         self.assertEqual([(it["versions"], it["newest"], it["near"], len(it["needed_by"])) for it in found], [([], None, None, 1), ([], None, "logger", 0)])
         self.assertRaisesRegex(NotThere, r"\Ano version of  is published\Z", answers.package, self.journal, {})
@@ -87,6 +91,14 @@ class Answers(unittest.TestCase):
             self.assertRaisesRegex(Unanswered, "why takes 3,000 lines, which are more than this page tells: `registry why` tells them", answers.resolve, self.journal, {"need": ["app"]})
         with mock.patch.object(answers, "MOST_LINES", 3000), mock.patch.object(answers, "refusal", lambda view, request, reply: [view is self.view, request["needs"], len(reply["derivation"])]):
             self.assertEqual(answers.resolve(self.journal, {"need": ["app"]}), {"needs": [["app", "*"]], "revision": 9, "refused": [True, [["app", "*"]], 3000]})
+
+    def test_the_field_that_is_at_fault(self):
+        for number, name, need, field in ((1, "BadName", "Log@^1", [1, "name"]), (3, "BadRequirement", "log@one", [1, "requirement"]), (4, "RepeatedName", "app@^2", [1, "name"]),
+                                          (6, "TooManyNeeds", "log", None), (22, "BudgetSpent", "log", None)):
+            self.reply = {"error": number, "name": name, "revision": 9}
+            with self.assertRaises(AtFault, msg=need) as caught:
+                answers.resolve(self.journal, {"need": ["app@^1", " ", need]})
+            self.assertEqual((caught.exception.field, caught.exception.status), (field, 1), need)
 
     def test_what_it_is_asked_by(self):
         self.assertEqual(answers.ANSWERS, {"status": answers.status, "search": answers.search, "package": answers.package, "resolve": answers.resolve})

@@ -44,6 +44,24 @@ class Packages(InBrowser):
         self.assertEqual(self.texts("main p"), ["There is none. Did you mean zlib?"])
         self.said_nothing()
 
+    def test_a_long_list_comes_in_parts(self):
+        self.show("", *(publish(f"p{number:03}", "1.0.0") for number in range(250)))
+        seen = []
+        for hash_, told, links in (("#/search?before=100", "101 to 200", ["Previous 100", "Next 50"]), ("#/search?before=200", "201 to 250", ["Previous 100"])):
+            seen += self.texts("#found a")
+            self.browser.click("#parts a:last-child")
+            self.at(hash_)
+            self.browser.until(f"document.querySelector('main p').textContent === '{told} of 250 names.'")
+            self.assertEqual(self.texts("#parts a"), links)
+        self.assertEqual(seen + self.texts("#found a"), [f"p{number:03}" for number in range(250)])
+        self.browser.back()
+        self.browser.until("document.querySelector('#found a').textContent === 'p100'")
+        self.browser.click("#text")
+        self.browser.type("p24")  # all that is found stands in one part
+        self.browser.until("document.querySelector('main p').textContent === '10 names.'")
+        self.assertEqual(self.texts("#parts a"), [])
+        self.said_nothing()
+
     def test_a_package(self):
         self.show("#/package/log", *WORKED)
         self.heading("log")
@@ -102,6 +120,16 @@ class Packages(InBrowser):
 
 @skip_without(COMMAND, COMMAND)
 class Resolving(InBrowser):
+    def test_the_field_that_is_at_fault_is_marked(self):
+        self.show("#/resolve?need=zlib&need=app%40one", *WORKED)
+        self.browser.until("document.querySelector('[aria-invalid]')")
+        marked = "[...document.querySelectorAll('[aria-invalid=true]')].map((it) => [it.value, it.className, document.getElementById(it.getAttribute('aria-describedby')).role])"
+        self.assertEqual(self.browser.value(marked), [["one", "requirement", "alert"]])
+        self.assertNotEqual(*self.browser.value("['[aria-invalid]', '#needs .name'].map((it) => getComputedStyle(document.querySelector(it)).borderColor)"))
+        self.browser.click("[aria-invalid]")
+        self.browser.type("x")  # it is being mended
+        self.browser.until("!document.querySelector('[aria-invalid]')")
+
     def test_a_form_with_several_rows(self):
         self.show("", *WORKED)
         self.browser.click("nav a[href='#/resolve']")

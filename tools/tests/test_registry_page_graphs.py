@@ -48,6 +48,16 @@ class Graphs(InBrowser):
         self.assertGreater(self.browser.value("document.querySelector('.node.request text').getBoundingClientRect().height"), 9)
         self.assertEqual(self.browser.value("document.querySelectorAll('.way').length"), 1 + sum(map(len, BELOW.values())))
 
+    def test_it_is_fitted_into_its_frame(self):
+        frame = "document.querySelector('svg.graph').getBoundingClientRect()"
+        outside = f"[...document.querySelectorAll('.node')].map((it) => it.getBoundingClientRect()).filter((it) => it.left < {frame}.left || it.right > {frame}.right"
+        # a large one has all of its columns, and a smaller one is seen as a whole
+        self.assertEqual(self.browser.value(f"{outside}).length"), 0)
+        self.browser.open("about:blank")
+        self.browser.open(self.server.address + "#/resolve?need=p009&view=graph")
+        self.browser.until("document.querySelectorAll('.node').length === 33")
+        self.assertEqual(self.browser.value(f"{outside} || it.top < {frame}.top || it.bottom > {frame}.bottom).length"), 0)
+
     def test_what_is_found_lights_up_with_its_paths(self):
         above = {number: [other for other, below in BELOW.items() if number in below] for number in range(MANY)}
         self.browser.click("#find")

@@ -84,7 +84,7 @@ class Searches(Served):
         self.serve(*self.lines, seconds=0.5)
         with in_time():
             told = self.told("resolve", 503, need=self.needs)
-        self.assertEqual(told, {"error": "no answer was found in 0.5 seconds, and the search was ended"})
+        self.assertEqual(told, {"error": "no answer was found in 0.5 seconds, and the search was ended", "field": None})
         self.shown.seconds = 60
         self.assertEqual(len(self.told("resolve", need="easy")["selected"]), 1)
 
@@ -94,7 +94,7 @@ class Searches(Served):
         with in_time():
             self.assertEqual(len(self.told("resolve", need="easy", page="one")["selected"]), 1)
             thread.join()
-        self.assertEqual((answers[0][0], json.loads(answers[0][2])), (503, {"error": "another request came from the same page"}))
+        self.assertEqual((answers[0][0], json.loads(answers[0][2])), (503, {"error": "another request came from the same page", "field": None}))
 
     def test_another_page_waits_and_all_else_is_answered(self):
         self.serve(*self.lines, seconds=5)

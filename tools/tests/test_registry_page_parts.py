@@ -14,7 +14,7 @@ from program import TOP, in_time, publish, yank
 from test_journals import journal as text_of
 
 sys.path.insert(0, os.path.join(TOP, "tools"))
-from registry import connected
+from registry import catalog, connected
 from registry.commands import page
 from registry.failures import Failed
 from registry.output import Output
@@ -28,7 +28,7 @@ REQUEST = {"op": "resolve", "needs": []}
 
 class Program:
     """A session in the place of the program's. What it is asked waits until it is let go, where that is wanted."""
-    begun = []
+    begun, warnings = [], []
 
     def __init__(self, path, text, words=()):
         self.given, self.text, self.is_left = (path, words), text, False
@@ -73,10 +73,10 @@ class Shown(unittest.TestCase):
 
 class Views(Shown):
     def test_what_is_shown(self):
-        with mock.patch.object(journal.near_limits, "warnings", lambda path, text: [f"{path} {len(text)}"]):
+        with mock.patch.object(Program, "warnings", ["near"]):
             made = View(self.source)
-        self.assertEqual((made.names, made.revision, made.counts, made.warnings), (["app", "log", "zlib"], 6, {"packages": 2, "versions": 5, "yanked": 1}, [f"j {len(made.text)}"]))
-        self.assertEqual([list(made.users(name)) for name in ("log", "zlib", "app", "none")], [["app"], ["app"], [], []])
+        self.assertEqual((made.names, made.revision, made.counts, made.warnings), (["app", "log", "zlib"], 6, {"packages": 2, "versions": 5, "yanked": 1}, ["near"]))
+        self.assertEqual([[*made.users(name)] for name in ("log", "zlib", "app", "none")], [["app"], ["app"], [], []])
         self.assertEqual([it.text for it in made.versions("log")], ["1.10.0", "1.9.0", "1.0.0"])
         self.assertIs(made.versions("log"), made.versions("log"))  # worked out once
         self.assertEqual([(name, it.text, requirement) for name, it, requirement in made.needing("zlib")], [("app", "1.1.0", "*")])
@@ -89,6 +89,25 @@ class Views(Shown):
 
     def begun(self, number=0):
         return Program.begun[number]
+
+    def test_what_is_not_shown_is_not_read(self):
+        """However many versions there are, none is read before it is shown, and the program does not list them."""
+        text = text_of([publish(f"p{number:04}", f"1.{minor}.0", ["p0000 ^1"] if number else []) for minor in range(4) for number in range(500)])
+        self.source.text = lambda: text
+        with mock.patch.object(catalog.json, "loads", side_effect=AssertionError), mock.patch.object(Program, "ask", return_value=[{}]) as asked:
+            made = View(self.source)
+            self.assertEqual((len(made.names), made.counts), (500, {"packages": 500, "versions": 2000, "yanked": 0}))
+            self.assertEqual([call.args for call in asked.call_args_list], [({"op": "resolve", "needs": []},)])
+            self.assertEqual(made.users("p0000"), {f"p{number:04}" for number in range(1, 500)})
+        read, loads = [], json.loads
+        with mock.patch.object(catalog.json, "loads", lambda text: read.append(text) or loads(text)):
+            self.assertEqual(made.newest("p0007"), ("1.3.0", False, [["p0000", "^1"]]))
+        self.assertEqual(read, ['[["p0000","^1"]]'] * 4)
+
+    def test_a_yank_is_of_the_version_of_equal_precedence(self):
+        self.lines = [publish("log", "1.0.0+b"), publish("log", "1.0.1"), yank("log", "1.0.0"), yank("log", "1.0.1"), yank("log", "1.0.1").replace("yank", "unyank")]
+        made = View(self.source)
+        self.assertEqual((made.listed, made.revision), ({"log": [("1.0.0+b", True), ("1.0.1", False)]}, 5))
 
     def test_a_journal_that_can_t_be_shown(self):
         with mock.patch.object(Program, "ask", side_effect=Failed("no")):
@@ -175,7 +194,8 @@ class Searches(Shown):
                 made.ask(REQUEST)
             self.assertEqual((str(caught.exception), self.waits.pop()), (f"no answer was found in {told}, and the search was ended", seconds))
             self.assertEqual((made.view.session, made.running, Program.begun[-1].is_left), (None, None, True))
-            self.assertEqual(made.ask(REQUEST)[1], {"asked": []})  # by a program that is begun anew
+            with mock.patch.object(journal.threading, "Timer"):
+                self.assertEqual(made.ask(REQUEST)[1], {"asked": []})  # by a program that is begun anew
 
     def timer(self, seconds, call, given):
         """A timer that has come to its end, once it is begun."""
@@ -245,28 +265,28 @@ class Command(unittest.TestCase):
     def shown(self, is_json=False, end=KeyboardInterrupt(), **more):
         """What the page is made of, what is printed and told, and what is left at the end."""
         made = []
-        held = mock.Mock(path="j", view=SimpleNamespace(text=b"text"))
+        held = mock.Mock(path="j", view=SimpleNamespace(warnings=["it is near a limit"]))
         server = mock.MagicMock(address="http://there/", port=7)
         server.__enter__.return_value, server.__exit__.return_value = server, False
         server.serve_forever.side_effect = end
         given = SimpleNamespace(**{"journal": None, "connect": None, "port": None, "seconds": None, "newest": False, "any": False, **more})
         with mock.patch.multiple(page, Journal=lambda source, seconds: (made.append((type(source).__name__, source.path, source.words, seconds)), held)[1],
-                                 Server=lambda journal, port: (made.append((journal is held, port)), server)[1]), mock.patch.object(page.near_limits, "warn") as warn, \
+                                 Server=lambda journal, port: (made.append((journal is held, port)), server)[1]), \
                 mock.patch.dict(os.environ), mock.patch.multiple(sys, stdout=io.StringIO(), stderr=io.StringIO()):
             for name in ("REGISTRY_JOURNAL", "REGISTRY_CONNECT"):
                 os.environ.pop(name, None)
             with self.assertRaises(type(end)) as ended:
                 page.run(given, Output(is_json))
             self.assertIs(ended.exception, end)
-            warn.assert_called_once_with("j", b"text")
             held.leave.assert_called_once_with()
             return made, sys.stdout.getvalue(), sys.stderr.getvalue()
 
     def test_what_is_shown_and_where_that_is_told(self):
-        told = "registry: j is shown there, to this machine only; Ctrl-C ends it\n"
+        near = "registry: it is near a limit\n"
+        told = near + "registry: j is shown there, to this machine only; Ctrl-C ends it\n"
         self.assertEqual(self.shown(), ([("File", "registry.journal", [], 10), (True, 0)], "http://there/\n", told))
         self.assertEqual(self.shown(journal="k", port=8000, seconds=3, any=True), ([("File", "k", ["--any"], 3), (True, 8000)], "http://there/\n", told))
-        self.assertEqual(self.shown(is_json=True, connect="there", newest=True), ([("Service", "there", ["--newest"], 10), (True, 0)], '{"address":"http://there/","port":7}\n', ""))
+        self.assertEqual(self.shown(is_json=True, connect="there", newest=True), ([("Service", "there", ["--newest"], 10), (True, 0)], '{"address":"http://there/","port":7}\n', near))
         self.shown(end=Failed("no"))
 
 

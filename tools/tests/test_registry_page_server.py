@@ -14,7 +14,7 @@ from unittest import mock
 from called import registry
 from page_served import WORKED, Served
 from program import TOP
-from registry.failures import Failed, Refused
+from registry.failures import Failed, Failure, Refused
 from registry.page import server
 from registry.page.answers import NotThere
 from registry.page.journal import Unanswered
@@ -130,7 +130,7 @@ class Parts(unittest.TestCase):
                 if fault:
                     raise fault
                 return {"é": [1, 2]}
-            self.assertEqual(handler.answered(answer, "a=1&a=2&b="), (status, b'{"error":"no"}' if fault else b'{"\\u00e9":[1,2]}', "application/json"))
+            self.assertEqual(handler.answered(answer, "a=1&a=2&b="), (status, b'{"error":"no","field":null}' if isinstance(fault, Failure) else b'{"error":"no"}' if fault else b'{"\\u00e9":[1,2]}', "application/json"))
         self.assertEqual(given, [("journal", {"a": ["1", "2"]})] * 6)
         fields = [handler.answered(lambda _, found: len(found), "&".join(f"a{number}=1" for number in range(count))) for count in (100, 101)]
         self.assertEqual([status for status, *_ in fields], [200, 400])
@@ -194,8 +194,8 @@ class Answers(Served):
         apps = self.told("package", name="apps")
         self.assertEqual((apps["versions"], apps["newest"], apps["near"]), ([], None, "app"))
         self.assertEqual(apps["needed_by"], [{"name": "web", "version": "0.1.0", "requirement": "^1"}])
-        self.assertEqual(self.told("package", 404, name="appz"), {"error": "no version of appz is published; did you mean app?"})
-        self.assertEqual(self.told("package", 404), {"error": "no version of  is published"})
+        self.assertEqual(self.told("package", 404, name="appz"), {"error": "no version of appz is published; did you mean app?", "field": None})
+        self.assertEqual(self.told("package", 404), {"error": "no version of  is published", "field": None})
 
     def test_selections(self):
         told = self.told("resolve", need="app@^1.0")
@@ -207,9 +207,12 @@ class Answers(Served):
         self.assertEqual([(it["version"], it["newest"]) for it in told["selected"]], [("1.0.0", "1.2.0"), ("1.0.0", None)])
 
     def test_what_can_t_be_asked(self):
-        for needs, said in (([], "name what is needed"), (["app@nonsense"], '"nonsense"'), (["A"], 'did you mean "a"?'), (["app", "app@1"], "app appears twice"),
-                            ([f"p{it}" for it in range(65)], "65 needs"), ([f"p{it}" for it in range(150)], "fields")):
-            self.assertIn(said, self.told("resolve", 400, need=needs)["error"])
+        for needs, said, field in (([], "name what is needed", None), (["app@nonsense"], '"nonsense"', [0, "requirement"]), (["app", "A"], 'did you mean "a"?', [1, "name"]),
+                                   (["app", "app@1"], "app appears twice", [1, "name"]), ([f"p{it}" for it in range(65)], "65 needs", None),
+                                   ([f"p{it}" for it in range(150)], "fields", None)):
+            told = self.told("resolve", 400, need=needs)
+            self.assertIn(said, told["error"])
+            self.assertEqual(told.get("field"), field, needs)
 
     def test_refusals(self):
         told = self.told("resolve", need=["app", "log@^9", "zlib"])

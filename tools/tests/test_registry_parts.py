@@ -281,7 +281,8 @@ class Asking(unittest.TestCase):
         self.assertEqual(list(requests.lock_notes("l", {"z": "1.0.0", "b": "1.0.0"}, held)), ["l names b 1.0.0, which is not published", "l names z 1.0.0, which is not published"])
 
     def test_what_the_selected_versions_need(self):
-        session = SimpleNamespace(commands=lambda: commands(publish("a", "1.0.0", ["b ^1"]), publish("a", "2.0.0", ["c ^1"]), yank("a", "1.0.0"), publish("b", "1.0.0")))
+        lines = publish("a", "1.0.0", ["b ^1"]), publish("a", "2.0.0", ["c ^1"]), yank("a", "1.0.0"), publish("b", "1.0.0")
+        session = SimpleNamespace(journal=lambda: "".join(["registry-journal 2\n", *(journal_line(it) + "\n" for it in lines)]).encode())
         self.assertEqual(requests.needs_of(session, {"a": "1.0.0"}), {"a": [["b", "^1"]]})
 
     def test_a_refusal_by_number(self):

@@ -88,11 +88,12 @@ class Begun(unittest.TestCase):
         with open(self.path, "wb") as file:
             file.write(text[:-6])
         for made, words in ((session.Reading(self.path), ""), (session.Reading("k", text, ["--any"]), "--any ")):
-            with mock.patch.object(session.near_limits, "warn") as warn, made:
+            made.warnings = ["it is near a limit"]
+            with mock.patch.object(session.near_limits, "tell") as tell, made:
                 first, second = made.ask({}, {})
                 self.assertRegex(first["words"], rf"\Aserve --workers 1 {words}--load=/dev/fd/[0-9]+\Z")
                 self.assertEqual((second, made.text, made.commands()), ({"bytes": len(text)}, text, [json.loads(A1)]))
-            warn.assert_called_once_with(made.path, text)
+            tell.assert_called_once_with(["it is near a limit"])
             self.assertIsNotNone(made.process.poll())
 
     def test_one_that_writes(self):

@@ -1,9 +1,16 @@
 """`registry show`, `search` and `list`: small registries, and what is to be told of them by hand."""
 import json
+import os
+import sys
 import unittest
+from unittest import mock
 
-from program import publish, yank
+from program import TOP, publish, yank
 from registry_folder import Folder
+from test_journals import journal
+
+sys.path.insert(0, os.path.join(TOP, "tools"))
+from registry import catalog
 
 # log has versions in another order than that of precedence; 2.1.0 is yanked, and 3.0.0-rc.1 is a pre-release
 LINES = [publish("log", "1.10.0", ["zlib ^1"]), publish("log", "1.9.0"), publish("log", "3.0.0-rc.1"), publish("log", "2.1.0", ["zlib ^2"]), yank("log", "2.1.0"),
@@ -58,6 +65,27 @@ needed by
         for name, said in (("lgo", "no version of lgo is published; did you mean log?"), ("json-2", "no version of json-2 is published"),
                            ("json_log", "no version of json_log is published; did you mean json-log?"), ("Log", "no version of Log is published; did you mean log?")):
             self.assertEqual(self.registry("show", name), (1, "", f"registry: {said}\n"))
+
+
+class Read(unittest.TestCase):
+    def test_of_a_journal_only_what_is_shown(self):
+        # p0 is needed by 300 packages of four versions, and its own versions need q
+        lines = [publish("p0", f"1.{minor}.0", ["q ^1"]) for minor in range(4)]
+        lines += [publish(f"p{number}", f"1.{minor}.0", ["p0 ^1", "q *"]) for minor in range(4) for number in range(1, 301)]
+        text, read, loads = journal(lines), [], json.loads
+        with mock.patch.object(catalog.json, "loads", lambda text: read.append(text) or loads(text)):
+            made = catalog.Catalog(text)
+            self.assertEqual((len(made.listed), made.revision, read), (301, 1204, []))
+            self.assertEqual([it.text for it in made.versions("p0")], ["1.3.0", "1.2.0", "1.1.0", "1.0.0"])
+            self.assertEqual(read, ['[["q","^1"]]'] * 4)
+            self.assertEqual({(it.text, requirement) for _, it, requirement in made.needing("p0")}, {("1.3.0", "^1")})
+            self.assertEqual(len(read), 304)  # of each package its newest version
+
+    def test_many_yanks_of_many_versions(self):
+        # the last of each counts, and a yank is of the version of equal precedence
+        lines = [publish("a", f"1.{minor}.0+b") for minor in range(40)]
+        lines += [yank("a", f"1.{minor}.0") for minor in range(40)] + [yank("a", f"1.{minor}.0").replace("yank", "unyank") for minor in range(0, 40, 2)]
+        self.assertEqual(catalog.Catalog(journal(lines)).listed, {"a": [(f"1.{minor}.0+b", minor % 2 == 1) for minor in range(40)]})
 
 
 class Lists(Folder):

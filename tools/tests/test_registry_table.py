@@ -37,18 +37,18 @@ READ = [
     ("outdated --lock l --budget 7 --exit-status", {**ASKING, "lock": "l", "budget": 7, "exit_status": True}), ("upgrade", {"name": [], "lock": None, "need": None, "budget": None, "limit": 30, **SELECTING, "yes": False}),
     ("upgrade a b --need c d --yes", {"name": ["a", "b"], "lock": None, "need": ["c", "d"], "budget": None, "limit": 30, **SELECTING, "yes": True}), ("diff a b", {"old": "a", "new": "b", "exit_status": False}),
     ("lock check l a@^1 b", {"file": "l", "need": ["a@^1", "b"]}),
-    ("check -", {"file": "-"}), ("journal verify f", {"file": "f"}), ("journal repair f --output n", {"file": "f", "output": "n"}),
+    ("log", {"after": None, "follow": False}), ("log --follow --after 3", {"after": 3, "follow": True}), ("check -", {"file": "-"}), ("journal verify f", {"file": "f"}), ("journal repair f --output n", {"file": "f", "output": "n"}),
     ("journal renew a b --lock c d --newest 0", {"old": "a", "new": "b", "lock": ["c", "d"], "newest": 0}), ("shell", {"wait": None}), ("page --port 0 --seconds 1 --any", {"port": 0, "seconds": 1,
                                                                                                                                                "newest": False, "any": True}),
     ("serve", {"socket": None, "port": None, "mode": "600", "group": None, "readers": 2, "seconds": 10, "budget": None, **SELECTING, "workers": 1, "clients": 1000, "log": None,
-               "metrics_port": None}),
+               "metrics_port": None, "page_port": None}),
     ("serve --socket s --mode 660 --group g --metrics-port 9 --log -", {"socket": "s", "port": None, "mode": "660", "group": "g", "readers": 2, "seconds": 10, "budget": None, **SELECTING,
-                                                                        "workers": 1, "clients": 1000, "log": "-", "metrics_port": 9}),
+                                                                        "workers": 1, "clients": 1000, "log": "-", "metrics_port": 9, "page_port": None}),
 ]
 # the least and the most of each number
-EDGES = [("resolve a --budget", 0, 4_294_967_295), ("tree a --depth", 0, 4_294_967_295), ("why a --request", 1, 4_294_967_295), ("outdated --budget", 0, 4_294_967_295),
+EDGES = [("resolve a --budget", 0, 4_294_967_295), ("log --after", 0, 4_294_967_295), ("tree a --depth", 0, 4_294_967_295), ("why a --request", 1, 4_294_967_295), ("outdated --budget", 0, 4_294_967_295),
          ("import debian --newest", 1, 4096), ("journal renew a b --newest", 0, 4096), ("page --port", 0, 65_535), ("page --seconds", 1, 3600), ("serve --port", 0, 65_535),
-         ("serve --metrics-port", 0, 65_535), ("serve --readers", 1, 64), ("serve --workers", 1, 64), ("serve --seconds", 1, 3600), ("serve --clients", 1, 100_000),
+         ("serve --metrics-port", 0, 65_535), ("serve --page-port", 0, 65_535), ("serve --readers", 1, 64), ("serve --workers", 1, 64), ("serve --seconds", 1, 3600), ("serve --clients", 1, 100_000),
          ("serve --budget", 0, 4_294_967_295), ("publish a 1.0.0 --wait", 0, 86_400), ("shell --wait", 0, 86_400), ("upgrade --budget", 0, 4_294_967_295)]
 LIMITS = [f"{it} --seconds" for it in ("resolve", "tree", "why", "outdated", "upgrade")]
 EDGES += [(it, 0, 86_400) for it in LIMITS]

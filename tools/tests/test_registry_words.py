@@ -231,18 +231,19 @@ class Ends(Folder):
 
     def test_the_program_of_the_path(self):
         # a command that has no program beside it takes the one of the path
-        for name in ("tools/registry", "tools/check_derivation.py", "tools/limits.py", "tools/tied.py", "registry"):
+        for name in ("tools/registry", "tools/check_derivation.py", "tools/limits.py", "tools/tied.py", "clients/python/registryd_lines", "registry"):
             target = self.path(os.path.join("away", name))
             os.makedirs(os.path.dirname(target), exist_ok=True)
             source = os.path.join(TOP, name)
             shutil.copytree(source, target) if os.path.isdir(source) else shutil.copy(source, target)
         os.mkdir(self.path("bin"))
-        environment = {name: value for name, value in os.environ.items() if name != "REGISTRY_PROGRAM"}
+        # and nothing else of the path, where a test of the package may have installed the program
+        os.symlink(sys.executable, self.path("bin/python3"))
+        environment = {**{name: value for name, value in os.environ.items() if name != "REGISTRY_PROGRAM"}, "PATH": self.path("bin")}
         words = [self.path("away/registry"), "publish", "a", "1.0.0", "--journal", self.journal]
         done = subprocess.run(words, env=environment, stdout=subprocess.PIPE, stderr=subprocess.PIPE)
         self.assertEqual((done.returncode, done.stderr), (3, b"registry: the program registryd is not found: put it on the path, or name it by REGISTRY_PROGRAM\n"))
         os.symlink(PROGRAM, self.path("bin/registryd"))
-        environment["PATH"] = self.path("bin") + os.pathsep + environment["PATH"]
         done = subprocess.run(words, env=environment, stdout=subprocess.PIPE)
         self.assertEqual((done.returncode, done.stdout), (0, b"published a 1.0.0 (revision 1)\n"))
 

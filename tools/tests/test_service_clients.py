@@ -60,7 +60,7 @@ class Service:
         self.clients, self.pages = set(), set()
         self.keeper, self.time = SimpleNamespace(revision=4, is_up=True), 0.0
         self.loop = SimpleNamespace(call_soon=self.soon.append, call_later=self.call_later)
-        self.watch = SimpleNamespace(answered=lambda asked, seconds: None, cut_off=self.cut.append)
+        self.watch = SimpleNamespace(answered=lambda asked, seconds: None, cut_off=self.cut.append, named=lambda transport: (transport.get_extra_info("peername"), 1))
 
     def call_later(self, *call):
         self.later.append(call)
@@ -139,7 +139,7 @@ class Clients(unittest.TestCase):
         self.assertEqual(looked.call_count, 2)
 
     def test_who_is_connected(self):
-        self.assertEqual((self.client.name, self.service.clients), ("127.0.0.1:7", {self.client}))
+        self.assertEqual((self.client.name, self.client.number, self.service.clients), (("127.0.0.1", 7), 1, {self.client}))
         self.client.data_received(ASK + b"\n" + A1 + b"\n")
         self.client.connection_lost(None)
         self.assertEqual((self.service.clients, list(self.client.lines)), (set(), []))

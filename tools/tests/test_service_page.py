@@ -45,7 +45,7 @@ class Typed(unittest.TestCase):
 
     def test_its_numbers_are_those_of_the_service(self):
         text = page(PAGE)
-        for said in (f"{client.MOST_ASKED} commands are without a reply", f"disconnects it after {client.STALLED} seconds", "for a quarter of a second",
+        for said in (f"or {client.MOST_ASKED} commands are without a reply", f"disconnects it after {client.STALLED} seconds", "for a quarter of a second",
                      f"more than {ops.LONG:,} bytes", f"A request over HTTP has {http.PATIENCE} seconds"):
             self.assertIn(said, text)
         self.assertEqual((readers.PATIENCE, watching.SLOW, http.MOST_COPIES, disk.LOOKS), (0.25, 1.0, 4, (1, 60)))
@@ -114,10 +114,10 @@ class Unit(unittest.TestCase):
         unit.read_string((self.prefix / "lib/systemd/system/registryd.service").read_text())
         return unit
 
-    def begin(self):
-        """Begins it as systemd does: with its folders, and told where it says that it is ready."""
+    def begin(self, options=""):
+        """Begins it as systemd does: with its folders, with these options, and told where it says that it is ready."""
         said = self.unit["Service"]
-        words = shlex.split(said["ExecStart"].replace("%%", "%"))
+        words = [it for word in shlex.split(said["ExecStart"].replace("%%", "%")) for it in (options.split() if word == "$REGISTRYD_OPTIONS" else [word])]
         for name in ("State", "Runtime"):
             self.assertEqual(said[f"{name}Directory"], "registryd")
         (self.folder / "run").mkdir(exist_ok=True)
@@ -156,6 +156,17 @@ class Unit(unittest.TestCase):
         self.begin()
         with Client(str(self.folder / "run/socket")) as client:
             self.assertEqual(client.ask(publish("log", "1.5.0")), [{"ok": True, "revision": 3}])
+
+    def test_its_options_are_those_of_its_file(self):
+        self.assertEqual(self.unit["Service"]["EnvironmentFile"], "-/etc/registryd/registryd.conf")
+        *remarks, setting = Path(TOP, "tools/systemd/registryd.conf").read_text().splitlines()
+        self.assertEqual(({it[0] for it in remarks}, setting), ({"#"}, "REGISTRYD_OPTIONS="))
+        self.begin("--mode 666 --clients 1")
+        self.assertEqual((self.folder / "run/socket").stat().st_mode & 0o777, 0o666)
+        with Client(str(self.folder / "run/socket")) as client, Client(str(self.folder / "run/socket")) as other:
+            client.ask(LIST)
+            other.send(LIST)
+            self.assertIn(b"TooManyClients", other.rest())
 
     def test_what_it_may_do(self):
         said = self.unit["Service"]

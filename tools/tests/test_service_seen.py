@@ -3,6 +3,7 @@ import asyncio
 import hashlib
 import io
 import os
+import re
 import socket
 import sys
 import tempfile
@@ -15,7 +16,7 @@ from test_journals import CHAIN, journal, learn
 
 sys.path.insert(0, os.path.join(TOP, "tools"))
 from registry.failures import Failed
-from registry.service import http, watching
+from registry.service import http, times, watching
 from registry.service.copies import text_at
 from registry.service.journal import commands_after
 
@@ -23,16 +24,24 @@ from registry.service.journal import commands_after
 class Http(unittest.TestCase):
     def setUp(self):
         self.folder = self.enterContext(tempfile.TemporaryDirectory())
-        self.path = os.path.join(self.folder, "journal")
+        self.path = os.path.join(self.folder, "journals", "journal")
+        os.mkdir(os.path.dirname(self.path))
         with open(self.path, "wb") as file:
             file.write(journal([*CHAIN[:2], CHAIN[2]])[:-6])
         self.service = SimpleNamespace(path=self.path, is_stopping=False, clients=[SimpleNamespace(asked=[1, 2], lines=[3]), SimpleNamespace(asked=[], lines=[])], pages=set(), guests=set(),
                                        takes_in=lambda place, kind: kind.add(place) or True, copying=asyncio.Semaphore(4),
-                                       keeper=SimpleNamespace(is_up=True, revision=3, disk=SimpleNamespace(fault="")), readers=SimpleNamespace(ready=lambda: 2, are_late=lambda: False), watch=watching.Watch(None))
+                                       keeper=SimpleNamespace(role="keeper", child=self.child(os.getppid()), is_up=True, revision=3, disk=SimpleNamespace(fault="")),
+                                       readers=SimpleNamespace(readers=[SimpleNamespace(role="reader", child=self.child(2 ** 22 + 1)), SimpleNamespace(child=None)], ready=lambda: 2, are_late=lambda: False), watch=watching.Watch(None), times=times.Times(SimpleNamespace(followers=[])))
+
+    @staticmethod
+    def child(process):
+        return SimpleNamespace(process=SimpleNamespace(pid=process))
 
     def answer(self, head, address=("127.0.0.1", 1), is_guest=False):
         async def asked():
             self.service.loop = asyncio.get_running_loop()
+            self.service.build = self.service.loop.create_future()
+            self.service.build.set_result('version="1.2.3",commit="c0ffee",proved="yes"')
             return await http.answer(self.service, head, address, is_guest)
         status, _, text = asyncio.run(asked())
         pieces = [text] if isinstance(text, bytes) else list(text)
@@ -75,20 +84,64 @@ class Http(unittest.TestCase):
         self.assertEqual(self.get("/health"), ("503 Service Unavailable", "stopping\n"))
 
     def test_the_journal(self):
-        for target, count in (("/journal", 3), ("/journal?revision=2", 2), ("/journal?revision=0", 0), ("/journal?revision=9", 3), ("/journal?revision=", 3), ("/journal?revision=-1", 3)):
+        for target, count in (("/journal", 3), ("/journal?revision=2", 2), ("/journal?revision=0", 0), ("/journal?revision=3", 3)):
             self.assertEqual(self.get(target), ("200 OK", journal(CHAIN[:count]).decode()), target)
+        for revision in (4, 99999):
+            self.assertEqual(self.get(f"/journal?revision={revision}"), ("404 Not Found", "the journal is at revision 3\n"))
+        for query in ("revision=", "revision=-1", "revision=" + "9" * 5_000, "revision=1&x", "x"):
+            self.assertEqual(self.get("/journal?" + query), ("400 Bad Request", "what may be asked for is /journal, or /journal?revision=N\n"), query)
         self.assertEqual(self.get("/journal", is_guest=True), ("503 Service Unavailable", "as many clients as are allowed are connected\n"))
         self.assertEqual(self.get("/health", is_guest=True)[0], "200 OK")
         os.unlink(self.path)
         self.assertEqual(self.get("/journal"), ("503 Service Unavailable", "the journal can't be read: No such file or directory\n"))
+
+    def test_the_commands_with_their_times(self):
+        lines, (one, two, three) = [it.decode() for it in journal(CHAIN[:3]).splitlines()[1:-1]], ("-", "2026-11-30T10:00:00.000Z", "-")
+        self.service.times.known[2] = two
+        told = [f"{at} {time} {line}\n" for at, (time, line) in enumerate(zip((one, two, three), lines), 1)]
+        for target, first in (("/log", 0), ("/log?after=0", 0), ("/log?after=1", 1), ("/log?after=3", 3)):
+            self.assertEqual(self.get(target), ("200 OK", "".join(told[first:])), target)
+        self.assertEqual(self.get("/log?after=4"), ("404 Not Found", "the journal is at revision 3\n"))
+        self.assertEqual(self.get("/log?revision=1"), ("400 Bad Request", "what may be asked for is /log, or /log?after=N\n"))
+
+    def test_times(self):
+        """Those of what a program finds as it begins are not known."""
+        keeper = SimpleNamespace(followers=[], is_up=False, revision=1)
+        made = times.Times(keeper)
+        keeper.followers[0](b"line")
+        keeper.is_up, keeper.revision = True, 2
+        with mock.patch.object(times, "now", return_value="then"):
+            keeper.followers[0](b"line")
+        self.assertEqual(made.known, {2: "then"})
+        self.assertRegex(times.now(), r"\A20\d\d-\d\d-\d\dT\d\d:\d\d:\d\d\.\d{3}Z\Z")
 
     def test_counts(self):
         told = self.get("/metrics")[1]
         for line in ("registryd_clients 2", "registryd_lines_waiting 3", "registryd_readers 2", "registryd_keeper_up 1", "registryd_revision 3",
                      f"registryd_journal_bytes {os.path.getsize(self.path)}"):
             self.assertIn(f"\n{line}\n", told)
+        self.assertIn('\nregistryd_build_info{version="1.2.3",commit="c0ffee",proved="yes"} 1\n', told)
+        found = os.statvfs(os.path.dirname(self.path))
+        free = int(re.search(r"\nregistryd_disk_free_bytes ([0-9]+)\n", told)[1])
+        self.assertLess(abs(free - found.f_bavail * found.f_frsize), found.f_blocks * found.f_frsize / 10)
+        # the process of the reader is one that has ended
+        sizes = {role: (int(process), int(size)) for role, process, size in re.findall(r'registryd_resident_bytes\{program="(\w+)",process="(\d+)"\} (\d+)\n', told)}
+        self.assertEqual({role: process for role, (process, _) in sizes.items()}, {"service": os.getpid(), "keeper": os.getppid()})
+        self.assertTrue(all(size > 1_000_000 for _, size in sizes.values()), sizes)
         os.unlink(self.path)
         self.assertIn("\nregistryd_journal_bytes 0\n", self.get("/metrics")[1])
+        os.rmdir(os.path.dirname(self.path))
+        self.assertIn("\nregistryd_disk_free_bytes 0\n", self.get("/metrics")[1])
+
+    def test_what_the_program_says_of_itself(self):
+        for said, wanted in (("registryd 0.3.0, commit c0ffee1\nThe program is proved: all.", ("0.3.0", "c0ffee1", "yes")),
+                             ("registryd 0.3.0-rc.1+b, commit c0ffee1\nThe program is compiled from its sources. It is not proved.", ("0.3.0-rc.1+b", "c0ffee1", "no")),
+                             ("what else", ("unknown", "unknown", "unknown"))):
+            with mock.patch.object(http, "version", return_value=said):
+                self.assertEqual(http.build(), 'version="{}",commit="{}",proved="{}"'.format(*wanted))
+        for fault in (Failed("no"), OSError("no")):
+            with mock.patch.object(http, "version", side_effect=fault):
+                self.assertEqual(http.build(), 'version="unknown",commit="unknown",proved="unknown"')
 
     def test_a_request_comes_in_pieces(self):
         async def told(*given, ended=True):
@@ -147,7 +200,7 @@ class Http(unittest.TestCase):
 
     def test_what_is_told_of_a_refusal(self):
         for head, text in ((b"x\r\n\r\n", "this is no request over HTTP\n"), (b"PUT / HTTP/1.0\r\n\r\n", "GET alone is answered over HTTP; request lines come without it\n"),
-                           (b"GET / HTTP/1.1\r\n\r\n", "a request has to name its host exactly once\n"), (b"GET / HTTP/1.0\r\n\r\n", "there are /metrics, /health and /journal\n"),
+                           (b"GET / HTTP/1.1\r\n\r\n", "a request has to name its host exactly once\n"), (b"GET / HTTP/1.0\r\n\r\n", "there are /metrics, /health, /journal and /log\n"),
                            (b"GET / HTTP/1.1\r\nHost: a.example\r\n\r\n", "this service is of another host\n")):
             self.assertEqual(self.answer(head)[1], text)
 
@@ -171,7 +224,7 @@ class Texts(unittest.TestCase):
 
 class Watched(unittest.TestCase):
     def asked(self, op, reply, line=b"line"):
-        return SimpleNamespace(op=op, reply=reply, line=line, client=SimpleNamespace(name="me"))
+        return SimpleNamespace(op=op, reply=reply, line=line, client=SimpleNamespace(name="me", number=7))
 
     def test_counts(self):
         watch = watching.Watch(None)
@@ -189,17 +242,31 @@ class Watched(unittest.TestCase):
                      'registryd_request_seconds_bucket{op="other",le="+Inf"} 1', 'registryd_request_seconds_sum{op="publish"} 0.002100', 'registryd_request_seconds_count{op="publish"} 2'):
             self.assertIn(line, lines)
         self.assertTrue(watch.text({}).endswith(b"\n"))
+        # a command that is accepted waits for the disk
+        for line in ("# TYPE registryd_commit_seconds histogram", 'registryd_commit_seconds_bucket{le="0.001"} 1', 'registryd_commit_seconds_bucket{le="+Inf"} 1',
+                     "registryd_commit_seconds_sum 0.001000", "registryd_commit_seconds_count 1"):
+            self.assertIn(line, lines)
 
     def test_the_log(self):
         with tempfile.TemporaryDirectory() as folder:
             path = os.path.join(folder, "log")
             watch = watching.Watch(path)
-            for reply, kind in ((b'{"ok":true}', "accepted"), (b'{"revision":1}', "selected"), (b'{"refused":true}', "refused"), (b'{"derivation":[]}', "refused"),
+            for reply, kind in ((b'{"ok":true,"revision":12}', "accepted"), (b'{"revision":1}', "selected"), (b'{"refused":true}', "refused"), (b'{"derivation":[]}', "refused"),
                                 (b'{"follows":true}', "checked"), (b'{"packages":[]}', "listed"), (b'{"x":1}', "other"), (b'{"error":7,"name":"AlreadyPublished"}', "AlreadyPublished")):
                 watch.answered(self.asked("list", reply), 0.25)
                 with open(path, encoding="utf-8") as file:
                     line = file.read().splitlines()[-1]
-                self.assertRegex(line, rf"\A\d{{4}}-\d\d-\d\dT\d\d:\d\d:\d\d\.\d{{3}}Z client=me op=list seconds=0\.250000 reply={kind} request_bytes=4 reply_bytes={len(reply)}\Z")
+                accepted = " revision=12" if kind == "accepted" else ""
+                self.assertRegex(line, rf"\A\d{{4}}-\d\d-\d\dT\d\d:\d\d:\d\d\.\d{{3}}Z client=me connection=7 op=list seconds=0\.250000 reply={kind}{accepted} request_bytes=4 reply_bytes={len(reply)}\Z")
+            # of a command it names what that is of; nobody writes a line of the log, or a field of it
+            for op, line, said in (("publish", b'{"op":"publish","name":"log","version":"1.0.0-rc.1+b_c","needs":[]}', "publish package=log version=1.0.0-rc.1+b_c"),
+                                   ("yank", b'{"op":"yank","version":"1.0.0","name":"a b\\n c\\" reply=accepted"}', 'yank package="a b\\n c\\" reply=accepted" version=1.0.0'),
+                                   ("unyank", b'{"op":"unyank","name":"","version":"1"}', 'unyank package="" version=1'), ("publish", b'{"op":"publish","name":7,"version":"1"}', "publish"),
+                                   ("publish", b'{"op":"publish"}', "publish"), ("publish", b'{"op":"publish","name":"%s","version":"1"}' % (b"a" * 999), f'publish package="{"a" * 256}" version=1'), ("publish", b"[" * 9_999, "publish"), ("publish", b"\xff", "publish"), ("resolve", b'{"name":"a","version":"1"}', "resolve")):
+                watch.answered(self.asked(op, b'{"ok":true}', line), 0.25)
+                with open(path, encoding="utf-8") as file:
+                    line = file.read().splitlines()[-1]
+                self.assertEqual(line.partition(" client=me connection=7 op=")[2].partition(" seconds=0.250000 reply=accepted request_bytes=")[0], said)
             os.rename(path, path + ".1")
             watch.reopen()
             watch.restarted("reader", "it's gone")
@@ -232,6 +299,8 @@ class Watched(unittest.TestCase):
         with one, other:
             transport = SimpleNamespace(get_extra_info=lambda name: one if name == "socket" else "")
             self.assertEqual(watching.name_of(transport), f"user:{os.getuid()}:process:{os.getpid()}")
+            watch = watching.Watch(None)
+            self.assertEqual([watch.named(transport) for _ in range(2)], [(watching.name_of(transport), 1), (watching.name_of(transport), 2)])
 
 
 if __name__ == "__main__":

@@ -51,7 +51,7 @@ class Slow(Case):
             self.assertEqual({it["revision"] for it in other.ask(*[resolve("log *")] * 20)}, {revision})
         status, told = service.end()
         self.assertEqual(status, 0)
-        self.assertRegex(told, r"client=\S+ op=resolve seconds=([4-9]|1[0-9])\.[0-9]+ reply=BudgetSpent ")
+        self.assertRegex(told, r"client=\S+ connection=[0-9]+ op=resolve seconds=([4-9]|1[0-9])\.[0-9]+ reply=BudgetSpent ")
 
     def test_what_waits_behind_it_is_asked_of_another_reader(self):
         service = self.begin_full("--readers", 2, "--seconds", 30)

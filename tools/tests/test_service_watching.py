@@ -12,6 +12,7 @@ import unittest
 from pathlib import Path
 from unittest import mock
 
+from called import registry
 from program import LIST, TOP, publish, resolve, run, yank
 from services import Case, Client, wait_for
 
@@ -59,6 +60,13 @@ class Watching(Case):
         for number, name, count in ((7, "AlreadyPublished", 1), (11, "NoSuchVersion", 1), (19, "BadLine", 2)):
             self.assertEqual(value("refused_total", number=str(number), name=name), count)
         self.assertEqual((value("budgets_spent_total"), value("restarts_total"), value("lines_waiting")), (0, 0, 0))
+        self.assertEqual(value("commit_seconds_count"), 1)
+        self.assertGreater(value("commit_seconds_sum"), 0)
+        self.assertGreater(value("disk_free_bytes"), 0)
+        keepers, readers = service.programs()
+        processes = [("service", service.running.pid), ("keeper", *keepers), *(("reader", it) for it in readers)]
+        self.assertTrue(all(value("resident_bytes", program=role, process=str(process)) > 1_000_000 for role, process in processes))
+        self.assertEqual([value for (name, _), value in samples.items() if name == "registryd_build_info"], [1])
         self.assertEqual(value("journal_bytes"), service.journal.stat().st_size)
         for op, count in (("publish", 2), ("yank", 1), ("resolve", 2), ("other", 2), ("list", 1)):
             self.assertEqual(value("request_seconds_count", op=op), count)
@@ -125,7 +133,8 @@ class Watching(Case):
         lines = [publish("log", "1.0.0"), publish("app", "1.0.0", ["log *"]), yank("log", "1.0.0")]
         with service.client() as client:
             client.ask(*lines)
-        for target, count in (("/journal", 3), ("/journal?revision=2", 2), ("/journal?revision=0", 0), ("/journal?revision=9", 3)):
+        self.assertEqual(service.get("/journal?revision=4"), (404, "the journal is at revision 3\n"))
+        for target, count in (("/journal", 3), ("/journal?revision=2", 2), ("/journal?revision=0", 0), ("/journal?revision=3", 3)):
             status, text = service.get(target)
             copy = Path(self.folder, "copy")
             copy.write_text(text)
@@ -137,6 +146,8 @@ class Watching(Case):
         service = self.begin("--readers", 1, "--log", log)
         with service.client() as client:
             client.ask(publish("log", "1.0.0"), resolve("log *"), resolve("app *"), "x")
+        with service.client() as client:
+            client.ask(yank("log", "2.0.0"))
         log.rename(log.with_name("log.1"))
         service.running.send_signal(signal.SIGHUP)
         wait_for(log.exists)
@@ -145,11 +156,13 @@ class Watching(Case):
         self.assertEqual(service.end(), (0, ""))
         rows = [dict(it.split("=", 1) for it in line.split(" ")[1:]) for line in log.with_name("log.1").read_text().splitlines()]
         self.assertEqual([(it["op"], it["reply"]) for it in rows],
-                         [("publish", "accepted"), ("resolve", "selected"), ("resolve", "refused"), ("other", "BadLine")])
+                         [("publish", "accepted"), ("resolve", "selected"), ("resolve", "refused"), ("other", "BadLine"), ("yank", "NoSuchVersion")])
+        self.assertEqual([(it.get("package"), it.get("version")) for it in rows], [("log", "1.0.0"), (None, None), (None, None), (None, None), ("log", "2.0.0")])
+        self.assertEqual([it["connection"] for it in rows], ["1", "1", "1", "1", "2"])
         for it in rows:
             self.assertRegex(it["client"], rf"^user:{os.getuid()}:process:{os.getpid()}$")
             self.assertRegex(it["seconds"], r"^[0-9]+\.[0-9]{6}$")
-        self.assertRegex(log.read_text(), r"^20\d\d-\d\d-\d\dT\d\d:\d\d:\d\d\.\d{3}Z client=\S+ op=list .*\n$")
+        self.assertRegex(log.read_text(), r"^20\d\d-\d\d-\d\dT\d\d:\d\d:\d\d\.\d{3}Z client=\S+ connection=3 op=list .*\n$")
 
     def test_a_log_on_a_full_disk_stops_nothing(self):
         service = self.begin("--log", "/dev/full")
@@ -192,9 +205,39 @@ class Watching(Case):
             self.assertEqual(service.end(), (0, ""))
             self.assertEqual(heard.recv(100), b"STOPPING=1")
 
+    def test_a_socket_and_a_port(self):
+        service = self.begin("--socket", os.path.join(self.folder, "socket"), "--port", 0)
+        [(_, port)] = self.listening(service)
+        self.assertEqual(service.begun, f"{service.journal} is served at {service.socket} and 127.0.0.1:{port} (revision 0)\n")
+        for address, revision in ((service.socket, 1), (("127.0.0.1", port), 2)):
+            with Client(address) as client:
+                self.assertEqual(client.ask(publish("log", f"{revision}.0.0")), [{"ok": True, "revision": revision}])
+        self.ends_well(service)
+        self.assertFalse(os.path.exists(service.socket))
+
+    def test_one_that_can_t_begin_leaves_nothing(self):
+        """Neither a journal that nobody asked for, nor a socket on which nobody listens; and that of another service stays."""
+        with socket.socket() as taken, socket.socket(socket.AF_UNIX) as other:
+            taken.bind(("127.0.0.1", 0))
+            other.bind(os.path.join(self.folder, "other"))
+            other.listen()
+            port = taken.getsockname()[1]
+            for words, told in ((["--metrics-port", port], f"port {port} can't be taken"), (["--port", port], f"port {port} can't be taken"),
+                                (["--port", port, "--socket", f"{self.folder}/socket"], f"port {port} can't be taken"),
+                                (["--socket", f"{self.folder}/other"], "another service answers there")):
+                status, said = self.begin(*words).wait()
+                self.assertEqual(status, 3)
+                self.assertIn(told, said)
+                self.assertEqual(os.listdir(self.folder), ["other"], words)
+        os.unlink(os.path.join(self.folder, "other"))
+        Path(self.folder, "team.journal").write_text("nonsense\n")
+        self.assertEqual(self.begin().wait()[0], 3)
+        self.assertEqual(os.listdir(self.folder), ["team.journal"])
+
     def test_wrong_words(self):
-        for words, told in ((["--port", "0", "--socket", "x"], "a service listens on one of --socket PATH and --port N"),
-                            (["--group", "nobody-of-this-name", "--socket", "x"], "there is no group nobody-of-this-name"),
+        done = registry("serve", "--journal", os.path.join(self.folder, "team.journal"))
+        self.assertEqual(done, (2, "", "registry: a service listens on --socket PATH, on --port N, or on both\n"))
+        for words, told in ((["--group", "nobody-of-this-name", "--socket", "x"], "there is no group nobody-of-this-name"),
                             (["--port", "0", "--group", "daemon"], "--group needs --socket"),
                             (["--port", "0", "--mode", "777"], "argument --mode: invalid choice: '777' (choose from '600', '660', '666')"),
                             (["--port", "0", "--log", "/nowhere/log"], "/nowhere/log: No such file or directory"),

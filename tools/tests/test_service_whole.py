@@ -11,6 +11,7 @@ from unittest import mock
 from program import TOP
 
 sys.path.insert(0, os.path.join(TOP, "tools"))
+from registry.failures import Failed
 from registry.service import service
 from registry.service.client import Client
 from registry.service.http import page
@@ -22,7 +23,7 @@ class StandIn:
     """A keeper, or readers: it notes what it is told to do, and when."""
 
     def __init__(self, noted, name, given):
-        self.noted, self.name, self.given, self.is_up = noted, name, given, True
+        self.noted, self.name, self.given, self.is_up, self.followers = noted, name, given, True, []
 
     async def start(self):
         self.noted.append((self.name, "start"))
@@ -102,7 +103,8 @@ class Asking(Case):
 class Listening(Case):
     async def test_where_it_listens(self):
         for more, wanted in (({"socket": "a socket"}, [(("a socket", 0o660, "daemon"), Client)]), ({"port": 0}, [((0,), Client)]),
-                             ({"socket": "s", "metrics_port": 8}, [(("s", 0o660, "daemon"), Client), ((8,), page)]), ({"port": 7, "metrics_port": 0}, [((7,), Client), ((0,), page)])):
+                             ({"socket": "s", "metrics_port": 8}, [(("s", 0o660, "daemon"), Client), ((8,), page)]), ({"port": 7, "metrics_port": 0}, [((7,), Client), ((0,), page)]),
+                             ({"socket": "s", "port": 7}, [(("s", 0o660, "daemon"), Client), ((7,), Client)])):
             made = await self.made(**more)
             with mock.patch.object(service, "bound_file", lambda *given: given), mock.patch.object(service, "bound_port", lambda *given: given):
                 self.assertEqual(list(made.sockets()), wanted)
@@ -113,8 +115,10 @@ class Listening(Case):
         on, bound = {}, []
         real = service.bound_port
         with mock.patch.object(loop, "add_signal_handler", on.__setitem__), mock.patch.object(service, "bound_port", lambda port: bound.append(real(port)) or bound[0]), \
-                mock.patch.object(service, "Client", lambda of: Protocol(of, self.noted, "client")), mock.patch.object(service, "page", lambda of: Protocol(of, self.noted, "page")):
+                mock.patch.object(service, "Client", lambda of: Protocol(of, self.noted, "client")), mock.patch.object(service, "page", lambda of: Protocol(of, self.noted, "page")), \
+                mock.patch.object(service, "build", lambda: "the program"):
             await made.begin()
+            self.assertEqual(await made.build, "the program")
             # for each client four files, or as good as
             self.assertEqual(self.noted, [8, ("keeper", "start"), ("readers", "start"), "READY=1"])
             self.assertEqual((set(on), len(made.servers)), ({signal.SIGTERM, signal.SIGINT, signal.SIGHUP}, 2))
@@ -134,6 +138,17 @@ class Listening(Case):
         for it in (one, two, *made.servers):
             it.close()
         self.assertTrue(await made.end())
+        made.left.close()
+        self.assertFalse(os.path.lexists(path))
+
+    async def test_where_an_address_is_taken_no_program_is_begun(self):
+        path = os.path.join(self.enterContext(tempfile.TemporaryDirectory()), "socket")
+        made = await self.made(socket=path, mode="600", group=None, port=7)
+        with mock.patch.object(service, "bound_port", side_effect=Failed("taken")), mock.patch.object(service, "build", lambda: ""), self.assertRaises(Failed):
+            await made.begin()
+        self.assertEqual(self.noted, [8])
+        self.assertTrue(os.path.lexists(path))
+        made.left.close()
         self.assertFalse(os.path.lexists(path))
 
 
@@ -167,8 +182,12 @@ class Stopping(Case):
             self.assertTrue(waits[1]())
 
     async def test_a_socket_that_is_gone_already(self):
-        made = await self.made(socket="/nowhere/socket")
-        self.assertTrue(await self.ended(made, []))
+        path = os.path.join(self.enterContext(tempfile.TemporaryDirectory()), "socket")
+        made = await self.made(socket=path, group=None)
+        [(bound, _)] = made.sockets()
+        with bound:
+            os.unlink(path)
+            made.left.close()
 
     async def test_how_long_it_waits(self):
         made, looks = await self.made(), []

@@ -40,6 +40,9 @@ class Versions(unittest.TestCase):
         (locked,) = tomllib.loads(read("clients", "rust", "Cargo.lock"))["package"]
         self.assertEqual(locked["version"], VERSION.strip())
 
+    def test_the_client_in_python_has_it(self):
+        self.assertEqual(re.findall('^__version__ = "(.*)"$', read("clients", "python", "registryd", "__init__.py"), re.M), [VERSION.strip()])
+
     def test_the_page_on_installing_has_it(self):
         numbers = re.findall(r"\bregistryd[ _](\d+\.\d+\.\d+)", read("docs", "INSTALLING.md"))
         self.assertGreater(len(numbers), 1)

@@ -8,6 +8,7 @@
 
 mod child;
 mod connection;
+mod culprit;
 #[cfg(feature = "embedded")]
 mod embedded;
 pub mod json;
@@ -17,6 +18,7 @@ mod request;
 mod service;
 mod session;
 
+pub use culprit::Culprit;
 pub use refusal::Refusal;
 pub use reply::{Packages, Reply, Selected, Why};
 pub use request::{Pairs, Request, Resolve};

@@ -7,6 +7,7 @@ use std::process::{Command, ExitStatus};
 use std::time::Duration;
 
 use crate::child::Program;
+use crate::culprit::{self, Culprit};
 use crate::json::Value;
 use crate::reply::{self, Packages};
 use crate::service::{Service, PATIENCE};
@@ -43,8 +44,9 @@ impl Default for Options {
 /// Why a call has no answer.
 #[derive(Clone, Debug, PartialEq, Eq)]
 pub enum Error {
-    /// The line was refused at this revision, and changed nothing.
-    Refused { refusal: Refusal, revision: u64 },
+    /// The line was refused at this revision, and changed nothing. The culprit is the text that it was refused for, where it was for
+    /// one and the call asked a single line.
+    Refused { refusal: Refusal, revision: u64, culprit: Option<Culprit> },
     /// The session has ended, or was never begun, and answers no more.
     Ended(Ended),
     /// A line with a line feed in it is not sent.
@@ -76,7 +78,10 @@ impl From<Ended> for Error {
 impl fmt::Display for Error {
     fn fmt(&self, out: &mut fmt::Formatter<'_>) -> fmt::Result {
         match self {
-            Error::Refused { refusal, revision } => write!(out, "refused: {}, at revision {revision}", refusal.name()),
+            Error::Refused { refusal, revision, culprit: None } => write!(out, "refused: {}, at revision {revision}", refusal.name()),
+            Error::Refused { refusal, revision, culprit: Some(culprit) } => {
+                write!(out, "refused: {}: {culprit}, at revision {revision}", refusal.name())
+            }
             Error::LineFeed => write!(out, "a line has no line feed in it"),
             Error::Ended(Ended { fault, status, told }) => {
                 write!(out, "{fault}")?;
@@ -205,9 +210,23 @@ impl Registry {
         }
     }
 
-    /// Sends one line and waits for its reply.
+    /// Sends one line and waits for its reply. Where it is refused for one of its texts, the program is asked about each alone.
     pub fn ask(&mut self, request: Request<'_>) -> Result<Reply, Error> {
-        self.many(&[request])?.swap_remove(0)
+        let mut answer = self.many(&[request])?.swap_remove(0);
+        if let Err(Error::Refused { refusal, culprit, .. }) = &mut answer {
+            *culprit = culprit::shown(&request, *refusal).or_else(|| self.bad_text(&request, *refusal));
+        }
+        answer
+    }
+
+    /// The first text of a request that is refused alone as the request was.
+    fn bad_text(&mut self, request: &Request<'_>, refused: Refusal) -> Option<Culprit> {
+        let suspects = culprit::suspects(request, refused);
+        let pairs: Vec<_> = suspects.iter().map(|it| culprit::alone(it, refused)).collect();
+        let questions: Vec<_> = pairs.iter().map(|it| culprit::question(it, refused)).collect();
+        let answers = self.many(&questions).ok()?;
+        let is_it = |answer: &Result<Reply, Error>| matches!(answer, Err(Error::Refused { refusal, .. }) if *refusal == refused);
+        suspects.into_iter().zip(&answers).find(|(_, answer)| is_it(answer)).map(|(it, _)| it)
     }
 
     /// Sends lines without waiting between them; answers what each is answered, in order. Where the program ends on the way,
@@ -300,7 +319,7 @@ pub(crate) fn read_some(output: &mut impl BufRead, count: usize) -> Read {
             break;
         }
         let Some(read) = reply::read(&line) else { return (replies, Some(line)) };
-        replies.push(read.map_err(|(refusal, revision)| Error::Refused { refusal, revision }));
+        replies.push(read.map_err(|(refusal, revision)| Error::Refused { refusal, revision, culprit: None }));
     }
     (replies, None)
 }

@@ -6,7 +6,7 @@ mod common;
 use std::cell::RefCell;
 use std::fs;
 
-use common::{file, needs, program, told, Service};
+use common::{file, needs, program, told, without_culprit, Service};
 use registryd::json::Value;
 use registryd::{Error, Options, Refusal, Registry, Reply, Request, Resolve, Selected};
 
@@ -117,7 +117,7 @@ fn versions(pairs: &[(&str, &str)]) -> Selected {
 }
 
 fn refused<T>(refusal: Refusal, revision: u64) -> Result<T, Error> {
-    Err(Error::Refused { refusal, revision })
+    Err(Error::Refused { refusal, revision, culprit: None })
 }
 
 fn each_call<W: Way>() {
@@ -162,29 +162,41 @@ fn what_the_program_refuses<W: Way>() {
     let long = [b' '; 1_048_577];
     let (publish, resolve) = (|name, version, needs| Request::Publish { name, version, needs }, |asked| Request::Resolve(needs(asked)));
     let cases = [
-        (Refusal::BadName, publish("A", "1.0.0", &[])),
-        (Refusal::BadName, resolve(&[("", "*")])),
-        (Refusal::BadName, Request::Yank { name: "é", version: "1.0.0" }),
-        (Refusal::BadVersion, publish("a", "1.0", &[])),
-        (Refusal::BadVersion, Request::Unyank { name: "a", version: "1.0.0\n" }),
-        (Refusal::BadRequirement, resolve(&[("a", "none")])),
-        (Refusal::RepeatedDependency, resolve(&[("a", "*"), ("a", "^1")])),
-        (Refusal::SelfDependency, publish("a", "2.0.0", &[("a", "*")])),
-        (Refusal::TooManyDependencies, resolve(&many)),
-        (Refusal::AlreadyPublished, publish("a", "1.0.0+other", &[])),
-        (Refusal::NoSuchVersion, Request::Yank { name: "a", version: "3.0.0" }),
-        (Refusal::AlreadyYanked, Request::Yank { name: "a", version: "1.0.0" }),
-        (Refusal::NotYanked, Request::Unyank { name: "b", version: "1.0.0" }),
-        (Refusal::BadLine, Request::Resolve(Resolve { budget: Some(1 << 32), ..Resolve::default() })),
-        (Refusal::BadLine, Request::Line(b"")),
-        (Refusal::BadLine, Request::Line(b"{\"op\":\"yank\",\"name\":\"\xff\",\"version\":\"1.0.0\"}")),
-        (Refusal::BadLine, Request::Line(&long)),
+        (Refusal::BadName, publish("A", "1.0.0", &[]), "name, A: \"A\""),
+        (Refusal::BadName, resolve(&[("", "*")]), "needs[0], : \"\""),
+        (Refusal::BadName, Request::Yank { name: "é", version: "1.0.0" }, "name, é: \"é\""),
+        (Refusal::BadVersion, publish("a", "1.0", &[]), "version, a: \"1.0\""),
+        (Refusal::BadVersion, Request::Unyank { name: "a", version: "1.0.0\n" }, "version, a: \"1.0.0\\n\""),
+        (Refusal::BadRequirement, resolve(&[("a", "none")]), "needs[0], a: \"none\""),
+        (Refusal::RepeatedDependency, resolve(&[("a", "*"), ("a", "^1")]), "needs[1], a: \"a\""),
+        (Refusal::SelfDependency, publish("a", "2.0.0", &[("a", "*")]), "needs[0], a: \"a\""),
+        (Refusal::TooManyDependencies, resolve(&many), "needs[64], n64: \"n64\""),
+        (Refusal::AlreadyPublished, publish("a", "1.0.0+other", &[]), "a 1.0.0+other"),
+        (Refusal::NoSuchVersion, Request::Yank { name: "a", version: "3.0.0" }, "a 3.0.0"),
+        (Refusal::AlreadyYanked, Request::Yank { name: "a", version: "1.0.0" }, "a 1.0.0"),
+        (Refusal::NotYanked, Request::Unyank { name: "b", version: "1.0.0" }, "b 1.0.0"),
+        (Refusal::BadLine, Request::Resolve(Resolve { budget: Some(1 << 32), ..Resolve::default() }), ""),
+        (Refusal::BadLine, Request::Line(b""), ""),
+        (Refusal::BadLine, Request::Line(b"{\"op\":\"yank\",\"name\":\"\xff\",\"version\":\"1.0.0\"}"), ""),
+        (Refusal::BadLine, Request::Line(&long), ""),
+        (Refusal::BadName, publish("a", "2.0.0", &[("b", "*"), ("C", "*"), ("D", "*")]), "needs[1], C: \"C\""),
+        (Refusal::BadName, Request::Resolve(Resolve { lock: &[("b", "1.0.0"), ("C", "1.0.0")], ..needs(&[("b", "*")]) }), "lock[1], C: \"C\""),
+        (Refusal::BadVersion, Request::Resolve(Resolve { lock: &[("b", "1.0.0"), ("c", "v1")], ..needs(&[("b", "*")]) }), "lock[1], c: \"v1\""),
+        (Refusal::BadRequirement, publish("c", "1.0.0", &[("b", "^1"), ("a", "==1"), ("d", "none")]), "needs[1], a: \"==1\""),
+        (
+            Refusal::RepeatedDependency,
+            Request::Resolve(Resolve { lock: &[("b", "1.0.0"), ("b", "1.0.1")], ..Resolve::default() }),
+            "lock[1], b: \"b\"",
+        ),
     ];
-    let lines: Vec<Request> = cases.iter().map(|(_, request)| *request).collect();
+    let lines: Vec<Request> = cases.iter().map(|(_, request, _)| *request).collect();
     let answers = registry.many(&lines).unwrap();
-    for ((refusal, request), answer) in cases.iter().zip(answers) {
+    for ((refusal, request, told), answer) in cases.iter().zip(answers) {
         assert_eq!(answer, refused(*refusal, 3), "{request:?}");
-        assert_eq!(registry.ask(*request), refused(*refusal, 3), "{request:?}");
+        let alone = registry.ask(*request).unwrap_err();
+        let place = if told.is_empty() { String::new() } else { format!(": {told}") };
+        assert_eq!(alone.to_string(), format!("refused: {refusal:?}{place}, at revision 3"), "{request:?}");
+        assert_eq!(without_culprit(alone), refused::<Reply>(*refusal, 3).unwrap_err(), "{request:?}");
     }
     assert_eq!(registry.many(&[Request::List, Request::Line(b"a\nb")]), Err(Error::LineFeed));
     assert_eq!(registry.publish("c", "1.0.0", &[]), Ok(4));

@@ -76,7 +76,7 @@ fn a_program_that_cannot_be_started() {
 
 #[test]
 fn a_budget_of_requests_that_name_none() {
-    let (unmet, spent) = (Ok(Selected::Nothing(None)), Err(Error::Refused { refusal: Refusal::BudgetSpent, revision: 0 }));
+    let (unmet, spent) = (Ok(Selected::Nothing(None)), Err(Error::Refused { refusal: Refusal::BudgetSpent, revision: 0, culprit: None }));
     let of_its_own = Resolve { budget: Some(1), ..needs(&[("zed", "*")]) };
     for (budget, answer) in [(None, &unmet), (Some(0), &spent), (Some(u32::MAX), &unmet)] {
         let mut registry = Registry::open(program(), &Options { budget, ..Options::default() }).unwrap();

@@ -10,7 +10,7 @@ use std::sync::{Arc, Mutex};
 use std::thread;
 use std::time::{Duration, Instant};
 
-use common::{folder, needs, pigeons, signal, told, Service, PIGEONS, SOON};
+use common::{folder, needs, pigeons, signal, told, without_culprit, Service, PIGEONS, SOON};
 use registryd::{Error, Refusal, Registry, Reply, Request, Resolve, Selected};
 
 fn connect(service: &Service) -> Registry {
@@ -32,7 +32,10 @@ fn sessions_see_each_other_and_the_service_goes_on() {
     let (mut one, mut other) = (connect(&service), connect(&service));
     assert_eq!((one.publish("log", "1.0.0", &[]), other.publish("log", "1.1.0", &[])), (Ok(1), Ok(2)));
     assert_eq!(one.resolve(needs(&[("log", "*")])), Ok(versions(&[("log", "1.1.0")])));
-    assert_eq!(one.publish("log", "1.1.0", &[]), Err(Error::Refused { refusal: Refusal::AlreadyPublished, revision: 2 }));
+    assert_eq!(
+        one.publish("log", "1.1.0", &[]).map_err(without_culprit),
+        Err(Error::Refused { refusal: Refusal::AlreadyPublished, revision: 2, culprit: None })
+    );
     assert_eq!((one.id(), one.close(), other.close_within(Duration::ZERO)), (0, Ok(()), Ok(())));
     let mut registry = connect(&service);
     assert_eq!(registry.publish("log", "1.2.0", &[]), Ok(3));
@@ -70,7 +73,7 @@ fn a_search_that_the_service_ends() {
     let names = pigeons(&mut registry);
     let all: Vec<(&str, &str)> = names.iter().map(|name| (name.as_str(), "*")).collect();
     let revision = (2 * PIGEONS * (PIGEONS - 1)) as u64;
-    assert_eq!(registry.resolve(needs(&all)), Err(Error::Refused { refusal: Refusal::BudgetSpent, revision }));
+    assert_eq!(registry.resolve(needs(&all)), Err(Error::Refused { refusal: Refusal::BudgetSpent, revision, culprit: None }));
     assert_eq!(registry.resolve(needs(&[("hole-1", "=0.0.0")])), Ok(versions(&[("hole-1", "0.0.0")])));
 }
 
@@ -104,7 +107,7 @@ fn requests_are_asked_again_of_a_service_that_is_begun_again() {
     let (answers, closed) = asking.join().unwrap();
     let revision = (2 * PIGEONS * (PIGEONS - 1)) as u64;
     assert_eq!(answers[0], Ok(Reply::Resolved { revision, selected: versions(&[("hole-1", "0.0.0")]) }));
-    assert_eq!(answers[1], Err(Error::Refused { refusal: Refusal::BudgetSpent, revision }));
+    assert_eq!(answers[1], Err(Error::Refused { refusal: Refusal::BudgetSpent, revision, culprit: None }));
     assert!(matches!(answers[2], Ok(Reply::Listing { .. })), "{:?}", answers[2]);
     assert_eq!(closed, Ok(()));
 }
@@ -195,7 +198,7 @@ fn what_a_service_refuses_is_not_asked_again() {
     const FAULT: &str = "{\"error\":503,\"name\":\"DiskFault\",\"reason\":\"the journal can't be written\",\"revision\":1}\n";
     let service = scripted(&[], &[(1, FAULT), (1, SELECTED)]);
     let mut registry = Registry::connect(&service.socket).unwrap();
-    assert_eq!(registry.publish("log", "1.0.0", &[]), Err(Error::Refused { refusal: Refusal::DiskFault, revision: 1 }));
+    assert_eq!(registry.publish("log", "1.0.0", &[]), Err(Error::Refused { refusal: Refusal::DiskFault, revision: 1, culprit: None }));
     assert_eq!(registry.resolve(Resolve::default()), Ok(versions(&[])));
     assert_eq!(service.asked.lock().unwrap().iter().map(Vec::len).collect::<Vec<_>>(), [2, 2]);
 }
@@ -204,7 +207,10 @@ fn what_a_service_refuses_is_not_asked_again() {
 fn what_stood_when_it_connected_is_no_answer() {
     let service = scripted(&[PUBLISHED], &[(1, ""), (1, "{\"error\":7,\"name\":\"AlreadyPublished\",\"revision\":1}\n")]);
     let mut registry = Registry::connect(&service.socket).unwrap();
-    assert_eq!(registry.publish("log", "1.0.0", &[]), Err(Error::Refused { refusal: Refusal::AlreadyPublished, revision: 1 }));
+    assert_eq!(
+        registry.publish("log", "1.0.0", &[]).map_err(without_culprit),
+        Err(Error::Refused { refusal: Refusal::AlreadyPublished, revision: 1, culprit: None })
+    );
     assert_eq!(service.asked.lock().unwrap().len(), 2);
 }
 

@@ -3,10 +3,10 @@ import contextlib
 import sys
 
 from limits import MOST_LINE_BYTES
+from registryd_lines.fault import placed
+from registryd_lines.judging import faults
 
 from ..failures import DONE, REFUSED, Failed, told
-from ..lines.fault import placed
-from ..lines.judging import faults
 
 
 def run(given, out):

@@ -1,9 +1,10 @@
 """`registry journal repair`: the longest lawful beginning of a journal's file, as a file of its own."""
 import json
 
+from registryd_lines.fault import shown
+
 from ..failures import Failed, Refused
 from ..journal_file import FAULTY, fault_line, read_journal, refuse_existing, write_new
-from ..lines.fault import shown
 
 MOST_TOLD, MOST_SHOWN = 10, 200
 

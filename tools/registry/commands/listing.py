@@ -1,9 +1,10 @@
 """`registry list` and `registry search`: the packages, each with its newest version."""
 from types import SimpleNamespace
 
-from ..catalog import Version, ranked
+from registryd_lines.nearest import nearest
+
+from ..catalog import Version, newest
 from ..failures import REFUSED
-from ..nearest import nearest
 from ..refusals import listed
 from ..session import reading
 
@@ -24,9 +25,8 @@ def run(given, out):
 
 def row(name, versions):
     """A package in short."""
-    all_of = ranked(Version(text, is_yanked, ()) for text, is_yanked in versions)
-    newest = min(all_of, key=lambda it: (it.is_yanked, it.is_pre_release))
-    return SimpleNamespace(name=name, newest=newest.text, versions=len(all_of), yanked=sum(it.is_yanked for it in all_of))
+    all_of = [Version(text, is_yanked, ()) for text, is_yanked in versions]
+    return SimpleNamespace(name=name, newest=newest(all_of).text, versions=len(all_of), yanked=sum(it.is_yanked for it in all_of))
 
 
 def lines(rows, out):

@@ -1,7 +1,6 @@
 """`registry page`: shows the journal in a browser of this machine, until a key ends it."""
 import sys
 
-from .. import near_limits
 from ..page.journal import File, Journal, Service
 from ..page.server import Server
 from ..session import journal_of, selecting, service_of
@@ -13,7 +12,8 @@ def run(given, out):
     service, words = service_of(given), selecting(given)
     journal = Journal(Service(service, words) if service else File(journal_of(given), words), given.seconds or SECONDS)
     try:
-        near_limits.warn(journal.path, journal.view.text)
+        for it in journal.view.warnings:
+            out.note(it)
         with Server(journal, given.port or 0) as server:
             out.give({"address": server.address, "port": server.port}, [server.address])
             if not out.is_json:

@@ -2,13 +2,14 @@
 import asyncio
 
 from ..failures import FAILED, Usage
+from ..service.pages import show
 from ..service.service import Service
 from ..session import journal_of
 
 
 def run(given, out):
-    if bool(given.socket) == (given.port is not None):
-        raise Usage("a service listens on one of --socket PATH and --port N")
+    if not given.socket and given.port is None:
+        raise Usage("a service listens on --socket PATH, on --port N, or on both")
     if given.connect:
         raise Usage("a service keeps a journal itself: --journal FILE names it, and --connect is for those who ask it")
     if given.group and not given.socket:
@@ -19,12 +20,15 @@ def run(given, out):
 async def serve(path, given, out):
     """The exit status of a service."""
     service = Service(path, given)
-    await service.begin()
-    where = given.socket or f"127.0.0.1:{service.servers[0].sockets[0].getsockname()[1]}"
-    revision = service.keeper.revision
-    out.give({"listening": where, "revision": revision}, [f"{path} is served at {where} (revision {revision})"])
-    await service.signalled.wait()
-    if await service.end():
-        return None
+    with service.left:
+        await service.begin()
+        names = [it if isinstance(it, str) else "{}:{}".format(*it) for it in (server.sockets[0].getsockname() for server in service.servers)]
+        where = names[:len(names) - (given.metrics_port is not None)]
+        out.give({"listening": where[0], "also": where[1:], "revision": service.keeper.revision},
+                 [f"{path} is served at {' and '.join(where)} (revision {service.keeper.revision})"])
+        await show(service, where[0], out)
+        await service.signalled.wait()
+        if await service.end():
+            return None
     out.note(f"{path} has no end line: it has all accepted commands, and the next session continues it")
     return FAILED

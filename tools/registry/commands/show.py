@@ -5,7 +5,7 @@ from ..session import reading
 
 def run(given, out):
     with reading(given) as session:
-        catalog = Catalog(session)
+        catalog = Catalog(session.journal())
     versions, newest = catalog.versions(given.name), catalog.newest(given.name)
     told_of = catalog.version(given.name, given.version) if given.version else newest
     needing = list(catalog.needing(given.name))

@@ -1,8 +1,9 @@
 """`registry tree`: a selection as a tree of who needs whom, each package with its needs once, as `cargo tree` shows it."""
 import sys
 
+from registryd_lines.nearest import nearest
+
 from ..failures import Refused
-from ..nearest import nearest
 from ..needs import need_of
 from ..requests import answered, needs_of, refused, request_of
 from ..session import reading

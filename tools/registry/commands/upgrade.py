@@ -1,8 +1,9 @@
 """`registry upgrade`: takes packages off the lock, shows what would change, and writes it where that is wanted."""
+from registryd_lines.nearest import nearest
+
 from ..failures import REFUSED, Refused
 from ..files import write_file
 from ..locks import DEFAULT, changed, changes, coloured, counted, lock_of, lock_text, renewed
-from ..nearest import nearest
 from ..needs import need_of
 from ..refusals import listed
 from ..requests import answered, lock_notes, refused, request_of

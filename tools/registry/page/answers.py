@@ -1,22 +1,31 @@
 """What the page asks for, as values for JSON."""
 import bisect
+import re
 
-from check_derivation import read_version
+from check_derivation import NAME, read_requirement, read_version
+from registryd_lines.nearest import nearest
 
 from ..failures import Failure, Refused
-from ..nearest import nearest
 from ..needs import need_of
 from ..refusals import english, unpublished
 from .journal import Unanswered
 from .refusal import refusal
 
-MOST_FOUND = 100  # names that are told of a search
+MOST_FOUND = 100  # names that are told of a search at a time
 END = "\x7f"  # comes behind each letter of a name
 MOST_LINES = 20_000  # of a derivation that is told
 
 
 class NotThere(Failure):
     """What is asked for has no name here."""
+
+
+class AtFault(Refused):
+    """A request is refused for one of its needs. `field` has the number of that, and its part that is at fault."""
+
+    def __init__(self, said, field):
+        super().__init__(said)
+        self.field = field
 
 
 def status(journal, _):
@@ -27,11 +36,13 @@ def status(journal, _):
 
 
 def search(journal, query):
-    """The packages whose names have a text in them, those that begin with it first. What is only needed is among them."""
+    """A part of the packages whose names have a text in them, those that begin with it first. What is only needed is among them."""
     view, text = journal.view, query.get("text", [""])[0].strip().lower()
-    found = with_text(view.names, text)
+    found, asked = with_text(view.names, text), query.get("before", ["0"])[0]
+    before = int(asked) if re.fullmatch("[0-9]{1,9}", asked) and int(asked) < len(found) else 0
     near = nearest(text, view.names) if text and not found else None
-    return {"revision": view.revision, "text": text, "found": len(found), "near": near, "packages": [in_short(view, it) for it in found[:MOST_FOUND]]}
+    return {"revision": view.revision, "text": text, "found": len(found), "near": near, "before": before, "most": MOST_FOUND,
+            "packages": [in_short(view, it) for it in found[before:before + MOST_FOUND]]}
 
 
 def with_text(names, text):
@@ -49,7 +60,7 @@ def in_short(view, name):
 def package(journal, query):
     """A package: its versions, the newest first, with what each needs; and who needs it."""
     view, name = journal.view, query.get("name", [""])[0]
-    if name not in view.listed and name not in view.above:
+    if name not in view.names:
         raise NotThere(unpublished(name, view.names))
     versions = view.versions(name) if name in view.listed else []
     return {**in_short(view, name), "revision": view.revision, "near": None if versions else nearest(name, view.listed),
@@ -65,7 +76,7 @@ def resolve(journal, query):
     request = {"op": "resolve", "needs": needs, "lock": [], "explain": True}
     view, reply = journal.ask(request, query.get("page", [""])[0][:64])
     if "error" in reply:
-        raise Refused(english(request, reply, lambda: view.listed))
+        raise AtFault(english(request, reply, lambda: view.listed), field_of(needs, reply["error"]))
     value = {"needs": needs, "revision": reply["revision"]}
     if "selected" in reply:
         return {**value, "selected": selection(view, dict(reply["selected"]))}
@@ -73,6 +84,14 @@ def resolve(journal, query):
     if lines > MOST_LINES:
         raise Unanswered(f"no selection meets the request; why takes {lines:,} lines, which are more than this page tells: `registry why` tells them")
     return {**value, "refused": refusal(view, request, reply)}
+
+
+def field_of(needs, number):
+    """Which need a refusal by number speaks of, the first that it fits, and which part of it; none where it is of none alone."""
+    names = [name for name, _ in needs]
+    part, is_at_fault = {1: ("name", lambda at: not NAME.fullmatch(names[at])), 3: ("requirement", lambda at: read_requirement(needs[at][1]) is None),
+                         4: ("name", lambda at: names[at] in names[:at])}.get(number, ("", lambda at: False))
+    return next(([at, part] for at in range(len(needs)) if is_at_fault(at)), None)
 
 
 def selection(view, selected):

@@ -1,14 +1,17 @@
 """The journal that a page shows: as it stood when it was read last, with the program that selects from it."""
 import functools
+import json
 import os
+import re
 import threading
 
-from .. import near_limits
 from ..catalog import Catalog
 from ..failures import Failed, Unanswered
-from ..session import Reading, snapshot
+from ..journal_file import commands_in
+from ..session import EMPTY, Reading, snapshot
 
 MOST_PAGES = 1_000  # whose last search is known
+TARGET = re.compile(r'\["([^"]+)","')  # how a dependency begins
 
 
 class File:
@@ -55,35 +58,24 @@ class View(Catalog):
         self.path, self.words, self.text, self.searches, self.ranks = source.path, source.words, source.text(), 0, {}
         self.session = Reading(self.path, self.text, self.words)
         try:
-            super().__init__(self.session)
+            super().__init__(self.text)  # while the program loads it
+            self.names = sorted({*self.listed, *TARGET.findall(self.lines)})
+            self.warnings = self.session.warnings
+            self.session.ask(EMPTY)  # it says where a line is at fault
         except BaseException:
             self.session.leave()
             raise
-        self.names = sorted({*self.listed, *self.above})
-        self.warnings = list(near_limits.warnings(self.path, self.text))
         self.counts = {"packages": len(self.listed), "versions": sum(map(len, self.listed.values())),
                        "yanked": sum(is_yanked for held in self.listed.values() for _, is_yanked in held)}
 
     @functools.cached_property
-    def above(self):
-        """By package those with a version that needs it."""
-        found = {}
-        for (name, _), needs in self.needs.items():
-            for target, _ in needs:
-                found.setdefault(target, {})[name] = None
-        return found
+    def commands(self):
+        return [json.loads(it) for it in commands_in(self.text)]
 
     def versions(self, name):
         if name not in self.ranks:
             self.ranks[name] = super().versions(name)
         return self.ranks[name]
-
-    def users(self, name):
-        return self.above.get(name, ())
-
-    @property
-    def revision(self):
-        return len(self.commands)
 
     def program(self):
         """The program over this text, begun anew where a search was ended with it."""

@@ -8,13 +8,13 @@ from http.server import BaseHTTPRequestHandler, ThreadingHTTPServer
 from urllib.parse import parse_qs, urlsplit
 
 from ..failures import Failed, Failure, Refused, told
-from .answers import ANSWERS, NotThere
+from .answers import ANSWERS, AtFault, NotThere
 from .journal import Unanswered
 
 HOST = "127.0.0.1"
 FILES = os.path.join(os.path.dirname(os.path.abspath(__file__)), "files")
 KINDS = {".html": "text/html", ".css": "text/css", ".js": "text/javascript", ".svg": "image/svg+xml"}
-STATUSES = {Refused: HTTPStatus.BAD_REQUEST, NotThere: HTTPStatus.NOT_FOUND, Unanswered: HTTPStatus.SERVICE_UNAVAILABLE}
+STATUSES = {Refused: HTTPStatus.BAD_REQUEST, AtFault: HTTPStatus.BAD_REQUEST, NotThere: HTTPStatus.NOT_FOUND, Unanswered: HTTPStatus.SERVICE_UNAVAILABLE}
 PATIENCE = 30  # seconds for a request to come
 # all that the page loads is from here, and no text becomes HTML or a script
 POLICY = ("default-src 'none'; script-src 'self'; style-src 'self'; img-src 'self'; connect-src 'self'; base-uri 'none'; form-action 'none'; "
@@ -77,7 +77,7 @@ class Handler(BaseHTTPRequestHandler):
         try:
             status, value = HTTPStatus.OK, answer(self.server.journal, parse_qs(query, max_num_fields=100))
         except Failure as fault:
-            status, value = STATUSES.get(type(fault), HTTPStatus.INTERNAL_SERVER_ERROR), {"error": str(fault)}
+            status, value = STATUSES.get(type(fault), HTTPStatus.INTERNAL_SERVER_ERROR), {"error": str(fault), "field": getattr(fault, "field", None)}
         except ValueError as fault:  # too many fields, or what the checker of derivations says
             status, value = HTTPStatus.BAD_REQUEST, {"error": str(fault)}
         return status, json.dumps(value, separators=(",", ":")).encode(), "application/json"

@@ -15,7 +15,9 @@ What stands on that:
     ops.py         what a line asks
     disk.py        what is told while the journal can't be written, and until when
     copies.py      the journal as it stood at a revision
+    times.py       when each command was accepted
     readers.py     programs that follow the keeper: they answer requests, so that no client can stop the others
+    pages.py       the page in a browser, by a process of its own
     watching.py    what is counted and logged
     http.py        what is answered over HTTP: counts, health, the journal
 """

@@ -6,7 +6,6 @@ from limits import MOST_LINE_BYTES
 
 from .http import HTTP, LINES, page, spoken
 from .ops import READS, op_of
-from .watching import name_of
 
 MOST_ASKED = 64  # commands of a client that are under way; the lines behind them wait in the socket
 MOST_UNREAD = 64 << 20  # bytes of replies that wait for a client
@@ -46,7 +45,7 @@ class Client(asyncio.Protocol):
         self.is_slow = False  # whether its last request was
 
     def connection_made(self, transport):
-        self.transport, self.name = transport, name_of(transport)
+        self.transport, (self.name, self.number) = transport, self.service.watch.named(transport)
         if not self.service.takes_in(self, self.service.clients):
             page(self.service, transport)  # how the service is it may ask
 

@@ -1,10 +1,12 @@
-"""What a service answers over HTTP: its counts, whether it is well, and the journal as it stands."""
+"""What a service answers over HTTP: its counts, whether it is well, the journal as it stands, and when its commands came."""
 import asyncio
 import contextlib
 import os
 import re
 from functools import partial
 
+from ..failures import Failed
+from ..program import version
 from .copies import Copy
 from .ops import BLANKS
 
@@ -14,7 +16,7 @@ OBJECT = re.compile(rb"[ \t\r]*\{")
 UNFINISHED = re.compile(rb"[ \t\r]*\Z|[A-Z]")  # the beginning of a line that may become one of these
 HOST = re.compile(rb"(?im)^host:[ \t]*(\S+?)(?::[0-9]+)?[ \t]*\r?$")
 HOSTS = re.compile(rb"(?im)^[ \t]*host\b")  # whatever may be taken for one
-COPY = re.compile(rb"GET /journal\b")
+COPY = re.compile(rb"GET /(?:journal|log)\b")
 HERE = b"localhost", b"127.0.0.1", b"[::1]"
 MOST_HEAD = 65_536
 MOST_COPIES = 4  # of the journal that are told at a time
@@ -22,6 +24,7 @@ MOST_GUESTS = 16  # connections beyond the clients that may be, on which it may 
 HEARING = 1  # seconds for a guest to ask
 FULL = b'{"error":503,"name":"TooManyClients","revision":%d}\n'
 PATIENCE = 30  # seconds for a request to come and its answer to be read
+PAGE = os.sysconf("SC_PAGE_SIZE")
 OK, UNAVAILABLE = "200 OK", "503 Service Unavailable"
 PLAIN, PROMETHEUS = "text/plain; charset=utf-8", "text/plain; version=0.0.4; charset=utf-8"
 
@@ -109,13 +112,13 @@ async def answer(service, head, address, is_guest=False):
         return "405 Method Not Allowed", PLAIN, b"GET alone is answered over HTTP; request lines come without it\n"
     path, _, query = line[2].partition(b"?")
     if path == b"/metrics":
-        return OK, PROMETHEUS, metrics(service)
+        return OK, PROMETHEUS, metrics(service, await service.build)
     if path == b"/health":
         ill = illness(service)
         return (UNAVAILABLE if ill else OK), PLAIN, (ill or "ok").encode() + b"\n"
-    if path == b"/journal":
-        return await journal(service, query, is_guest)
-    return "404 Not Found", PLAIN, b"there are /metrics, /health and /journal\n"
+    if path in (b"/journal", b"/log"):
+        return await journal(service, path, query, is_guest)
+    return "404 Not Found", PLAIN, b"there are /metrics, /health, /journal and /log\n"
 
 
 def illness(service):
@@ -131,22 +134,59 @@ def illness(service):
     return "no reader is free: requests wait" if service.readers.are_late() else ""
 
 
-def metrics(service):
+def metrics(service, build):
     size = os.stat(service.path).st_size if os.path.exists(service.path) else 0
     can_accept = service.keeper.is_up and not service.keeper.disk.fault
     return service.watch.text({
         "clients": len(service.clients), "lines_waiting": sum(len(it.asked) + len(it.lines) for it in service.clients),
-        "readers": service.readers.ready(), "keeper_up": can_accept, "revision": service.keeper.revision, "journal_bytes": size})
+        "readers": service.readers.ready(), "keeper_up": can_accept, "revision": service.keeper.revision, "journal_bytes": size,
+        "disk_free_bytes": free_bytes(service.path), "resident_bytes": memory(service), "build_info": {build: 1}})
 
 
-async def journal(service, query, is_guest):
-    """The journal at a revision. Clients are answered while it is read."""
+def build():
+    """What the program says of itself, as labels."""
+    said = ""
+    with contextlib.suppress(Failed, OSError):
+        said = version()
+    found = re.match(r"\w+ ([\w.+~-]+), commit (\w+)", said)
+    proved = "unknown" if not found else "yes" if "The program is proved" in said else "no"
+    return 'version="{}",commit="{}",proved="{}"'.format(*(found.groups() if found else ("unknown", "unknown")), proved)
+
+
+def free_bytes(path):
+    """How many bytes may still be written beside a journal."""
+    try:
+        found = os.statvfs(os.path.dirname(os.path.realpath(path)))
+    except OSError:
+        return 0
+    return found.f_bavail * found.f_frsize
+
+
+def memory(service):
+    """The resident memory of the service and of its programs, as far as they run."""
+    programs = [("service", os.getpid()), *((it.role, it.child.process.pid) for it in (service.keeper, *service.readers.readers) if it.child)]
+    found = {}
+    for role, process in programs:
+        with contextlib.suppress(OSError, IndexError), open(f"/proc/{process}/statm", encoding="ascii") as file:
+            found[f'program="{role}",process="{process}"'] = int(file.read().split()[1]) * PAGE
+    return found
+
+
+async def journal(service, path, query, is_guest):
+    """The journal at a revision, or its commands after one with their times. Clients are answered while it is read."""
     if is_guest:
         return UNAVAILABLE, PLAIN, b"as many clients as are allowed are connected\n"
     if not service.keeper.is_up:
         return UNAVAILABLE, PLAIN, b"the journal can be copied once the program that keeps it runs again\n"
-    asked, last = re.fullmatch(b"revision=([0-9]{1,9})", query), service.keeper.revision
+    word, last = (b"after" if path == b"/log" else b"revision"), service.keeper.revision
+    asked = re.fullmatch(word + b"=([0-9]{1,9})", query)
+    if query and not asked:
+        return "400 Bad Request", PLAIN, b"what may be asked for is %s, or %s?%s=N\n" % (path, path, word)
+    if asked and int(asked[1]) > last:
+        return "404 Not Found", PLAIN, f"the journal is at revision {last}\n".encode()
+    number = int(asked[1]) if asked else 0 if path == b"/log" else last
+    read = partial(service.times.text, service.path, number, last) if path == b"/log" else partial(Copy, service.path, number)
     try:
-        return OK, PLAIN, await service.loop.run_in_executor(None, Copy, service.path, min(int(asked[1]), last) if asked else last)
+        return OK, PLAIN, await service.loop.run_in_executor(None, read)
     except OSError as fault:
         return UNAVAILABLE, PLAIN, f"the journal can't be read: {fault.strerror}\n".encode()

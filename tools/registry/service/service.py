@@ -1,16 +1,17 @@
 """A service: its sockets, its programs, how it begins and how it ends."""
 import asyncio
-import contextlib
-import os
 import signal
+from contextlib import ExitStack
+from pathlib import Path
 
 from ..session import selecting
 from .client import Client
-from .http import MOST_COPIES, page
+from .http import MOST_COPIES, build, page
 from .keeper import Keeper
 from .ops import READS
 from .readers import Readers
 from .sockets import allow_files, bound_file, bound_port, notify
+from .times import Times
 from .watching import Watch
 
 GRACE, ENDING, READING = 2.0, 1.5, 1.0  # seconds: for what is under way, then for the journal's end, then for replies to be read
@@ -23,10 +24,10 @@ class Service:
         self.path, self.given, self.loop = path, given, asyncio.get_running_loop()
         self.now, self.servers, self.is_stopping, self.is_over = self.loop.time, [], False, False
         self.clients, self.pages, self.guests = set(), set(), set()  # connections: of lines, of HTTP, and those beyond the clients that may be
-        self.copying = asyncio.Semaphore(MOST_COPIES)
+        self.copying, self.left = asyncio.Semaphore(MOST_COPIES), ExitStack()  # it removes the socket, also where this can't begin
         self.watch, self.signalled = Watch(given.log), asyncio.Event()
         self.keeper = Keeper(path, self.watch, selecting(given))
-        self.readers = Readers(path, self.watch, self.keeper, given)
+        self.times, self.readers = Times(self.keeper), Readers(path, self.watch, self.keeper, given)
 
     def takes_in(self, connection, kind):
         """Whether a connection that comes has a place among those of its kind: not where as many clients as are allowed are connected."""
@@ -42,14 +43,16 @@ class Service:
             (self.readers if asked.op in READS else self.keeper).ask(asked)
 
     async def begin(self):
-        """Begins the programs, then listens."""
+        """Takes its addresses, begins the programs, then listens. So where an address is taken, no journal is begun."""
         allow_files(4 * self.given.clients)
+        self.build = self.loop.run_in_executor(None, build)
+        sockets = [*self.sockets()]
         await self.keeper.start()
         await self.readers.start()
         for number in (signal.SIGTERM, signal.SIGINT):
             self.loop.add_signal_handler(number, self.signalled.set)
         self.loop.add_signal_handler(signal.SIGHUP, self.watch.reopen)
-        for bound, protocol in self.sockets():
+        for bound, protocol in sockets:
             self.servers.append(await self.loop.create_server(lambda of=protocol: of(self), sock=bound, backlog=1_024))
         notify("READY=1")
 
@@ -57,6 +60,7 @@ class Service:
         """The sockets to listen on, each with what is spoken there."""
         if self.given.socket:
             yield bound_file(self.given.socket, int(self.given.mode, 8), self.given.group), Client
+            self.left.callback(Path(self.given.socket).unlink, missing_ok=True)
         for port, protocol in ((self.given.port, Client), (self.given.metrics_port, page)):
             if port is not None:
                 yield bound_port(port), protocol
@@ -77,9 +81,6 @@ class Service:
         await self.until(lambda: not self.clients, READING)
         for it in list(self.clients):
             it.transport.abort()
-        if self.given.socket:
-            with contextlib.suppress(OSError):
-                os.unlink(self.given.socket)
         return has_ended
 
     async def until(self, holds, seconds):

@@ -6,19 +6,16 @@ import resource
 import socket
 import stat
 
-from ..failures import Failed, told
+from ..failures import Failed
 
 HOST = "127.0.0.1"
 
 
 def bound_port(port):
-    bound = socket.socket()
-    bound.setsockopt(socket.SOL_SOCKET, socket.SO_REUSEADDR, 1)
     try:
-        bound.bind((HOST, port))
+        return socket.create_server((HOST, port))
     except OSError as fault:
-        raise Failed(f"port {port} can't be taken: {told(fault)}") from None
-    return bound
+        raise Failed(f"port {port} can't be taken: {os.strerror(fault.errno)}") from None
 
 
 def bound_file(path, mode, group):
@@ -38,6 +35,7 @@ def bound_file(path, mode, group):
         try:
             os.chown(path, -1, owners)
             os.chmod(path, mode)
+            bound.listen()  # who comes from now on waits, and no other service takes the path
         except OSError:
             os.unlink(path)
             raise
@@ -57,7 +55,6 @@ def allow_files(count):
 
 def notify(state):
     """Tells systemd, where it began this."""
-    address = os.environ.get("NOTIFY_SOCKET", "")
-    if address:
+    if address := os.environ.get("NOTIFY_SOCKET"):
         with socket.socket(socket.AF_UNIX, socket.SOCK_DGRAM) as sender, contextlib.suppress(OSError):
             sender.sendto(state.encode(), "\0" + address[1:] if address.startswith("@") else address)

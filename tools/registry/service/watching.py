@@ -1,17 +1,21 @@
 """What is seen of a service from outside: its log, and its counts in the text form of Prometheus."""
 import contextlib
+import json
 import re
 import socket
 import struct
 import sys
 from bisect import bisect_left
 from collections import Counter, defaultdict
-from datetime import datetime, timezone
-from itertools import accumulate
+from itertools import accumulate, count
+
+from .ops import COMMANDS
+from .times import now
 
 SLOW = 1.0  # seconds; what takes longer is logged in any case
 BUCKETS = (0.001, 0.003, 0.01, 0.03, 0.1, 0.3, 1.0, 3.0, 10.0, 30.0)  # and one for what takes longer
 ERROR = re.compile(rb'\{"error":([0-9]+),"name":"(\w+)"')
+ACCEPTED = re.compile(rb'\{"ok":true,"revision":([0-9]+)')
 # what a reply is, by how it begins
 KINDS = ((b'{"ok"', "accepted"), (b'{"revision"', "selected"), (b'{"refused"', "refused"), (b'{"derivation"', "refused"), (b'{"follows"', "checked"),
          (b'{"packages"', "listed"))
@@ -28,7 +32,16 @@ COUNTS = {
     "keeper_up": "Whether commands can be accepted.",
     "revision": "The commands in the journal.",
     "journal_bytes": "The length of the journal's file.",
+    "disk_free_bytes": "The bytes that are free for the journal on its file system.",
+    "resident_bytes": "The memory that each process of the service has.",
+    "build_info": "1, with the version, and whether the program is proved.",
 }
+TIMES = {
+    "request_seconds": "Seconds from a line to its reply.",
+    "commit_seconds": "Seconds from an accepted command to its reply, before which the journal is synced.",
+}
+MOST_SHOWN = 256  # letters of a value in the log
+PLAIN = re.compile(r"[A-Za-z0-9_.+-]{1,256}")  # a value that stands in the log without quotes
 
 
 def name_of(transport):
@@ -41,12 +54,27 @@ def name_of(transport):
     return f"user:{user}:process:{process}"
 
 
+def command_of(line):
+    """The package and the version that a command names, as the log has them; nothing where it can't be read."""
+    try:
+        found = json.loads(line)
+        return {said: shown(found[it]) for said, it in (("package", "name"), ("version", "version"))}
+    except (ValueError, TypeError, KeyError, RecursionError):
+        return {}
+
+
+def shown(value):
+    """A value as the log has it: what is more than letters and digits stands in quotes, so nobody writes a line of the log."""
+    return value if PLAIN.fullmatch(value) else json.dumps(value[:MOST_SHOWN])
+
+
 class Watch:
     """Counts what happens, and logs it: all where a log is wanted, else on standard error what is slow or wrong."""
 
     def __init__(self, path):
         self.path, self.counts, self.sums = path, Counter(), Counter()
-        self.taken = defaultdict(lambda: [0] * (len(BUCKETS) + 1))  # lines by bucket, for each op
+        self.taken = defaultdict(lambda: [0] * (len(BUCKETS) + 1))  # lines by bucket, for each family of times and its labels
+        self.connections = count(1)
         self.open()
 
     def open(self):
@@ -64,24 +92,33 @@ class Watch:
                 before.close()
 
     def note(self, **said):
-        at = datetime.now(timezone.utc).isoformat(timespec="milliseconds").removesuffix("+00:00")
         with contextlib.suppress(OSError):  # on a full disk the service goes on
-            print(f"{at}Z", *(f"{name}={value}" for name, value in said.items()), file=self.file, flush=True)
+            print(now(), *(f"{name}={value}" for name, value in said.items()), file=self.file, flush=True)
+
+    def named(self, transport):
+        """What a connection is called in the log, and its number."""
+        return name_of(transport), next(self.connections)
+
+    def timed(self, seconds, family, labels=""):
+        self.sums[family, labels] += seconds
+        self.taken[family, labels][bisect_left(BUCKETS, seconds)] += 1
 
     def answered(self, asked, seconds):
         """A line has its reply."""
         op, error = asked.op or "other", ERROR.match(asked.reply)
-        self.sums[op] += seconds
-        self.taken[op][bisect_left(BUCKETS, seconds)] += 1
+        self.timed(seconds, "request_seconds", f'op="{op}"')
         if error:
             self.counts["refused_total", f'number="{int(error[1])}",name="{error[2].decode()}"'] += 1
             self.counts["budgets_spent_total", ""] += error[1] == b"22"
         elif asked.reply.startswith(b'{"ok"'):
             self.counts["commands_accepted_total", ""] += 1
+            self.timed(seconds, "commit_seconds")
         if self.path or seconds > SLOW:
             kind = error[2].decode() if error else next((kind for begin, kind in KINDS if asked.reply.startswith(begin)), "other")
-            self.note(client=asked.client.name, op=op, seconds=f"{seconds:.6f}", reply=kind, request_bytes=len(asked.line),
-                      reply_bytes=len(asked.reply))
+            accepted = ACCEPTED.match(asked.reply)
+            self.note(client=asked.client.name, connection=asked.client.number, op=op, **(command_of(asked.line) if op in COMMANDS else {}),
+                      seconds=f"{seconds:.6f}", reply=kind, **({"revision": int(accepted[1])} if accepted else {}),
+                      request_bytes=len(asked.line), reply_bytes=len(asked.reply))
 
     def restarted(self, which, why):
         self.counts["restarts_total", f'program="{which}"'] += 1
@@ -95,20 +132,23 @@ class Watch:
         self.note(event="cut-off", client=client.name, why="'it does not read its replies'")
 
     def text(self, gauges):
-        """All counts, with these that are not counted here."""
+        """All counts, with these that are not counted here: numbers, or numbers by labels."""
         lines = []
         for name, about in COUNTS.items():
-            found = {labels: count for (other, labels), count in self.counts.items() if other == name} or {"": gauges.get(name, 0)}
+            given = gauges.get(name, 0)
+            counted = {labels: count for (other, labels), count in self.counts.items() if other == name}
+            found = counted or (given if isinstance(given, dict) else {"": given})
             lines += [f"# HELP registryd_{name} {about}", f"# TYPE registryd_{name} {'gauge' if name in gauges else 'counter'}"]
             lines += [f"registryd_{name}{labels and '{' + labels + '}'} {int(value)}" for labels, value in sorted(found.items())]
-        return "\n".join([*lines, *self.histogram(), ""]).encode()
+        return "\n".join([*lines, *(line for family in TIMES for line in self.histogram(family)), ""]).encode()
 
-    def histogram(self):
-        """How long lines took, by what they asked."""
-        name = "registryd_request_seconds"
-        yield from (f"# HELP {name} Seconds from a line to its reply.", f"# TYPE {name} histogram")
-        for op, taken in sorted(self.taken.items()):
-            for bucket, count in zip((*BUCKETS, "+Inf"), accumulate(taken)):
-                yield f'{name}_bucket{{op="{op}",le="{bucket}"}} {count}'
-            yield f'{name}_sum{{op="{op}"}} {self.sums[op]:.6f}'
-            yield f'{name}_count{{op="{op}"}} {count}'
+    def histogram(self, family):
+        """How long it took, by what was asked where there are such labels."""
+        name = f"registryd_{family}"
+        yield from (f"# HELP {name} {TIMES[family]}", f"# TYPE {name} histogram")
+        for labels, taken in sorted((labels, taken) for (other, labels), taken in self.taken.items() if other == family):
+            for bucket, total in zip((*BUCKETS, "+Inf"), accumulate(taken)):
+                yield f'{name}_bucket{{{labels}{labels and ","}le="{bucket}"}} {total}'
+            within = labels and f"{{{labels}}}"
+            yield f"{name}_sum{within} {self.sums[family, labels]:.6f}"
+            yield f"{name}_count{within} {total}"

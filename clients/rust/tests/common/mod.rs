@@ -57,6 +57,14 @@ pub fn told<T: std::fmt::Debug>(answer: Result<T, Error>) -> String {
     }
 }
 
+/// An error as it is told without the text that it was refused for.
+pub fn without_culprit(error: Error) -> Error {
+    match error {
+        Error::Refused { refusal, revision, .. } => Error::Refused { refusal, revision, culprit: None },
+        other => other,
+    }
+}
+
 /// In this time it is over on a busy machine, too, where a search would go on.
 pub const SOON: Duration = Duration::from_secs(15);
 

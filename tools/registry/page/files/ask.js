@@ -2,7 +2,13 @@
 
 export const PAGE = Array.from(crypto.getRandomValues(new Uint32Array(2)), (it) => it.toString(16)).join("");
 
-export class Fault extends Error {}
+export class Fault extends Error {
+  // `field` is the number of a need and its part that is at fault, where the server knows that.
+  constructor(said, field = null) {
+    super(said);
+    this.field = field;
+  }
+}
 
 export async function ask(name, fields = {}, signal = undefined) {
   const query = new URLSearchParams();
@@ -15,6 +21,6 @@ export async function ask(name, fields = {}, signal = undefined) {
     throw new Fault("registry page has ended: begin it again in a terminal");
   }
   const value = await reply.json().catch(() => ({ error: `${reply.status} ${reply.statusText}` }));
-  if (!reply.ok) throw new Fault(value.error);
+  if (!reply.ok) throw new Fault(value.error, value.field);
   return value;
 }

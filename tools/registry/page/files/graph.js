@@ -4,7 +4,8 @@ import { el, packageLink, svg } from "./dom.js";
 import { layout } from "./layout.js";
 
 const EDGE = 12; // what is left free around it
-const LEAST = 0.85; // how small it is when it is drawn first
+const WHOLE = 0.6; // all of it is shown first where it is not smaller then;
+const LEAST = 0.85; // else it has this size, or is as wide as its frame
 const READABLE = 0.7; // and where one looks for something
 const TALL = 0.6; // how much of the window it takes at most
 const STEP = 1.3;
@@ -33,7 +34,7 @@ export class Graph {
       onkeydown: (event) => event.key === "Enter" && this.find(this.field.value.trim().toLowerCase(), true) });
     this.only = el("input", { id: "only", type: "checkbox", disabled: true, onchange: () => this.show(this.only.checked) });
     return el("div", { class: "tools" }, this.field, known, el("span", { class: "buttons" }, button("+", "Zoom in", () => this.zoom(STEP)),
-      button("−", "Zoom out", () => this.zoom(1 / STEP)), button("All", "Show all of it", () => this.fit(0))),
+      button("−", "Zoom out", () => this.zoom(1 / STEP)), button("All", "Show all of it", () => this.fit(true))),
     el("label", { for: "only" }, this.only, " only its paths"));
   }
 
@@ -50,7 +51,7 @@ export class Graph {
     this.nodes = new Map([...labels].map(([name, label]) => [name, this.node(name, label, places.get(name))]));
     this.drawing.replaceChildren(svg("g", {}, this.lines.map((it) => it.drawn)), svg("g", {}, [...this.nodes.values()]));
     this.drawing.style.height = `${Math.round(Math.min(TALL * window.innerHeight, Math.max(120, this.layout.high + 70)))}px`;
-    this.fit(LEAST);
+    this.fit();
     this.light();
   }
 
@@ -138,12 +139,14 @@ export class Graph {
     return { across: box.width || 800, down: box.height || 500 };
   }
 
-  fit(least) {
+  // Shows all of it, or else what is at least readable, and no column less.
+  fit(isAll = false) {
     const { across, down } = this.size;
-    const scale = Math.min((across - 2 * EDGE) / this.layout.wide, (down - 2 * EDGE) / (this.layout.high + 20), 1.2);
-    this.scale = Math.max(scale, least);
+    const columns = (across - 2 * EDGE) / this.layout.wide;
+    const whole = Math.min(columns, (down - 2 * EDGE) / (this.layout.high + 20), 1.2);
+    this.scale = isAll || whole >= WHOLE ? whole : Math.min(columns, LEAST);
     const [wide, high] = [across / this.scale, down / this.scale];
-    // what has no room is cut off on the right, and above and below what is needed first
+    // what has no room is cut off above and below what is needed first
     this.x = wide > this.layout.wide ? (this.layout.wide - wide) / 2 : -EDGE;
     const first = this.layout.places.get(this.picked ?? "") ?? [...this.layout.places.values()][0];
     this.y = high > this.layout.high + 20 ? (this.layout.high - high) / 2 : first.y - high / 2;
@@ -154,7 +157,7 @@ export class Graph {
   // What nobody moved yet is fitted anew; so is what was drawn before it had a place on the page.
   resized() {
     if (this.isFitted || !this.isPlaced) {
-      this.fit(LEAST);
+      this.fit();
       if (this.picked !== null) this.look(this.picked);
     } else this.place();
     this.isPlaced = true;
@@ -226,7 +229,7 @@ export class Graph {
 
   key(event) {
     const keys = { ArrowLeft: () => this.move(60, 0), ArrowRight: () => this.move(-60, 0), ArrowUp: () => this.move(0, 60), ArrowDown: () => this.move(0, -60),
-      "+": () => this.zoom(STEP), "=": () => this.zoom(STEP), "-": () => this.zoom(1 / STEP), 0: () => this.fit(0), Escape: () => this.pick(null) };
+      "+": () => this.zoom(STEP), "=": () => this.zoom(STEP), "-": () => this.zoom(1 / STEP), 0: () => this.fit(true), Escape: () => this.pick(null) };
     if (keys[event.key] && !event.ctrlKey && !event.metaKey && !event.altKey) {
       event.preventDefault();
       keys[event.key]();

@@ -29,8 +29,17 @@ async function answer(at, shown, needs, result) {
     else result.replaceChildren(...refusal(told));
   } catch (fault) {
     if (shown.signal.aborted) return;
-    result.replaceChildren(el("p", { class: "fault", role: "alert" }, fault.message.replace(/[^.?!]$/, "$&.")));
+    result.replaceChildren(el("p", { id: "fault", class: "fault", role: "alert" }, fault.message.replace(/[^.?!]$/, "$&.")));
+    if (fault.field) mark(...fault.field);
   }
+}
+
+// Marks the field of the form that is at fault.
+function mark(need, part) {
+  const field = document.querySelectorAll("#needs li")[need]?.querySelector(`.${part}`);
+  field?.setAttribute("aria-invalid", "true");
+  field?.setAttribute("aria-describedby", "fault");
+  field?.addEventListener("input", () => field.removeAttribute("aria-invalid"), { once: true });
 }
 
 async function resolved(needs, signal) {

@@ -1,4 +1,4 @@
-"""A client of registryd in one file: it asks a registry by lines, and answers with values.
+"""A client of registryd: it asks a registry by lines, and answers with values.
 
     with Registry("./registryd", journal="python.journal") as registry:
         registry.publish("log", "1.3.0")
@@ -13,9 +13,10 @@ A call waits for its reply. `ask` and `many` answer futures. To a child they sen
 be on their way, and resolve lines that come to the program together are shared out among its workers. In this process the lines
 are answered one after another before the futures are returned. Replies come in the order of the lines.
 
-A line that is refused by number raises the exception of its name, which is a `Refusal`. That no selection meets a request is no
-exception: `resolve` answers `NoSelection`. Names, versions and requirements are judged by the registry alone. Where the session
-has ended, every call that waits and every later one raises `Ended`, which says how it ended; none waits for ever.
+A line that is refused by number raises the exception of its name, which is a `Refusal` and has its `culprit`: which text of the request,
+and what was probably meant. That no selection meets a request is no exception: `resolve` answers `NoSelection`, which is false where a
+`Selection` is true. A value that is none of its type is a TypeError or ValueError, before a line is sent; names, versions and
+requirements are judged by the registry alone. Where the session has ended, every call that waits and every later one raises `Ended`, which says how it ended; none waits for ever.
 
 A call may be interrupted, as by Ctrl-C or by what a signal's handler raises. No later call gets its reply: that is dropped as it comes, or
 the session ends and says why.
@@ -40,9 +41,21 @@ import weakref
 from collections import deque
 from collections.abc import Callable, Iterable, Iterator, Mapping, Sequence
 from concurrent.futures import Future
-from dataclasses import dataclass
+from dataclasses import dataclass, field, replace
 from pathlib import Path
-from typing import Any, Union
+from typing import TYPE_CHECKING, Any, NoReturn, Union
+
+if TYPE_CHECKING:
+    from registryd_lines.culprit import Culprit
+
+    from .tree import Derived
+
+__version__ = "0.3.0"
+__all__ = ["Registry", "Publish", "Yank", "Unyank", "Resolve", "Check", "List", "Line", "Request", "Pairs", "Derivation", "FilePath",
+           "Accepted", "Selection", "NoSelection", "Verdict", "Listing", "Reply", "RegistryError", "Ended", "NothingSelected", "Refusal", "BadName",
+           "BadVersion", "BadRequirement", "RepeatedDependency", "SelfDependency", "TooManyDependencies", "AlreadyPublished", "TooManyVersions",
+           "TooManyPackages", "JournalFull", "NoSuchVersion", "AlreadyYanked", "NotYanked", "Stale", "Known", "StoreFull", "Stray", "NoMemory",
+           "BadLine", "TooLong", "NotADerivation", "BudgetSpent", "REFUSALS"]
 
 # Names with requirements, or with versions: a mapping, or pairs, which may repeat a name.
 Pairs = Union[Mapping[str, str], Iterable[tuple[str, str]]]
@@ -56,8 +69,10 @@ MOST_TOLD = 4096  # bytes of standard error that are kept, the last ones
 WAITED = 0.5  # seconds that a program which answers no more has to end by itself
 INTERRUPTED = 2.0  # seconds that it has where a `with` is left by an interrupt from the keyboard
 
-# JSON of a value without white space, and the value of a text. Made once: `json.dumps` and `json.loads` cost three times as much.
+# JSON of a value without white space, that of a text, which takes nothing else, and the value of a text. Made once: `json.dumps` and
+# `json.loads` cost three times as much.
 encoded = json.JSONEncoder(separators=(",", ":")).encode
+quoted = json.encoder.encode_basestring_ascii
 decoded = json.JSONDecoder().decode
 
 
@@ -70,7 +85,7 @@ class Publish:
     needs: Pairs = ()
 
     def line(self) -> str:
-        return f'{{"op":"publish","name":{encoded(self.name)},"version":{encoded(self.version)},"needs":{rows(self.needs)}}}'
+        return f'{{"op":"publish","name":{text_of(self.name, "name")},"version":{text_of(self.version, "version")},"needs":{rows(self.needs, "needs")}}}'
 
 
 @dataclass(frozen=True)
@@ -79,7 +94,7 @@ class Yank:
     version: str
 
     def line(self) -> str:
-        return f'{{"op":"yank","name":{encoded(self.name)},"version":{encoded(self.version)}}}'
+        return f'{{"op":"yank","name":{text_of(self.name, "name")},"version":{text_of(self.version, "version")}}}'
 
 
 @dataclass(frozen=True)
@@ -88,7 +103,7 @@ class Unyank:
     version: str
 
     def line(self) -> str:
-        return f'{{"op":"unyank","name":{encoded(self.name)},"version":{encoded(self.version)}}}'
+        return f'{{"op":"unyank","name":{text_of(self.name, "name")},"version":{text_of(self.version, "version")}}}'
 
 
 @dataclass(frozen=True)
@@ -99,10 +114,10 @@ class Resolve:
     explain: bool = False
 
     def line(self) -> str:
-        lock = f',"lock":{rows(self.lock)}' if self.lock else ""
-        budget = "" if self.budget is None else f',"budget":{encoded(self.budget)}'
-        explain = f',"explain":{encoded(self.explain)}' if self.explain else ""
-        return f'{{"op":"resolve","needs":{rows(self.needs)}{lock}{budget}{explain}}}'
+        lock = f',"lock":{rows(self.lock, "lock")}' if self.lock else ""
+        budget = "" if self.budget is None else f',"budget":{number_of(self.budget, "budget")}'
+        explain = ',"explain":true' if is_set(self.explain, "explain") else ""
+        return f'{{"op":"resolve","needs":{rows(self.needs, "needs")}{lock}{budget}{explain}}}'
 
 
 @dataclass(frozen=True)
@@ -112,7 +127,9 @@ class Check:
     lock: Pairs = ()
 
     def line(self) -> str:
-        return f'{{"op":"check","needs":{rows(self.needs)},"lock":{rows(self.lock)},"derivation":{encoded(self.derivation)}}}'
+        if not isinstance(self.derivation, (list, tuple)):
+            raise TypeError(f"derivation is the lines that a NoSelection has, not {self.derivation!r}")
+        return f'{{"op":"check","needs":{rows(self.needs, "needs")},"lock":{rows(self.lock, "lock")},"derivation":{encoded(self.derivation)}}}'
 
 
 @dataclass(frozen=True)
@@ -128,21 +145,80 @@ class Line:
 
 
 Request = Union[Publish, Yank, Unyank, Resolve, Check, List, Line]
+REQUESTS = (Publish, Yank, Unyank, Resolve, Check, List, Line)
 
 
-def rows(pairs: Pairs) -> str:
+def text_of(value: str, whose: str) -> str:
+    """The JSON of a text."""
+    if not isinstance(value, str):
+        raise TypeError(f"{whose} is a text, not {value!r}")
+    return quoted(value)
+
+
+def number_of(value: int, whose: str, least: int = 0, most: int = 4_294_967_295) -> str:
+    """A whole number in these bounds."""
+    if not isinstance(value, int) or isinstance(value, bool):
+        raise TypeError(f"{whose} is a whole number, not {value!r}")
+    if not least <= value <= most:
+        raise ValueError(f"{whose} is {least} to {most:,}, not {value}")
+    return str(value)
+
+
+def is_set(value: bool, whose: str) -> bool:
+    if not isinstance(value, bool):
+        raise TypeError(f"{whose} is True or False, not {value!r}")
+    return value
+
+
+SECOND = {"needs": "requirement", "lock": "version"}  # what a pair of these has behind the name
+EXAMPLE = {"needs": '("log", "^1.2")', "lock": '("log", "1.3.0")'}
+
+
+def rows(pairs: Pairs, whose: str) -> str:
     """The JSON of pairs."""
-    given = pairs.items() if isinstance(pairs, Mapping) else pairs
-    return f"[{','.join([f'[{encoded(name)},{encoded(text)}]' for name, text in given])}]"
+    given: Iterable[Any]
+    if isinstance(pairs, Mapping):
+        given = pairs.items()
+    elif isinstance(pairs, (str, bytes)) or not isinstance(pairs, Iterable):
+        raise TypeError(f"{whose} is a mapping or pairs of a name and a {SECOND[whose]}, as [{EXAMPLE[whose]}], not {pairs!r}")
+    else:
+        given = tuple(pairs)
+        if any(isinstance(pair, str) for pair in given):
+            raise wrong_pair(given, whose)  # one of two letters would be taken apart
+    try:
+        return f"[{','.join([f'[{quoted(name)},{quoted(text)}]' for name, text in given])}]"
+    except (TypeError, ValueError):
+        raise wrong_pair(given, whose) from None
+
+
+def wrong_pair(given: Iterable[Any], whose: str) -> Exception:
+    """What is wrong with the first of these that is no pair of texts."""
+    for place, pair in enumerate(given):
+        told = f"{whose}[{place}] is a pair of a name and a {SECOND[whose]}, as {EXAMPLE[whose]}, not {pair!r}"
+        if isinstance(pair, (str, bytes)) or not isinstance(pair, Iterable):
+            return TypeError(told)
+        parts = tuple(pair)
+        if len(parts) != 2:
+            return ValueError(told)
+        name, text = parts
+        if not isinstance(name, str):
+            return TypeError(f"the name in {whose}[{place}] is a text, not {name!r}")
+        if not isinstance(text, str):
+            return TypeError(f"the {SECOND[whose]} of {name!r} in {whose}[{place}] is a text, not {text!r}")
+    return TypeError(f"{whose} changed while it was read")
 
 
 def written(request: Request) -> bytes:
     """A request's line with its line feed."""
-    if not isinstance(request, Line):
-        return request.line().encode() + b"\n"
-    if b"\n" in request.text:
-        raise ValueError("a line has no line feed in it")
-    return request.text + b"\n"
+    if isinstance(request, Line):
+        if not isinstance(request.text, bytes):
+            raise TypeError(f"a line is bytes, not {request.text!r}")
+        if b"\n" in request.text:
+            raise ValueError("a line has no line feed in it")
+        return request.text + b"\n"
+    if not isinstance(request, REQUESTS):
+        raise TypeError(f"{request!r} is no request, as Resolve({{'log': '^1.2'}}) is one")
+    return request.line().encode() + b"\n"
 
 
 # ---- What is answered
@@ -162,10 +238,18 @@ class Selection:
 
 @dataclass(frozen=True)
 class NoSelection:
-    """No selection meets the request. Where it was asked to explain: why, for programs and for people."""
+    """No selection meets the request, so it is false. Where it was asked to explain: why, for programs and for people."""
     revision: int
     derivation: Derivation | None = None
     explanation: tuple[str, ...] = ()
+    request: Request | None = field(default=None, compare=False, repr=False)  # that it answers
+
+    def __bool__(self) -> bool:
+        return False
+
+    @property
+    def selected(self) -> NoReturn:
+        raise NothingSelected(f"no selection meets the request at revision {self.revision}: see the explanation, or ask with explain=True for one")
 
 
 @dataclass(frozen=True)
@@ -198,13 +282,28 @@ class Ended(RegistryError):
         self.status = status
 
 
+class NothingSelected(RegistryError):
+    """A NoSelection was asked for its versions, which it has none of."""
+
+
 class Refusal(RegistryError):
     """A line was refused, and changed nothing."""
     number = 0
+    request: Request | None  # that was refused
 
-    def __init__(self, revision: int, said: str = "") -> None:
-        super().__init__(f"{said or type(self).__name__}: {(type(self).__doc__ or '').strip('.')}, at revision {revision}")
-        self.revision = revision
+    def __init__(self, revision: int, said: str = "", request: Request | None = None) -> None:
+        super().__init__(revision, said, request)
+        self.revision, self.said, self.request = revision, said, request
+
+    @property
+    def culprit(self) -> Culprit | None:
+        """Which text of the request is at fault, and what was probably meant; none where no text is, as for a budget that is spent."""
+        from registryd_lines.culprit import culprit
+        return culprit(self.number, written(self.request)[:-1]) if self.request else None
+
+    def __str__(self) -> str:
+        told = self.culprit or (type(self).__doc__ or "").strip(".")
+        return f"{self.said or type(self).__name__}: {told}, at revision {self.revision}"
 
 
 class BadName(Refusal):
@@ -320,6 +419,13 @@ class BudgetSpent(Refusal):
 REFUSALS: dict[int, type[Refusal]] = {it.number: it for it in Refusal.__subclasses__()}
 
 
+def to(request: Request, reply: Any) -> Any:
+    """A reply with the request that it answers, where it is one that tells of that."""
+    if isinstance(reply, Refusal):
+        reply.request = request
+    return replace(reply, request=request) if isinstance(reply, NoSelection) else reply
+
+
 def answer(line: bytes) -> Reply | Refusal:
     """What a reply line says."""
     said = decoded(str(line, "utf-8"))
@@ -346,14 +452,13 @@ class Registry:
     `program` is the program's path, or the words that start it; `workers` is how many threads resolve requests there, and `budget`
     that of each request that names none: how many conflicts its search may meet. `library` is the path of libregistryd.so for a
     session in this process, which else is the one that the variable REGISTRYD_LIBRARY names, the one that is installed with this
-    file, or the one that the system finds. What can't be started or loaded is an OSError. A session in this process has no workers
+    package, or the one that the system finds. What can't be started or loaded is an OSError. A session in this process has no workers
     and no budget of its own, and no signal breaks off a search there: give each request a `budget`.
 
     `newest` says which selection answers a request: where it is true the newest one, which is the same whoever asks, and where it is
     false the first one that a search finds, which may differ from session to session. Where it is none, that is left to the program.
 
-    `connect` is the address of a service, the path of its socket or HOST:PORT; the file registryd_service.py has to stand beside
-    this one. Where the connection breaks off, it is made again, and what has no reply is asked again, a command unless it
+    `connect` is the address of a service, the path of its socket or HOST:PORT. Where the connection breaks off, it is made again, and what has no reply is asked again, a command unless it
     was carried out. The `close` of such a session ends it alone.
 
     `journal` is the file that the session goes on with, made where it is not there: it has each accepted command before
@@ -363,10 +468,17 @@ class Registry:
     def __init__(self, program: FilePath | Sequence[str] = "registryd", *, workers: int = 1, budget: int | None = None,
                  journal: FilePath | None = None, load: FilePath | None = None, save: FilePath | None = None, embedded: bool = False,
                  library: FilePath | None = None, connect: FilePath | None = None, newest: bool | None = None) -> None:
+        if journal is not None and (load is not None or save is not None):
+            raise ValueError("a session that goes on with a journal loads and saves none")
+        number_of(workers, "workers", 1, 64)
+        if budget is not None:
+            number_of(budget, "budget")
+        if newest is not None:
+            is_set(newest, "newest")
         if budget is not None and (embedded or connect is not None):
             raise ValueError("a program of its own alone takes a budget of all requests")
         if connect is not None:
-            from registryd_service import Connection
+            from .service import Connection
             if journal or load or save or embedded:
                 raise ValueError("a service has a journal of its own")
             if newest is not None:
@@ -391,24 +503,36 @@ class Registry:
 
     def publish(self, name: str, version: str, needs: Pairs = ()) -> int:
         """Publishes a version; answers the revision."""
-        return self._session.call(Publish(name, version, needs)).revision
+        return self._call(Publish(name, version, needs)).revision
 
     def yank(self, name: str, version: str) -> int:
-        return self._session.call(Yank(name, version)).revision
+        return self._call(Yank(name, version)).revision
 
     def unyank(self, name: str, version: str) -> int:
-        return self._session.call(Unyank(name, version)).revision
+        return self._call(Unyank(name, version)).revision
 
     def resolve(self, needs: Pairs, lock: Pairs = (), *, budget: int | None = None, explain: bool = False) -> Selection | NoSelection:
         """Versions that fit together. The budget is how many conflicts the search may meet: beyond it `BudgetSpent` is raised."""
-        return self._session.call(Resolve(needs, lock, budget, explain))
+        return self._call(Resolve(needs, lock, budget, explain))
 
     def check(self, needs: Pairs, derivation: Derivation, lock: Pairs = ()) -> bool:
         """Whether the derivation of a refusal follows."""
-        return self._session.call(Check(needs, derivation, lock)).follows
+        return self._call(Check(needs, derivation, lock)).follows
+
+    def why(self, refusal: NoSelection) -> Derived:
+        """Why no selection meets a request that was asked with explain=True: a tree to walk, for which the versions are listed."""
+        from .tree import tree
+        return tree(refusal, self.list())
+
+    def _call(self, request: Request) -> Any:
+        try:
+            return to(request, self._session.call(request))
+        except Refusal as refusal:
+            refusal.request = request
+            raise
 
     def list(self) -> Listing:
-        return self._session.call(List())
+        return self._call(List())
 
     def ask(self, request: Request) -> Future[Reply]:
         """Sends a line. Its future has the reply, or raises what the call would."""
@@ -416,8 +540,9 @@ class Registry:
 
     def many(self, requests: Iterable[Request]) -> Sequence[Future[Reply]]:
         """Sends lines together: all of them, or none where one can't be written."""
-        lines = [written(it) for it in requests]
-        futures = [Awaited() for _ in lines]
+        asked = list(requests)
+        lines = [written(it) for it in asked]
+        futures = [Awaited(it) for it in asked]
         for future in futures:
             future.set_running_or_notify_cancel()  # a line that was sent can't be taken back
         self._session.send(lines, tuple(futures))
@@ -452,7 +577,11 @@ BROKEN_OFF = "a call was interrupted while its line was being sent"
 
 
 class Awaited(Future):
-    """What becomes of one line, for any number of threads."""
+    """What becomes of the line of a request, for any number of threads."""
+
+    def __init__(self, request: Request) -> None:
+        super().__init__()
+        self._request = request
 
     def settle(self, reply: Reply | RegistryError) -> None:
         """Doesn't wait for the future's lock: a thread that was interrupted in a call of this future may have left it locked for good."""
@@ -463,6 +592,7 @@ class Awaited(Future):
             threading.Thread(target=self._set, args=[reply], daemon=True).start()
 
     def _set(self, reply: Reply | RegistryError) -> None:
+        reply = to(self._request, reply)
         if isinstance(reply, RegistryError):
             self.set_exception(reply)
         else:
@@ -779,7 +909,7 @@ def library_path(given: FilePath | None) -> str:
     """Where the library is."""
     if named := given or os.environ.get("REGISTRYD_LIBRARY"):
         return os.fspath(named)
-    installed = Path(__file__).resolve().parent / "../../../../lib" / LIBRARY  # from PREFIX/share/registryd/clients/python
+    installed = Path(__file__).resolve().parent / "../../../../../lib" / LIBRARY  # from PREFIX/share/registryd/clients/python/registryd
     return str(installed) if installed.is_file() else LIBRARY
 
 
@@ -788,8 +918,6 @@ class _Embedded:
 
     def __init__(self, library: FilePath | None, journal: FilePath | None, load: FilePath | None, save: FilePath | None,
                  newest: bool | None) -> None:
-        if journal is not None and (load is not None or save is not None):
-            raise ValueError("a session that goes on with a journal loads and saves none")
         self._library = loaded(library_path(library))
         self._room = ctypes.create_string_buffer(ROOM)
         # how many bytes were taken, and how many are left to take

@@ -1,4 +1,4 @@
-"""A session with a service (`registry serve`), for `Registry(connect=..)` of registryd.py, beside which it stands.
+"""A session with a service (`registry serve`), for `Registry(connect=..)`.
 
 Where the connection breaks off, or a program of the service ends, it connects again. What has no reply is asked again; of a
 command it looks up first, in the journal that the service tells, whether it was carried out since the last reply. It does so once the
@@ -14,7 +14,7 @@ import time
 from collections import deque
 from collections.abc import Sequence
 
-from registryd import CLOSED, WAITED, Accepted, Answered, Awaited, Ended, Ending, Futures, Threaded, answer, taken_from, tell_all
+from . import CLOSED, WAITED, Accepted, Answered, Awaited, Ended, Ending, Futures, Threaded, answer, taken_from, tell_all
 
 PATIENCE, PAUSE = 10.0, 0.1  # seconds for a service to be there again, and between two tries
 LEAST = 0.001  # seconds to wait at least, since 0 would mean not to wait at all

@@ -1,7 +1,6 @@
 """What is wrong with a line, and how it is told."""
+import json
 from typing import NamedTuple
-
-from ..output import as_json
 
 NAMES = {1: "BadName", 2: "BadVersion", 3: "BadRequirement", 4: "RepeatedDependency", 5: "SelfDependency",
          6: "TooManyDependencies", 19: "BadLine"}
@@ -49,3 +48,9 @@ def shown(text):
     """A text in quotes, cut where it is long, with nothing in it that a terminal obeys."""
     cut = text if len(text) <= MOST_SHOWN else text[:MOST_SHOWN - 1] + "…"
     return as_json(cut)
+
+
+def as_json(value):
+    """A value as JSON in one line, in letters of ASCII where it has what is not visible."""
+    text = json.dumps(value, separators=(",", ":"), ensure_ascii=False)
+    return text if text.isprintable() else json.dumps(value, separators=(",", ":")).replace("\x7f", "\\u007f")

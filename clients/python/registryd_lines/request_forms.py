@@ -1,10 +1,10 @@
 """The forms of request lines: which members each has, and of which shape. What is not of its form is answered 19."""
 import json
 
-from ..nearest import nearest
 from .derivation_forms import derivation
 from .fault import shown
 from .forms import OTHER_MEMBERS, Forms, listed
+from .nearest import nearest
 
 MARKED = {"name": Forms.text_member, "version": Forms.text_member}
 # by op the members that must be there, and those that may

@@ -2,9 +2,9 @@
 their form, so what is wrong in them is answered 19 too."""
 import json
 
-from ..nearest import nearest
 from .fault import shown
 from .forms import KINDS, Forms, listed
+from .nearest import nearest
 from .texts import name_fault
 
 CAUSE = 'a cause, as {"line":1} or {"fact":"root"}'

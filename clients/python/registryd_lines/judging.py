@@ -1,10 +1,9 @@
 """What is wrong with a request line, judged from the line alone, as the program judges it before it asks the registry."""
 import json
 
-from limits import MOST_LINE_BYTES, MOST_NEEDS
-
 from . import forms, placed_json
 from .fault import Bad, Fault, shown
+from .limits import MOST_LINE_BYTES, MOST_NEEDS
 from .request_forms import has_form
 from .requirements import requirement_fault
 from .texts import name_fault, version_fault

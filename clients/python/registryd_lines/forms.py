@@ -1,8 +1,8 @@
 """The shapes that values of request lines have, and what was probably meant by values of other shapes."""
 import json
 
-from ..nearest import nearest
 from .fault import Fault, shown
+from .nearest import nearest
 
 BEYOND_WHOLE = 2 ** 32
 KINDS = {str: "a text", bool: "true or false", int: "a number", float: "a number", list: "an array", dict: "an object", type(None): "null"}

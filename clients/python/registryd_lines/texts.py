@@ -3,9 +3,8 @@ import re
 import unicodedata
 from functools import lru_cache
 
-from limits import MOST_NAME_BYTES, MOST_VERSION_BYTES
-
 from .fault import Bad, shown
+from .limits import MOST_NAME_BYTES, MOST_VERSION_BYTES
 
 BEYOND_NUMBERS = 2 ** 64
 NAME = re.compile(r"[a-z][a-z0-9_-]{0,63}")

@@ -3,9 +3,8 @@ probably meant, where another tool's requirement can be told in Cargo's way."""
 import re
 from functools import lru_cache
 
-from limits import MOST_REQUIREMENT_BYTES
-
 from .fault import Bad, shown
+from .limits import MOST_REQUIREMENT_BYTES
 from .texts import fault_of, number, tail, whole
 
 MOST_COMPARATORS = 32

@@ -1,0 +1,174 @@
+#include "registryd.h"
+
+#include <string.h>
+
+const char *registryd_version(void)
+{
+    return REGISTRYD_VERSION;
+}
+
+const char *registryd_strerror(int answer)
+{
+    switch (answer) {
+    case REGISTRYD_OK: return "all is well";
+    case REGISTRYD_MISUSE: return "an argument is none that the call takes, or it comes at a time when it can't be done";
+    case REGISTRYD_MEMORY: return "there is no memory or no room, or too many sessions are open";
+    case REGISTRYD_START: return "the program can't be started, or the service can't be reached";
+    case REGISTRYD_ENDED: return "the session has ended";
+    case REGISTRYD_JOURNAL: return "something is the matter with a journal's file";
+    default: return "no answer of this library";
+    }
+}
+
+/* A text that is written as far as there is room. */
+struct written {
+    char *room;
+    size_t size, length;
+};
+
+static void put(struct written *to, char byte)
+{
+    if (to->length + 1 < to->size)
+        to->room[to->length] = byte;
+    to->length++;
+}
+
+static void put_quoted(struct written *to, unsigned char byte)
+{
+    static const char digits[] = "0123456789abcdef";
+    if (byte == '"' || byte == '\\') {
+        put(to, '\\');
+        put(to, (char)byte);
+    } else if (byte < 32) {
+        for (const char *at = "\\u00"; *at; at++)
+            put(to, *at);
+        put(to, digits[byte >> 4]);
+        put(to, digits[byte & 15]);
+    } else {
+        put(to, (char)byte);
+    }
+}
+
+int registryd_quote(const char *text, char *room, size_t size, size_t *length)
+{
+    struct written to = {.room = room, .size = size};
+    if (!text || !length || (!room && size))
+        return REGISTRYD_MISUSE;
+    put(&to, '"');
+    for (const char *at = text; *at; at++)
+        put_quoted(&to, (unsigned char)*at);
+    put(&to, '"');
+    if (size)
+        room[to.length < size ? to.length : 0] = '\0';
+    *length = to.length;
+    return to.length < size ? REGISTRYD_OK : REGISTRYD_MEMORY;
+}
+
+/* What is left of a line. */
+struct rest {
+    const char *at, *end;
+};
+
+/* Whether the rest begins with a word, which is passed over then. */
+static int has(struct rest *rest, const char *word)
+{
+    size_t length = strlen(word);
+    if ((size_t)(rest->end - rest->at) < length || memcmp(rest->at, word, length))
+        return 0;
+    rest->at += length;
+    return 1;
+}
+
+static int has_number(struct rest *rest, uint32_t *number)
+{
+    const char *first = rest->at;
+    uint64_t read = 0;
+    for (; rest->at < rest->end && *rest->at >= '0' && *rest->at <= '9' && read <= UINT32_MAX; rest->at++)
+        read = read * 10 + (uint64_t)(*rest->at - '0');
+    *number = (uint32_t)read;
+    return rest->at > first && read <= UINT32_MAX;
+}
+
+/* A name or a version in quotes, in which nothing is escaped. It is copied with a 0 behind it. */
+static int has_text(struct rest *rest, char *room, size_t size)
+{
+    size_t length = 0;
+    if (!has(rest, "\""))
+        return 0;
+    while (rest->at < rest->end && *rest->at != '"' && *rest->at != '\\' && length + 1 < size)
+        room[length++] = *rest->at++;
+    room[length] = '\0';
+    return has(rest, "\"");
+}
+
+static struct rest rest_of(const char *line, size_t length)
+{
+    return (struct rest){line, line + (length && line[length - 1] == '\n' ? length - 1 : length)};
+}
+
+/* Whether a line ends with a word, a number and a brace. */
+static int ends_with(struct rest rest, const char *word, uint32_t *number)
+{
+    for (const char *at = rest.end; at > rest.at; at--) {
+        struct rest tail = {at - 1, rest.end};
+        if (has(&tail, word))
+            return has_number(&tail, number) && has(&tail, "}") && tail.at == tail.end;
+    }
+    return 0;
+}
+
+static int has_selected(struct rest *rest, uint32_t *revision)
+{
+    return has(rest, "{\"revision\":") && has_number(rest, revision) && has(rest, ",\"selected\":[");
+}
+
+static int has_error(struct rest *rest, struct registryd_reply *reply)
+{
+    return has(rest, "{\"error\":") && has_number(rest, &reply->error) && has(rest, ",\"name\":") && has_text(rest, reply->name, sizeof reply->name);
+}
+
+int registryd_read(const char *line, size_t length, struct registryd_reply *reply)
+{
+    struct registryd_reply read = {.kind = REGISTRYD_OTHER};
+    if (!line || !reply)
+        return REGISTRYD_MISUSE;
+    struct rest rest = rest_of(line, length), selected = rest, error = rest, accepted = rest;
+    if (has_selected(&selected, &read.revision))
+        read.kind = REGISTRYD_SELECTED;
+    else if (!ends_with(rest, "\"revision\":", &read.revision))
+        return REGISTRYD_MISUSE;
+    else if (has(&accepted, "{\"ok\":true,"))
+        read.kind = REGISTRYD_ACCEPTED;
+    else if (has_error(&error, &read))
+        read.kind = REGISTRYD_ERROR;
+    else if (ends_with(rest, "\"refused\":true,\"revision\":", &read.revision))
+        read.kind = REGISTRYD_NOTHING;
+    *reply = read;
+    return REGISTRYD_OK;
+}
+
+static int has_pair(struct rest *rest, struct registryd_pair *pair)
+{
+    return has_text(rest, pair->name, sizeof pair->name) && has(rest, ",") && has_text(rest, pair->version, sizeof pair->version) && has(rest, "]");
+}
+
+int registryd_selected(const char *line, size_t length, size_t place, struct registryd_pair *pair)
+{
+    struct registryd_pair read;
+    uint32_t revision;
+    if (!line || !pair)
+        return REGISTRYD_MISUSE;
+    struct rest rest = rest_of(line, length);
+    if (!has_selected(&rest, &revision))
+        return REGISTRYD_MISUSE;
+    for (size_t at = 0; has(&rest, "["); at++) {
+        if (!has_pair(&rest, &read))
+            return REGISTRYD_MISUSE;
+        if (at == place) {
+            *pair = read;
+            return REGISTRYD_OK;
+        }
+        has(&rest, ",");
+    }
+    return REGISTRYD_ENDED;
+}

@@ -1,0 +1,79 @@
+"""Which text of a refused line is at fault, what is wrong with it, and what was probably meant."""
+from __future__ import annotations
+
+import json
+from typing import Any, NamedTuple
+
+from . import placed_json
+from .fault import Bad, Fault
+from .judging import faults
+
+BAD_LINE = 19
+# what the registry has found of the version that a line names, by the number of the refusal
+FOUND = {7: "is published already", 11: "is not published", 12: "is yanked already", 13: "is not yanked"}
+
+
+class Culprit(NamedTuple):
+    """What a line is refused for. `where` names its member, as `version` or `needs[3]`, or is empty for the line as a whole; `package` is the
+    package that this is about, and `text` what stands there. `meant` is what was probably meant, where there is telling."""
+    where: str
+    package: str
+    text: str
+    told: str
+    meant: str | None = None
+
+    def __str__(self) -> str:
+        place = ", ".join(it for it in (self.where, self.package) if it) if self.where else ""
+        return f"{place}: {self.told}" if place else self.told
+
+
+def culprit(number: int, line: bytes) -> Culprit | None:
+    """What a line, without its line feed, is refused for by a number; none where it is for nothing in the line."""
+    if number in FOUND:
+        asked = json.loads(line)
+        named = f"{asked['name']} {asked['version']}"
+        return Culprit("", asked["name"], asked["version"], f"{named} {FOUND[number]}")
+    fault = next((it for it in faults(line) if it.number == number), None)
+    return fault and culprit_of(fault, line)
+
+
+def culprit_of(fault: Fault, line: bytes) -> Culprit:
+    """A fault with the place where it stands."""
+    try:
+        value = placed_json.read(line.decode())
+    except (UnicodeDecodeError, Bad):
+        return Culprit("", "", "", fault.told, fault.meant)
+    where, package, value = descended(value, fault.place)
+    text = value.held if isinstance(value.held, str) else ""
+    return Culprit(where, package, text, fault.told, meant(fault))
+
+
+def descended(value: Any, place: int) -> tuple[str, str, Any]:
+    """The member and the item of it that has a place of the line, the package that it is about, and the innermost value there."""
+    where, package = "", ""
+    while isinstance(value.held, (dict, list)):
+        parts = value.held.items() if isinstance(value.held, dict) else enumerate(value.held)
+        within = next(((key, it) for key, it in parts if it.start <= place < it.end), None)
+        if within is None:
+            break
+        key, part = within
+        if isinstance(key, str) and not where:
+            where, package = key, text_of(value.held.get("name"))
+        elif where in ("needs", "lock", "derivation"):
+            where += f"[{key}]"
+            package = text_of(part.held[0]) if isinstance(part.held, list) and part.held else ""
+        value = part
+    return where, package, value
+
+
+def text_of(value: Any) -> str:
+    return value.held if value is not None and isinstance(value.held, str) else ""
+
+
+def meant(fault: Fault) -> str | None:
+    """What was probably meant, as a text where it is one of JSON."""
+    try:
+        value = json.loads(fault.meant or "null")
+    except ValueError:
+        return fault.meant
+    return value if isinstance(value, str) else fault.meant
