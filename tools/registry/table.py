@@ -192,8 +192,8 @@ SUBCOMMANDS = (
                ("registry serve --socket registry.socket", "registry serve --journal team.journal --port 7000 --seconds 5 --log service.log"),
                "Clients speak the lines of registryd(1), and each has its replies in order. A request that takes too long is answered BudgetSpent. "
                "SIGTERM and Ctrl-C end it within 5 seconds, after all lines that came are answered. A first line in HTTP asks for /metrics, /health, /journal or /log."),
-    Subcommand("log", "log", "Tell the commands of the journal in order, each with when it was accepted",
-               (option("--after", "N", "only those after revision N", BUDGETS), flag("--follow", "go on with those that come, until Ctrl-C")),
+    Subcommand("log", "log", "List the commands of the journal in order, each with the time when it was accepted",
+               (option("--after", "N", "only those after revision N", BUDGETS), flag("--follow", "wait for further ones, until Ctrl-C")),
                ("registry log", "registry log --follow --connect team.socket"),
                "A line has the revision, the time, and the command. A journal has no times. A service knows those of what it accepted since it began, and "
                "one that follows a file knows when it saw what came. Any other time is -."),
