@@ -151,7 +151,7 @@ class Shown(Folder):
         told = "no answer was found in {}: --seconds N searches longer (0: without a limit), and --any takes the first selection that is found\n"
         status, said = self.seen("resolve", *needs, "--seconds", "2", NO_COLOR="1")
         self.assertEqual(status, 1)
-        self.assertRegex(said, r"\A\r\x1b\[Ksearching for 1 s, at most 2 s; Ctrl-C ends it\r\x1b\[K.*\r\x1b\[Kregistry: " + re.escape(told.format("2 seconds")))
+        self.assertRegex(said, r"\A\r\x1b\[Ksearching for [0-9]+ s, at most 2 s; Ctrl-C ends it.*\r\x1b\[Kregistry: " + re.escape(told.format("2 seconds")))
         told = told.format("1 second")
         for words, error in ((["resolve", "--json"], json.dumps({"error": "refused", "message": told[:-1]}, separators=(",", ":")) + "\n"), (["why"], "")):
             self.assertEqual(self.registry(*words, *needs, "--seconds", "1"), (1, error, f"registry: {told}"))
