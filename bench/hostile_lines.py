@@ -174,11 +174,12 @@ def many_requirements(count=24_000):
     return requirements(count, VERSIONS)
 
 
-def resting(count=200, versions=100):
-    """So many packages of which it is learnt that they can't be had, each time from 120 requirements on `q`; the requests for them are
-    sent with the lines. Then versions of `q` that end nothing of it."""
+def resting(count=200, versions=100, needs=77):
+    """So many packages of which it is learnt that they can't be had, each time from so many requirements on `q`: a step for each, and
+    three more. Of a refusal by more than 80 steps nothing would be learnt. The requests for the packages are sent with the lines. Then
+    versions of `q` that end nothing of it."""
     lines = [publish("q", (major, 0, 0), []) for major in (1, 2)]
-    lines += [publish("a", (1, version, 0), [["q", ">=2.0.0, <3.%d.0" % version]]) for version in range(120)]
+    lines += [publish("a", (1, version, 0), [["q", ">=2.0.0, <3.%d.0" % version]]) for version in range(needs)]
     lines += [publish("one", (1, 0, 0), [["q", "^1"]])]
     names = ["r%04d" % number for number in range(count)]
     lines += [publish(name, (1, 0, 0), [["a", "*"], ["one", "*"]]) for name in names]

@@ -9,7 +9,7 @@ import json
 import random
 import sys
 
-from workloads import about_one, crossed, publish, resolve, sat
+from workloads import about_one, crossed, publish, resolve, through_hubs
 
 STEP = 1_099_511_628_211  # of the key of a requirement, and the chains that keys fall into
 CHAINS = 16_384
@@ -32,16 +32,6 @@ def pigeons(count, holes):
     return lines, [resolve([["p%d" % pigeon, "*"] for pigeon in range(count)])]
 
 
-def further(bad=150, versions=400):
-    """Of a package so many of the newest versions are in conflict with a need, which is found two packages further."""
-    lines = [publish("q", (major, 0, 0), []) for major in (1, 2)]
-    for version in range(versions):
-        need = [["q", ">=2.0.0"]] if version >= versions - bad else []
-        lines += [publish("c", (version + 1, 0, 0), need), publish("b", (version + 1, 0, 0), [["c", "^%d" % (version + 1)]]),
-                  publish("a", (1, version, 0), [["b", "^%d" % (version + 1)]])]
-    return lines, [resolve([["q", "^1"], ["a", "*"]])]
-
-
 def dead_chain(name, version, length):
     """Packages in a row, the last of which rules this version of a package out."""
     names = ["e%02d-%s" % (place, name) for place in range(length)]
@@ -59,22 +49,21 @@ def dead_chains(versions, count=5, length=20):
     return lines, [resolve([[name, "*"] for name in names])]
 
 
-def beside_old(size=20, versions=200, old=30):
-    """Requests of `sat` that need an old version of a package with many versions as well."""
-    lines, requests = sat(size)
-    lines = lines + [publish("many", (1, version, 0), []) for version in range(versions)] + [publish("pins", (1, 0, 0), [["many", "=1.%d.0" % old]])]
-    return lines, [resolve([*json.loads(request)["needs"], ["pins", "*"], ["many", "^1"]]) for request in requests]
-
-
-def many_targets(versions=12, count=48):
-    """A package that depends on many others, of which three versions each share a requirement."""
-    names = ["t%02d" % number for number in range(count)]
-    lines = [publish(name, (1, version, 0), []) for name in names for version in range(3)] + [publish("q", (major, 0, 0), []) for major in (1, 2)]
-    lines += [publish("b", (version, 0, 0), [["q", ">=2.0.0"]]) for version in range(1, versions)] + [publish("b", (99, 0, 0), [])]
-    for version in range(versions):
-        needs = [[name, ">=0.%d.%d" % (version // 3, place)] for place, name in enumerate(names)]
-        lines.append(publish("a", (1, version, 0), [*needs, ["b", "^%d" % (version or 99)]]))
-    return lines, [resolve([["a", "*"], ["q", "^1"]])]
+def wide_formulas(size=16, clauses=14, versions=200, bounds=24, count=3):
+    """As `sat`, but a variable has so many versions, and a literal is one of so many bounds on them, from below or above; so many clauses a
+    variable."""
+    rng, lines, requests = random.Random(1), [], []
+    for formula in range(count):
+        names = ["k%d-%04d" % (formula, number) for number in range(clauses * size)]
+        lines += [publish("x%d-%03d" % (formula, variable), (1, version, 0), []) for variable in range(size) for version in range(versions)]
+        for name in names:
+            for place, variable in enumerate(rng.sample(range(size), 3)):
+                bound = versions * rng.randint(1, bounds) // (bounds + 1)
+                lines.append(publish(name, (1, place, 0), [["x%d-%03d" % (formula, variable), "%s1.%d.0" % (rng.choice([">=", "<"]), bound)]]))
+        needs, hubs = through_hubs(names, "hub%d-" % formula)
+        lines += hubs
+        requests.append(resolve(needs))
+    return lines, requests
 
 
 def needs_each(needs, count=2_000):
@@ -138,10 +127,9 @@ def one_hub(count=1_024):
 
 
 TUNED = {"chain of 3": lambda: chain_of(3), "chain of 6": lambda: chain_of(6), "pigeons": lambda: pigeons(6, 5),
-         "more pigeons": lambda: pigeons(8, 7), "further": further, "dead chains": lambda: dead_chains(8),
-         "longer dead chains": lambda: dead_chains(14), "beside old": beside_old, "many targets": many_targets,
+         "more pigeons": lambda: pigeons(8, 7), "dead chains": lambda: dead_chains(8), "longer dead chains": lambda: dead_chains(14),
          "needs of 6": lambda: needs_each(6), "needs of 12": lambda: needs_each(12), "long requirements": long_requirements,
-         "one chain": one_chain, "refused": refused, "one hub": one_hub}
+         "one chain": one_chain, "refused": refused, "one hub": one_hub, "wide formulas": wide_formulas}
 
 
 def main():

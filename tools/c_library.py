@@ -41,8 +41,10 @@ class Library:
 
 def archive():
     """The archive that the library is built over, and its kind: the one that the environment names (`EMBEDDED`), else the one that
-    stands."""
+    stands. An empty name is that of none."""
     named = os.environ.get(ARCHIVE.upper())
+    if named == "":
+        raise Unbuilt("./test --quick leaves the library for C to ./test")
     program = None if named else programs.current(ARCHIVE)
     if named or program:
         return (Path(named), programs.COMPILED) if named else (program.path, program.kind)

@@ -9,7 +9,6 @@ Each refusal with a derivation gets a line. Status 0: all follow; 1: one does no
 are those of Semantic Versioning 2.0.0, of the Cargo Book ("Specifying Dependencies", as the crate `semver` reads it)
 and of Dart pub's doc/solver.md. The words of explanations are not judged.
 """
-import argparse
 import json
 import re
 import sys
@@ -19,7 +18,7 @@ from types import SimpleNamespace
 NUMBER = "(0|[1-9][0-9]*)"
 IDENTIFIER = "(?:0|[1-9][0-9]*|[0-9]*[A-Za-z-][0-9A-Za-z-]*)"
 TAIL = rf"(?:-({IDENTIFIER}(?:\.{IDENTIFIER})*))?(?:\+[0-9A-Za-z-]+(?:\.[0-9A-Za-z-]+)*)?"
-COMPARATOR = re.compile(rf"(=|>=|>|<=|<|~|\^)? *{NUMBER}(?:\.(?:{NUMBER}(?:\.(?:{NUMBER}{TAIL}|([*xX])))?|([*xX])(?:\.[*xX])?))?")
+COMPARATOR = rf"(=|>=|>|<=|<|~|\^)? *{NUMBER}(?:\.(?:{NUMBER}(?:\.(?:{NUMBER}{TAIL}|([*xX])))?|([*xX])(?:\.[*xX])?))?"  # compiled where it is used first
 NAME = re.compile("[a-z][a-z0-9_-]{0,63}")
 MOST_BYTES, MOST_COMPARATORS = 256, 32
 RELEASE = (1,)  # what a version without a pre-release has in its place: it stands above each pre-release
@@ -62,7 +61,7 @@ def formed(value, form):
 @lru_cache(maxsize=None)
 def read_comparator(text):
     """An operator, then one to three numbers, then a pre-release, whose numbers stand below its words; none for another text."""
-    found = len(text) <= MOST_BYTES and COMPARATOR.fullmatch(text)
+    found = len(text) <= MOST_BYTES and re.fullmatch(COMPARATOR, text)
     numbers = [int(it) for it in found.groups()[1:4] if it] if found else []
     if not found or max(numbers) >= 2 ** 64:
         return None
@@ -285,6 +284,7 @@ def audit(requests, replies, journal):
 
 
 def main(words):
+    import argparse  # who asks for a judge alone does not wait for it
     parser = argparse.ArgumentParser(prog="tools/check_derivation.py", description=__doc__, formatter_class=argparse.RawDescriptionHelpFormatter)
     for word, more in (("--journal", {}), ("lines", {}), ("replies", {"nargs": "?"})):
         parser.add_argument(word, **more)

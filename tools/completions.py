@@ -30,10 +30,7 @@ class Command:
     words: str = ""
 
 
-SELECTIONS = (
-    Option("newest", "", "Tell the newest selection that meets a request"),
-    Option("any", "", "Tell the first selection that a search finds"),
-)
+NEWEST = Option("newest", "", "Has no effect: each selection is the newest")
 COMMANDS = (
     Command("serve", "Answers the request lines of standard input", (
         Option("workers", "N", "How many threads resolve, 1 to 64", "1 2 4 8 16 32 64"),
@@ -41,9 +38,9 @@ COMMANDS = (
         Option("load", FILE, "A journal to begin from"),
         Option("save", FILE, "Where to write the journal at the end"),
         Option("budget", "N", "The budget of conflicts of each request that names none", "100 1000 10000 100000"),
-        *SELECTIONS,
+        NEWEST,
     )),
-    Command("race", "Answers the request lines of files, a thread to each", SELECTIONS, takes_files=True),
+    Command("race", "Answers the request lines of files, a thread to each", (NEWEST,), takes_files=True),
     Command("help", "Print this message or the help of the given subcommand(s)", words="serve race"),
 )
 HELP, VERSION = "Print help", "Print the version, and whether the program is proved"

@@ -8,14 +8,16 @@ class Counts:
     failed: int = 0
     # each test that could not run, with the reason
     skipped: tuple[tuple[str, str], ...] = ()
+    # what else is to be read of the run
+    told: tuple[str, ...] = ()
 
     def __add__(self, other):
-        return Counts(self.passed + other.passed, self.failed + other.failed, self.skipped + other.skipped)
+        return Counts(self.passed + other.passed, self.failed + other.failed, self.skipped + other.skipped, self.told + other.told)
 
     def lines(self):
-        """Why each test was skipped, and the line that counts them all."""
+        """Why each test was skipped, what else is told, and the line that counts them all."""
         reasons = [f"skipped: {test}: {reason}" for test, reason in self.skipped]
-        return [*reasons, f"{self.passed} passed, {self.failed} failed, {len(self.skipped)} skipped"]
+        return [*reasons, *self.told, f"{self.passed} passed, {self.failed} failed, {len(self.skipped)} skipped"]
 
     def status(self, nothing_skipped=False):
         """The exit status: 1 where a test failed or none passed; and where one was skipped, if none may be."""

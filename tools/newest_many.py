@@ -1,5 +1,5 @@
 #!/usr/bin/env python3
-"""Judges what the program selects with `--newest`, of small random registries, by a list of all selections.
+"""Judges what the program selects, of small random registries, by a list of all selections.
 
     tools/newest_many.py --cases 20000    so many cases; each has a seed of its own, counted from --seed
     tools/newest_many.py --seed 17        one case again
@@ -20,18 +20,12 @@ from plain_newest import Published
 from small_registries import Maker
 
 AT_ONCE = 100  # cases of one session
-OPTION = "--newest"
 
 
-def is_offered():
-    """Whether the program knows the option."""
-    return os.path.exists(program.PROGRAM) and program.run(["serve", "--workers", "1", OPTION]).returncode == 0
-
-
-def serve_newest(lines, workers=1):
+def serve(lines, workers=1):
     """The replies to these lines."""
     text = "".join(json.dumps(line) + "\n" for line in lines).encode()
-    done = program.run(["serve", OPTION, "--workers", str(workers)], text)
+    done = program.run(["serve", "--workers", str(workers)], text)
     assert done.returncode == 0 and done.stderr == b"", (done.returncode, done.stderr)
     return done.stdout.decode().split("\n")[:-1]
 
@@ -80,7 +74,7 @@ def asked_in(seeds, others, workers, serve):
     return [selected(replies[place], number) for number, place in enumerate(places)]
 
 
-def faults(seeds, serve=serve_newest):
+def faults(seeds, serve=serve):
     """What is told of each case whose answer is not the newest selection, by the program or by what serves in its place."""
     found, seeds = [], list(seeds)
     for first in range(0, len(seeds), AT_ONCE):
@@ -99,9 +93,6 @@ def main():
     parser.add_argument("--cases", type=int, default=1, help="how many cases are judged (1)")
     parser.add_argument("--seed", type=int, default=0, help="the seed of the first (0)")
     asked = parser.parse_args()
-    if not is_offered():
-        print(f"newest_many: {program.PROGRAM} has no option {OPTION}; build one that has it.", file=sys.stderr)
-        return 2
     found = faults(range(asked.seed, asked.seed + asked.cases))
     print("\n".join([*found, f"{asked.cases} cases, {len(found)} finds"]))
     return 1 if found else 0

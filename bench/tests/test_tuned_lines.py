@@ -1,6 +1,8 @@
 """That the lines which feel a constant are lawful, and that each request has the answer which its workload says."""
+import itertools
 import json
 import os
+import re
 import sys
 import unittest
 
@@ -9,13 +11,10 @@ sys.path.insert(0, BENCH)
 sys.path.insert(0, os.path.join(os.path.dirname(BENCH), "tools", "tests"))
 
 from program import serve  # noqa: E402
-from tuned_lines import (TUNED, beside_old, chain_number, chain_of, dead_chains, further, in_one_chain, long_requirements, many_targets,  # noqa: E402
-                         needs_each, one_chain, one_hub, pigeons, refused)
+from tuned_lines import (TUNED, chain_number, chain_of, dead_chains, in_one_chain, long_requirements, needs_each, one_chain, one_hub,  # noqa: E402
+                         pigeons, refused, wide_formulas)
 
 REFUSED = {"chain": chain_of(3, 5), "pigeons": pigeons(4, 3), "one chain": one_chain(2, 3), "refused": refused(3), "one hub": one_hub(3)}
-# A version that is selected.
-SELECTED = {"further": (further(4, 9), ["a", "1.4.0"]), "dead chains": (dead_chains(3, 2, 4), ["d1", "1.0.0"]),
-            "many targets": (many_targets(6, 5), ["a", "1.0.0"])}
 
 
 def replies(lines, requests):
@@ -24,29 +23,43 @@ def replies(lines, requests):
     return [reply for reply in answered[:len(lines)] if "error" in reply], answered[len(lines):]
 
 
+def can_hold(lines, formula, size, versions):
+    """Whether some values of the variables make each clause of a formula true, by trying all."""
+    clauses = {}
+    for line in map(json.loads, lines):
+        if line["name"].startswith(f"k{formula}-"):
+            (variable, bound), = line["needs"]
+            sign, minor = re.fullmatch(r"(>=|<)1\.(\d+)\.0", bound).groups()
+            clauses.setdefault(line["name"], []).append((int(variable.partition("-")[2]), sign == "<", int(minor)))
+    return any(all(any((values[variable] < minor) == is_below for variable, is_below, minor in clause) for clause in clauses.values())
+               for values in itertools.product(range(versions), repeat=size))
+
+
 class TunedLines(unittest.TestCase):
+    def test_formulas_over_many_versions(self):
+        lines, requests = wide_formulas(4, 6, 4, 3, 16)
+        errors, found = replies(lines, requests)
+        self.assertEqual(errors, [])
+        wanted = [can_hold(lines, formula, 4, 4) for formula in range(16)]
+        self.assertEqual(["selected" in reply for reply in found], wanted)
+        self.assertEqual(["refused" in reply for reply in found], [not it for it in wanted])
+        self.assertEqual(set(wanted), {True, False})
+
     def test_requests_without_a_solution(self):
         for name, (lines, requests) in REFUSED.items():
             errors, found = replies(lines, requests)
             self.assertEqual(errors, [], name)
             self.assertEqual([reply.get("refused") for reply in found], [True] * len(requests), name)
 
-    def test_requests_with_one(self):
-        for name, ((lines, requests), wanted) in SELECTED.items():
-            errors, found = replies(lines, requests)
-            self.assertEqual((errors, len(found)), ([], 1), name)
-            self.assertIn(wanted, found[0]["selected"], name)
+    def test_a_request_with_one(self):
+        errors, found = replies(*dead_chains(3, 2, 4))
+        self.assertEqual((errors, len(found)), ([], 1))
+        self.assertIn(["d1", "1.0.0"], found[0]["selected"])
 
     def test_a_hole_for_each_pigeon(self):
         errors, found = replies(*pigeons(3, 3))
         self.assertEqual(errors, [])
         self.assertEqual({name for name, _ in found[0]["selected"]}, {"p0", "p1", "p2", "h0", "h1", "h2"})
-
-    def test_an_old_version(self):
-        errors, found = replies(*beside_old(3, 70, 2))
-        self.assertEqual(errors, [])
-        for reply in found:
-            self.assertTrue(reply.get("refused") or ["many", "1.2.0"] in reply["selected"])
 
     def test_publications_alone(self):
         for lines, requests in (needs_each(6, 5), needs_each(12, 5), long_requirements(9)):

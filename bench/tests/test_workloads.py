@@ -19,7 +19,8 @@ from plot import svg  # noqa: E402
 from workers import WORKERS, alone, by_workers  # noqa: E402
 from race import dealt  # noqa: E402
 from program import PROGRAM, serve  # noqa: E402
-from workloads import (SHARED, about_one, chain, clauses, crossed, dead_ends, lockfile, partial, sat, tower,  # noqa: E402
+from teaching import TEACHING  # noqa: E402
+from workloads import (SHARED, about_one, chain, clauses, conflicting, crossed, dead_ends, lockfile, partial, publish, resolve, sat, tower,  # noqa: E402
                        towers, worn)
 
 
@@ -43,6 +44,13 @@ class Workloads(unittest.TestCase):
         rates = by_workers(PROGRAM, lines, requests[:20], 1)
         self.assertEqual(list(rates), WORKERS)
         self.assertGreater(min(*rates.values(), alone(PROGRAM, WORKERS[-1], lines, requests[:5], 1)), 0)
+
+    def test_a_random_registry(self):
+        lines, requests = conflicting(12, 1)
+        self.assertEqual((conflicting(12, 1), len(lines), len(requests)), ((lines, requests), 60, 16))
+        versions = [json.loads(line) for line in lines]
+        self.assertEqual(len({(it["name"], it["version"]) for it in versions}), 60)
+        self.assertTrue(all(len(dict(it["needs"])) == 2 and it["name"] not in dict(it["needs"]) for it in versions))
 
     def test_a_tower_is_refused(self):
         for reply in self.replies(tower(5)):
@@ -116,12 +124,20 @@ class Workloads(unittest.TestCase):
                 self.assertTrue(0.9 * MEGABYTE < size(asked) < 1_048_576, name)
 
     def test_what_is_learnt_stays_where_it_rests_on_other_versions(self):
-        lines, asked = HOSTILE["resting"](3)
-        # a request that what was learnt answers meets the conflict alone that shows that it is refused
-        again = [json.dumps({**json.loads(line), "budget": 1}) for line in lines if '"op":"resolve"' in line]
-        self.assertIn('"error":22', serve([line for line in lines if '"op":"publish"' in line] + again)[-1])
-        for reply in serve(lines + asked + again)[len(lines) + len(asked):]:
-            self.assertIn('"refused":true', reply)
+        # That r can't be had rests on what each version of a needs, on what `one` needs, on both needs of r, and on that of the request.
+        # Each step joins two of what stands there, so it takes one step less than there are facts, at the least.
+        facts_beside = 4
+        needs = TEACHING + 1 - facts_beside
+        self.assertEqual(HOSTILE["resting"](3), HOSTILE["resting"](3, needs=needs))
+        # What a version needs is looked at when it is decided, and s has two: so the first conflict ends the search only where it is known
+        # that r can't be had, which both need.
+        both = [publish("s", (major, 0, 0), [["r0000", "*"]]) for major in (1, 2)]
+        again = json.dumps({**json.loads(resolve([["s", "*"]])), "budget": 1})
+        for more, told in ((0, '"refused":true'), (1, '"error":22')):
+            lines, asked = HOSTILE["resting"](3, needs=needs + more)
+            published = [line for line in lines if '"op":"publish"' in line]
+            self.assertIn('"error":22', serve([*published, *both, again])[-1])
+            self.assertIn(told, serve([*lines, *asked, *both, again])[-1])
 
     def test_hostile_lines_are_measured(self):
         loading, spent, answered = measured(PROGRAM, *HOSTILE["cited versions"](5))

@@ -97,7 +97,7 @@ static const struct way by_child = {feed, take, save, tell, close_session, cut, 
 /* The words of the program's command line. */
 struct words {
     char number[16], budget[16];
-    char *at[14];
+    char *at[13];
 };
 
 static void put_words(struct words *words, const struct wanted *wanted)
@@ -114,8 +114,6 @@ static void put_words(struct words *words, const struct wanted *wanted)
         words->at[count++] = "--budget";
         words->at[count++] = words->budget;
     }
-    if (wanted->selection)
-        words->at[count++] = wanted->selection == REGISTRYD_NEWEST ? "--newest" : "--any";
     for (size_t i = 0; i < sizeof files / sizeof *files; i++) {
         if (files[i][1]) {
             words->at[count++] = (char *)files[i][0];

@@ -9,12 +9,11 @@
 
 enum slot_answer { SLOT_OK = 0, SLOT_MISUSE = 1, SLOT_MEMORY = 2, SLOT_JOURNAL = 3 };
 
-/* Each of the three that open answers requests by their newest selections where `any` is 0, else by the first that a search finds. */
-uint32_t registryd_slot_open(struct slot *slot, uint32_t any);
+uint32_t registryd_slot_open(struct slot *slot);
 /* A whole journal. Where its text is at fault, `line` is the first line that is. */
-uint32_t registryd_slot_load(struct slot *slot, const uint8_t *journal, size_t length, size_t *line, uint32_t any);
+uint32_t registryd_slot_load(struct slot *slot, const uint8_t *journal, size_t length, size_t *line);
 /* What stands in the file of a journal that is kept as the session goes: how many of its bytes stay. */
-uint32_t registryd_slot_recover(struct slot *slot, const uint8_t *journal, size_t length, size_t *kept, size_t *line, uint32_t any);
+uint32_t registryd_slot_recover(struct slot *slot, const uint8_t *journal, size_t length, size_t *kept, size_t *line);
 uint32_t registryd_slot_feed(struct slot *slot, const uint8_t *bytes, size_t length);
 /* How many reply bytes may be taken: none while one of them rests on a command that is not said to be safe. */
 size_t registryd_slot_waiting(struct slot *slot);
@@ -29,14 +28,6 @@ uint32_t registryd_slot_journal(struct slot *slot, uint8_t *room, size_t length,
 uint32_t registryd_slot_close(struct slot *slot);
 
 /* ---- */
-
-/* What the archive is asked for where nothing is said of it: as the program selects without a word. */
-static const enum registryd_selection by_default = REGISTRYD_NEWEST;
-
-static bool takes_any(const struct wanted *wanted)
-{
-    return (wanted->selection ? wanted->selection : by_default) == REGISTRYD_ANY;
-}
 
 /* The archive takes no null, also where there are no bytes. */
 static uint8_t *bytes_at(const void *bytes)
@@ -203,14 +194,14 @@ static struct fault of_slot(uint32_t answer, size_t line)
 }
 
 /* Begins with the journal of a file that the session goes on with. */
-static struct fault begin_kept(struct embedded *it, const char *name, bool any)
+static struct fault begin_kept(struct embedded *it, const char *name)
 {
     size_t kept = 0, line = 0;
     struct bytes text = {.at = NULL};
     struct fault fault = open_journal(&it->kept, name, &text);
     it->is_kept = fault.what == NOTHING;
     if (fault.what == NOTHING) {
-        uint32_t answer = registryd_slot_recover(&it->slot, bytes_at(text.at), text.length, &kept, &line, any);
+        uint32_t answer = registryd_slot_recover(&it->slot, bytes_at(text.at), text.length, &kept, &line);
         fault = of_slot(answer, line);
     }
     if (fault.what == NOTHING)
@@ -220,13 +211,13 @@ static struct fault begin_kept(struct embedded *it, const char *name, bool any)
 }
 
 /* Begins with the journal of a file. */
-static struct fault begin_loaded(struct embedded *it, const char *name, bool any)
+static struct fault begin_loaded(struct embedded *it, const char *name)
 {
     size_t line = 0;
     struct bytes text = {.at = NULL};
     struct fault fault = read_journal(name, &text);
     if (fault.what == NOTHING) {
-        uint32_t answer = registryd_slot_load(&it->slot, bytes_at(text.at), text.length, &line, any);
+        uint32_t answer = registryd_slot_load(&it->slot, bytes_at(text.at), text.length, &line);
         fault = of_slot(answer, line);
     }
     free_bytes(&text);
@@ -236,8 +227,8 @@ static struct fault begin_loaded(struct embedded *it, const char *name, bool any
 static struct fault begin(struct embedded *it, const struct wanted *wanted)
 {
     if (wanted->journal)
-        return begin_kept(it, wanted->journal, takes_any(wanted));
-    return wanted->load ? begin_loaded(it, wanted->load, takes_any(wanted)) : of_slot(registryd_slot_open(&it->slot, takes_any(wanted)), 0);
+        return begin_kept(it, wanted->journal);
+    return wanted->load ? begin_loaded(it, wanted->load) : of_slot(registryd_slot_open(&it->slot), 0);
 }
 
 /* Holds the file to which the journal is saved at the end. */

@@ -1,4 +1,5 @@
 #include "registryd.h"
+#include "text.h"
 
 #include <string.h>
 
@@ -20,19 +21,6 @@ const char *registryd_strerror(int answer)
     }
 }
 
-/* A text that is written as far as there is room. */
-struct written {
-    char *room;
-    size_t size, length;
-};
-
-static void put(struct written *to, char byte)
-{
-    if (to->length + 1 < to->size)
-        to->room[to->length] = byte;
-    to->length++;
-}
-
 static void put_quoted(struct written *to, unsigned char byte)
 {
     static const char digits[] = "0123456789abcdef";
@@ -40,8 +28,7 @@ static void put_quoted(struct written *to, unsigned char byte)
         put(to, '\\');
         put(to, (char)byte);
     } else if (byte < 32) {
-        for (const char *at = "\\u00"; *at; at++)
-            put(to, *at);
+        put_words(to, "\\u00");
         put(to, digits[byte >> 4]);
         put(to, digits[byte & 15]);
     } else {
@@ -58,35 +45,7 @@ int registryd_quote(const char *text, char *room, size_t size, size_t *length)
     for (const char *at = text; *at; at++)
         put_quoted(&to, (unsigned char)*at);
     put(&to, '"');
-    if (size)
-        room[to.length < size ? to.length : 0] = '\0';
-    *length = to.length;
-    return to.length < size ? REGISTRYD_OK : REGISTRYD_MEMORY;
-}
-
-/* What is left of a line. */
-struct rest {
-    const char *at, *end;
-};
-
-/* Whether the rest begins with a word, which is passed over then. */
-static int has(struct rest *rest, const char *word)
-{
-    size_t length = strlen(word);
-    if ((size_t)(rest->end - rest->at) < length || memcmp(rest->at, word, length))
-        return 0;
-    rest->at += length;
-    return 1;
-}
-
-static int has_number(struct rest *rest, uint32_t *number)
-{
-    const char *first = rest->at;
-    uint64_t read = 0;
-    for (; rest->at < rest->end && *rest->at >= '0' && *rest->at <= '9' && read <= UINT32_MAX; rest->at++)
-        read = read * 10 + (uint64_t)(*rest->at - '0');
-    *number = (uint32_t)read;
-    return rest->at > first && read <= UINT32_MAX;
+    return end_written(&to, length);
 }
 
 /* A name or a version in quotes, in which nothing is escaped. It is copied with a 0 behind it. */
@@ -99,11 +58,6 @@ static int has_text(struct rest *rest, char *room, size_t size)
         room[length++] = *rest->at++;
     room[length] = '\0';
     return has(rest, "\"");
-}
-
-static struct rest rest_of(const char *line, size_t length)
-{
-    return (struct rest){line, line + (length && line[length - 1] == '\n' ? length - 1 : length)};
 }
 
 /* Whether a line ends with a word, a number and a brace. */

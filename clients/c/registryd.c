@@ -145,21 +145,6 @@ int registryd_open_budget(const char *program, unsigned workers, uint32_t budget
                                          .load = load, .save = save}, session);
 }
 
-/* Whether it is a selection that may be asked for; a caller in another language may give any number. */
-static bool is_selection(enum registryd_selection selection)
-{
-    return selection == REGISTRYD_DEFAULT || selection == REGISTRYD_NEWEST || selection == REGISTRYD_ANY;
-}
-
-int registryd_open_selecting(const char *program, unsigned workers, enum registryd_selection selection, const uint32_t *budget, const char *journal,
-                             const char *load, const char *save, registryd_session *session)
-{
-    if ((journal && (load || save)) || !is_selection(selection))
-        return REGISTRYD_MISUSE;
-    return open_program(&(struct wanted){.program = program, .workers = workers, .has_budget = budget, .budget = budget ? *budget : 0,
-                                         .selection = selection, .journal = journal, .load = load, .save = save}, session);
-}
-
 /* Whether bytes that a caller names may be there. */
 static bool may_be(const void *bytes, size_t length)
 {
@@ -187,14 +172,6 @@ int registryd_open_embedded(const char *load, const char *save, registryd_sessio
 int registryd_open_embedded_journal(const char *journal, registryd_session *session, char *words, size_t room)
 {
     return open_in_process(&(struct wanted){.journal = journal}, journal ? session : NULL, words, room);
-}
-
-int registryd_open_embedded_selecting(const char *journal, const char *load, const char *save, enum registryd_selection selection,
-                                      registryd_session *session, char *words, size_t room)
-{
-    bool is_taken = is_selection(selection) && (!journal || (!load && !save));
-    return open_in_process(&(struct wanted){.selection = selection, .journal = journal, .load = load, .save = save}, is_taken ? session : NULL, words,
-                           room);
 }
 
 int registryd_connect(const char *where, registryd_session *session)

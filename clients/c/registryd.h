@@ -3,14 +3,11 @@
  * Request lines go in, reply lines come out, as docs/FORMATS.md has them. A session is answered in one of three ways, which is
  * chosen when it is opened; all other calls are the same for each:
  *
- *   by a child process   registryd_open, registryd_open_journal, registryd_open_budget, registryd_open_selecting: a `registryd serve`
- *                        of its own, with threads that share requests
- *   in process           registryd_open_embedded, registryd_open_embedded_journal, registryd_open_embedded_selecting: the session
- *                        is a part of the caller's process, which starts nothing and waits for nothing but its journal's file
+ *   by a child process   registryd_open, registryd_open_journal, registryd_open_budget: a `registryd serve` of its own, with threads
+ *                        that share requests
+ *   in process           registryd_open_embedded, registryd_open_embedded_journal: the session is a part of the caller's process,
+ *                        which starts nothing and waits for nothing but its journal's file
  *   by a service         registryd_connect: a `registry serve` that keeps one journal for many clients
- *
- * Which selection answers a request is said by the two calls _selecting, and left to the program by the others. A service selects as
- * it was started.
  *
  * What is proved: of the program, which replies it gives to the lines that it reads; of the archive `embedded`, which is linked
  * in for sessions in process, the same of the bytes that each call is given, what a journal's file is to get, and that no reply
@@ -57,16 +54,6 @@ enum registryd_answer {
     REGISTRYD_JOURNAL = 5
 };
 
-/* Which selection answers a request. */
-enum registryd_selection {
-    /* As the program selects without a word. */
-    REGISTRYD_DEFAULT = 0,
-    /* Its newest selection, which is the same whoever asks. */
-    REGISTRYD_NEWEST = 1,
-    /* The first one that a search finds, which may differ from session to session. */
-    REGISTRYD_ANY = 2
-};
-
 /* How many sessions may be open at once. */
 #define REGISTRYD_SESSIONS 64
 
@@ -89,11 +76,6 @@ int registryd_open_journal(const char *program, unsigned workers, const char *jo
 int registryd_open_budget(const char *program, unsigned workers, uint32_t budget, const char *journal, const char *load, const char *save,
                           registryd_session *session);
 
-/* As registryd_open, or as registryd_open_journal where `journal` is not null, for requests that this selection answers. A budget is as
- * registryd_open_budget has it, or null where none is wanted. */
-int registryd_open_selecting(const char *program, unsigned workers, enum registryd_selection selection, const uint32_t *budget, const char *journal,
-                             const char *load, const char *save, registryd_session *session);
-
 /* Opens a session in process. It begins with the journal of a file, or with none where `load` is null; registryd_save will
  * write a journal to the file `save`, which is null where none is wanted.
  *
@@ -106,11 +88,6 @@ int registryd_open_embedded(const char *load, const char *save, registryd_sessio
  * search taught is written before the reply to a later line can be taken, or at the end. A session of the program and one in process
  * exclude each other from a file, as two of either do. */
 int registryd_open_embedded_journal(const char *journal, registryd_session *session, char *words, size_t room);
-
-/* As registryd_open_embedded, or as registryd_open_embedded_journal where `journal` is not null, for requests that this selection
- * answers. */
-int registryd_open_embedded_selecting(const char *journal, const char *load, const char *save, enum registryd_selection selection,
-                                      registryd_session *session, char *words, size_t room);
 
 /* Connects to a service, `registry serve`. The address is the path of its socket, or HOST:PORT: a text without a slash that ends in
  * a colon and digits. The service has a journal of its own, which it keeps beyond the session. REGISTRYD_START says that it can't
@@ -195,6 +172,82 @@ int registryd_read(const char *line, size_t length, struct registryd_reply *repl
 /* Reads a selected package, counted from 0, of the reply line of a selection. REGISTRYD_ENDED says that it has no more, and
  * REGISTRYD_MISUSE that it is no such line. */
 int registryd_selected(const char *line, size_t length, size_t place, struct registryd_pair *pair);
+
+/* A text of a line that a caller has: from the byte `at`, so many bytes, with nothing behind them. */
+struct registryd_text {
+    size_t at, length;
+};
+
+/* Which text of a request line an error is for. */
+struct registryd_culprit {
+    /* the member, and the item of it, as `version` or `needs[3]`; empty for the name and the version together, and where it is for no text */
+    char place[32];
+    /* the package that this is about, and what stands there, without the quotes; of no length where it is for no text */
+    struct registryd_text package, text;
+    /* what was probably meant, where there is telling; else empty */
+    char meant[257];
+};
+
+/* Tells which text of a request line the error of its reply is for, by the number of the error. For a name, a version or a requirement it
+ * asks the session about each such text alone, by a line that searches for nothing, until one is refused as the line was, and then about
+ * what was probably meant. So take all replies before, and feed the session in no other thread meanwhile. Names are compared as they are
+ * written.
+ *
+ * REGISTRYD_MISUSE says that the line is no object, or has more than a megabyte; the other answers are those of registryd_ask. It costs
+ * a line for each text that is asked about; where a name is repeated, a pass over the pairs for each pair. */
+int registryd_culprit(registryd_session session, const char *line, size_t length, uint32_t error, struct registryd_culprit *culprit);
+
+/* What a step of an explanation follows from. */
+enum registryd_cause_kind {
+    /* An earlier step: `step` is its place. */
+    REGISTRYD_STEP = 0,
+    /* The request must be met. */
+    REGISTRYD_ROOT = 1,
+    /* The request needs the package `target` in a version that meets `requirement`: those `within`. */
+    REGISTRYD_NEED = 2,
+    /* The `versions` of `package` need `target` in a version that meets `requirement`: those `within`. */
+    REGISTRYD_PREMISE = 3,
+    /* The `versions` of `package` are yanked and not in the lock, or not published. */
+    REGISTRYD_DISALLOWED = 4
+};
+
+/* A cause; what its kind does not name is empty. The texts of versions are sets, of which registryd_item reads one after another. */
+struct registryd_cause {
+    enum registryd_cause_kind kind;
+    size_t step;
+    struct registryd_text package, versions, target, requirement, within;
+};
+
+/* A step: it follows from its two causes that its terms, which registryd_term reads, can't all hold. */
+struct registryd_step {
+    struct registryd_text terms;
+    struct registryd_cause causes[2];
+    /* by which sentences of later steps cite it, or 0 */
+    size_t number;
+};
+
+/* A term: the version of a package, or of the request by an empty name, is one of a set, or is none of it. */
+struct registryd_term {
+    int is_in;
+    struct registryd_text package, versions;
+};
+
+/* Reads why no selection meets a request, of the reply line to one with `explain`: copies its steps to `steps`, and tells how many there are.
+ * Each rests on earlier ones alone, and the last one says that the request can't be met: so they are a tree, whose root is the last one.
+ * REGISTRYD_MEMORY says that there is no room for all: `count` tells how many there are all the same. REGISTRYD_MISUSE says that the line
+ * tells no such thing. It takes one pass over the line, and no memory of its own. */
+int registryd_steps(const char *line, size_t length, struct registryd_step *steps, size_t size, size_t *count);
+
+/* Takes the next term off the terms of a step, or the next version off a set, of the same line: `left` is a copy, and is what is left then.
+ * REGISTRYD_ENDED says that there are no more, and REGISTRYD_MISUSE that these are none. */
+int registryd_term(const char *line, size_t length, struct registryd_text *left, struct registryd_term *term);
+int registryd_item(const char *line, size_t length, struct registryd_text *left, struct registryd_text *item);
+
+/* Tells a step in English, as the reporter of PubGrub does: copies the sentence to `room` as registryd_quote does a text. The steps are
+ * those that registryd_steps read of the same line; their sentences in order explain the refusal. One that begins with "And", or is
+ * "Thus", follows from the one before it, too. It takes one pass over what the step and those that it cites say. */
+int registryd_sentence(const char *line, size_t length, const struct registryd_step *steps, size_t count, size_t place, char *room, size_t size,
+                       size_t *written);
 
 #ifdef __cplusplus
 }

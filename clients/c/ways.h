@@ -109,7 +109,6 @@ struct wanted {
     unsigned workers;
     bool has_budget;
     uint32_t budget;
-    enum registryd_selection selection;
     const char *journal, *load, *save;
     const char *where;
 };

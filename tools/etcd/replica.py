@@ -17,14 +17,14 @@ class Lost(Exception):
 class Replica:
     """The program with a journal. It is asked by lines and answers each; which of them change it is the caller's affair."""
 
-    def __init__(self, program, workers, journal, words=()):
+    def __init__(self, program, workers, journal):
         self.owed, self.begun = 0, []  # how many lines have no reply so far, and the pieces of one whose end was not read
         with tempfile.TemporaryDirectory() as folder:
             path = os.path.join(folder, "journal")
             with open(path, "wb") as file:
                 file.write(journal)
             # in a group of its own, so that a key that ends the front leaves it to the front
-            self.child = tied.Tied([program, "serve", "--workers", str(workers), *words, "--load", path], bufsize=0, process_group=0,
+            self.child = tied.Tied([program, "serve", "--workers", str(workers), "--load", path], bufsize=0, process_group=0,
                                    stdin=subprocess.PIPE, stdout=subprocess.PIPE, stderr=subprocess.PIPE)
             try:
                 # it answers once the journal is loaded; then the file is no longer needed

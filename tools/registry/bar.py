@@ -8,6 +8,7 @@ from . import output
 
 WIDE, ERASE = 30, "\r\x1b[K"
 TICK = 1  # seconds
+is_timed = False
 
 
 def is_seen():
@@ -33,8 +34,10 @@ def busy(said):
 
 @contextlib.contextmanager
 def timed(said, limit=0):
-    """The same, for how many seconds, once it has taken one; and the seconds that it may take, if those are limited."""
-    if not is_seen():
+    """The same, for how many seconds, once it has taken one; and the seconds that it may take, if those are limited. What is a part of
+    something that is timed says nothing."""
+    global is_timed
+    if is_timed or not is_seen():
         yield
         return
     is_over, begun = threading.Event(), time.monotonic()
@@ -45,9 +48,11 @@ def timed(said, limit=0):
             show(f"{ERASE}{said} for {time.monotonic() - begun:.0f} s{most}; Ctrl-C ends it")
     telling = threading.Thread(target=tell, daemon=True)
     telling.start()
+    is_timed = True
     try:
         yield
     finally:
+        is_timed = False
         is_over.set()
         telling.join()
         if time.monotonic() - begun >= TICK:

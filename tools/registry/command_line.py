@@ -1,6 +1,9 @@
 """Reads the words of a command line, by the table."""
 import argparse
+import os
+import sys
 import textwrap
+from functools import partial
 
 from registryd_lines.nearest import nearest
 
@@ -9,27 +12,49 @@ from .table import COMMON, SUBCOMMANDS, subcommand
 
 HELP = "`registry --help`"
 WIDE = 78  # of sentences in the help
+UNKNOWN = 80  # columns of what is no terminal
 GENERAL = ("--help", "-h", "--version", "-V", "--manual", "--completion", "--complete")
 
 
 # subcommands that have other names elsewhere
 ELSEWHERE = {"add": "publish", "release": "publish", "remove": "yank", "delete": "yank", "unpublish": "yank", "install": "resolve",
              "solve": "resolve", "update": "upgrade", "info": "show", "view": "show", "ls": "list", "find": "search",
-             "explain": "why"}
+             "explain": "why", "version": "--version"}
+# and options; what is needed is a word here
+OPTIONS_ELSEWHERE = {"frozen": "locked", "frozen-lockfile": "locked", "immutable": "locked", "timeout": "seconds", "output": "write", "lockfile": "lock"}
+WORDS_ELSEWHERE = ("need", "needs", "dep", "deps", "dependency", "dependencies", "package", "packages")
 
 
 class Parser(argparse.ArgumentParser):
     """A parser whose faults are exceptions, in one line."""
 
     def error(self, message):
-        meant = nearest(message.partition(" --")[2].partition(" ")[0].partition("=")[0], [it[2:] for it in self._option_string_actions])
-        hint = f"; did you mean --{meant}? See" if meant and message.startswith("unrecognized") else ": see"
+        option = message.partition("--")[2].partition(" ")[0].partition("=")[0].rstrip(":")
+        known = self._option_string_actions
+        meant = "--" + (OPTIONS_ELSEWHERE.get(option) or nearest(option, [it[2:] for it in known]) or "")
+        hint = ": see"
+        if "--" + option in known:
+            names = known["--" + option].metavar
+            hint = f", {' and '.join(names)}: see" if isinstance(names, tuple) else hint
+        elif meant in known:
+            hint = f"; did you mean {meant}? See"
+        elif option in WORDS_ELSEWHERE and any(it.dest == "need" for it in self._actions):
+            hint = "; what is needed stands without an option, as app@^1. See"
         raise Usage(f"{message}{hint} `{self.prog} --help`")
 
 
 def asked_help(words):
     """A command line in which `help` stands before a subcommand, as one that has `--help` behind it."""
     return [*asked_help(words[1:]), "--help"] if words[:1] == ["help"] else words
+
+
+def layout():
+    """How a parser lays out its help. It is told the width, since it would load what packs archives to learn that."""
+    try:
+        columns = int(os.environ.get("COLUMNS", 0)) or os.get_terminal_size(sys.__stdout__.fileno()).columns
+    except (AttributeError, ValueError, OSError):
+        columns = 0
+    return partial(argparse.RawDescriptionHelpFormatter, width=(columns or UNKNOWN) - 2)
 
 
 def split(words):
@@ -74,7 +99,8 @@ def parted(of, words):
             awaited = list(options[it].names)
         elif not it.startswith("-"):
             row = awaited or places
-            both = it.split("@", 1) if row[1:2] == ["VERSION"] else [it]
+            at = it.find("@", 1) if row[1:2] == ["VERSION"] else -1  # a name of npm may begin with one
+            both = [it] if at < 0 else [it[:at], it[at + 1:]]
             del row[:len(both)]
             made += both
             continue
@@ -86,7 +112,7 @@ def reader(of):
     """The parser of a subcommand's words."""
     about = "\n\n".join(textwrap.fill(it, WIDE) for it in (of.summary + ".", of.more) if it)
     parser = Parser(prog=f"registry {of.name}", description=about, epilog=shown(of.examples),
-                    formatter_class=argparse.RawDescriptionHelpFormatter, allow_abbrev=False)
+                    formatter_class=layout(), allow_abbrev=False)
     for it in (*of.words, *COMMON):
         add(parser, it)
     return parser
@@ -127,7 +153,7 @@ def number(numbers):
 def overview():
     """The help of the whole."""
     wide = max(len(it.name) for it in SUBCOMMANDS)
-    parser = Parser(prog="registry", usage="registry SUBCOMMAND ..", add_help=False, formatter_class=argparse.RawDescriptionHelpFormatter,
+    parser = Parser(prog="registry", usage="registry SUBCOMMAND ..", add_help=False, formatter_class=layout(),
                     description="A package registry with a version solver, over one file.\n\nsubcommands:\n"
                     + "\n".join(f"  {it.name.ljust(wide)}  {it.summary}" for it in SUBCOMMANDS),
                     epilog=shown(("registry publish log 1.3.0", "registry publish app 1.0.0 log@^1.2", "registry resolve app"))

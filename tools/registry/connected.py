@@ -10,8 +10,8 @@ import time
 from collections import deque
 
 from . import near_limits
+from .catalog import commands_in
 from .failures import Failed, Refused
-from .journal_file import commands_in
 from .searching import asking
 from .session import EMPTY
 
@@ -40,7 +40,8 @@ def connect(address):
     except (OSError, OverflowError) as fault:
         if connection:
             connection.close()
-        raise Failed(f"no service answers at {address}: {getattr(fault, 'strerror', None) or fault}") from None
+        meant = "" if re.search(r"[/:.]", address) else f"; did you mean {address}:PORT?"
+        raise Failed(f"no service answers at {address}: {getattr(fault, 'strerror', None) or fault}{meant}") from None
 
 
 def page_of_service(address, target):
@@ -67,7 +68,7 @@ def line_of(request):
 class Connected:
     """It answers what a session over a journal's file does, as the registry stands when it is asked."""
 
-    quicker, is_ended = "", False
+    is_ended = False
 
     def __init__(self, address):
         self.path, self.revision, self.text = address, 0, b""

@@ -43,6 +43,8 @@ def general(words):
     elif words in (["--version"], ["-V"]):
         from .program import version
         print(version())
+    elif words[0:1] in (["--version"], ["-V"], ["--manual"]):
+        raise Usage(f"nothing may follow {words[0]}: see {command_line.HELP}")
     else:
         return overview(words)
     return DONE

@@ -18,11 +18,12 @@ def warnings(path, text):
     commands = text.count(b"\n") - 1 - text.count(LEARNT) - text.endswith(b"end %d\n" % (text.count(b"\n") - 2))
     if is_near(commands, MOST_COMMANDS):
         yield f"{path} has {commands:,} of {MOST_COMMANDS:,} commands: {REMEDY}"
-    versions = Counter(PUBLISHED.findall(text))
-    names = len({*versions, *NEEDED.findall(text)})
+    is_wide = is_near(commands + text.count(b'["'), MOST_PACKAGES)  # else no names are looked at
+    published = PUBLISHED.findall(text) if is_wide or is_near(commands, MOST_VERSIONS) else []
+    names = len({*published, *NEEDED.findall(text)}) if is_wide else 0
     if is_near(names, MOST_PACKAGES):
         yield f"{path} names {names:,} of {MOST_PACKAGES:,} packages: {REMEDY}"
-    for name, count in versions.items():
+    for name, count in Counter(published).items():
         if is_near(count, MOST_VERSIONS):
             yield f"{path} has {count:,} of {MOST_VERSIONS:,} versions of {name.decode()}: {REMEDY}"
 

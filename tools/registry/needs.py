@@ -10,8 +10,9 @@ from .files import read_file, write_file
 from .locks import DEFAULT, Unread, lock_of
 
 NEED = re.compile(r"\s*([^@\s]*)(?:(?:\s*@\s*|\s+)(.*))?", re.S)  # of a text without white space at its end
-# what other tools have in place of the @: `log==1.0.0`, `log:1.0.0`, `log-1.0.0`
-JOINED = re.compile(r"([a-z][a-z0-9_-]*?)(?::|-(?=v?[0-9]+\.)|(?=[=<>~^!]))(.*)", re.S | re.I)
+# what other tools have in place of the @: `log==1.0.0`, `log:1.0.0`, `log-1.0.0`, `log/1.0.0`, `log(>=1)`
+JOINED = re.compile(r"([a-z][a-z0-9_-]*?)(?::|[-/](?=v?[0-9]+\.)|(?=[(=<>~^!]))(.*)", re.S | re.I)
+SEVERAL = re.compile(r"[a-z][a-z0-9_-]*(?: *[,;] *[a-z][a-z0-9_-]*)+")
 
 
 def need_of(text):
@@ -39,6 +40,8 @@ def slip(word, before=""):
     found = JOINED.fullmatch(word)
     if word.endswith(".lock"):
         return f"{shown(word)} is no package; did you mean {shown('--lock ' + word)}?"
+    if SEVERAL.fullmatch(word):
+        return f"{shown(word)} has a comma between packages; did you mean {' and '.join(re.split('[,; ]+', word))}, each by itself?"
     if found:
         what, name, requirement = "has no @ between the package and the requirement", found[1].lower() + "@", found[2].strip()
     elif word.startswith("@") or requirement_fault(word) is None:

@@ -2,6 +2,7 @@
 import os
 import re
 import sys
+import time
 from typing import NamedTuple
 
 STYLES = {"bold": "1", "faint": "2", "red": "31", "green": "32", "yellow": "33"}
@@ -16,7 +17,8 @@ class Choice(NamedTuple):
     color: str = ""
     is_quiet: bool = False
     is_verbose: bool = False
-    seconds: int = 0  # that a search may take; 0 is any time
+    seconds: int = 0  # that a search with its explanation may take; 0 is any time
+    begun: float = 0  # when the command line was read
 
 
 usual = chosen = Choice()  # of the shell that obeys a command line, and of that line
@@ -26,7 +28,7 @@ def choose(given=None):
     """Obeys these options, and where they say nothing those of the shell."""
     global chosen
     chosen = Choice(given.color or usual.color, given.quiet or usual.is_quiet, given.verbose or usual.is_verbose,
-                    getattr(given, "limit", 0)) if given else usual
+                    getattr(given, "limit", 0), time.monotonic()) if given else usual
 
 
 def keep_choice(kept):

@@ -36,7 +36,7 @@ class Question:
         """Whether a request alone can ask it."""
         return not self.barring and len(self.request["needs"]) <= MOST_NEEDS
 
-    def put(self, commands, request, registry, words=()):
+    def put(self, commands, request, registry):
         """The reply of a session of its own, over what the question reaches of a registry with these commands. `request` is the
         question's, whose lock and budget may be others. `registry` answers the registry in Python, with some packages."""
         needs, made = bundled(self.request["needs"], commands)
@@ -45,7 +45,7 @@ class Question:
         if len(lines) > MOST_COMMANDS:
             raise Refused(f"the question takes {len(lines):,} commands; the limit of a session is {MOST_COMMANDS:,}")
         lock = [[name, text] for name, text in request["lock"] if name not in self.barring or self.has(name, text)]
-        with Over("the question", journal_text([line_of(it) for it in lines]), words) as session:
+        with Over("the question", journal_text([line_of(it) for it in lines])) as session:
             (reply,) = session.ask({**request, "needs": needs, "lock": lock})
         names = {it["name"] for it in made}
         if "selected" in reply:

@@ -1,7 +1,7 @@
 """The English of a refusal by number: what is at fault, and what there is instead."""
 import json
 
-from check_derivation import read_version
+from check_derivation import NAME, read_version
 from limits import MOST_NEEDS, MOST_PACKAGES, MOST_VERSIONS
 from registryd_lines.nearest import nearest
 
@@ -47,6 +47,9 @@ def misspelled(request, number):
     """What is wrong with the first name, version or requirement that a request is refused for, and what was probably meant."""
     from registryd_lines.judging import faults
     from registryd_lines.requirements import requirement_fault
+    name, version = request.get("name", ""), request.get("version", "")
+    if number == 1 and read_version(name) and NAME.fullmatch(version):
+        return f"{name} is a version, not a package; did you mean {version} {name}?"
     said = next(it.told for it in faults(json.dumps(request).encode()) if it.number == number)
     if number != 3:
         return said

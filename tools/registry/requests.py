@@ -3,7 +3,7 @@ import sys
 
 from check_derivation import read_version
 
-from .catalog import Catalog
+from .catalog import catalog_of
 from .failures import REFUSED
 from .locks import lock_of
 from .needs import needs_given
@@ -27,15 +27,14 @@ def answered(session, request):
 
 def refused(session, request, reply, out):
     """Tells why no selection meets a request, and answers the exit status."""
-    from .bar import timed
     from .cases import Case
     from .explaining import tell
-    from .packages import registry_of
+    from .packages import registry_in
+    from .searching import explaining
     out.give(reply, [])
-    commands = session.commands()
-    names = {it["name"] for it in commands if it["op"] == "publish"}
-    case = Case(request, reply, lambda named: registry_of(commands, named), lambda it: session.ask(it)[0], names)
-    with timed("explaining"):
+    with explaining(is_refused=True):
+        catalog = catalog_of(session.journal())
+        case = Case(request, reply, lambda named: registry_in(catalog, named), lambda it: session.ask(it)[0], set(catalog.lines))
         lines = case.answer()
     tell(case, lines, sys.stderr, False, "`registry why` tells all of them")
     return REFUSED
@@ -53,5 +52,5 @@ def lock_notes(path, lock, packages):
 
 def needs_of(session, selected):
     """What each selected version needs, as pairs, by package."""
-    needs = Catalog(session.journal()).needs
-    return {name: needs[name, version] for name, version in selected.items()}
+    catalog = catalog_of(session.journal())
+    return {name: catalog.version(name, version).needs for name, version in selected.items()}

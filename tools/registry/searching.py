@@ -1,6 +1,8 @@
-"""What is done while the program is asked: a terminal is told how long it takes, and a search that takes too long is ended."""
+"""What is done while the program is asked, and while its answer is explained: a terminal is told how long it takes, and what takes too
+long is ended."""
 import contextlib
 import json
+import signal
 import threading
 import time
 
@@ -8,6 +10,7 @@ from . import bar, output
 from .failures import Failed, Unanswered
 
 MOST_TOLD = 200  # letters of a request
+LEAST = 3  # seconds that an explanation has, however long the search took
 
 
 class Limit:
@@ -35,8 +38,35 @@ class Limit:
         with self.lock:
             self.is_answered = True
         if self.is_over and (kind is None or issubclass(kind, Failed)):
-            raise Unanswered(f"no answer was found in {self.seconds} second{'s' * (self.seconds != 1)}: --seconds N searches longer (0: without a limit)"
-                             + self.session.quicker) from None
+            raise Unanswered(f"no answer was found in {counted(self.seconds)}: --seconds N searches longer (0: without a limit)") from None
+
+
+class Alarm:
+    """Ends by an exception what the main thread does, if that is not done after some seconds; never where these are 0."""
+
+    def __init__(self, seconds, told):
+        self.seconds, self.told, self.is_set = seconds, told, False
+
+    def ring(self, *_):
+        if self.is_set:
+            self.is_set = False
+            raise Unanswered(self.told)
+
+    def __enter__(self):
+        if self.seconds:
+            self.is_set = True
+            self.before = signal.signal(signal.SIGALRM, self.ring), signal.setitimer(signal.ITIMER_REAL, self.seconds)
+
+    def __exit__(self, *_):
+        self.is_set = False
+        if self.seconds:
+            handler, timer = self.before
+            signal.setitimer(signal.ITIMER_REAL, *timer)
+            signal.signal(signal.SIGALRM, handler)
+
+
+def counted(seconds):
+    return f"{seconds} second{'s' * (seconds != 1)}"
 
 
 @contextlib.contextmanager
@@ -50,3 +80,13 @@ def asking(session, requests):
     with bar.timed("searching" if is_search else "waiting for the program", seconds), Limit(session, seconds):
         yield
     output.detail(f"answered in {time.monotonic() - begun:.3f} s")
+
+
+@contextlib.contextmanager
+def explaining(is_refused, begun=None):
+    """Meanwhile an answer is explained. It may take what is left of the seconds that have begun then, else with the command."""
+    seconds = output.chosen.seconds
+    left = seconds and max(LEAST, seconds - (time.monotonic() - (begun or output.chosen.begun)))
+    told = "there is no selection; to say why takes" if is_refused else "to explain that takes"
+    with bar.timed("explaining", round(left)), Alarm(left, f"{told} more than {counted(seconds)} in all: --seconds N allows more (0: without a limit)"):
+        yield

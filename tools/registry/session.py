@@ -12,6 +12,7 @@ import time
 import tied
 
 from . import near_limits
+from .catalog import commands_in
 from .failures import Failed, Refused, Usage, told
 from .program import program
 from .searching import asking
@@ -57,22 +58,12 @@ def patience_of(given):
     return named if named is not None else standing.patience if standing else SECONDS
 
 
-def selecting(given):
-    """The words of the program that say which selection answers a request; none where that is left to the program."""
-    newest, takes_any = (getattr(given, it, None) is True for it in ("newest", "any"))
-    if newest and takes_any:
-        raise Usage("--newest can't be used with --any")
-    return ["--newest"] * newest + ["--any"] * takes_any
-
-
 def reading(given):
     """A session that reads. It answers `ask`, `each`, `journal`, `commands` and `close`, and one over a service answers the same."""
-    service, path, words = service_of(given), journal_of(given), selecting(given)
-    if service and words:
-        raise Usage(f"{words[0]} is for a journal: a service selects as it was started")
+    service, path = service_of(given), journal_of(given)
     if service:
         return connected(service)
-    return (standing and not words and standing.lent(path, patience=patience_of(given))) or Reading(path, words=words)
+    return (standing and standing.lent(path, patience=patience_of(given))) or Reading(path)
 
 
 def writing(given):
@@ -137,7 +128,6 @@ def reason(said, path):
 
 class Session:
     """A program that answers request lines, begun with these words."""
-    quicker = ", and --any takes the first selection that is found"  # what else helps where a search takes too long
     group = None  # of processes: that of this command, so that a key that ends it ends the program too
 
     def __init__(self, path, words, handed=()):
@@ -234,10 +224,10 @@ class Session:
 class Reading(Session):
     """A session on a journal as it stood when this was begun, or as it is told to have stood."""
 
-    def __init__(self, path, text=None, words=()):
+    def __init__(self, path, text=None):
         self.text = snapshot(path) if text is None else text
         with shared(self.text) as file:
-            super().__init__(path, [*words, f"--load=/dev/fd/{file.fileno()}"], [file.fileno()])
+            super().__init__(path, [f"--load=/dev/fd/{file.fileno()}"], [file.fileno()])
         self.warnings = list(near_limits.warnings(path, self.text))  # while the program loads it
 
     def journal(self):
@@ -246,7 +236,7 @@ class Reading(Session):
 
     def commands(self):
         """The accepted commands, in order."""
-        return [json.loads(line) for line in self.journal().split(b"\n")[1:-2] if not line.endswith(b'"op":"learn"}')]
+        return [json.loads(it) for it in commands_in(self.journal())]
 
     def warn(self):
         near_limits.tell(self.warnings)

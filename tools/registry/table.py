@@ -62,9 +62,8 @@ LOCK = option("--lock", "FILE", "a lock file: its versions are preferred", FILE)
 LOCKED = flag("--locked", "end with status 1 unless exactly the lock file's versions are selected (--lock, else registry.lock)")
 LOCK_FILE = option("--lock", "FILE", "the lock file (else: registry.lock)", FILE)
 BUDGET = option("--budget", "N", "give up after N conflicts", BUDGETS)
-SECONDS = Word(("N",), "end a search after N seconds; 0 is never (else: 30)", range(86_401), "--seconds", kept_as="limit", default=30)
-SELECTING = (flag("--newest", "take the newest selection, which is the same for everyone (default)"),
-             flag("--any", "take the first selection that a search finds"))
+SECONDS = Word(("N",), "end a search and its explanation after N seconds; 0 is never (else: 30)", range(86_401), "--seconds", kept_as="limit", default=30)
+NEWEST = flag("--newest", "has no effect: each selection is the newest")
 NOT = Word(("NAME", "VERSION"), "why this version is not what is selected", PACKAGE, flag="--not", kept_as="version")
 BESIDE = ("Without NEED, the needs file beside the lock file says what is needed: its name ends in .needs instead of .lock, and each of its "
           "lines has a name and a requirement. Without a lock file it is registry.needs. A lock file that says what it was made for "
@@ -113,16 +112,16 @@ SUBCOMMANDS = (
                (word("TEXT", "a part of the name"),), ("registry search json",)),
     Subcommand("list", "listing", "List all packages, each with its newest version", (), ("registry list",)),
     Subcommand("resolve", "resolve", "Select versions that fit together",
-               (NEEDS, LOCK, option("--write", "FILE", "keep the selection as a lock file, and beside it what was needed", FILE), LOCKED, BUDGET, SECONDS, *SELECTING),
+               (NEEDS, LOCK, option("--write", "FILE", "keep the selection as a lock file, and beside it what was needed", FILE), LOCKED, BUDGET, SECONDS, NEWEST),
                ("registry resolve app@^1 zlib", "registry resolve app@^1 --write registry.lock", "registry resolve --lock registry.lock --locked"),
                BESIDE),
     Subcommand("tree", "tree", "Show a selection as a tree of who needs whom",
                (NEEDS, LOCK, option("--invert", "NAME", "who needs this package, in place of what is needed", PACKAGE),
-                option("--depth", "N", "no more than N steps deep", BUDGETS), BUDGET, SECONDS, *SELECTING),
+                option("--depth", "N", "no more than N steps deep", BUDGETS), BUDGET, SECONDS, NEWEST),
                ("registry tree app@^1", "registry tree app@^1 --invert log", "registry tree --lock registry.lock --depth 1"),
                "The needs of a package are shown once: (*) marks it where it comes again. " + BESIDE),
     Subcommand("why", "why", "Explain why a request is refused, or why a version is not selected",
-               (NEEDS, LOCK, BUDGET, SECONDS, *SELECTING, NOT, option("--picture", "FILE", "draw it too, as SVG: the derivation, or the selection", FILE),
+               (NEEDS, LOCK, BUDGET, SECONDS, NEWEST, NOT, option("--picture", "FILE", "draw it too, as SVG: the derivation, or the selection", FILE),
                 flag("--full", "tell all of an explanation that takes more than a screenful of a terminal"),
                 flag("--unfolded", "draw each line of a derivation, however long it is"),
                 option("--asked", "FILE", "the request lines of a session; without --told each followed by its reply", FILE),
@@ -133,14 +132,14 @@ SUBCOMMANDS = (
                "A refusal is explained by its derivation, after that was checked. If a session's packages are in a journal, "
                "as those of a race are, --journal names it: each reply is explained at its revision. " + BESIDE),
     Subcommand("outdated", "outdated", "Show what in a lock file is not the newest, and what holds it back",
-               (NEEDS, LOCK_FILE, option("--budget", "N", "give a question up after N conflicts (else: 10000)", BUDGETS), SECONDS, *SELECTING,
+               (NEEDS, LOCK_FILE, option("--budget", "N", "give a question up after N conflicts (else: 10000)", BUDGETS), SECONDS, NEWEST,
                 flag("--exit-status", "end with status 1 if it shows a package")),
                ("registry outdated", "registry outdated --lock app.lock", "registry outdated --exit-status"),
                "Of each package it shows what is locked, what an upgrade of all would select, the newest version that is not yanked, and "
                "why that is not selected. " + BESIDE),
     Subcommand("upgrade", "upgrade", "Unlock packages of a lock file, and write what is selected then",
                (word("NAME", "a package to unlock (else: all of the lock file)", PACKAGE, "*"), LOCK_FILE,
-                option("--need", "NEED", "what is needed, in place of what the needs file says", NEED, "+"), BUDGET, SECONDS, *SELECTING,
+                option("--need", "NEED", "what is needed, in place of what the needs file says", NEED, "+"), BUDGET, SECONDS, NEWEST,
                 flag("--yes", "write it without a question")),
                ("registry upgrade log", "registry upgrade --yes", "registry upgrade --lock app.lock --need app@^2"),
                "It shows what would change and asks before it writes. " + BESIDE),
@@ -183,7 +182,7 @@ SUBCOMMANDS = (
                 option("--group", "NAME", "the group of the socket"),
                 option("--readers", "N", "how many programs answer requests (else: 2)", range(1, 65), default=2),
                 option("--seconds", "N", "give a request up after N seconds (else: 10)", range(1, 3_601), default=10),
-                option("--budget", "N", "the budget of conflicts of requests that name none", BUDGETS), *SELECTING,
+                option("--budget", "N", "the budget of conflicts of requests that name none", BUDGETS), NEWEST,
                 option("--workers", "N", "how many threads of each program resolve (else: 1)", range(1, 65), default=1),
                 option("--clients", "N", "no more than N clients at a time (else: 1000)", range(1, 100_001), default=1_000),
                 option("--log", "FILE", "log each line that is answered; - is standard output", FILE),
@@ -199,7 +198,7 @@ SUBCOMMANDS = (
                "one that follows a file knows when it saw what came. Any other time is -."),
     Subcommand("page", "page", "Show the journal on a page in a browser of this machine",
                (option("--port", "N", "the port (else: one that is free)", range(65_536)),
-                option("--seconds", "N", "end a search after N seconds (else: 10)", range(1, 3_601)), *SELECTING),
+                option("--seconds", "N", "end a search after N seconds (else: 10)", range(1, 3_601)), NEWEST),
                ("registry page", "registry page --port 8000 --journal team.journal"),
                "It prints the page's address, and shows there until Ctrl-C. The page changes nothing. Only this machine reaches it, but each of its users."),
 )

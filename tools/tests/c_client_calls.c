@@ -196,8 +196,7 @@ static void budgets(void)
     WANT(registryd_save(session) == REGISTRYD_OK && registryd_close(session) == REGISTRYD_OK && access("s.journal", F_OK) == 0);
 }
 
-/* Has two selections for any a and any b: the newest, and the one that a search finds first, which takes b first, since that has the
- * fewest versions. */
+/* Where a 3.0.0 needs an old b: the newest selection of any a and any b decides a first. */
 static const char two[] =
     "{\"op\":\"publish\",\"name\":\"a\",\"version\":\"1.0.0\",\"needs\":[]}\n"
     "{\"op\":\"publish\",\"name\":\"a\",\"version\":\"2.0.0\",\"needs\":[]}\n"
@@ -207,49 +206,28 @@ static const char two[] =
     either[] = "{\"op\":\"resolve\",\"needs\":[[\"a\",\"*\"],[\"b\",\"*\"]]}\n",
     accepted[] = "{\"ok\":true,\"revision\":1}\n{\"ok\":true,\"revision\":2}\n{\"ok\":true,\"revision\":3}\n"
                  "{\"ok\":true,\"revision\":4}\n{\"ok\":true,\"revision\":5}\n",
-    newest[] = "{\"revision\":5,\"selected\":[[\"a\",\"3.0.0\"],[\"b\",\"1.0.0\"]]}\n",
-    first_found[] = "{\"revision\":5,\"selected\":[[\"a\",\"2.0.0\"],[\"b\",\"2.0.0\"]]}\n",
-    spent_at_five[] = "{\"error\":22,\"name\":\"BudgetSpent\",\"revision\":5}\n";
+    newest[] = "{\"revision\":5,\"selected\":[[\"a\",\"3.0.0\"],[\"b\",\"1.0.0\"]]}\n";
 
-/* Opens a session of the two selections' journal, and asks for either. */
-static void selects(enum registryd_selection selection, const char *reply)
+/* Has either asked of a session that is open, and ends it. */
+static void selects_newest(registryd_session session)
 {
-    registryd_session session = 0;
-    WANT(registryd_open_selecting(program, 64, selection, NULL, "two.journal", NULL, NULL, &session) == REGISTRYD_OK);
     fed(session, either);
-    told(session, reply);
+    told(session, newest);
     WANT(registryd_save(session) == REGISTRYD_OK && registryd_close(session) == REGISTRYD_OK);
-    WANT(registryd_open_selecting(program, 1, selection, NULL, NULL, "two.journal", "saved.journal", &session) == REGISTRYD_OK);
-    fed(session, either);
-    told(session, reply);
-    WANT(registryd_save(session) == REGISTRYD_OK && registryd_close(session) == REGISTRYD_OK && access("saved.journal", F_OK) == 0);
 }
 
 static void selections(void)
 {
-    const uint32_t none_left = 0;
-    registryd_session none = 5, session = 0;
-    WANT(registryd_open_selecting(NULL, 1, REGISTRYD_ANY, NULL, NULL, NULL, NULL, &none) == REGISTRYD_MISUSE);
-    WANT(registryd_open_selecting(program, 65, REGISTRYD_ANY, NULL, NULL, NULL, NULL, &none) == REGISTRYD_MISUSE);
-    WANT(registryd_open_selecting(program, 1, (enum registryd_selection)3, NULL, NULL, NULL, NULL, &none) == REGISTRYD_MISUSE);
-    WANT(registryd_open_selecting(program, 1, REGISTRYD_ANY, NULL, "g.journal", "k.journal", NULL, &none) == REGISTRYD_MISUSE);
-    WANT(registryd_open_selecting(program, 1, REGISTRYD_ANY, NULL, "g.journal", NULL, "k.journal", &none) == REGISTRYD_MISUSE);
-    WANT(registryd_open_selecting(program, 1, REGISTRYD_ANY, NULL, NULL, NULL, NULL, NULL) == REGISTRYD_MISUSE && none == 5);
+    registryd_session session = 0;
     WANT(registryd_open_journal(program, 1, "two.journal", &session) == REGISTRYD_OK);
     fed(session, two);
     told(session, accepted);
-    WANT(registryd_save(session) == REGISTRYD_OK && registryd_close(session) == REGISTRYD_OK);
-    selects(REGISTRYD_NEWEST, newest);
-    selects(REGISTRYD_ANY, first_found);
-    selects(REGISTRYD_DEFAULT, newest);
-    for (enum registryd_selection selection = REGISTRYD_DEFAULT; selection <= REGISTRYD_ANY; selection++) {
-        WANT(registryd_open_selecting(program, 1, selection, &none_left, NULL, NULL, NULL, &session) == REGISTRYD_OK);
-        fed(session, two);
-        told(session, accepted);
-        fed(session, "{\"op\":\"resolve\",\"needs\":[[\"zed\",\"*\"]]}\n");
-        told(session, spent_at_five);
-        WANT(registryd_close(session) == REGISTRYD_OK);
-    }
+    selects_newest(session);
+    WANT(registryd_open_journal(program, 64, "two.journal", &session) == REGISTRYD_OK);
+    selects_newest(session);
+    WANT(registryd_open(program, 1, "two.journal", "saved.journal", &session) == REGISTRYD_OK);
+    selects_newest(session);
+    WANT(access("saved.journal", F_OK) == 0);
 }
 
 static void *session_of_its_own(void *nothing)

@@ -44,11 +44,6 @@ static void wrong_arguments(void)
     WANT(registryd_open_embedded(NULL, NULL, &none, words, SIZE_MAX) == REGISTRYD_MISUSE);
     WANT(registryd_open_embedded_journal(NULL, &none, words, sizeof words) == REGISTRYD_MISUSE);
     WANT(registryd_open_embedded_journal("w.journal", NULL, words, sizeof words) == REGISTRYD_MISUSE);
-    WANT(registryd_open_embedded_selecting(NULL, NULL, NULL, REGISTRYD_ANY, NULL, words, sizeof words) == REGISTRYD_MISUSE && words[0]);
-    WANT(registryd_open_embedded_selecting(NULL, NULL, NULL, REGISTRYD_ANY, &none, NULL, 1) == REGISTRYD_MISUSE);
-    WANT(registryd_open_embedded_selecting(NULL, NULL, NULL, (enum registryd_selection)3, &none, words, sizeof words) == REGISTRYD_MISUSE);
-    WANT(registryd_open_embedded_selecting("w.journal", "a.journal", NULL, REGISTRYD_ANY, &none, words, sizeof words) == REGISTRYD_MISUSE);
-    WANT(registryd_open_embedded_selecting("w.journal", NULL, "a.journal", REGISTRYD_ANY, &none, words, sizeof words) == REGISTRYD_MISUSE);
     WANT(none == 5 && access("w.journal", F_OK) != 0);
     WANT(registryd_feed(session, NULL, 1) == REGISTRYD_MISUSE);
     WANT(registryd_feed(session, list, SIZE_MAX) == REGISTRYD_MISUSE);

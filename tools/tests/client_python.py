@@ -13,7 +13,7 @@ from registryd import Ended, Publish, Registry, Resolve
 
 SECONDS = PATIENCE  # that nothing here may take
 PYTHON = {**os.environ, "PYTHONPATH": os.path.join(TOP, "clients", "python")}
-SOON = 15  # seconds in which it is over, on a busy machine too, where a search would go on
+SOON = 45  # seconds in which it is over, on a busy machine too, where a search would go on
 PIGEONS = 15
 HOPELESS = Resolve({f"pigeon-{pigeon}": "*" for pigeon in range(PIGEONS)})
 

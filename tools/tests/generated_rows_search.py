@@ -82,12 +82,24 @@ def what_one_conflict_each_rules_out():
 
 
 @tables
+def a_first_look_that_leaves_a_request_open():
+    """Three pigeons and two holes: each version of a pigeon is a hole, which a package that the version needs has for it alone. That the newest
+    version of `top`, which needs all three, can't be had shows only after conflicts."""
+    holes = [(f"hole{hole}", f"{pigeon}.0.0") for hole in (1, 2) for pigeon in (1, 2, 3)]
+    pigeons = [(f"pigeon{pigeon}", f"{hole}.0.0", f"hole{hole} ={pigeon}.0.0") for pigeon in (1, 2, 3) for hole in (1, 2)]
+    rows = _published(*holes, *pigeons, ("top", "1.0.0"), ("top", "2.0.0", *(f"pigeon{pigeon} *" for pigeon in (1, 2, 3))))
+    rows += [row("solver", call, gives, by=selection, needs=[["top", "*"]], lock=[], conflicts=0)
+             for call, gives in (("solve_at_first", {"refused": 22}), ("solve_looked_at", [["top", "1.0.0"]]))]
+    yield "A request that a first look left open is answered", rows
+
+
+@tables
 def a_lock_where_another_package_gives_way():
     """pub's doc/solver.md, "Performing Conflict Resolution"; docs/SOLVER.md, Decision Making."""
     rows = _published(("foo", "2.0.0", "bar ^1.0.0"), ("bar", "1.0.0", "foo ^1.0.0"), ("foo", "1.0.0"), ("log", "1.0.0"), ("log", "1.1.0"))
     rows += [row("solver", "solve_with", [["foo", "1.0.0"], ["log", log]], by=selection, needs=[["foo", ">=1.0.0"], ["log", "^1"]], lock=lock)
              for lock, log in (([], "1.1.0"), ([["log", "1.0.0"]], "1.0.0"))]
-    yield "A search for any selection keeps the version that the lock names, where only another package has to give way", rows
+    yield "The version that the lock names is kept, where only another package has to give way", rows
 
 
 def _row_of_packages(count):

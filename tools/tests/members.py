@@ -17,6 +17,7 @@ import tied
 
 NETS = 100  # as many runs may have members in namespaces at a time
 MEMORY = "/dev/shm"
+BEGINS = 100  # seconds in which a member answers, on a busy machine too
 
 
 def is_installed():
@@ -98,7 +99,8 @@ class Members:
 
     @staticmethod
     def until_healthy(url):
-        for _ in range(600):
+        until = time.monotonic() + BEGINS
+        while time.monotonic() < until:
             try:
                 with urllib.request.urlopen(url + "/health", timeout=1) as told:
                     if json.loads(told.read())["health"] == "true":

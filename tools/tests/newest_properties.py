@@ -1,11 +1,10 @@
-"""What follows for a session whose requests are answered by their newest selections, each as a judge of whatever answers lines: of the program,
+"""What follows where requests are answered by their newest selections, each as a judge of whatever answers lines: of the program,
 and of what is wrong on purpose. A judge answers what it found, as texts; nothing where all is as it should be.
 
 What answers is called with lines, as values, and a number of workers, and answers reply lines."""
 import json
 import random
 
-from plain_newest import Published
 from small_registries import Maker
 
 NO_REQUEST = {"op": "end of a batch"}  # answered by itself, so that what stands before it is answered, and learnt of, before what follows
@@ -77,19 +76,4 @@ def publications(seeds, serve):
         earlier, later = replies[len(before)], replies[-1]
         if bodies([earlier]) != bodies([later]) and [last["name"], last["version"]] not in (selected(later) or []):
             found.append(f"seed {seed}: {later} is answered where {last['name']} {last['version']} came, and {earlier} was before")
-    return found
-
-
-def lawful(seeds, serve):
-    """What is selected meets the request, and a request that is refused is met by nothing."""
-    found = []
-    for seed in seeds:
-        commands, request = case_of(seed)
-        registry = Published()
-        for command in commands:
-            registry.apply(command)
-        selections = list(registry.selections(request["needs"], request.get("lock", [])))
-        (*_, reply) = serve([*commands, request], 1)
-        if selected(reply) not in selections and (selections or selected(reply) is not None):
-            found.append(f"seed {seed}: {reply} is answered, and {len(selections)} selections meet the request")
     return found

@@ -22,11 +22,11 @@ WORKED = [publish("log", "1.0.0"), publish("log", "1.2.0"), publish("log", "1.10
 class Served(Folder):
     """Tests of a page. It is served from `self.serve()` on, to the end of the test."""
 
-    def serve(self, *lines, seconds=60, words=()):
+    def serve(self, *lines, seconds=60):
         self.enterContext(mock.patch.dict(os.environ, {"REGISTRY_PROGRAM": PROGRAM}))
         if lines:
             self.hold(*lines)
-        self.shown = Journal(File(self.journal, words), seconds)
+        self.shown = Journal(File(self.journal), seconds)
         self.addCleanup(self.shown.leave)
         self.server = Server(self.shown, 0)
         self.addCleanup(self.server.server_close)

@@ -11,6 +11,7 @@ import unittest
 
 from program import TOP
 
+ASKS_NO_PROGRAM = True
 LIST = os.path.join(os.path.dirname(os.path.abspath(__file__)), "borrowed_proofs.txt")
 CITED = re.compile(r"^\s*(?:ghost )?use (Rattle\.(\w+)\.proofs(?:\.\w+)*)", re.M)
 

@@ -1,5 +1,6 @@
 """The library of clients/c over the program: its examples in C and in Rust, what a careless caller does, and a caller that is killed."""
 import os
+import re
 import signal
 import subprocess
 import tempfile
@@ -11,6 +12,7 @@ from processes import is_running
 from program import PATIENCE, PROGRAM, resolve, skip_without
 from test_durable_replies import HOPELESS, holes
 
+NOT_QUICK = "the static library"
 CALLS = os.path.join(TESTS, "c_client_calls.c")
 OUTLIVED = os.path.join(TESTS, "c_client_outlived.c")
 CLOSED = os.path.join(TESTS, "c_client_closed.c")
@@ -57,6 +59,12 @@ class Client(unittest.TestCase):
     def test_the_example_by_a_child(self):
         linked(self.caller, os.path.join(CLIENT, "example_child.c"))
         self.check_example(PROGRAM)
+
+    def test_the_example_that_explains(self):
+        linked(self.caller, os.path.join(CLIENT, "example_why.c"))
+        with open(os.path.join(CLIENT, "README.md"), encoding="utf-8") as page:
+            printed = re.search(r"It prints\n\n((?:    .*\n)+)", page.read())[1]
+        self.assertEqual(self.do(self.caller).decode(), re.sub("^    ", "", printed, flags=re.M))
 
     @skip_without("rustc", "rustc")
     def test_the_example_in_rust(self):

@@ -17,6 +17,7 @@ from registry_folder import pigeons
 from scripted_service import FENCE, GREETING, Scripted
 from services import Case, wait_for
 
+NOT_QUICK = "the static library"
 CALLS = os.path.join(TESTS, "c_client_service.c")
 ADDRESSES = ["-g", "-fsanitize=address,undefined", "-fno-sanitize-recover"]
 THREADS = ["-g", "-fsanitize=thread"]
@@ -24,7 +25,7 @@ WAITS = ["-include", os.path.join(TESTS, "c_client_patience.h")]
 # Milliseconds for a service to be there again: as long as that takes on a busy machine, and for one that stays away.
 LONG, SHORT = 60_000, 1_000
 # Seconds in which a session is closed on a busy machine, too: it waits for no service then.
-SOON = 20
+SOON = 45
 LINES, NEEDS = pigeons(15)
 HARD = resolve(*(f"{it} *" for it in NEEDS))
 

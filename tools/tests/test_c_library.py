@@ -22,6 +22,7 @@ import prefix
 from c_library import Library
 from programs import COMPILED, PROVED, Program
 
+NOT_QUICK = "the static library"
 package = tool("package")
 EXAMPLE = os.path.join(CLIENT, "example.c")
 VERSION = Path(TOP, "VERSION").read_text(encoding="ascii").strip()
@@ -121,6 +122,8 @@ class Built(unittest.TestCase):
         with mock.patch.dict(os.environ), mock.patch.object(c_library.programs, "current", lambda _: None):
             os.environ.pop("EMBEDDED", None)
             self.assertRaisesRegex(c_library.Unbuilt, "run tools/build_library first$", c_library.built)
+            os.environ["EMBEDDED"] = ""
+            self.assertRaisesRegex(c_library.Unbuilt, "^./test --quick leaves the library for C to ./test$", c_library.built)
 
     def test_of_which_kind_it_is(self):
         with mock.patch.dict(os.environ), mock.patch.object(c_library.programs, "current", lambda _: Program(Path("standing"), PROVED, "")):

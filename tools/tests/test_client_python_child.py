@@ -14,7 +14,7 @@ from client_python import PYTHON, SECONDS, SOON, Case, other, pigeons, registryd
 from processes import is_running
 from program import PROGRAM, heed_signals
 from registryd import Accepted, BudgetSpent, Ended, List, Listing, NoSelection, Publish, Registry, Selection
-from two_selections import BY_DEFAULT, FIRST_FOUND, NEEDS, NEWEST, VERSIONS
+from two_selections import NEEDS, NEWEST, VERSIONS
 
 
 class Child(Case):
@@ -103,15 +103,12 @@ class Child(Case):
             with self.assertRaises(ValueError):
                 Registry(budget=0, **options)
 
-    def test_the_newest_selection_or_any(self):
-        for options, selected in (({}, BY_DEFAULT), ({"newest": None}, BY_DEFAULT), ({"newest": True}, NEWEST), ({"newest": False}, FIRST_FOUND)):
-            with Registry(PROGRAM, budget=1000, journal=self.path(f"{options}.journal"), **options) as registry:
+    def test_the_newest_selection(self):
+        for options in ({}, {"budget": 1000}):
+            with Registry(PROGRAM, journal=self.path(f"{options}.journal"), **options) as registry:
                 for version in VERSIONS:
                     registry.publish(*version)
-                self.assertEqual(registry.resolve(NEEDS).selected, selected)
-        for newest in (True, False):
-            with self.assertRaisesRegex(ValueError, "a service selects as it was started: start it with --newest or --any"):
-                Registry(connect=self.path("socket"), newest=newest)
+                self.assertEqual(registry.resolve(NEEDS).selected, NEWEST)
 
     def test_closing_has_a_limit_where_the_program_is_stopped(self):
         for is_asked in (False, True):

@@ -14,8 +14,9 @@ from library import LIBRARY, needs_library
 from program import TOP, publish
 from registryd import Accepted, Ended, List, Listing, Publish, Registry, Resolve
 from test_journals import journal
-from two_selections import BY_DEFAULT, FIRST_FOUND, NEEDS, NEWEST, VERSIONS
+from two_selections import NEEDS, NEWEST, VERSIONS
 
+NOT_QUICK = "the static library"
 CLIENT = os.path.join(TOP, "clients", "python", "registryd")
 MOST = 64  # sessions that may be open at once
 
@@ -54,20 +55,16 @@ class Embedded(Case):
     def open(self, **options):
         return Registry(embedded=True, library=LIBRARY, **options)
 
-    def test_the_newest_selection_or_any(self):
+    def test_the_newest_selection(self):
         path = self.path("a.journal")
-        with self.open(journal=path) as registry:
-            for version in VERSIONS:
-                registry.publish(*version)
-            self.assertEqual(registry.resolve(NEEDS).selected, BY_DEFAULT)
+        for options in ({}, {"journal": path}):
+            with self.open(**options) as registry:
+                for version in VERSIONS:
+                    registry.publish(*version)
+                self.assertEqual(registry.resolve(NEEDS).selected, NEWEST)
         for options in ({"journal": path}, {"load": path}, {"load": path, "save": self.path("b.journal")}):
-            for newest, selected in ((True, NEWEST), (False, FIRST_FOUND), (None, BY_DEFAULT)):
-                with self.open(newest=newest, **options) as registry:
-                    self.assertEqual(registry.resolve(NEEDS).selected, selected)
-        with self.open(newest=True) as registry:
-            for version in VERSIONS:
-                registry.publish(*version)
-            self.assertEqual(registry.resolve(NEEDS).selected, NEWEST)
+            with self.open(**options) as registry:
+                self.assertEqual(registry.resolve(NEEDS).selected, NEWEST)
 
     def test_a_journal_that_is_moved_or_removed(self):
         kept, there = self.path("kept"), self.path("there")

@@ -11,6 +11,7 @@ from unittest import mock
 from client_python import Case, registryd
 from registryd import Accepted, AlreadyPublished, Ended, Line, List, Listing, Publish, Registry
 
+ASKS_NO_PROGRAM = True
 OK, MISUSE, MEMORY, ENDED, JOURNAL = 0, 1, 2, 4, 5
 LISTED = b'{"packages":[],"revision":0}\n'
 
@@ -37,9 +38,6 @@ class Library:
 
     def registryd_open_embedded_journal(self, *given):
         return self.opened("journal", given[:1], *given[1:])
-
-    def registryd_open_embedded_selecting(self, *given):
-        return self.opened("selecting", given[:4], *given[4:])
 
     def registryd_ask(self, number, lines, length, *takes):
         self.is_asked.set()
@@ -88,9 +86,7 @@ class Embedded(Case):
         return [it[0] for it in self.library.done]
 
     def test_what_is_opened(self):
-        for options, wanted in (({}, ("open", None, None)), ({"load": "a", "save": "b"}, ("open", b"a", b"b")), ({"journal": "j\udcff"}, ("journal", b"j\xff")),
-                                ({"newest": True}, ("selecting", None, None, None, 1)), ({"newest": False, "journal": "j"}, ("selecting", b"j", None, None, 2)),
-                                ({"newest": True, "load": "a", "save": "b"}, ("selecting", None, b"a", b"b", 1))):
+        for options, wanted in (({}, ("open", None, None)), ({"load": "a", "save": "b"}, ("open", b"a", b"b")), ({"journal": "j\udcff"}, ("journal", b"j\xff"))):
             registry = self.open(**options)
             self.assertEqual(self.library.done, [wanted], options)
             registry.kill()
@@ -101,7 +97,7 @@ class Embedded(Case):
     def test_what_can_not_be_opened(self):
         for answered, words, told in ((JOURNAL, b"a journal is at fault", "a journal is at fault"), (MEMORY, b"", "there is no memory"), (9, b"", "the library answered 9"),
                                       (MISUSE, b"", "the library was misused, as by a process that was forked"), (JOURNAL, b"\xff", "\ufffd")):
-            for name, options in (("open", {}), ("journal", {"journal": "j"}), ("selecting", {"newest": True})):
+            for name, options in (("open", {}), ("journal", {"journal": "j"})):
                 self.library = Library()
                 self.library.answers[name], self.library.words = answered, words
                 self.ends(rf"\A{told}\Z", lambda: self.begun(**options))
@@ -234,13 +230,10 @@ class Calls(unittest.TestCase):
         with open(os.path.join(os.path.dirname(registryd.__file__), "..", "..", "c", "registryd.h"), encoding="utf-8") as header:
             text = " ".join(header.read().split())
         kinds = {"const char *": ctypes.c_char_p, "char *": ctypes.c_char_p, "const void *": ctypes.c_char_p, "void *": ctypes.c_char_p, "size_t ": ctypes.c_size_t,
-                 "size_t *": ctypes.POINTER(ctypes.c_size_t), "registryd_session ": ctypes.c_uint64, "registryd_session *": ctypes.POINTER(ctypes.c_uint64),
-                 "enum registryd_selection ": ctypes.c_int}
+                 "size_t *": ctypes.POINTER(ctypes.c_size_t), "registryd_session ": ctypes.c_uint64, "registryd_session *": ctypes.POINTER(ctypes.c_uint64)}
         for name, takes in registryd.CALLS.items():
             given = text.partition(f" registryd_{name}(")[2].partition(")")[0].split(", ")
             self.assertEqual([kinds[it.rstrip(ascii_lowercase)] for it in given], list(takes), name)
-        self.assertIn(f"REGISTRYD_NEWEST = {registryd.NEWEST}, ", text)
-        self.assertIn(f"REGISTRYD_ANY = {registryd.ANY} ", text)
 
     def test_a_library_is_loaded_with_its_calls(self):
         made = mock.Mock()

@@ -1,12 +1,19 @@
 """What the client in Python tells of a request that is wrong: values that are none of their type, before a line is sent, and the text
 that a refusal is for. What is wanted is worked by hand from docs/REGISTRY.md and docs/FORMATS.md."""
+import json
 import pickle
+import random
+import re
 import unittest
 
 from client_python import SECONDS, Case, registryd
-from program import PROGRAM
+from client_rows import CULPRITS, EXPLAINED, PUBLISHED
+from program import PROGRAM, serve
+from read_english import Reader
 from registryd import Accepted, Check, Line, Listing, NoSelection, NothingSelected, Publish, Refusal, Registry, Resolve, Unyank, Yank
-from registryd.tree import External
+from registry.packages import registry_of
+from registryd.tree import External, tree
+from test_check_derivation import tangle
 
 PAIR = r'is a pair of a name and a requirement, as \("log", "\^1.2"\), not '
 PAIRS = r'is a mapping or pairs of a name and a requirement, as \[\("log", "\^1.2"\)\], not '
@@ -29,7 +36,7 @@ WRONG = [
 # What a session can't be opened with.
 UNOPENED = [
     ({"workers": 0}, ValueError, "^workers is 1 to 64, not 0$"), ({"workers": 65}, ValueError, "^workers is 1 to 64, not 65$"), ({"workers": "2"}, TypeError, "^workers is a whole number"),
-    ({"budget": 1 << 32}, ValueError, "^budget is 0 to"), ({"newest": "yes"}, TypeError, "^newest is True or False, not 'yes'$"),
+    ({"budget": 1 << 32}, ValueError, "^budget is 0 to"),
     ({"journal": "a", "load": "b"}, ValueError, "loads and saves none"), ({"journal": "a", "save": "b"}, ValueError, "loads and saves none"),
 ]
 MANY = {f"n{number}": "*" for number in range(39)}
@@ -87,6 +94,17 @@ class Told(Case):
                 self.assertTrue(str(found).startswith(f"{name}: {told}") and str(found).endswith(", at revision 3"), str(found))
                 self.assertIn(culprit.told, str(found))
 
+    def test_a_refusal_tells_the_culprit_that_other_clients_tell(self):
+        self.assertGreater(len(CULPRITS), 30)
+        with self.open() as registry:
+            for line in PUBLISHED:
+                self.assertIsInstance(registry.ask(Line(line.encode())).result(SECONDS), Accepted)
+            for asked, error, *wanted in CULPRITS:
+                with self.subTest(asked=asked), self.assertRaises(Refusal) as caught:
+                    registry.ask(Line(json.dumps(asked).encode())).result(SECONDS)
+                culprit = caught.exception.culprit
+                self.assertEqual((type(caught.exception).__name__, [*culprit[:3], culprit.meant]), (error, wanted))
+
     def test_a_call_tells_it_as_a_future_does(self):
         with self.open() as registry:
             with self.assertRaisesRegex(registryd.BadRequirement, r"^BadRequirement: needs\[1\], b: .*; did you mean \"=1\"\?, at revision 0$") as caught:
@@ -114,7 +132,7 @@ class Told(Case):
 
     def walked(self, registry, needs, lock=()):
         """The nodes of a refusal's tree, each once, the root first."""
-        nodes, open_nodes = {}, [registry.why(registry.resolve(needs, lock, explain=True))]
+        nodes, open_nodes = {}, [registry.resolve(needs, lock, explain=True).tree()]
         while open_nodes:
             node = open_nodes.pop()
             if id(node) not in nodes:
@@ -129,14 +147,44 @@ class Told(Case):
             registry.yank("old", "1.0.0")
             never, dependency, need = self.walked(registry, [("app", "^1")])
             self.assertEqual(vars(dependency), vars(External("premise", "app", ("1.0.0",), "log", "^2", ())))
-            self.assertEqual(vars(need), vars(External("need", target="app", requirement="^1")))
+            self.assertEqual(vars(need), vars(External("need", target="app", requirement="^1", within=("1.0.0",))))
             self.assertEqual((never.terms, never.causes), ({"": (True, ())}, (dependency, need)))
             kinds = {it.kind: it for it in self.walked(registry, {"old": "*"}) if isinstance(it, External)}
             self.assertEqual(kinds["disallowed"].versions, ("1.0.0",))
             inner = [it for it in self.walked(registry, {"yet": "*", "log": "=1.0.0"}) if isinstance(it, External) and it.kind == "premise"]
             self.assertEqual([vars(it) for it in inner], [vars(External("premise", "yet", ("1.0.0",), "log", "=1.1", ("1.1.0",)))])
             with self.assertRaisesRegex(ValueError, "explain=True"):
-                registry.why(registry.resolve({"app": "^1"}))
+                registry.resolve({"app": "^1"}).tree()
+
+    def test_a_refusal_is_told_in_sentences(self):
+        self.assertGreater(len(EXPLAINED), 10)
+        for explanation, sentences in EXPLAINED:
+            with self.subTest(explanation=explanation):
+                self.assertEqual(tree(explanation).sentences(), sentences)
+        with self.open() as registry:
+            registry.publish("app", "1.0.0", {"log": ">=2, <3"})
+            self.assertEqual(registry.resolve({"app": "^1"}, explain=True).tree().sentences(), [
+                'Because app 1.0.0 depends on log ">=2, <3" and no version of log matches ">=2, <3" and the request depends on app ^1, resolving failed.'])
+
+    def test_each_sentence_follows(self):
+        count = 0
+        for seed in range(60):
+            rng = random.Random(seed)
+            commands, _ = tangle(rng)
+            registry = registry_of(commands, {it["name"] for it in commands})
+            requests = [{**tangle(rng)[1], "explain": True} for _ in range(12)]
+            for request, reply in zip(requests, map(json.loads, serve([json.dumps(it) for it in [*commands, *requests]])[len(commands):])):
+                if "refused" in reply:
+                    told = [re.fullmatch(r"(.*\.)(?: \((\d+)\))?", it).groups() for it in tree(reply["explanation"]).sentences()]
+                    concluded = Reader(registry, request).read([(number and int(number), text) for text, number in told])
+                    self.assertEqual((len(concluded), concluded[-1]), (len(reply["derivation"]), {}))
+                    count += 1
+        self.assertGreater(count, 300)
+
+    def test_what_is_no_explanation(self):
+        for line in ("", "1. never ()", "1. never (), because the request must be met", "1. never (), because a has b and the request must be met"):
+            with self.subTest(line), self.assertRaisesRegex(ValueError, "^this is no step of an explanation: "):
+                tree([line, "So no selection meets the request."])
 
     def test_a_tree_that_is_deep(self):
         # each version is ruled out for a reason of its own, so a line rests on the line before it

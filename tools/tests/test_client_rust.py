@@ -11,6 +11,7 @@ import unittest
 from library import LIBRARY, needs_library
 from program import PROGRAM, TOP
 
+NOT_QUICK = "cargo"
 HERE = os.path.join(TOP, "clients", "rust")
 # What is built is run once: nothing is kept for later builds, nor for a debugger.
 ONCE = {"CARGO_INCREMENTAL": "0", "CARGO_PROFILE_DEV_DEBUG": "0", "CARGO_PROFILE_TEST_DEBUG": "0"}
@@ -75,23 +76,23 @@ class Client(unittest.TestCase):
         if without := why_not_built():
             self.skipTest(without)
         with tempfile.TemporaryDirectory() as folder:
-            beside, calls, embedded, program, service = self.passed(folder)
+            beside, calls, culprits, embedded, explained, program, service = self.passed(folder)
             self.assertGreater(min(beside, calls, program, service), 5)
-            self.assertEqual(embedded, 0)
+            self.assertEqual((culprits, embedded, explained), (1, 0, 3))
             os.symlink(PROGRAM, os.path.join(folder, "registryd"))
             self.check_example(folder, "first", "rust.journal", PAGE[1])
-        print(f"({beside + calls + program + service} tests) ", end="")
+        print(f"({beside + calls + culprits + explained + program + service} tests) ", end="")
 
     @needs_library
     def test_its_tests_and_its_example_in_process(self):
         if without := why_not_built():
             self.skipTest(without)
         with tempfile.TemporaryDirectory() as folder:
-            beside, calls, embedded, program, service = self.passed(folder, *IN_PROCESS)
+            beside, calls, culprits, embedded, explained, program, service = self.passed(folder, *IN_PROCESS)
             # each call twice, and with a service those that take no files
             self.assertEqual((calls, embedded), (10 + 10 + 6, 4))
             self.check_example(folder, "embedded", "rust-embedded.journal", PAGE[3], *IN_PROCESS)
-        print(f"({beside + calls + program + embedded + service} tests) ", end="")
+        print(f"({beside + calls + culprits + embedded + explained + program + service} tests) ", end="")
 
     def test_a_program_that_adds_it(self):
         if without := why_not_built():

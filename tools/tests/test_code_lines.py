@@ -9,6 +9,7 @@ from pathlib import Path
 
 from program import TOP
 
+ASKS_NO_PROGRAM = True
 MOST = 400  # lines of code of that part
 SOURCE = '''#!/usr/bin/env python3
 """A doc string

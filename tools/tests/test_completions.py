@@ -143,7 +143,7 @@ class Shells(unittest.TestCase):
         self.assertEqual(self.offered("registryd |--v"), ["--version"])
         self.assertEqual(self.offered("registryd serve |--w"), ["--workers"])
         self.assertEqual(self.offered("registryd serve |x"), [])
-        self.assertEqual(self.offered("registryd race |--"), ["--newest", "--any", "--help"])
+        self.assertEqual(self.offered("registryd race |--"), ["--newest", "--help"])
         self.assertEqual(self.offered("registryd help |"), ["serve", "race"])
 
     def test_bash_offers_each_option_until_it_is_given(self):

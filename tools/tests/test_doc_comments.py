@@ -14,6 +14,7 @@ from test_pages import Known, renamed, said_by_code, sources
 sys.path.insert(0, os.path.join(TOP, "tools"))
 from doc_comments import CRATES, Fault, faults, faults_of  # noqa: E402
 
+ASKS_NO_PROGRAM = True
 # What only the tests are made of, and the example.
 OF_TESTS = {"rows", "probe", "team"}
 # Crates that don't keep to it yet. One is taken out once it does.

@@ -13,6 +13,7 @@ from preloaded import BREAK_CALLS, Break, built
 from program import LIST, files_of_at_most, journal_line, publish, resolve, run, serve, yank
 from test_journals import CONFLICT, Sessions, journal
 
+NOT_QUICK = "full disks"
 STEPS = [CONFLICT[:1], CONFLICT[1:], [resolve("foo >=1.0.0")], [LIST], [yank("foo", "2.0.0"), publish("z", "1.0.0")]]
 LINES = sum(STEPS, [])
 TOO_LARGE, NO_SPACE = "File too large (os error 27)", "No space left on device (os error 28)"

@@ -1,5 +1,6 @@
 """A session that keeps a journal is killed before and behind each of its calls, and amid its writes: whatever was told as accepted
 is in the file, also where the machine crashes there, and the next session goes on with it."""
+import functools
 import json
 import os
 import signal
@@ -30,10 +31,16 @@ def went_out(text):
     return text.count(b"\n") + (not text.endswith(b"\n") and text != b"")
 
 
+@functools.lru_cache(maxsize=None)
+def fault_left(left, count, start):
+    """What is wrong where a crash leaves this of a file, and so many replies went out; it is asked again and again for what other orders
+    have in common."""
+    return fault_of(left, LINES, count, [journal_line(line).encode() for line in STARTS[start][1]])
+
+
 def crash_fault(calls, folder, start):
     """What a crash of the machine would have lost behind one of these calls, or made of the file; nothing where it loses nothing."""
-    text, before = STARTS[start]
-    before = [journal_line(line).encode() for line in before]
+    text, _ = STARTS[start]
     disk, judged = Disk(folder, {} if text is None else {NAME: text}), set()
     for number, call in enumerate(calls, 1):
         disk.follow(call)
@@ -42,7 +49,7 @@ def crash_fault(calls, folder, start):
             if (left, count) in judged:
                 continue
             judged.add((left, count))
-            fault = fault_of(b"" if left is None else left, LINES, count, before)
+            fault = fault_left(b"" if left is None else left, count, start)
             if fault:
                 return f"behind call {number}, {call.name}: {fault}"
     return None

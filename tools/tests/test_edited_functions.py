@@ -9,6 +9,7 @@ from program import TOP
 sys.path.insert(0, os.path.join(TOP, "tools"))
 from edit_files import CRATES, edits_of, functions_in  # noqa: E402
 
+ASKS_NO_PROGRAM = True
 # What only the tests are made of, and the example.
 OF_TESTS = {"rows", "team"}
 # The others: a line has the crate, the function and why it has no wrong body.

@@ -15,10 +15,11 @@ import try_rounds  # noqa: E402
 from edit_files import CRATES, EDITS, Edit, Function, changes, edits_of, functions, functions_of, put_in_place  # noqa: E402
 from try_rounds import BAD, BY_CLAUSE, BY_NAME, BY_PROOF, NOT_REFUSED, judged, judged_alone, listed, make_holes, try_in_rounds  # noqa: E402
 
+ASKS_NO_PROGRAM = True
 # An edit of a limit's number, which is refused by the law that says what it is.
 OF_A_LIMIT = "limits_in_numbers-"
 # How many each run of the tests tries.
-LISTED = 92
+LISTED = 87
 SOURCE = """\
 pub struct Room<'a> {
     door: &'a u32,

@@ -8,6 +8,7 @@ import unittest
 from library import TESTS, linked, linked_with_sources, needs_library
 from program import PROGRAM, skip_without
 
+NOT_QUICK = "the static library"
 CALLS = os.path.join(TESTS, "c_embedded_calls.c")
 PATIENCE = 300  # seconds, under valgrind and on a busy machine too
 ADDRESS = ["-g", "-fsanitize=address,undefined", "-fno-sanitize-recover"]

@@ -6,6 +6,8 @@ import test_durable_files
 import test_saved_files
 from in_process import InProcess
 
+NOT_QUICK = "the static library"
+
 
 class Cuts(InProcess, test_durable_files.Cuts):
     pass

@@ -7,6 +7,8 @@ from in_process import InProcess
 from program import LIST, publish, resolve
 from test_journals import CONFLICT
 
+NOT_QUICK = "the static library"
+
 
 class Full(InProcess, test_durable_full.Full):
     pass

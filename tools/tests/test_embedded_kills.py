@@ -7,6 +7,8 @@ import test_kill_sessions
 import test_move_journals
 from in_process import InProcess
 
+NOT_QUICK = "the static library"
+
 
 class Kills(InProcess, test_durable_kills.Kills):
     pass

@@ -9,6 +9,7 @@ from program import PROGRAM, run
 from tables import tables_under
 from test_journals import CHAIN_LEARNT, CONFLICT, Sessions, journal
 
+NOT_QUICK = "the static library"
 PIECES = (1, 7, 64, 65_536)
 
 

@@ -10,6 +10,7 @@ from preloaded import each_refused
 from program import LIST, journal_line, run
 from test_memory import BETWEEN, LAST_RUNS, LINES, MOST_REQUESTS, Model
 
+NOT_QUICK = "the static library"
 NO_MEMORY = b"registryd: no memory\n"
 # Bytes that are fed at once: so that a session which ends in its midst has told of what came before.
 PIECE = "100"

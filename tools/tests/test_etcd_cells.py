@@ -11,6 +11,7 @@ sys.path.insert(0, os.path.join(TOP, "tools"))
 from etcd.cells import Behind, Cell, Cells, Entry, entry_bytes, read_entry
 from etcd.gateway import Fault, Unanswered
 
+ASKS_NO_PROGRAM = True
 YANK = {"name": "a", "op": "yank", "version": "1.0.0"}
 WRITTEN = {"command": YANK, "seat": 1, "serial": 3, "writer": "w"}
 ENTRY = Entry(b'{"name":"a","op":"yank","version":"1.0.0"}', 1, "w", 3)

@@ -18,7 +18,7 @@ class Clients(Case):
         return [fronts.ETCD, "--endpoints", self.gate.url, "--seat", str(seat), "--program", PROGRAM]
 
     def test_two_clients_share_a_journal(self):
-        with Registry(self.words(1)) as first, Registry(self.words(2), newest=False) as second:
+        with Registry(self.words(1)) as first, Registry(self.words(2)) as second:
             self.assertEqual(first.publish("log", "1.3.0"), 1)
             self.assertEqual(second.publish("app", "1.0.0", {"log": "^1.2"}), 2)
             for registry in (first, second):

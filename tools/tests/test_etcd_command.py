@@ -18,9 +18,9 @@ from etcd.gateway import Endpoint, Fault
 
 etcd = tool("registryd-etcd")
 HERE = [Endpoint(False, "127.0.0.1", 2379)]
-# The limits and the usual values are those of docs/SCALE.md; the others have to be given, or are none.
+# The usual values, of which docs/SCALE.md tells some; the others have to be given, or are none.
 USUAL = dict(endpoints=HERE, prefix="registry", cacert=None, cert=None, key=None, timeout=3.0, patience=60.0, program=os.path.join(TOP, "registryd"), workers=1, seat=1,
-             writer=None, journal=None, load=None, save=None, stale=False, selecting=None, compact_every=4096, keep=1024)
+             writer=None, journal=None, load=None, save=None, stale=False, newest=False, compact_every=4096, keep=1024)
 
 
 class Case(unittest.TestCase):
@@ -48,7 +48,7 @@ class Words(Case):
                               (["--timeout", "0.5", "--patience", "1000000000"], {"timeout": 0.5, "patience": 1e9}), (["--program", "x"], {"program": "x"}),
                               (["--workers", "64", "--seat", "4294967295"], {"workers": 64, "seat": 4_294_967_295}), (["--workers", "1", "--seat", "1"], {}),
                               (["--writer", "w", "--load", "l", "--save", "s", "--stale"], {"writer": "w", "load": "l", "save": "s", "stale": True}),
-                              (["--newest"], {"selecting": ["--newest"]}), (["--any"], {"selecting": ["--any"]}),
+                              (["--newest"], {"newest": True}),
                               (["--compact-every", "0", "--keep", "99999999"], {"compact_every": 0, "keep": 99_999_999})):
             self.assertEqual(self.read("serve", *words), {"what": "serve", **USUAL, **wanted}, words)
         self.assertEqual(self.read("found", "--journal", "j"), {"what": "found", **USUAL, "journal": "j"})
@@ -57,7 +57,7 @@ class Words(Case):
         files = "--journal is for found alone, and without --load: what a front was told stands in etcd, and a front keeps no file of it"
         for words, told in ((["serve", "--journal", "j"], files), (["found", "--journal", "j", "--load", "l"], files), (["serve", "--key", "k"], "--key goes with --cert"),
                             (["serve", "--endpoints", "a b"], "argument --endpoints: 'a b' is no address: HOST:PORT, http://HOST:PORT or https://HOST:PORT"),
-                            (["serve", "--any", "--newest"], "argument --newest: not allowed with argument --any"),
+                            (["serve", "--any"], "unrecognized arguments: --any"),
                             *((["serve", "--patience", it], f"argument --patience: '{it}' is no number of seconds above 0") for it in ("1000000001", "0", "-1", "nan", "soon", "")),
                             *((["serve", f"--{word}", it], f"argument --{word}: '{it}' is no whole number from {least} to {most}") for word, least, most, wrong in
                               (("seat", 1, 4_294_967_295, ("0", "4294967296")), ("workers", 1, 64, ("0", "65")), ("keep", 0, 99_999_999, ("-1", "100000000"))) for it in wrong)):
@@ -71,7 +71,7 @@ class Words(Case):
         about = dict(re.findall(r"^  (--[a-z-]+(?: [A-Z_]+)?)\s+([a-z].*)$", told, re.M))
         files = {f"--{it} FILE" for it in ("journal", "load", "save")}
         others = {f"--{it} {it.upper()}" for it in ("endpoints", "prefix", "cacert", "cert", "key", "timeout", "patience", "program", "workers", "seat", "writer")}
-        self.assertEqual(set(about), {*files, *others, "--stale", "--newest", "--any", "--compact-every N", "--keep N"})
+        self.assertEqual(set(about), {*files, *others, "--stale", "--newest", "--compact-every N", "--keep N"})
 
     def test_numbers_of_many_digits(self):
         for word, is_one in (("007", True), ("9", True), ("10", False), ("0" * 19 + "9", True), ("0" * 30, False), ("1" * 30, False), ("\u0663", False), ("", False), ("+3", False)):
@@ -129,9 +129,9 @@ class Serving(Case):
 
     def test_what_a_front_is_told(self):
         self.serve("serve")
-        self.assertEqual(self.given, ("cells", USUAL["program"], 1, 1, None, False, 4096, 1024, []))
-        self.serve("serve", program="p", seat=7, workers=2, writer="w", stale=True, compact_every=5, keep=6, selecting=["--any", "--any"])
-        self.assertEqual(self.given, ("cells", "p", 7, 2, "w", True, 5, 6, ["--any"]))
+        self.assertEqual(self.given, ("cells", USUAL["program"], 1, 1, None, False, 4096, 1024))
+        self.serve("serve", program="p", seat=7, workers=2, writer="w", stale=True, compact_every=5, keep=6)
+        self.assertEqual(self.given, ("cells", "p", 7, 2, "w", True, 5, 6))
 
     def test_what_is_done(self):
         (_, file, end), *others = self.serve("serve")

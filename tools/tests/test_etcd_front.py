@@ -13,6 +13,7 @@ from etcd.front import Front, together
 from etcd.gateway import Fault
 from etcd.snapshot import Standing
 
+ASKS_NO_PROGRAM = True
 A1, A2, B1 = publish("a", "1.0.0"), publish("a", "2.0.0"), publish("b", "1.0.0")
 
 

@@ -12,6 +12,7 @@ sys.path.insert(0, os.path.join(TOP, "tools"))
 from etcd import gateway
 from etcd.gateway import Endpoint, Fault, Full, Gateway, Unanswered, refusal
 
+ASKS_NO_PROGRAM = True
 # That another member, or a later try, may answer: a deadline, no resources, aborted, internal, unavailable.
 PASSING = (1, 2, 4, 5, 6, 8, 10, 13, 14, 15)
 # An invalid argument, no permission, a failed precondition, out of range, unimplemented, unauthenticated.

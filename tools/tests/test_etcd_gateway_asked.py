@@ -16,6 +16,7 @@ sys.path.insert(0, os.path.join(TOP, "tools"))
 from etcd import gateway
 from etcd.gateway import Endpoint, Fault, Gateway, Plain, Secure, Unanswered, endpoints
 
+ASKS_NO_PROGRAM = True
 MEMBERS = [Endpoint(False, "one", 1), Endpoint(True, "two", 2)]
 OK = b"HTTP/1.1 200 OK\r\nContent-Length: %d\r\n\r\n%b"
 

@@ -15,6 +15,7 @@ from etcd.gateway import Fault
 from etcd.lines import Line, read_line, read_lines, texts
 from etcd.replica import NO_LINE, Lost, Replica, pieces
 
+ASKS_NO_PROGRAM = True
 YANK = b'{"name":"a","op":"yank","version":"1.0.0"}'
 BAD = b'{"error":19,"name":"BadLine","revision":0}'
 

@@ -16,6 +16,7 @@ from etcd.cells import Cell, Cells
 from etcd.gateway import Fault, Unanswered
 from etcd.snapshot import Snapshots, Standing, journal_text, load, page_names, read_journal, save, standing, try_to_save
 
+ASKS_NO_PROGRAM = True
 YANK = b'{"name":"a","op":"yank","version":"1.0.0"}'
 PUBLISH = b'{"name":"a","needs":[],"op":"publish","version":"1.0.0"}'
 

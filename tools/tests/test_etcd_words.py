@@ -228,7 +228,11 @@ class Patience(unittest.TestCase):
 
 class PatienceOfAFront(Case):
     def test_a_command_and_the_reading_behind_it_share_the_patience(self):
-        # from a moment on nobody answers: a transaction is waited for first, and then a read
+        # not 7 seconds; a busy machine may let it wait longer, but not each time
+        self.assertTrue(any(self.waited() < 6.9 for _ in range(4)))
+
+    def waited(self):
+        """How long a front waits where from a moment on nobody answers: for a transaction first, and then for a read."""
         is_silent = []
 
         def hook(moment, path, asked):
@@ -243,10 +247,10 @@ class PatienceOfAFront(Case):
         self.assertIsNone(front.send([A1]))
         took = time.monotonic() - begun
         is_silent.clear()
-        # not 7 seconds, on a busy machine either
-        self.assertTrue(3.9 < took < 6.9, took)
+        self.assertGreater(took, 3.9)
         status, said = front.end()
         self.assertEqual((status, said[:60]), (1, "registryd-etcd: no member of etcd answers, for 4 seconds now"))
+        return took
 
     def test_a_pause_between_two_lines_is_no_waiting(self):
         # a call in vain in the end of one line does not count for the next

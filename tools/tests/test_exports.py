@@ -13,6 +13,7 @@ from program import TOP, skip_without
 sys.path.insert(0, os.path.join(TOP, "tools"))
 from programs import path_for_tests  # noqa: E402
 
+NOT_QUICK = "the static library"
 HEAP = os.path.join(TOP, "tools", "tests", "heap_counted.c")
 OK, MISUSE, MEMORY, JOURNAL, BROKEN = range(5)
 # Requests beyond these are not refused: no scenario has as many.
@@ -23,12 +24,11 @@ PUBLISH = b'{"op":"publish","name":"a","version":"1.0.0","needs":[]}\n'
 ACCEPTED = b'{"ok":true,"revision":1}\n'
 LIST = b'{"op":"list"}\n'
 LISTED = b'{"packages":[["a",[["1.0.0",false]]]],"revision":1}\n'
-OPENING = ("open", "load", "recover")
-# x 1 and 2, w 1, and w 2, which needs x 1: the newest selection has w 2 and x 1, and any may have w 1 and x 2
+# x 1 and 2, w 1, and w 2, which needs x 1: the newest selection has w 2 and x 1
 CHOICE = [b'{"op":"publish","name":"x","version":"1.0.0","needs":[]}', b'{"op":"publish","name":"x","version":"2.0.0","needs":[]}',
           b'{"op":"publish","name":"w","version":"1.0.0","needs":[]}', b'{"op":"publish","name":"w","version":"2.0.0","needs":[["x","=1.0.0"]]}']
 CHOOSE = b'{"op":"resolve","needs":[["x","*"],["w","*"]]}\n'
-NEWEST, OTHER = b'{"revision":4,"selected":[["w","2.0.0"],["x","1.0.0"]]}\n', b'{"revision":4,"selected":[["w","1.0.0"],["x","2.0.0"]]}\n'
+NEWEST = b'{"revision":4,"selected":[["w","2.0.0"],["x","1.0.0"]]}\n'
 NO_MEMORY = b'{"error":18,"name":"NoMemory","revision":%d}\n'
 
 
@@ -46,16 +46,15 @@ def built(folder):
 
 
 class Held:
-    """One slot, and the calls for it. A session is opened with the newest selection, or with any."""
+    """One slot, and the calls for it."""
 
-    def __init__(self, library, is_any=False):
-        self.library, self.slot, self.is_any = library, Slot(), is_any
+    def __init__(self, library):
+        self.library, self.slot = library, Slot()
 
     def call(self, name, *words, result=ctypes.c_uint32):
         function = getattr(self.library, f"registryd_slot_{name}")
         function.restype = result
-        chosen = [ctypes.c_uint32(self.is_any)] if name in OPENING else []
-        return function(ctypes.byref(self.slot), *words, *chosen)
+        return function(ctypes.byref(self.slot), *words)
 
     def given(self, name, text, *numbers):
         """A call that is given a text, and then tells numbers."""
@@ -116,20 +115,15 @@ class Exports(unittest.TestCase):
                          (MISUSE, (MISUSE, 5), (MISUSE, 5, 6)))
         self.assertEqual(held.take(), ACCEPTED)
 
-    def test_a_session_answers_with_the_newest_selection_or_with_any(self):
-        commands = b"".join(line + b"\n" for line in CHOICE)
-        for is_any, selections in ((False, {NEWEST}), (True, {NEWEST, OTHER})):
-            held = Held(self.library, is_any)
-            for name in OPENING:
-                with self.subTest(name=name, is_any=is_any):
-                    text = {"open": None, "load": HEAD + commands_in(CHOICE) + b"end 4\n", "recover": HEAD + commands_in(CHOICE)}[name]
-                    opened = held.call("open") if text is None else held.given(name, text, *[5] * (1 + (name == "recover")))
-                    self.assertEqual(opened if text is None else opened[0], OK)
-                    if text is None:
-                        self.assertEqual((held.given("feed", commands), len(held.take().splitlines())), (OK, 4))
-                    self.assertEqual(held.given("feed", CHOOSE), OK)
-                    self.assertIn(held.take(), selections)
-                    held.call("close")
+    def test_a_session_answers_with_the_newest_selection(self):
+        held, commands = self.held, b"".join(line + b"\n" for line in CHOICE)
+        for name, text in (("open", None), ("load", HEAD + commands_in(CHOICE) + b"end 4\n"), ("recover", HEAD + commands_in(CHOICE))):
+            with self.subTest(name=name):
+                opened = held.call("open") if text is None else held.given(name, text, *[5] * (1 + (name == "recover")))
+                self.assertEqual(opened if text is None else opened[0], OK)
+                if text is None:
+                    self.assertEqual((held.given("feed", commands), len(held.take().splitlines())), (OK, 4))
+                self.assertEqual((held.given("feed", CHOOSE), held.take(), held.call("close")), (OK, NEWEST, OK))
 
     def test_replies_are_taken_in_pieces(self):
         held = self.held

@@ -11,6 +11,8 @@ from fronts import Front, Told
 from over_small_etcd import A1, A2, B1, accepted, refused
 from program import LIST, TOP, publish, resolve, unyank, yank
 
+ASKS_NO_PROGRAM = True
+
 
 class Judge(unittest.TestCase):
     """What may not be is found in a history of two fronts, in which it is not at first."""

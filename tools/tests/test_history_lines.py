@@ -11,6 +11,8 @@ from program import LIST, TOP
 sys.path.insert(0, os.path.join(TOP, "tools"))
 import etcd_histories
 
+ASKS_NO_PROGRAM = True
+
 
 class Making(unittest.TestCase):
     """What a history asks, and what goes wrong in it."""

@@ -22,6 +22,7 @@ from reference import Registry
 sys.path.insert(0, os.path.join(TOP, "tools"))
 import etcd_histories
 
+ASKS_NO_PROGRAM = True
 LINES = [A1, yank("a", "1.0.0"), B1, LIST, publish("B", "1.0.0")]
 
 

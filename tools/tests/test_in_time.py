@@ -18,6 +18,7 @@ import test_program
 from program import children, in_time
 from services import wait_for
 
+ASKS_NO_PROGRAM = True
 SECONDS = 0.3
 LATEST = 30  # seconds in which a test has failed that waits no longer than those, on a busy machine too
 # Programs that never reply: one waits for all lines before it would, one reads nothing, one writes without an end and no line.
@@ -35,15 +36,15 @@ def alarm():
 
 
 class Waiting(unittest.TestCase):
-    def fails_soon(self, test, script):
+    def fails_soon(self, test, script, seconds=SECONDS):
         """A test fails soon where this script stands for the program, and leaves nothing running."""
         with tempfile.TemporaryDirectory() as folder:
             stub = os.path.join(folder, "registryd")
             Path(stub).write_text(f"#!/bin/sh\n{script}\n", encoding="utf-8")
             os.chmod(stub, 0o755)
             before, result, begun = set(children()), unittest.TestResult(), time.monotonic()
-            with mock.patch.object(program, "PROGRAM", stub), mock.patch.object(program, "PATIENCE", SECONDS), \
-                    mock.patch.object(test_client_python.WithProgram, "program", stub), mock.patch.object(client_python, "SECONDS", SECONDS), \
+            with mock.patch.object(program, "PROGRAM", stub), mock.patch.object(program, "PATIENCE", seconds), \
+                    mock.patch.object(test_client_python.WithProgram, "program", stub), mock.patch.object(client_python, "SECONDS", seconds), \
                     in_time(LATEST):
                 test(result)
             self.assertEqual((result.testsRun, result.wasSuccessful(), result.skipped), (1, False, []))
@@ -68,7 +69,8 @@ class Waiting(unittest.TestCase):
     def test_a_program_that_ends_without_a_reply(self):
         for test in WAITING[:3]:
             with self.subTest(test=test.id()):
-                self.assertNotIn("it was not answered", self.fails_soon(test, ENDS))
+                # the limit is a wide one: on a busy machine the program may begin late
+                self.assertNotIn("it was not answered", self.fails_soon(test, ENDS, LATEST))
 
     def test_what_is_in_time_is_left_alone(self):
         before = alarm()

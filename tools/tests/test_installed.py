@@ -19,6 +19,7 @@ from installed import Piece
 from prefix import Refused
 from programs import COMPILED, PROVED, Program
 
+ASKS_NO_PROGRAM = True
 SOURCES = {
     "tools/one.py": "#!/usr/bin/env python3\n\"\"\"Run tools/two, or tools/twofold, or ./registry.\"\"\"\nimport os\nimport shared.part\nfrom three import x\n",
     "tools/two": "#!/usr/bin/env python3\nimport one\n", "tools/three.py": "import four, sys\n", "tools/four.py": "from . import beside\nimport three\n", "tools/unused.py": "",

@@ -9,6 +9,7 @@ import unittest
 from plain_journal import Unknown, first_fault
 from program import LIST, SERVE, TOP, journal_line, publish, resolve, run, serve, unyank, yank
 from reference import Registry
+from teaching import TEACHING
 from test_reuse import lines_of, session_of
 
 sys.path.insert(0, os.path.join(TOP, "tools"))
@@ -44,8 +45,11 @@ def speaking_of(name, learnt):
     return [line for line in learnt if f'"name":"{name}"' in line]
 
 
-# How many packages a version needs of which a line that is too long to be written tells.
-ROWS = 56
+# How many packages the versions of p need beside z, in which each of these packages is in the way of one version. That p can't be had rests
+# on two facts of each, what p and what that version of z need of it, and on p's need for z; with the need of a request these are two facts
+# for each and two more. Each step joins two of what stands there, so it takes one step less than there are facts, at the least.
+ROWS = (TEACHING - 1) // 2
+FEW = 64  # versions of p, of which a line tells that can be written
 CHAIN_LEARNT = journal([*CHAIN, learn(0)])
 
 
@@ -324,28 +328,34 @@ class Limits(Sessions):
         self.fault(journal([*CHAIN, *(learn(0, 100 + number) for number in range(MOST_STORED + 1))]), MOST_STORED + 5)
 
     def test_what_was_learnt_by_too_long_a_line_is_left_out(self):
-        (few, _), (many, then) = (self.learnt_of(versions) for versions in (4, MOST_VERSIONS))
-        # the one line that speaks of p has each of its ordinals dozens of times
-        line, = speaking_of("p", few)
-        ordinals = ",".join(map(str, range(MOST_VERSIONS)))
-        self.assertGreater(line.count('"name":"p"') * len(ordinals), MOST_LINE_BYTES)
+        (few, _), (many, then) = (self.learnt_of(versions) for versions in (FEW, MOST_VERSIONS))
+        # Each fact of p lists all versions of p, and so does what the step concludes that uses it. There are ROWS + 1 of these facts, and a
+        # step uses two at most. Where p has as many versions as it may have, these lists alone are more than a line of a journal holds.
+        short, long = (",".join(map(str, range(versions))) for versions in (FEW, MOST_VERSIONS))
+        self.assertGreater((ROWS + 1) * 3 // 2 * len(long), MOST_LINE_BYTES)
+        # Where it has few, three such lists for each step are less.
+        self.assertLess(3 * TEACHING * len(short), MOST_LINE_BYTES // 2)
+        # the line of p, and that of s, which rests on it
+        line, _ = speaking_of("p", few)
+        self.assertGreaterEqual(line.count(f"[{short}]"), (ROWS + 1) * 3 // 2)
         self.assertEqual(speaking_of("p", many), [])
         # what was learnt before it stays
         self.assertNotEqual(speaking_of("foo", many), [])
         self.assertEqual(speaking_of("foo", many), speaking_of("foo", few))
-        # the session knows what it does not write, and the next one doesn't
-        self.assertEqual(then, '{"refused":true,"revision":%d}' % (len(CONFLICT) + ROWS * 4 + MOST_VERSIONS))
-        self.assertIn("BudgetSpent", *self.session([resolve("p *", budget=1)], self.saved))
+        # The session knows what it does not write, and the next one doesn't. What a version needs is looked at when it is decided, and s has
+        # two: so the first conflict ends the search only where it is known that p can't be had, which both need.
+        self.assertEqual(then, '{"refused":true,"revision":%d}' % (len(CONFLICT) + ROWS * 3 + MOST_VERSIONS + 2))
+        self.assertIn("BudgetSpent", *self.session([resolve("s *", budget=1)], self.saved))
 
     def learnt_of(self, versions):
-        """The learn lines that a session leaves that first resolves foo, and in which no version of p can be had, since each needs all
-        of some packages, of which each is in the way of one version of z; and what is answered then under a budget of one conflict."""
+        """The learn lines that a session leaves that first resolves foo, and in which no version of p can be had, since each needs z and all
+        of some packages, of which each is in the way of one version of z; and what is answered then of s, whose versions need p, under a
+        budget of one conflict."""
         lines = [line for number in range(ROWS) for line in (
-            publish(f"c{number}", "1.0.0"), publish(f"c{number}", "2.0.0"), publish(f"t{number}", "1.0.0", [f"c{number} ^1"]),
-            publish("z", f"1.{number}.0", [f"c{number} ^2"]))]
-        lines += [publish("p", f"1.{number}.0", ["z *", *(f"t{row} ^1" for row in range(ROWS))]) for number in range(versions)]
-        lines += CONFLICT
-        told = self.session([*lines, resolve("foo >=1.0.0"), resolve("p *"), LIST, resolve("p *", budget=1)], save=self.saved)
+            publish(f"c{number}", "1.0.0"), publish(f"c{number}", "2.0.0"), publish("z", f"1.{number}.0", [f"c{number} ^2"]))]
+        lines += [publish("p", f"1.{number}.0", ["z *", *(f"c{row} ^1" for row in range(ROWS))]) for number in range(versions)]
+        lines += [publish("s", "1.0.0", ["p *"]), publish("s", "2.0.0", ["p *"]), *CONFLICT]
+        told = self.session([*lines, resolve("foo >=1.0.0"), resolve("p *"), LIST, resolve("s *", budget=1)], save=self.saved)
         text = self.read(self.saved).decode().split("\n")
         learnt = [line for line in text if line.startswith('{"derivation"')]
         self.assertEqual((text[:len(lines) + 1], text[-2]), (["registry-journal 2", *map(journal_line, lines)], f"end {len(lines) + len(learnt)}"))

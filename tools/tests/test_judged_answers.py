@@ -19,6 +19,7 @@ import fuzz
 import fuzz_check
 import newest_many
 
+ASKS_NO_PROGRAM = True
 REFUSED = '{"error":%d,"name":"x","revision":0}'
 BAD_NAME = publish("A", "1.0.0").encode()
 
@@ -90,21 +91,14 @@ class Checks(unittest.TestCase):
 
 
 class Newest(unittest.TestCase):
-    def test_whether_the_program_has_the_option(self):
-        for path, status, wanted in ((__file__, 0, True), (__file__, 2, False), ("/nowhere", 0, False)):
-            with mock.patch.object(program, "PROGRAM", path), mock.patch.object(program, "run", return_value=SimpleNamespace(returncode=status)) as ran:
-                self.assertIs(newest_many.is_offered(), wanted)
-            if path != "/nowhere":
-                ran.assert_called_once_with(["serve", "--workers", "1", "--newest"])
-
     def test_what_the_program_is_asked(self):
         for status, stderr, is_right in ((0, b"", True), (1, b"", False), (0, b"no", False)):
             with mock.patch.object(program, "run", return_value=SimpleNamespace(returncode=status, stdout=b"one\ntwo\n", stderr=stderr)) as ran:
                 if is_right:
-                    self.assertEqual(newest_many.serve_newest([{"op": "list"}, {"a": 1}], 4), ["one", "two"])
-                    ran.assert_called_once_with(["serve", "--newest", "--workers", "4"], b'{"op": "list"}\n{"a": 1}\n')
+                    self.assertEqual(newest_many.serve([{"op": "list"}, {"a": 1}], 4), ["one", "two"])
+                    ran.assert_called_once_with(["serve", "--workers", "4"], b'{"op": "list"}\n{"a": 1}\n')
                 else:
-                    self.assertRaises(AssertionError, newest_many.serve_newest, [])
+                    self.assertRaises(AssertionError, newest_many.serve, [])
 
     def test_each_case_has_packages_of_its_own(self):
         for line, wanted in ((json.loads(publish("a", "1.0.0", ["b ^1"])), {"op": "publish", "name": "a-7", "version": "1.0.0", "needs": [["b-7", "^1"]]}),
@@ -149,15 +143,11 @@ class Newest(unittest.TestCase):
 
     def test_what_is_printed(self):
         for found, status in (([], 0), (["one", "two"], 1)):
-            with mock.patch.object(newest_many, "faults", return_value=found) as judged, mock.patch.object(newest_many, "is_offered", return_value=True), \
+            with mock.patch.object(newest_many, "faults", return_value=found) as judged, \
                     mock.patch.object(sys, "argv", ["newest_many.py", "--cases", "3", "--seed", "7"]), contextlib.redirect_stdout(io.StringIO()) as out:
                 self.assertEqual(newest_many.main(), status)
             judged.assert_called_once_with(range(7, 10))
             self.assertEqual(out.getvalue().splitlines(), [*found, f"3 cases, {len(found)} finds"])
-        with mock.patch.object(newest_many, "is_offered", return_value=False), mock.patch.object(program, "PROGRAM", "p"), mock.patch.object(sys, "argv", ["newest_many.py"]), \
-                contextlib.redirect_stderr(io.StringIO()) as said_of_it:
-            self.assertEqual(newest_many.main(), 2)
-        self.assertEqual(said_of_it.getvalue(), "newest_many: p has no option --newest; build one that has it.\n")
 
 
 class Alone(unittest.TestCase):

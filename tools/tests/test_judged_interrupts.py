@@ -11,6 +11,7 @@ sys.path.insert(0, os.path.join(TOP, "tools"))
 import interrupt_sessions
 from interrupt_sessions import KNOWN, MISSING, Find, new
 
+ASKS_NO_PROGRAM = True
 ASKED = Resolve({"known-1": "*"})
 ONE, TWO = new(7, 0), new(7, 1)
 FITS = [(ASKED, Selection(8, {"known-1": "1.1.0"})), (KNOWN[2], AlreadyPublished(8)), (MISSING, NoSelection(8)), (ONE, Accepted(9)), (TWO, Accepted(11))]

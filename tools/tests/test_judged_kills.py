@@ -23,6 +23,7 @@ import interrupt_sessions
 import kill_sessions
 import race_many
 
+ASKS_NO_PROGRAM = True
 # Answers each line until it has answered so many, and ends with its input.
 SCRIPT = """#!{python} -S
 import os, sys, time

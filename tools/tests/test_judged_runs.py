@@ -20,6 +20,7 @@ sys.path.insert(0, os.path.join(TOP, "tools"))
 import fuzz
 from made_lines import Maker
 
+ASKS_NO_PROGRAM = True
 A1, B1 = publish("a", "1.0.0"), publish("b", "1.0.0")
 OK1, OK2 = '{"ok":true,"revision":1}', '{"ok":true,"revision":2}'
 EMPTY = '{"packages":[],"revision":0}'

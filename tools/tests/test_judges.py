@@ -14,6 +14,7 @@ from program import TOP, publish, yank
 from read_english import Reader, Unread
 from test_registry_why import registry_of
 
+ASKS_NO_PROGRAM = True
 LIES, ENGLISH = (os.path.join(TOP, "rows", name) for name in ("lies.rows", "english.rows"))
 # What the sentences speak of, and what is asked.
 PUBLISHED = [publish("a", "1.0.0", ["b ^1"]), publish("a", "1.1.0", ["b ^1", "c ^2"]), publish("a", "2.0.0", ["b ^2"]), yank("a", "2.0.0"),

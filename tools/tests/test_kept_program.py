@@ -15,6 +15,8 @@ sys.path.insert(0, os.path.join(TOP, "tools"))
 import kept_program
 from kept_program import take, taken
 
+ASKS_NO_PROGRAM = True
+
 
 def sum_of(file):
     with open(file, "rb") as read:

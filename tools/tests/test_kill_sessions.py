@@ -11,6 +11,7 @@ from program import TOP
 sys.path.insert(0, os.path.join(TOP, "tools"))
 import kill_sessions
 
+NOT_QUICK = "random moments"
 KILLS = 40
 # A library in whose presence what is written to a file comes there when the next reply is out.
 LATE = """

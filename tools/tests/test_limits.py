@@ -14,12 +14,15 @@ import check_derivation
 import limits
 from etcd import front
 
+ASKS_NO_PROGRAM = True
 ROW = re.compile(r"^\| ([^|]+) \| ([\d,]+) ([^|]+) \| \[`(\w+)`\]\(\.\./(crates/[\w/.]+)\) \| `(\w+)` \|$", re.M)
 # What the program's libraries export beside: how many requests are answered together, how much is read at once, the seats, one more
 # than there are files, the bytes of a lock, which is a line, the package of the request, and what a search and a reader make room for.
 OTHERS = {"MOST_CONFLICTS", "THREAD", "BATCH_LIMIT", "READ_SIZE", "SEAT_LIMIT", "LOCK_BYTES", "ROOT", "FAR", "MOST_NEEDS_IN_ONE_PASS", "NEEDS_ROOM"}
 # Where else a limit stands by hand, since it can't be read from elsewhere.
 STATED = [
+    ("clients/c/culprit.c", r"MOST_NEEDS (\d+)", "MOST_NEEDS"), ("clients/c/culprit.c", r"MOST_LINE_BYTES (\d+)", "MOST_LINE_BYTES"),
+    ("clients/c/meant.c", r"MOST_REQUIREMENT_BYTES (\d+)", "MOST_REQUIREMENT_BYTES"),
     ("clients/c/registryd.c", r"workers > (\d+)", "MOST_WORKERS"), ("clients/c/registryd.h", r"resolving threads, 1 to (\d+)", "MOST_WORKERS"),
     *(("clients/python/registryd_lines/limits.py", rf"{name} = ([\d_]+)", name) for name in
       ("MOST_NAME_BYTES", "MOST_VERSION_BYTES", "MOST_REQUIREMENT_BYTES", "MOST_LINE_BYTES", "MOST_NEEDS")),
@@ -29,7 +32,6 @@ STATED = [
         (r"More than (\d+) dependencies or needs", "MOST_NEEDS"), (r"dependencies or needs, or ([\d,]+) lock lines", "MOST_LOCK_LINES"),
         (r"has more than (\d+) lines", "MOST_DERIVATION_LINES"))),
     ("docs/FORMATS.md", r"of at most ([\d,]+) bytes without its line feed", "MOST_LINE_BYTES"), ("docs/FORMATS.md", r"[Aa]t most N threads, 1 to (\d+)", "MOST_WORKERS"),
-    ("docs/FORMATS.md", r"line has more than (\d+) needs", "MOST_NEEDS"), ("docs/FORMATS.md", r"more than ([\d,]+) pairs", "MOST_LOCK_LINES"),
     ("docs/FORMATS.md", r"in lines of at most ([\d,]+) bytes", "MOST_LINE_BYTES"), ("docs/FORMATS.md", r"command beyond ([\d,]+)", "MOST_COMMANDS"),
     ("docs/FORMATS.md", r"learnt line beyond ([\d,]+)", "MOST_LEARNT"), ("docs/FORMATS.md", r"takes 1 to (\d+) files", "MOST_FILES"),
     ("docs/IMPORTING.md", r"It has at most ([\d,]+) commands", "MOST_COMMANDS"),

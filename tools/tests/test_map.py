@@ -7,12 +7,13 @@ import unittest
 
 from program import TOP
 
+ASKS_NO_PROGRAM = True
 MAP = os.path.join(TOP, "docs", "MAP.md")
 LINK = re.compile(r"\[`([^`]+)`\]\(([^)#]+)\)")
 TABLE = re.compile(r"(?<!\[)`([\w/]+\.rows)`")
 # where the columns behind the rule lead
-COLUMNS = (("function", r"crates/\w+/src/.+\.rt"), ("definition", r"crates/\w+/specs/.+\.antt"),
-           ("proof", r"crates/\w+/proofs/.+"), ("test", r"(tools/tests|bench/tests)/.+\.py"))
+COLUMNS = (("function", r"crates/\w+/src/.+\.rt"), ("definition", r"crates/\w+/(?:specs/.+\.antt|proofs/.+)"),
+           ("test", r"(tools/tests|bench/tests)/.+\.py"))
 
 
 def read(path):
@@ -55,13 +56,6 @@ def fault_of(link, pattern):
     return None if name == os.path.basename(path) or declares(read(whole), path, name) else f"{target} has no {name}"
 
 
-def told_at(link):
-    """The folder of what the prover was told at a function."""
-    name, target = link
-    return os.path.normpath(os.path.join(TOP, "docs", target.replace("/src/", "/proofs/").removesuffix(".rt"),
-                                         name.replace("::", os.sep)))
-
-
 def faults(text):
     """What is wrong with a map, rule by rule."""
     for row in rules(text):
@@ -73,11 +67,9 @@ def faults(text):
             tables = TABLE.findall(cell)
             found += [f"no table {table} under rows" for table in tables
                       if not glob.glob(os.path.join(TOP, "rows", "**", table), recursive=True)]
-            if not (LINK.findall(cell) or tables or column == "proof" and cell == "alone"):
+            if not tables and not any("/specs/" in target or column != "definition" for _, target in LINK.findall(cell)):
                 found.append(f"no {column}")
             yield from (f"{row[0]}: {fault}" for fault in found if fault)
-        if row[3] == "alone":
-            yield from (f"{row[0]}: {link[0]} is not alone" for link in LINK.findall(row[1]) if os.path.isdir(told_at(link)))
 
 
 class Map(unittest.TestCase):
@@ -105,29 +97,23 @@ class Map(unittest.TestCase):
     def test_a_wrong_line_is_told(self):
         good = [f"[`{name}`](../{path})" for name, path in (
             ("order", "crates/versions/src/precedence.rt"), ("precedence", "crates/versions/specs/Words.antt"),
-            ("order", "crates/versions/proofs/precedence/order"), ("test_race.py", "tools/tests/test_race.py"))]
+            ("test_race.py", "tools/tests/test_race.py"))]
+        proof = "[`order`](../crates/versions/proofs/precedence/order)"
         self.assertEqual(list(faults("| a | " + " | ".join(good) + " |")), [])
-        read = good[0].replace("order", "refusal_of").replace("precedence.rt", "faults.rt")
-        self.assertEqual(list(faults("| a | " + " | ".join([read, good[1], "alone", "`registry.rows`"]) + " |")), [])
+        self.assertEqual(list(faults("| a | " + " | ".join([good[0], f"{good[1]}, {proof}", "`registry.rows`"]) + " |")), [])
         for place, wrong in ((0, good[0].replace("order", "disorder")), (0, good[0].replace("precedence.rt", "nothing.rt")),
-                             (0, good[1]), (0, "order"), (1, good[1].replace("[`p", "[`q")), (1, good[0]),
-                             (2, good[2].replace("order)", "other)")), (2, ""), (3, good[3].replace("race", "walk")),
-                             (3, "`nothing.rows`"), (3, "alone")):
+                             (0, good[1]), (0, "order"), (1, good[1].replace("[`p", "[`q")), (1, proof),
+                             (1, f"{good[1]}, {proof.replace('order)', 'other)')}"), (1, ""), (2, good[2].replace("race", "walk")),
+                             (2, "`nothing.rows`"), (2, "alone")):
             with self.subTest(wrong):
                 row = good[:place] + [wrong] + good[place + 1:]
                 self.assertEqual(len(list(faults("| a | " + " | ".join(row) + " |"))), 1)
-        self.assertEqual(len(list(faults("| a | " + " | ".join(good[:3]) + " |"))), 1)
-
-    def test_what_was_told_is_not_left_out(self):
-        row = [f"[`{name}`](../{path})" for name, path in (
-            ("order", "crates/versions/src/precedence.rt"), ("precedence", "crates/versions/specs/Words.antt"))]
-        (fault,) = faults("| a | " + " | ".join([*row, "alone", "`registry.rows`"]) + " |")
-        self.assertEqual(fault, "a: order is not alone")
+        self.assertEqual(len(list(faults("| a | " + " | ".join(good[:2]) + " |"))), 1)
 
 
 class Solver(unittest.TestCase):
     def test_each_file_of_the_search_is_named(self):
-        there = {os.path.basename(path) for crate in ("solver", "heuristics", "engine")
+        there = {os.path.basename(path) for crate in ("solver", "engine", "search", "checker", "facts", "oracle")
                  for path in glob.glob(os.path.join(TOP, "crates", crate, "src", "*.rt"))}
         named = set(re.findall(r"`(\w+\.rt)`", read(os.path.join(TOP, "docs", "SOLVER.md"))))
         self.assertEqual(there - {"lib.rt"}, named)
@@ -137,7 +123,7 @@ class Words(unittest.TestCase):
     def test_each_word_is_defined_where_it_is_said_to_be(self):
         part = read(os.path.join(TOP, "docs", "THEOREMS.md")).partition("## Words\n")[2].partition("\n## ")[0]
         rows = [[cell.strip() for cell in line.strip("|").split(" | ")] for line in part.splitlines() if line.startswith("| `")]
-        self.assertGreater(len(rows), 40)
+        self.assertGreater(len(rows), 5)
         for words, _, where in rows:
             files = re.findall(r"`([\w/]+\.antt)`", where)
             # a file without a folder stands beside the first one

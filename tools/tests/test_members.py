@@ -10,6 +10,7 @@ from pathlib import Path
 import program
 from members import Members, is_installed, may_divide
 from program import skip_without
+from services import wait_for
 
 HISTORIES = os.path.join(program.TOP, "tools", "etcd_histories.py")
 
@@ -47,23 +48,25 @@ class Case(unittest.TestCase):
         with subprocess.Popen(words, stdout=subprocess.PIPE, stderr=subprocess.PIPE, cwd=self.folder, preexec_fn=program.heed_signals,
                               env={**os.environ, "REGISTRYD": program.PROGRAM}) as run:
             run.stdout.readline()
-            time.sleep(3)
-            members = self.members_of(run.pid)
+            # its fronts have begun, and are asked
+            wait_for(lambda: len(self.of(run.pid, "--seat")) == 4)
+            time.sleep(1)
+            members = self.of(run.pid, "--data-dir")
             run.terminate()
             printed, said = run.communicate()
         self.assertEqual((run.returncode, printed, said), (1, b"", b""))
         self.assertNotEqual(members, [])
-        self.assertEqual([it for it in members if Path(it).exists()], [])
+        self.assertEqual([it for it in members if Path(it).parent.exists()], [])
 
     @staticmethod
-    def members_of(process):
-        """The data of members that a process has begun."""
+    def of(process, option):
+        """What the processes that this one has begun are given as an option."""
         found = []
         for path in Path("/proc").glob("[0-9]*/stat"):
             try:
                 if int(path.read_text(errors="replace").rpartition(")")[2].split()[1]) == process:
                     words = Path(path.parent, "cmdline").read_text().split("\0")
-                    found += [os.path.dirname(words[at + 1]) for at, word in enumerate(words) if word == "--data-dir"]
+                    found += [after for word, after in zip(words, words[1:]) if word == option]
             except OSError:
                 pass
         return found

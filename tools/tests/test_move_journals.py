@@ -9,6 +9,7 @@ from program import TOP
 sys.path.insert(0, os.path.join(TOP, "tools"))
 import move_journals
 
+NOT_QUICK = "random moments"
 SESSIONS = 24
 
 

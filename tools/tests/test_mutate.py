@@ -14,6 +14,7 @@ sys.path.insert(0, os.path.join(TOP, "tools"))
 import concerned
 from mutants import mutants_of, noting, some_of
 
+NOT_QUICK = "mutants"
 SMALL = '''"""A small tool."""
 LIMIT = 7
 
@@ -143,6 +144,8 @@ class Concerned(unittest.TestCase):
 
 
 class Command(unittest.TestCase):
+    LONGEST = 600  # each mutant is a run of Python, and some of them use a processor until they are ended
+
     def setUp(self):
         folder = tempfile.TemporaryDirectory()
         self.addCleanup(folder.cleanup)
@@ -158,7 +161,7 @@ class Command(unittest.TestCase):
     def mutate(self, *words, **more):
         given = {**os.environ, "REGISTRYD": "none", "PROBE": "none", "EMBEDDED": "none", **more}
         # no mutant waits; one that goes on for ever has taken its time of a processor long before
-        done = subprocess.run([self.top / "tools" / "mutate", "--patience", "600", *words], cwd=self.top, env=given, stdout=subprocess.PIPE, stderr=subprocess.PIPE,
+        done = subprocess.run([self.top / "tools" / "mutate", "--patience", "600", "--busy", "1", *words], cwd=self.top, env=given, stdout=subprocess.PIPE, stderr=subprocess.PIPE,
                               text=True, timeout=1_200)
         return done.returncode, done.stdout.splitlines(), done.stderr
 

@@ -1,5 +1,6 @@
 """The newest selection as the program answers it: beside the definition, and what follows from that: whatever order, batches and workers, whoever
-asked what before, the same. Each judge is shown to find what answers otherwise: the program with `--any`, or with replies that are changed."""
+asked what before, the same. Each judge is shown to find what answers otherwise: the program with replies that are changed."""
+import itertools
 import json
 import os
 import sys
@@ -16,20 +17,9 @@ sys.path.append(os.path.join(TOP, "bench"))
 sys.path.insert(0, os.path.join(TOP, "tools"))
 import newest_many
 import workloads
+from newest_many import serve
 
 SEEDS = range(7_000, 7_100)
-
-
-def serving(*words):
-    """What answers lines as the program does, with these words."""
-    def serve(lines, workers=1):
-        done = run(["serve", "--workers", str(workers), *words], "".join(json.dumps(line) + "\n" for line in lines).encode())
-        assert (done.returncode, done.stderr) == (0, b""), (done.returncode, done.stderr)
-        return done.stdout.decode().splitlines()
-    return serve
-
-
-newest, any_selection = serving("--newest"), serving("--any")
 
 
 class Changed:
@@ -39,7 +29,7 @@ class Changed:
         self.change = change
 
     def __call__(self, lines, workers=1):
-        registry, replies = Published(), newest(lines, workers)
+        registry, replies = Published(), serve(lines, workers)
         for place, (line, reply) in enumerate(zip(lines, map(json.loads, replies))):
             if "selected" in reply:
                 replies[place] = json.dumps({**reply, "selected": self.change(registry, line, reply["selected"])})
@@ -60,8 +50,14 @@ def one_less(_registry, _request, best):
     return best[:-1]
 
 
+def now_and_then():
+    """A change of each third selection."""
+    count = itertools.count(1)
+    return lambda _registry, _request, best: best[:-1] if next(count) % 3 == 0 else best
+
+
 def without_locks(lines, workers=1):
-    return newest([{name: it for name, it in line.items() if name != "lock"} for line in lines], workers)
+    return serve([{name: it for name, it in line.items() if name != "lock"} for line in lines], workers)
 
 
 class Definition(unittest.TestCase):
@@ -69,42 +65,33 @@ class Definition(unittest.TestCase):
         for told, published, yanked, needs, lock, wanted in WORKED:
             commands, request = worked(published, yanked, needs, lock)
             selection = None if wanted is None else pairs(it for it in wanted.split(", ") if it)
-            (*_, reply) = newest([*commands, request])
+            (*_, reply) = serve([*commands, request])
             self.assertEqual(newest_properties.selected(reply), selection, told)
 
     def test_random_registries(self):
-        self.assertTrue(newest_many.is_offered())
         self.assertEqual(newest_many.faults(range(9_000, 9_400)), [])
 
     def test_what_answers_otherwise_is_found(self):
         # each case in a session of its own, whose selections can be listed
         with mock.patch.object(newest_many, "AT_ONCE", 1):
-            for serve in (Changed(second_best), without_locks, Changed(one_less)):
-                self.assertGreater(len(newest_many.faults(range(5_000, 5_025), serve)), 0)
+            for otherwise in (Changed(second_best), without_locks, Changed(one_less)):
+                self.assertGreater(len(newest_many.faults(range(5_000, 5_025), otherwise)), 0)
 
 
 class Properties(unittest.TestCase):
     def test_orders_batches_workers_and_what_was_asked_before(self):
-        found = {"newest": [], "any": []}
         for seed in (1, 2):
             lines, requests = ([json.loads(it) for it in part] for part in workloads.conflicting(12, seed))
-            found["newest"] += newest_properties.orders(lines, requests, newest, seed=seed)
-            found["any"] += newest_properties.orders(lines, requests, any_selection, ways=10, seed=seed)
-        self.assertEqual(found["newest"], [])
-        # of these requests the first selection that is found hangs on all that
-        self.assertGreater(len(found["any"]), 0)
+            self.assertEqual(newest_properties.orders(lines, requests, serve, seed=seed), [])
+            self.assertGreater(len(newest_properties.orders(lines, requests, Changed(now_and_then()), ways=10, seed=seed)), 0)
 
     def test_a_yank_of_what_is_not_selected(self):
-        self.assertEqual(newest_properties.yanks(SEEDS, newest), [])
+        self.assertEqual(newest_properties.yanks(SEEDS, serve), [])
         self.assertGreater(len(newest_properties.yanks(SEEDS[:40], Changed(second_best))), 0)
 
     def test_a_publication_of_what_is_not_selected(self):
-        self.assertEqual(newest_properties.publications(SEEDS, newest), [])
+        self.assertEqual(newest_properties.publications(SEEDS, serve), [])
         self.assertGreater(len(newest_properties.publications(SEEDS[:40], Changed(second_best))), 0)
-
-    def test_any_selection_is_lawful(self):
-        self.assertEqual(newest_properties.lawful(SEEDS, any_selection), [])
-        self.assertGreater(len(newest_properties.lawful(SEEDS[:40], Changed(one_less))), 0)
 
 
 class TakenBack(unittest.TestCase):

@@ -1,5 +1,4 @@
-"""Fronts over etcd whose replicas learnt differently, since they were asked other requests in other orders: at one place they select the same with
-`--newest`, and with `--any` they need not."""
+"""Fronts over etcd whose replicas learnt differently, since they were asked other requests in other orders: at one place they select the same."""
 import json
 import os
 import sys
@@ -20,13 +19,13 @@ def body(reply):
 
 
 class Replicas(over_small_etcd.Case):
-    def answers(self, seed, *words):
+    def answers(self, seed):
         """What three fronts answer to the same requests at one place: the first was asked nothing before, the second each of them alone, and the
         third each alone in the other order, before a last command that changes none of them."""
         lines, requests = workloads.conflicting(12, seed)
         self.etcd = self.founded.copy()
         gate = self.opened()
-        fronts = [self.front(seat, *words, gate=gate) for seat in (1, 2, 3)]
+        fronts = [self.front(seat, gate=gate) for seat in (1, 2, 3)]
         fronts[0].ask(*lines)
         for request in requests:
             fronts[1].ask(request)
@@ -40,16 +39,11 @@ class Replicas(over_small_etcd.Case):
         return [[body(it) for it in told] for told in replies]
 
     def test_what_was_learnt_does_not_matter(self):
-        others = 0
         for seed in (1, 2):
-            first, second, third = self.answers(seed, "--newest")
+            first, second, third = self.answers(seed)
             self.assertGreater(sum("selected" in it for it in first), 10)
             self.assertEqual(second, first)
             self.assertEqual(third, first)
-            found = self.answers(seed, "--any")
-            others += any(it != found[0] for it in found)
-        # so these are requests for which it could
-        self.assertGreater(others, 0)
 
 
 if __name__ == "__main__":

@@ -1,20 +1,29 @@
 """Which programs `./test` notes as proved, which it compiles, and which ones its tests in Python run: over a small checkout with a kit of
 scripts, and two files of tests, which tell which programs they ran."""
 import re
+import shlex
 import unittest
 
 from fake_tree import COMPILED, CRATES, NONE, PROVED, Case
 
+ASKS_NO_PROGRAM = True
 FIRST = """import os, subprocess, unittest
 class Case(unittest.TestCase):
     def test_a(self):
         for name in ("REGISTRYD", "PROBE"):
             print(subprocess.run([PATHS[name]], stdout=subprocess.PIPE, text=True).stdout)
-        print("library of", open(PATHS["EMBEDDED"]).readline())
+        if os.path.exists(PATHS["EMBEDDED"]):
+            print("library of", open(PATHS["EMBEDDED"]).readline())
 import sys
 sys.path.insert(0, os.path.join(os.path.dirname(__file__), ".."))
 from programs import path_for_tests
 PATHS = {name.upper(): path_for_tests(name) for name in ("registryd", "probe", "embedded")}
+"""
+# Waits for nothing, and notes that it has run.
+ASKS_NONE = "ASKS_NO_PROGRAM = True\n" + """import os, unittest
+class Case(unittest.TestCase):
+    def test_c(self):
+        open(os.environ["NOTE"], "w").close()
 """
 LAST = "import unittest\nclass Case(unittest.TestCase):\n    def test_b(self):\n        pass\n"
 
@@ -69,9 +78,18 @@ class Tests(Case):
         self.assertEqual(lines[-2], "nothing was proved in this run: ./test proves everything")
         self.assertRegex(lines[-1], "^2 passed, 0 failed")
         self.assertEqual(said.count("checked\n"), 2)
-        self.assertEqual((self.state(), len(self.tree.compilations())), (COMPILED, 3))
+        # the library is left to a whole run
+        self.assertEqual((self.state(), len(self.tree.compilations())), (COMPILED, 2))
         self.assertEqual(self.tree.run("test", "--quick")[0], 0)
-        self.assertEqual(len(self.tree.compilations()), 3)
+        self.assertEqual(len(self.tree.compilations()), 2)
+
+    def test_what_asks_no_program_runs_while_they_are_compiled(self):
+        note = self.tree.top / "note"
+        self.tree.write("tools/tests/test_asks_none.py", ASKS_NONE)
+        # no compilation ends before
+        self.tree.make_kit(seconds=f"0; while [ ! -e {shlex.quote(str(note))} ]; do sleep 0.1; done")
+        status, said, wrong = self.tree.run("test", "--quick", NOTE=str(note))
+        self.assertEqual((status, said.splitlines()[-1]), (0, "3 passed, 0 failed, 0 skipped"), said + wrong)
 
     def test_quick_does_not_test_what_has_no_checks(self):
         self.tree.run("tools/build", "--unchecked")
@@ -90,6 +108,8 @@ class Tests(Case):
         self.assertEqual(status, 1)
         self.assertIn("no registryd or probe or embedded stands of just these sources", said)
         self.tree.run("test", "--quick")
+        self.assertIn("no embedded stands of just these sources", self.tree.run("test", "--tools")[1])
+        self.tree.run("tools/build", "embedded")
         self.assertEqual(self.tree.run("test", "--tools")[0], 0)
         self.tree.write("crates/low/src/lib.rt", "echo lower\n")
         self.assertEqual(self.tree.run("test", "--tools")[0], 1)

@@ -32,7 +32,7 @@ def random_rows(seed):
     newest = registry.newest(needs, lock)
     gives = {"derived": True} if newest is None else {"selected": newest}
     return [*(row("registry", it["op"], by=lambda got: None, **{name: value for name, value in it.items() if name != "op"}) for it in commands),
-            row("solver", "solve_with", gives, by=generated_rows_requests.judged, needs=needs, lock=lock, newest=True)]
+            row("solver", "solve_with", gives, by=generated_rows_requests.judged, needs=needs, lock=lock)]
 
 
 class Oracles(unittest.TestCase):

@@ -22,6 +22,7 @@ import installed
 from prefix import put
 from programs import COMPILED, PROVED, Program
 
+NOT_QUICK = "packages"
 package = tool("package")
 VERSION = Path(TOP, "VERSION").read_text(encoding="ascii").strip()
 SESSION = ('{"op":"publish","name":"a","version":"1.0.0","needs":[]}\n{"op":"resolve","needs":[["a","^1"]]}\n',

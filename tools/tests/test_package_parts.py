@@ -21,6 +21,7 @@ from installed import Piece
 from prefix import Refused
 from programs import COMPILED, PROVED, Program
 
+ASKS_NO_PROGRAM = True
 package = tool("package")
 CHANGELOG = """# Changelog
 

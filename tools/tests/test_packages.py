@@ -19,6 +19,7 @@ sys.path.insert(0, os.path.join(TOP, "tools"))
 import install_packages
 from install_packages import Package, listed
 
+ASKS_NO_PROGRAM = True
 LIST = """# what a machine needs
 one            one-command
 two            -

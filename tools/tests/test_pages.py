@@ -10,6 +10,7 @@ import prose
 from program import TOP
 from test_map import LINK, fault_of, read
 
+ASKS_NO_PROGRAM = True
 PAGES = ("FORMATS", "USING", "WHY", "INSTALLING", "IMPORTING", "CONTRIBUTING", "DECISIONS", "BENCHMARKS", "GLOSSARY",
          "SERVICE", "REGISTRY", "REGISTRY_COMMAND", "SCALE", "TESTING", "ARCHITECTURE", "SOLVER", "MAP", "THEOREMS")
 CLIENTS = ("clients/README", "clients/rust/README", "clients/c/README")
@@ -33,7 +34,7 @@ RENAMED = {
     "Saying": "Literal", "Wants": "RequirementIndex", "Want": "IndexedRequirement", "Twice": "SharedPair", "Desk": "WorkerState", "Spot": "SeatStamp",
     "Obeyed": "CommandOutcome", "obey": "run_command", "told_of": "reply_body_of", "put_told": "put_reply", "act": "propagate_incompatibility",
     "Recovered": "RecoveredSession", "derivations::LINE_LIMIT": "DERIVATION_LINE_LIMIT", "derivations::Known": "CausedIncompatibility",
-    "derivations::Store": "store::Store", "derivations::cut": "extraction::extract_derivation", "derivations::offers": "extraction::offers",
+    "derivations::Store": "store::Store", "derivations::cut": "checker::extract_derivation", "derivations::offers": "checker::offers",
 }
 # Words of the glossary that say something else, or nothing, to who has not read it.
 OWN = {"row", "cell", "seat", "replica", "stamp", "front", "walk", "preferred selection", "newest selection", "ordinal", "pivot", "premise", "learnt incompatibility",

@@ -13,6 +13,7 @@ from plain_session import Requirements
 from program import journal_line, publish, unyank, yank
 from test_journals import CHAIN, journal, learn, premise
 
+ASKS_NO_PROGRAM = True
 A = '{"name":"a","needs":[],"op":"publish","version":"1.0.0"}'
 YANK = '{"name":"a","op":"yank","version":"1.0.0"}'
 LEARNT = learn(0)

@@ -12,6 +12,7 @@ from plain_store import PlainStore
 from program import TOP
 from reference import REFUSALS, Registry, precedence
 
+ASKS_NO_PROGRAM = True
 # https://semver.org, section 11: the example of rising precedence, with numbers before it and behind it
 RISING = ["0.9.9", "1.0.0-0", "1.0.0-2", "1.0.0-10", "1.0.0-alpha", "1.0.0-alpha.1", "1.0.0-alpha.beta", "1.0.0-beta", "1.0.0-beta.2", "1.0.0-beta.11",
           "1.0.0-rc.1", "1.0.0", "1.0.1-rc.1", "1.0.1", "1.1.0", "1.10.0", "2.0.0", "2.1.0", "2.1.1", "10.0.0"]

@@ -14,6 +14,7 @@ import prefix
 from installed import Piece
 from prefix import Refused, install, listed, remove
 
+ASKS_NO_PROGRAM = True
 LIST = "lib/registryd/installed"
 PIECES = [Piece("bin/run", b"run", 0o755), Piece("share/registryd/a/text", b"text"), Piece("share/man/page", link="other")]
 LISTED = ["./", "bin/", "bin/run", "lib/", "lib/registryd/", LIST, "share/", "share/man/", "share/man/page", "share/registryd/", "share/registryd/a/",

@@ -15,6 +15,8 @@ from program import PATIENCE, in_time
 from services import wait_for
 from tunables import NAME, ROWS, TELL
 
+ASKS_NO_PROGRAM = True
+
 
 class Version(Case):
     def test_nothing_is_built(self):

@@ -16,6 +16,8 @@ import build_program
 import progress as progress_module
 from progress import Counter, Progress, crates_below, jobs, seconds_of, told
 
+ASKS_NO_PROGRAM = True
+
 
 class Terminal(io.StringIO):
     def isatty(self):

@@ -16,6 +16,7 @@ sys.path.insert(0, os.path.join(TOP, "tools"))
 import prove_program
 from prove_program import MOST, Program, chains, share, side_by_side
 
+ASKS_NO_PROGRAM = True
 # left and right stand on low, top on both; small stands on nothing and nothing stands on it
 BELOW = {"small": set(), "low": set(), "left": {"low"}, "right": {"low"}, "top": {"low", "left", "right"}}
 WEIGHTS = {"small": 44, "low": 50, "left": 10, "right": 20, "top": 5}

@@ -8,7 +8,9 @@ from program import TOP
 from public_calls import clauses_of, said_by_clauses, that_take_memory
 from source_calls import Sources, sources_below
 
-PROGRAMS = ("registryd/src/main.rt", "team/src/main.rt")
+ASKS_NO_PROGRAM = True
+# the program, and the example that the probe runs
+BEGINNINGS = {("registryd/src/main.rt", "main"), ("team/src/lib.rt", "run")}
 SOURCE = """\
 impl Clone for Room {
     ghost is_clone = { λ room copy. copy ≡ room };
@@ -65,7 +67,7 @@ class SaidByClauses(unittest.TestCase):
 
     def test_a_program_makes_each(self):
         sources = Sources(sources_below(TOP))
-        reached = sources.reached({one for one in sources.calls if one.path in PROGRAMS and one.name == "main"})
+        reached = sources.reached({one for one in sources.calls if (one.path, one.name) in BEGINNINGS})
         made = {"::".join(part for part in (one.crate, one.owner, one.name) if part) for one in reached}
         self.assertEqual({name for name, _ in said_by_clauses()} - made, set())
 

@@ -7,11 +7,12 @@ import unittest
 from program import TOP
 from source_calls import Sources, sources_below
 
+ASKS_NO_PROGRAM = True
 ENTRY = re.compile(r"\[`([^`]+)`\]\(\.\./crates/([^)#]+\.rt)\)")
 NAME = re.compile(r"`((?:[A-Z]\w*::)?\w+)`")
 # no program stands on these
 OF_TESTS = ("probe", "rows")
-PROGRAMS = ("registryd/src/main.rt", "team/src/main.rt")
+BEGINNINGS = {("registryd/src/main.rt", "main"), ("team/src/lib.rt", "run")}
 
 
 def page(name):
@@ -26,8 +27,8 @@ def entries(using, sources):
 
 
 def roots(using, sources):
-    """Where calls begin: the programs, and each call that the page lists."""
-    return {one for one in sources.calls if one.path in PROGRAMS and one.name == "main"} | entries(using, sources)
+    """Where calls begin: the program, the example, and each call that the page lists."""
+    return {one for one in sources.calls if (one.path, one.name) in BEGINNINGS} | entries(using, sources)
 
 
 def named(text, sources):

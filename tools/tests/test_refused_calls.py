@@ -17,6 +17,7 @@ from row_calls import RowCalls
 from row_tables import BEGIN, tables_in
 from source_calls import sources_below
 
+NOT_QUICK = "refused memory"
 SHORT = {"refused": 18}
 
 

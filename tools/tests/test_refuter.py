@@ -6,6 +6,8 @@ from types import SimpleNamespace
 from refuter import BEYOND, CHOICES, ROOT, Known, Refuter, conclude
 from test_plain_registries import needs_of, publish, yank
 
+ASKS_NO_PROGRAM = True
+
 
 class Refutations(unittest.TestCase):
     """Derivations of refusals, small enough to be written by hand."""

@@ -14,6 +14,7 @@ sys.path.insert(0, os.path.join(TOP, "tools"))
 from registry import completion, line_completion, refusals, session, table
 from registry.failures import Failed
 
+ASKS_NO_PROGRAM = True
 PACKAGES = {"log": ["1.0.0", "1.1.0"], "lock": ["2.0.0"], "app": ["1.0.0"]}
 COMMON = ["--color", "--connect", "--help", "--journal", "--json", "--quiet", "--verbose"]
 FIRST = ["check", "diff", "help", "import", "journal", "list", "lock", "log", "outdated", "page", "publish", "resolve", "search", "serve", "shell", "show", "tree", "unyank", "upgrade",
@@ -34,7 +35,7 @@ OFFERED = [
     (["import", "debian", "x", ""], []), (["import", "cargo", "x", "--index", ""], "folder"), (["import", "cargo", "x", "--index", "y", ""], []),
     (["import", "cargo", "x", "--from", "lo"], ["lock", "log"]), (["import", "cargo", "x", "--from", "log", "lock", "a"], ["app"]),
     (["resolve", "--lo"], ["--lock", "--locked"]), (["resolve", "--lock", ""], "file"), (["resolve", "--lock", "x", "a"], ["app"]), (["resolve", "--budget", ""], []),
-    (["resolve", "--budget", "5", "a"], ["app"]), (["resolve", "--any", "a"], ["app"]), (["serve", "--mode", ""], ["600", "660", "666"]), (["serve", "--mode", "66"], ["660", "666"]),
+    (["resolve", "--budget", "5", "a"], ["app"]), (["resolve", "--newest", "a"], ["app"]), (["serve", "--mode", ""], ["600", "660", "666"]), (["serve", "--mode", "66"], ["660", "666"]),
     (["why", "--not", ""], ["app", "lock", "log"]), (["why", "--not", "log", ""], ["1.0.0", "1.1.0"]), (["why", "--not", "log", "1.0.0", "a"], ["app"]),
     (["why", "a", "--u"], ["--unfolded"]), (["diff", "--"], sorted([*COMMON, "--exit-status"])), (["upgrade", "log", "lo"], ["lock", "log"]), (["upgrade", "--need", "app", "lo"], ["lock", "log"]),
 ]

@@ -20,6 +20,7 @@ from registry.indexes.index import Release
 from registry.output import Output
 from registry.shelf import other_spellings
 
+ASKS_NO_PROGRAM = True
 COMMANDS = [json.loads(publish(name, "1.0.0")) for name in "abcdef"]
 # accepted, published or yanked before, and refused
 REPLIES = [{"ok": True, "revision": 1}, {"error": 7, "name": "AlreadyPublished", "revision": 1}, {"error": 12, "name": "AlreadyYanked", "revision": 1},

@@ -25,7 +25,7 @@ MADE = {"needs": [["app", "*"]], "revision": 1, "selected": [["app", "1.0.0"], [
 # command lines in their order, each with its status; the journal of LINES is that of the folder, and x.lock is MADE
 ANSWERED = [
     (0, "list"), (0, "search lo"), (1, "search zebra"), (0, "show log"), (0, "show app"), (0, f"log --after {len(LINES) - 1}"), (0, "publish new 1.0.0 log@^1"), (0, "yank new 1.0.0"), (0, "unyank new 1.0.0"),
-    (0, "resolve app"), (1, "resolve app log@^2"), (1, "resolve zebra"), (0, "resolve app log --any"), (0, "tree app"), (0, "tree app --invert log"), (1, "tree app log@^2"),
+    (0, "resolve app"), (1, "resolve app log@^2"), (1, "resolve zebra"), (0, "resolve app log --newest"), (0, "tree app"), (0, "tree app --invert log"), (1, "tree app log@^2"),
     (0, "why app"), (0, "why app log@^2"), (0, "why app --not log 1.0.0"), (0, "outdated --lock x.lock"), (1, "outdated --lock x.lock --exit-status"),
     (1, "outdated zebra --lock x.lock"), (1, "upgrade --lock x.lock"), (1, "upgrade --need zebra --lock x.lock"), (0, "diff x.lock x.lock"), (1, "diff x.lock y.lock --exit-status"),
     (1, "lock check x.lock"), (0, "lock check y.lock"), (1, "check faulty.lines"), (0, "check whole.lines"), (0, "journal verify registry.journal"), (0, "journal verify cut.journal"),

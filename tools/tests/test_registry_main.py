@@ -14,6 +14,7 @@ sys.path.insert(0, os.path.join(TOP, "tools"))
 from registry import command_line, completion, main, manual, program
 from registry.failures import Failed, Refused, Usage
 
+ASKS_NO_PROGRAM = True
 USAGE, FAILED = 2, 3
 
 
@@ -118,7 +119,8 @@ class Ends(Printed):
             for words, status, told in ((["--complete", "a", "b"], 0, "words\na\nb\n"), (["--complete"], 0, "words\n"), (["--completion", "bsh"], 0, "another\n"), (["--manual"], 0, "the page\n"),
                                         (["--version"], 0, "9.9\n"), (["-V"], 0, "9.9\n"), (["--help"], 0, "all of it\n"), (["-h"], 0, "all of it\n"), (["--json", "-h"], 0, "all of it\n"), ([], 2, "all of it\n"),
                                         (["--json"], 2, "all of it\n"), (["--completion"], 2, "registry: --completion takes one of ash, bsh\n"),
-                                        (["--completion", "zsh"], 2, "registry: --completion takes one of ash, bsh\n"), (["--version", "x"], 2, "all of it\n"), (["--manual", "x"], 2, "all of it\n")):
+                                        (["--completion", "zsh"], 2, "registry: --completion takes one of ash, bsh\n"), (["--version", "x"], 2, "registry: nothing may follow --version: see `registry --help`\n"),
+                                        (["-V", "x"], 2, "registry: nothing may follow -V: see `registry --help`\n"), (["--manual", "x"], 2, "registry: nothing may follow --manual: see `registry --help`\n")):
                 self.assertEqual((main.main(words), self.said()), (status, told), words)
             with mock.patch.object(sys, "stderr", io.StringIO()) as said:
                 main.main([])

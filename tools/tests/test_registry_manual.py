@@ -13,6 +13,7 @@ sys.path.insert(0, os.path.join(TOP, "tools"))
 from registry import failures, manual, program, session
 from registry.table import FILE, NEED, PACKAGE, Subcommand, Word, flag, option, word
 
+ASKS_NO_PROGRAM = True
 SMALL = (
     Subcommand("list", "listing", "List ~all", (), ("registry list",)),
     Subcommand("journal cut", "cut", "Cut a\\b off", (word("FILE", "a journal", FILE), word("NEED", "what stays, as a@^1", NEED, "*"), word("LAST", "the last one", many="?"),

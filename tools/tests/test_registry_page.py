@@ -11,6 +11,8 @@ PAGE = "docs/REGISTRY_COMMAND.md"
 
 
 class Page(unittest.TestCase):
+    LONGEST = 300  # each command of the page starts Python, one after the other
+
     def test_what_is_typed_prints_what_is_told(self):
         shown = blocks(PAGE)
         self.assertEqual(len(shown), 18)

@@ -12,6 +12,7 @@ from page_served import WORKED
 from program import publish, skip_without, yank
 from registry_folder import pigeons
 
+NOT_QUICK = "a browser"
 WIDTHS = (400, 1000, 1600)
 LONG = "l" + "o" * 63
 LONG_VERSION = "1.0.0-" + "x" * 240

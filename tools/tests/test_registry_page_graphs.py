@@ -15,6 +15,7 @@ from test_registry_why import BRANCHING
 sys.path.append(f"{TOP}/bench")
 import workloads
 
+NOT_QUICK = "a browser"
 # boxes of the labels in a graph: name, left, top, right, bottom
 BOXES = """[...document.querySelectorAll('svg.graph .node')].map((it) => { const box = it.querySelector('rect').getBBox();
     return [it.dataset.name, box.x, box.y, box.x + box.width, box.y + box.height] })"""

@@ -21,6 +21,7 @@ from registry.output import Output
 from registry.page import journal
 from registry.page.journal import File, Journal, Service, Unanswered, View
 
+ASKS_NO_PROGRAM = True
 OLD = [publish("log", "1.0.0"), publish("log", "1.10.0"), publish("log", "1.9.0"), yank("log", "1.9.0"), publish("app", "1.0.0", ["log ^1", "zlib *"]), publish("app", "1.1.0", ["zlib *"])]
 PACKAGES = {"app": [("1.0.0", False), ("1.1.0", False)], "log": [("1.0.0", False), ("1.10.0", False), ("1.9.0", True)]}
 REQUEST = {"op": "resolve", "needs": []}
@@ -30,8 +31,8 @@ class Program:
     """A session in the place of the program's. What it is asked waits until it is let go, where that is wanted."""
     begun, warnings = [], []
 
-    def __init__(self, path, text, words=()):
-        self.given, self.text, self.is_left = (path, words), text, False
+    def __init__(self, path, text):
+        self.path, self.text, self.is_left = path, text, False
         self.ended = threading.Event()
         self.process = SimpleNamespace(kill=self.ended.set)
         self.search = None  # a search that does not end by itself
@@ -60,7 +61,7 @@ class Shown(unittest.TestCase):
         self.enterContext(mock.patch.object(Program, "begun", []))
         self.enterContext(mock.patch.object(journal, "Reading", Program))
         self.mark, self.lines = 1, OLD
-        self.source = SimpleNamespace(path="j", words=("--any",), text=self.text, mark=lambda: self.mark)
+        self.source = SimpleNamespace(path="j", text=self.text, mark=lambda: self.mark)
 
     def text(self):
         if isinstance(self.lines, Failed):
@@ -79,13 +80,13 @@ class Views(Shown):
         self.assertEqual([[*made.users(name)] for name in ("log", "zlib", "app", "none")], [["app"], ["app"], [], []])
         self.assertEqual([it.text for it in made.versions("log")], ["1.10.0", "1.9.0", "1.0.0"])
         self.assertIs(made.versions("log"), made.versions("log"))  # worked out once
-        self.assertEqual([(name, it.text, requirement) for name, it, requirement in made.needing("zlib")], [("app", "1.1.0", "*")])
-        self.assertEqual((self.begun().given, made.program()), (("j", ("--any",)), self.begun()))
+        self.assertEqual(list(made.needing("zlib")), [("app", "1.1.0", "*")])
+        self.assertEqual((self.begun().path, made.program()), ("j", self.begun()))
         made.leave()
         made.leave()
         self.assertTrue(self.begun().is_left)
         self.assertIs(made.program(), self.begun(1))
-        self.assertEqual((self.begun(1).given, self.begun(1).text), (("j", ("--any",)), made.text))
+        self.assertEqual((self.begun(1).path, self.begun(1).text), ("j", made.text))
 
     def begun(self, number=0):
         return Program.begun[number]
@@ -98,11 +99,9 @@ class Views(Shown):
             made = View(self.source)
             self.assertEqual((len(made.names), made.counts), (500, {"packages": 500, "versions": 2000, "yanked": 0}))
             self.assertEqual([call.args for call in asked.call_args_list], [({"op": "resolve", "needs": []},)])
-            self.assertEqual(made.users("p0000"), {f"p{number:04}" for number in range(1, 500)})
-        read, loads = [], json.loads
-        with mock.patch.object(catalog.json, "loads", lambda text: read.append(text) or loads(text)):
-            self.assertEqual(made.newest("p0007"), ("1.3.0", False, [["p0000", "^1"]]))
-        self.assertEqual(read, ['[["p0000","^1"]]'] * 4)
+            self.assertEqual(set(made.users("p0000")), {f"p{number:04}" for number in range(1, 500)})
+            found = made.newest("p0007")
+        self.assertEqual((found.text, found.is_yanked, found.needs), ("1.3.0", False, [["p0000", "^1"]]))
 
     def test_a_yank_is_of_the_version_of_equal_precedence(self):
         self.lines = [publish("log", "1.0.0+b"), publish("log", "1.0.1"), yank("log", "1.0.0"), yank("log", "1.0.1"), yank("log", "1.0.1").replace("yank", "unyank")]
@@ -137,7 +136,7 @@ class Views(Shown):
         folder = self.enterContext(tempfile.TemporaryDirectory())
         path = os.path.join(folder, "j")
         made = File(path)
-        self.assertEqual((made.path, made.words, made.mark()), (path, (), None))
+        self.assertEqual((made.path, made.mark()), (path, None))
         marks = set()
         for text in (text_of(OLD[:1]), text_of(OLD[:2]), text_of([])):
             with open(path + ".new", "wb") as file:
@@ -147,10 +146,10 @@ class Views(Shown):
             marks.add(made.mark())
         os.utime(path, (1, 1))
         self.assertEqual(len(marks | {made.mark()}), 4)
-        service = Service("there", ("--any",))
+        service = Service("there")
         with mock.patch.object(connected, "journal_of_service", lambda address: address.encode()), mock.patch.object(connected, "Connected") as session:
             session.return_value.__enter__.return_value.revision = 7
-            self.assertEqual((service.path, service.words, service.text(), service.mark()), ("there", ("--any",), b"there", 7))
+            self.assertEqual((service.path, service.text(), service.mark()), ("there", b"there", 7))
             session.side_effect = Failed("no")
             self.assertIsNone(service.mark())
 
@@ -269,8 +268,8 @@ class Command(unittest.TestCase):
         server = mock.MagicMock(address="http://there/", port=7)
         server.__enter__.return_value, server.__exit__.return_value = server, False
         server.serve_forever.side_effect = end
-        given = SimpleNamespace(**{"journal": None, "connect": None, "port": None, "seconds": None, "newest": False, "any": False, **more})
-        with mock.patch.multiple(page, Journal=lambda source, seconds: (made.append((type(source).__name__, source.path, source.words, seconds)), held)[1],
+        given = SimpleNamespace(**{"journal": None, "connect": None, "port": None, "seconds": None, **more})
+        with mock.patch.multiple(page, Journal=lambda source, seconds: (made.append((type(source).__name__, source.path, seconds)), held)[1],
                                  Server=lambda journal, port: (made.append((journal is held, port)), server)[1]), \
                 mock.patch.dict(os.environ), mock.patch.multiple(sys, stdout=io.StringIO(), stderr=io.StringIO()):
             for name in ("REGISTRY_JOURNAL", "REGISTRY_CONNECT"):
@@ -284,9 +283,9 @@ class Command(unittest.TestCase):
     def test_what_is_shown_and_where_that_is_told(self):
         near = "registry: it is near a limit\n"
         told = near + "registry: j is shown there, to this machine only; Ctrl-C ends it\n"
-        self.assertEqual(self.shown(), ([("File", "registry.journal", [], 10), (True, 0)], "http://there/\n", told))
-        self.assertEqual(self.shown(journal="k", port=8000, seconds=3, any=True), ([("File", "k", ["--any"], 3), (True, 8000)], "http://there/\n", told))
-        self.assertEqual(self.shown(is_json=True, connect="there", newest=True), ([("Service", "there", ["--newest"], 10), (True, 0)], '{"address":"http://there/","port":7}\n', near))
+        self.assertEqual(self.shown(), ([("File", "registry.journal", 10), (True, 0)], "http://there/\n", told))
+        self.assertEqual(self.shown(journal="k", port=8000, seconds=3), ([("File", "k", 3), (True, 8000)], "http://there/\n", told))
+        self.assertEqual(self.shown(is_json=True, connect="there"), ([("Service", "there", 10), (True, 0)], '{"address":"http://there/","port":7}\n', near))
         self.shown(end=Failed("no"))
 
 

@@ -15,9 +15,11 @@ from program import TOP, journal_line, publish, yank
 from test_journals import CHAIN, journal, learn
 
 sys.path.insert(0, os.path.join(TOP, "tools"))
-from registry import bar, files, journal_faults, journal_file, near_limits, needs, output, packages, requests
+from registry import bar, catalog, files, journal_faults, journal_file, near_limits, needs, output, packages, requests
 from registry.failures import DONE, INTERRUPTED, NO_READER, Failed, Failure, Refused, Usage, told
 from registry.journal_file import CUT, FAULTY, WHOLE, Journal
+
+ASKS_NO_PROGRAM = True
 
 
 def commands(*lines):
@@ -204,7 +206,7 @@ class Faults(unittest.TestCase):
         with mock.patch.object(journal_file, "MOST_LINE_BYTES", 10):
             for rest, state in ((b"x" * 10, CUT), (b"x" * 11, FAULTY)):
                 self.assertEqual(self.read(b"registry-journal 1\n" + rest, 2).state, state)
-        self.assertEqual(journal_file.commands_in(whole), [line.encode() for line in map(journal_line, CHAIN)])
+        self.assertEqual(catalog.commands_in(whole), [line.encode() for line in map(journal_line, CHAIN)])
 
     def test_why_a_line_is_at_fault(self):
         head, a = b"registry-journal 2\n", journal_line(publish("a", "1.0.0")).encode()
@@ -296,6 +298,13 @@ class Asking(unittest.TestCase):
         made = packages.registry_of(commands(publish("a", "1.0.0", ["b ^1"]), publish("b", "1.0.0"), publish("c", "1.0.0", ["a *"]), yank("b", "1.0.0")), ["a", "b"])
         self.assertEqual((made.revision, made.numbers, [len(made.releases[name]) for name in "abc"]), (4, {"": 0, "a": 1, "b": 2, "c": 3}, [1, 1, 0]))
         self.assertRaisesRegex(Failed, "the journal has a command that the rules refuse", packages.registry_of, commands(yank("b", "1.0.0")), ["b"])
+        # the same of a journal's text: `c` is mentioned before `b` is published, and what was learnt is no command
+        text = journal([publish("a", "1.0.0-1", ["c ^1", "b *"]), learn(0), publish("b", "1.0.0"), publish("d", "1.0.0"), yank("a", "1.0.0-1")])
+        made = packages.registry_in(catalog.Catalog(text), ["a", "b"])
+        self.assertEqual((made.revision, made.numbers), (4, {"": 0, "a": 1, "c": 2, "b": 3, "d": 4}))
+        self.assertEqual([[(it.text, it.yanked, it.needs) for it in made.releases[name]] for name in "abcd"],
+                         [[("1.0.0-1", True, {"c": "^1", "b": "*"})], [("1.0.0", False, {})], [], []])
+        self.assertRaisesRegex(Failed, "the journal has a command that the rules refuse", packages.registry_in, catalog.Catalog(journal([yank("b", "1.0.0")])), ["b"])
         rows = [{"causes": [{"fact": "premise", "name": "d", "target": "e"}, {"fact": "disallowed", "name": "f"}]}, {"causes": [{"line": 1}, {"fact": "root"}]}]
         self.assertEqual(packages.named({"needs": [["a", "*"]], "lock": [["b", "1.0.0"]]}, rows), {"a", "b", "d", "e", "f"})
         self.assertEqual(packages.named({"needs": []}, []), set())

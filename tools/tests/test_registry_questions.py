@@ -65,22 +65,22 @@ class Asked(unittest.TestCase):
 class Put(unittest.TestCase):
     COMMANDS = values(publish("a", "1.0.0-rc.1"), publish("a", "1.0.0-rc.2"), publish("a", "1.0.0"), yank("a", "1.0.0"), publish("b", "1.0.0"), publish("z", "1.0.0"))
 
-    def put(self, question, reply, asked, words=()):
+    def put(self, question, reply, asked):
         """What a question is answered where its session answers this, with the lines and the request of that session."""
         told = []
 
-        def over(path, text, words):
-            told.append((path, [json.loads(line) for line in text.splitlines()[1:-1]], words))
+        def over(path, text):
+            told.append((path, [json.loads(line) for line in text.splitlines()[1:-1]]))
             return contextlib.nullcontext(SimpleNamespace(ask=lambda it: (told.append(it), [reply])[1]))
         with mock.patch.object(questions, "Over", over):
-            return question.put(self.COMMANDS, asked, lambda names: sorted(names), words), told
+            return question.put(self.COMMANDS, asked, lambda names: sorted(names)), told
 
     def test_a_session_of_its_own(self):
         with mock.patch.object(questions, "MOST_REQUIREMENT_BYTES", 10):
             question = Question(request(["b *"]), {"a": "1.0.0-rc.1"})
         asked = {**question.request, "lock": [["a", "1.0.0-rc.1+x"], ["b", "1.0.0"]], "budget": 7}
-        answer, ((path, lines, words), sent) = self.put(question, {"error": 22, "revision": 9}, asked, ["--any"])
-        self.assertEqual((answer, path, words), ({"error": 22, "revision": 9}, "the question", ["--any"]))
+        answer, ((path, lines), sent) = self.put(question, {"error": 22, "revision": 9}, asked)
+        self.assertEqual((answer, path), ({"error": 22, "revision": 9}, "the question"))
         # the other versions are yanked, but for the one that is, and what is not reached is left out
         self.assertEqual([(it["op"], it["name"], it["version"]) for it in lines], [("publish", "a", "1.0.0-rc.1"), ("publish", "a", "1.0.0-rc.2"), ("publish", "a", "1.0.0"), ("yank", "a", "1.0.0"),
                                                                                  ("publish", "b", "1.0.0"), ("yank", "a", "1.0.0-rc.2")])

@@ -8,6 +8,7 @@ from program import TOP
 sys.path.insert(0, os.path.join(TOP, "tools"))
 from registry.refusals import english, there_are, unmatched, unpublished, versions_told
 
+ASKS_NO_PROGRAM = True
 PACKAGES = {"serde": [["1.0.0", False], ["1.10.0", False], ["1.9.0", True], ["1.2.0", False], ["0.9.0", False]], "old": [["1.0.0", True]], "log": [["0.4.0", False]]}
 A = {"op": "publish", "name": "a", "version": "1.0.0", "needs": []}
 # By number the request, and what is said of its refusal.

@@ -42,24 +42,17 @@ class Which(unittest.TestCase):
             os.environ.pop(name, None)
         self.made = self.enterContext(mock.patch.multiple(session, Reading=mock.DEFAULT, Writing=mock.DEFAULT, connected=mock.DEFAULT))
 
-    def test_how_it_selects(self):
-        for words, wanted in (({}, []), ({"newest": False, "any": False}, []), ({"newest": True, "any": False}, ["--newest"]), ({"newest": False, "any": True}, ["--any"]), ({"newest": 3}, []),
-                              ({"any": True}, ["--any"])):
-            self.assertEqual(session.selecting(SimpleNamespace(**words)), wanted)
-        self.assertRaisesRegex(Usage, r"\A--newest can't be used with --any\Z", session.selecting, SimpleNamespace(newest=True, any=True))
-
     def test_one_of_a_file(self):
-        self.assertIs(session.reading(given(journal="j", any=True)), self.made["Reading"].return_value)
+        self.assertIs(session.reading(given(journal="j")), self.made["Reading"].return_value)
         self.assertIs(session.writing(given()), self.made["Writing"].return_value)
         session.reading(given())
         self.assertEqual((self.made["Reading"].mock_calls, self.made["Writing"].mock_calls),
-                         ([mock.call("j", words=["--any"]), mock.call("registry.journal", words=[])], [mock.call("registry.journal", 10)]))
+                         ([mock.call("j"), mock.call("registry.journal")], [mock.call("registry.journal", 10)]))
 
     def test_one_with_a_service(self):
         for ask in (session.reading, session.writing):
             self.assertIs(ask(given(connect="there")), self.made["connected"].return_value)
         self.assertEqual(self.made["connected"].mock_calls, [mock.call("there")] * 2)
-        self.assertRaisesRegex(Usage, r"\A--any is for a journal: a service selects as it was started\Z", session.reading, given(connect="there", any=True))
 
     def test_one_that_stays_open(self):
         kept, lent = object(), []
@@ -73,8 +66,7 @@ class Which(unittest.TestCase):
             self.assertIs(session.reading(given(journal="k", wait=None)), self.made["Reading"].return_value)
             self.assertIs(session.writing(given(journal="k", wait=0)), self.made["Writing"].return_value)
             self.assertEqual(lent, [("j", False, 7), ("j", True, 7), ("k", False, 7), ("k", True, 0)])
-            self.assertIs(session.reading(given(newest=True)), self.made["Reading"].return_value)  # it selects in another way
-            self.assertEqual((len(lent), self.made["Reading"].call_args), (4, mock.call("j", words=["--newest"])))
+            self.assertEqual(self.made["Reading"].call_args, mock.call("k"))
 
 
 class Begun(unittest.TestCase):
@@ -87,11 +79,11 @@ class Begun(unittest.TestCase):
         text = journal([A1, learn(0)])
         with open(self.path, "wb") as file:
             file.write(text[:-6])
-        for made, words in ((session.Reading(self.path), ""), (session.Reading("k", text, ["--any"]), "--any ")):
+        for made in (session.Reading(self.path), session.Reading("k", text)):
             made.warnings = ["it is near a limit"]
             with mock.patch.object(session.near_limits, "tell") as tell, made:
                 first, second = made.ask({}, {})
-                self.assertRegex(first["words"], rf"\Aserve --workers 1 {words}--load=/dev/fd/[0-9]+\Z")
+                self.assertRegex(first["words"], r"\Aserve --workers 1 --load=/dev/fd/[0-9]+\Z")
                 self.assertEqual((second, made.text, made.commands()), ({"bytes": len(text)}, text, [json.loads(A1)]))
             tell.assert_called_once_with(["it is near a limit"])
             self.assertIsNotNone(made.process.poll())

@@ -18,6 +18,7 @@ from registry import session, shell
 from registry.failures import Failed, Refused
 from registry.main import EndedBySignal
 
+ASKS_NO_PROGRAM = True
 # it answers each line with how many came
 COUNTING = 'n=0; while read x; do n=$((n + 1)); echo "{\\"ok\\":true,\\"revision\\":$n}"; done'
 

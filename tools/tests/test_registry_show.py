@@ -75,11 +75,19 @@ class Read(unittest.TestCase):
         text, read, loads = journal(lines), [], json.loads
         with mock.patch.object(catalog.json, "loads", lambda text: read.append(text) or loads(text)):
             made = catalog.Catalog(text)
-            self.assertEqual((len(made.listed), made.revision, read), (301, 1204, []))
+            self.assertEqual((len(made.listed), made.revision), (301, 1204))
             self.assertEqual([it.text for it in made.versions("p0")], ["1.3.0", "1.2.0", "1.1.0", "1.0.0"])
-            self.assertEqual(read, ['[["q","^1"]]'] * 4)
-            self.assertEqual({(it.text, requirement) for _, it, requirement in made.needing("p0")}, {("1.3.0", "^1")})
+            self.assertEqual({name: len(lines) for name, lines in made.users("p0").items()}, {f"p{number}": 4 for number in range(1, 301)})
+            self.assertEqual(read, [])
+            self.assertEqual([it.needs for it in made.versions("p0")], [[["q", "^1"]]] * 4)
+            self.assertEqual(len(read), 4)
+            self.assertEqual({(text, requirement) for _, text, requirement in made.needing("p0")}, {("1.3.0", "^1")})
             self.assertEqual(len(read), 304)  # of each package its newest version
+
+    def test_what_versions_compare_by(self):
+        rising = ["0.9.10", "0.10.0-0", "0.10.0-9.1", "0.10.0-a", "0.10.0", "0.10.1", "1.0.0-1", "1.0.0+9", "2.0.0", "10.0.0"]
+        self.assertEqual(sorted(reversed(rising), key=catalog.precedence), rising)
+        self.assertEqual(catalog.precedence("1.2.3+4.5.6"), catalog.precedence("1.2.3"))
 
     def test_many_yanks_of_many_versions(self):
         # the last of each counts, and a yank is of the version of equal precedence

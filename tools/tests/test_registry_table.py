@@ -12,9 +12,9 @@ from registry import command_line, table
 from registry.failures import Usage
 from registry.table import COMMON, SUBCOMMANDS, Subcommand, Word, flag, option, subcommand, word
 
+ASKS_NO_PROGRAM = True
 NONE = {"journal": None, "connect": None, "json": False, "color": None, "quiet": False, "verbose": False}
-SELECTING = {"newest": False, "any": False}
-ASKING = {"need": [], "lock": None, "budget": None, "limit": 30, **SELECTING}
+ASKING = {"need": [], "lock": None, "budget": None, "limit": 30, "newest": False}
 IMPORTING = {"from": None, "newest": None, "lines": False, "ask": False, "both_spellings": False, "wait": None}
 # command lines, and the values that are read from them
 READ = [
@@ -26,23 +26,23 @@ READ = [
     ("import debian", {**IMPORTING, "file": None}), ("import debian f", {**IMPORTING, "file": "f"}), ("show log --journal j", {"name": "log", "version": None, "journal": "j"}),
     ("show --json log@1.0.0", {"name": "log", "version": "1.0.0", "json": True}), ("yank log@1.0.0 --wait 3", {"name": "log", "version": "1.0.0", "wait": 3}),
     ("publish a@1.0.0@x b@^1", {"name": "a", "version": "1.0.0@x", "need": ["b@^1"], "wait": None}), ("publish --wait 3 a 1.0.0 b@^1", {"name": "a", "version": "1.0.0", "need": ["b@^1"], "wait": 3}),
-    ("search lo --connect c", {"text": "lo", "connect": "c"}), ("list", {}), ("resolve a --lock l --write w --budget 5 --any b", {"need": ["a", "b"], "lock": "l", "write": "w",
-                                                                                                                         "budget": 5, "limit": 30, "newest": False, "any": True, "locked": False}),
+    ("search lo --connect c", {"text": "lo", "connect": "c"}), ("list", {}), ("resolve a --lock l --write w --budget 5 --newest b", {"need": ["a", "b"], "lock": "l", "write": "w",
+                                                                                                                         "budget": 5, "limit": 30, "newest": True, "locked": False}),
     ("resolve -q --color never", {**ASKING, "write": None, "locked": False, "quiet": True, "color": "never"}),
     ("-v resolve --seconds 0", {**ASKING, "limit": 0, "write": None, "locked": False, "verbose": True}),
     ("resolve --locked", {**ASKING, "write": None, "locked": True}), ("tree a --invert b --depth 0 --newest", {**ASKING, "need": ["a"], "invert": "b", "depth": 0, "newest": True}),
     ("why a --not log 1.0.0 --picture p --unfolded", {**ASKING, "need": ["a"], "version": ["log", "1.0.0"], "picture": "p", "full": False, "unfolded": True, "asked": None, "told": None,
                                                       "request": None}),
     ("why --asked a --told t --request 3", {**ASKING, "version": None, "picture": None, "full": False, "unfolded": False, "asked": "a", "told": "t", "request": 3}),
-    ("outdated --lock l --budget 7 --exit-status", {**ASKING, "lock": "l", "budget": 7, "exit_status": True}), ("upgrade", {"name": [], "lock": None, "need": None, "budget": None, "limit": 30, **SELECTING, "yes": False}),
-    ("upgrade a b --need c d --yes", {"name": ["a", "b"], "lock": None, "need": ["c", "d"], "budget": None, "limit": 30, **SELECTING, "yes": True}), ("diff a b", {"old": "a", "new": "b", "exit_status": False}),
+    ("outdated --lock l --budget 7 --exit-status", {**ASKING, "lock": "l", "budget": 7, "exit_status": True}), ("upgrade", {"name": [], "lock": None, "need": None, "budget": None, "limit": 30, "newest": False, "yes": False}),
+    ("upgrade a b --need c d --yes", {"name": ["a", "b"], "lock": None, "need": ["c", "d"], "budget": None, "limit": 30, "newest": False, "yes": True}), ("diff a b", {"old": "a", "new": "b", "exit_status": False}),
     ("lock check l a@^1 b", {"file": "l", "need": ["a@^1", "b"]}),
     ("log", {"after": None, "follow": False}), ("log --follow --after 3", {"after": 3, "follow": True}), ("check -", {"file": "-"}), ("journal verify f", {"file": "f"}), ("journal repair f --output n", {"file": "f", "output": "n"}),
-    ("journal renew a b --lock c d --newest 0", {"old": "a", "new": "b", "lock": ["c", "d"], "newest": 0}), ("shell", {"wait": None}), ("page --port 0 --seconds 1 --any", {"port": 0, "seconds": 1,
-                                                                                                                                               "newest": False, "any": True}),
-    ("serve", {"socket": None, "port": None, "mode": "600", "group": None, "readers": 2, "seconds": 10, "budget": None, **SELECTING, "workers": 1, "clients": 1000, "log": None,
+    ("journal renew a b --lock c d --newest 0", {"old": "a", "new": "b", "lock": ["c", "d"], "newest": 0}), ("shell", {"wait": None}), ("page --port 0 --seconds 1 --newest", {"port": 0, "seconds": 1,
+                                                                                                                                               "newest": True}),
+    ("serve", {"socket": None, "port": None, "mode": "600", "group": None, "readers": 2, "seconds": 10, "budget": None, "newest": False, "workers": 1, "clients": 1000, "log": None,
                "metrics_port": None, "page_port": None}),
-    ("serve --socket s --mode 660 --group g --metrics-port 9 --log -", {"socket": "s", "port": None, "mode": "660", "group": "g", "readers": 2, "seconds": 10, "budget": None, **SELECTING,
+    ("serve --socket s --mode 660 --group g --metrics-port 9 --log -", {"socket": "s", "port": None, "mode": "660", "group": "g", "readers": 2, "seconds": 10, "budget": None, "newest": False,
                                                                         "workers": 1, "clients": 1000, "log": "-", "metrics_port": 9, "page_port": None}),
 ]
 # the least and the most of each number
@@ -102,6 +102,7 @@ class Words(unittest.TestCase):
                 command_line.split(words)
             self.assertEqual(str(caught.exception), told)
         self.assertRaisesRegex(Usage, r"\Aunrecognized arguments: --jou x: see `registry list --help`\Z", read, "list --jou x")
+        self.assertRaisesRegex(Usage, r"\Aunrecognized arguments: --any: see `registry resolve --help`\Z", read, "resolve a --any")
         for line, missing in (("show", "NAME"), ("publish", "NAME, VERSION"), ("publish a", "VERSION"), ("journal renew a", "NEW"), ("import cargo --lines", "DIR")):
             self.assertRaisesRegex(Usage, rf"\Athe following arguments are required: {missing}: see `registry .* --help`\Z", read, line)
 

@@ -4,19 +4,23 @@ import io
 import json
 import os
 import re
+import signal
 import socket
 import sys
 import threading
+import time
 import unittest
 from unittest import mock
 
 from called import registry
-from program import PROGRAM, TOP, publish
+from program import PATIENCE, PROGRAM, TOP, publish, resolve, serve
 from registry_folder import Folder, at_terminal, pigeons
-from registry import bar, output
+from registry import bar, cases, output, searching
+from registry.commands import why
 
 COMMAND = os.path.join(TOP, "registry")
 CODES = re.compile(r"\x1b\[[0-9;]*m")
+LIMIT = "{} more than {} in all: --seconds N allows more (0: without a limit)"
 LINES = [publish("log", "1.0.0"), publish("log", "1.2.0"), publish("app", "1.0.0", ["log ^1"]), publish("web", "1.0.0", ["log >=2, <3"])]
 # lines, the columns of a terminal, and the rows that are shown
 WRAPPED = [
@@ -29,6 +33,11 @@ WRAPPED = [
     ("          too narrow to be indented so far", 29, "          too narrow to be indented so far"),
     ("name  1.0.0  two  versions", 20, "name  1.0.0  two\nversions"),
 ]
+
+
+def without_end(*_):
+    """In place of an explanation."""
+    threading.Event().wait()
 
 
 def b(text):
@@ -148,7 +157,7 @@ class Shown(Folder):
         self.hold(*lines)
         with open(self.journal, "rb") as file:
             before = file.read()
-        told = "no answer was found in {}: --seconds N searches longer (0: without a limit), and --any takes the first selection that is found\n"
+        told = "no answer was found in {}: --seconds N searches longer (0: without a limit)\n"
         status, said = self.seen("resolve", *needs, "--seconds", "2", NO_COLOR="1")
         self.assertEqual(status, 1)
         self.assertRegex(said, r"\A\r\x1b\[Ksearching for [0-9]+ s, at most 2 s; Ctrl-C ends it.*\r\x1b\[Kregistry: " + re.escape(told.format("2 seconds")))
@@ -166,7 +175,7 @@ class Shown(Folder):
 
         for is_quiet, stream in ((False, Terminal()), (True, Terminal()), (False, io.StringIO())):
             ticks = threading.Event()
-            with mock.patch.multiple(sys, stderr=stream), mock.patch.object(bar, "TICK", 0.001), mock.patch.object(output, "chosen", output.Choice(is_quiet=is_quiet)), bar.timed("waiting"):
+            with mock.patch.multiple(sys, stderr=stream), mock.patch.object(bar, "TICK", 0.001), mock.patch.object(output, "chosen", output.Choice(is_quiet=is_quiet)), bar.timed("waiting"), bar.timed("a part of that"):
                 for _ in range(6_000 if stream.isatty() and not is_quiet else 5):
                     if stream.getvalue().count("waiting") > 1:
                         break
@@ -200,6 +209,68 @@ class Shown(Folder):
             status, said, noted = registry("resolve", "a", "--connect", path, "--seconds", "1")
             serving.join()
         self.assertEqual((status, said, noted), (1, "", "registry: no answer was found in 1 second: --seconds N searches longer (0: without a limit)\n"))
+
+    # ---- explanations that take long
+
+    def hurry(self):
+        """The search has all seconds, and its explanation hardly any."""
+        self.enterContext(mock.patch.object(searching, "LEAST", 0.1))
+        self.enterContext(mock.patch.object(output, "time", mock.Mock(monotonic=lambda: time.monotonic() - 1000)))
+
+    @mock.patch.multiple(cases.Case, answer=without_end, why_not=without_end)
+    def test_an_explanation_that_takes_long(self):
+        self.hold(*LINES)
+        before = signal.getsignal(signal.SIGALRM), signal.getitimer(signal.ITIMER_REAL)[1]
+        told = LIMIT.format("there is no selection; to say why takes", "100 seconds")
+        self.hurry()
+        for words, shown, said in ((["resolve", "web"], "", told), (["tree", "web", "--json"], '{"derivation":', told), (["why", "web", "--json"], f'{{"error":"refused","message":"{told}"}}', told),
+                                   (["why", "app", "--not", "log", "1.0.0"], "", LIMIT.format("to explain that takes", "100 seconds"))):
+            status, answer, noted = self.registry(*words, "--seconds", "100")
+            self.assertEqual((status, answer[:len(shown)], bool(answer), noted), (1, shown, bool(shown), f"registry: {said}\n"), words)
+        self.assertEqual(self.registry("shell", given="resolve web --seconds 100\nresolve app\n"), (0, "app 1.0.0\nlog 1.2.0\n", f"registry: {told}\n"))
+        self.assertEqual((signal.getsignal(signal.SIGALRM), signal.getitimer(signal.ITIMER_REAL)[1]), before)
+
+    def test_it_has_what_the_search_left_of_the_seconds(self):
+        class Set(Exception):
+            pass
+
+        for seconds, used, given in ((30, 0, 30), (30, 24, 6), (30, 29, 3), (30, 99, 3), (1, 0, 3), (0, 99, 0)):
+            begun, now = 1000.0, mock.Mock(monotonic=lambda used=used: 1000.0 + used)
+            for chosen, other in ((output.Choice(seconds=seconds, begun=begun), None), (output.Choice(seconds=seconds), begun)):
+                with mock.patch.object(output, "chosen", chosen), mock.patch.object(searching, "time", now), mock.patch.object(bar, "timed", side_effect=Set) as timed, self.assertRaises(Set), searching.explaining(True, other):
+                    pass
+                self.assertEqual(timed.call_args, mock.call("explaining", given))
+        before = signal.getsignal(signal.SIGALRM)
+        with searching.Alarm(0, "never"):
+            self.assertEqual(signal.getsignal(signal.SIGALRM), before)
+
+    def test_each_of_several_has_seconds_of_its_own(self):
+        asked = [publish("a", "1.0.0"), *(resolve(f"a ={number}", explain=True) for number in (1, 2, 3))]
+        paths = [self.path(name, text) for name, text in (("asked", "".join(it + "\n" for it in asked)), ("told", "".join(it + "\n" for it in serve(asked))))]
+        with mock.patch.object(why, "explaining", side_effect=searching.explaining) as explained:
+            self.assertEqual(registry("why", "--asked", paths[0], "--told", paths[1])[0], 0)
+        first, second = (it.args[1] for it in explained.call_args_list)
+        self.assertIsNone(first)
+        self.assertLess(abs(time.monotonic() - second), PATIENCE)
+
+    def test_a_service_that_does_not_tell_its_journal(self):
+        path = self.path("socket")
+        with socket.socket(socket.AF_UNIX) as listening:
+            listening.bind(path)
+            listening.listen()
+
+            def serve():
+                with listening.accept()[0] as client, client.makefile("rb") as lines:
+                    for reply in (b'{"revision":0,"selected":[]}\n', b'{"refused":true,"revision":0}\n'):
+                        lines.readline()
+                        client.sendall(reply)
+                    lines.read()
+            serving = threading.Thread(target=serve)
+            serving.start()
+            self.hurry()
+            answer = registry("resolve", "a", "--connect", path, "--seconds", "100")
+            serving.join()
+        self.assertEqual(answer, (1, "", f"registry: {LIMIT.format('there is no selection; to say why takes', '100 seconds')}\n"))
 
 
 if __name__ == "__main__":

@@ -15,6 +15,7 @@ from registry.derivation import Dependency, Fact
 from registry.failures import Failed, Refused
 from registry.journal_file import Journal
 
+ASKS_NO_PROGRAM = True
 HEAD = b"registry-journal 2"
 NOW = {"app": "1.0.0", "log": "1.0.0", "old": "1.0.0", "web": "1.0.0", "zlib": "1.0.0"}
 

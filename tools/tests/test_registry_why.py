@@ -593,7 +593,7 @@ class Typed(unittest.TestCase):
         # what docs/WHY.md tells to type prints what it says, and its pictures are those that are drawn
         shown = [re.sub("(?m)^    ", "", block.strip("\n")).split("\n")
                  for block in re.findall(r"(?:^    .*\n|^\n(?=    ))+", page("docs/WHY.md"), re.M)]
-        self.assertEqual(len(shown), 10)
+        self.assertEqual(len(shown), 8)
         for typed, told in zip(shown[::2], shown[1::2]):
             self.assertEqual(answers(self.folder, [it.replace("docs/", "") for it in typed]), (told, 0))
         for picture in ("why.svg", "selection.svg"):

@@ -179,12 +179,6 @@ a selection with z 2.0.0 also changes:
         for told in ("because z 2.0.0 depends on part-005 \"=1.0.0\" and z 2.0.0 is asked for", "the selection has part-005 2.0.0"):
             self.assertIn(told, self.text("why.svg"))
 
-    def test_any_selection_may_leave_a_better_version(self):
-        # the first selection that is found has a 2.0.0, and nothing before it rules a 3.0.0 out
-        self.hold(publish("a", "1.0.0"), publish("a", "2.0.0"), publish("a", "3.0.0", ["b =1.0.0"]), publish("b", "1.0.0"), publish("b", "2.0.0"))
-        self.assertEqual(self.why_not(["a", "b"], "a 3.0.0", "--any"),
-                         "a 3.0.0 can be selected; a 2.0.0 was selected, which is lower\na selection with it also changes:\n  ~ b 2.0.0 -> 1.0.0 (older)\n")
-
     def test_a_request_that_has_as_many_needs_as_may_be(self):
         self.hold(*(publish(f"p{number}", "1.0.0") for number in range(65)))
         said = self.why_not([f"p{number}" for number in range(64)], "p64 1.0.0")

@@ -1,7 +1,10 @@
 """The tests in Python are counted, whichever process runs them, and the last one sees what the others noted; and `./test` ends
 with the count, with the reason for each test that was skipped."""
+import contextlib
 import glob
+import io
 import os
+import re
 import shutil
 import subprocess
 import sys
@@ -16,6 +19,7 @@ import measured
 import run_tests
 from counts import Counts
 
+ASKS_NO_PROGRAM = True
 NOTES = "REQUESTS, REPLIES, JOURNAL = {}, {}, {}\n"
 HEAD = "import unittest\nimport said\nclass Case(unittest.TestCase):\n"
 FILES = {
@@ -35,6 +39,10 @@ FILES = {
     "test_longer.py": HEAD + "    LONGEST = 100\n    def test_r(self):\n        import time\n        time.sleep(3)\n",
     "test_changes.py": HEAD + "    def test_p(self):\n        import json\n        json.dumps = None\n",
     "test_unchanged.py": HEAD + "    def test_q(self):\n        import json\n        self.assertIsNotNone(json.dumps)\n",
+    "test_once.py": HEAD + "    def test_s(self):\n        import os\n        if not os.path.exists(os.environ['NOTE']):\n"
+                           "            open(os.environ['NOTE'], 'w').close()\n            said.REQUESTS['once'] = 1\n            self.fail('once')\n",
+    "test_asks_none.py": "ASKS_NO_PROGRAM = True\n" + HEAD + "    def test_t(self):\n        import os\n        print('given', os.environ['PROBE'])\n",
+    "test_asks.py": HEAD + "    def test_u(self):\n        import os\n        print('given', os.environ['PROBE'])\n",
     "test_ends.py": HEAD + "    def test_f(self):\n        import os\n        os._exit(3)\n",
     "test_empty.py": "",
     "test_written_lines.py": HEAD + "    def test_g(self):\n        self.assertEqual((said.REQUESTS, said.REPLIES), ({'a': 1}, {'c': 1}))\n",
@@ -93,9 +101,28 @@ class Counted(unittest.TestCase):
     def test_a_test_that_waits_for_ever_fails(self):
         said, status = self.run_these("test_waits.py", "test_waits_before.py", "test_longer.py", last=PASSING, TEST_SECONDS="2")
         self.assertIn("it was not answered in 2.0 seconds", said)
-        self.assertEqual(said.count("AssertionError: it was not answered in 2.0 seconds"), 2)
+        # each of both once more, alone
+        self.assertEqual(said.count("AssertionError: it was not answered in 2.0 seconds"), 4)
         # passed: n, the last file's, and r, whose class has more time
         self.assertEqual((said.splitlines()[-1], status), ("3 passed, 2 failed, 0 skipped", 1), said)
+
+    def test_a_file_that_fails_once_is_run_again_and_that_is_told(self):
+        note = os.path.join(self.enterContext(tempfile.TemporaryDirectory()), "note")
+        # the last file sees nothing of what was said in the run that failed
+        said, status = self.run_these("test_first.py", "test_second.py", "test_once.py", NOTE=note)
+        # d fails again
+        self.assertEqual((said.splitlines()[-3:], status), (["skipped: test_second.Case.test_e: here", "failed once, passed when run again: test_once.py",
+                                                             "5 passed, 1 failed, 1 skipped"], 1), said)
+        # how it failed is shown
+        self.assertEqual((said.count("AssertionError: once"), said.count("failed, so it is run again, alone:\n")), (1, 2))
+        os.unlink(note)
+        said, status = self.run_these("test_once.py", last=PASSING, NOTE=note)
+        self.assertEqual((said.splitlines()[-2:], status), (["failed once, passed when run again: test_once.py", "2 passed, 0 failed, 0 skipped"], 0), said)
+
+    def test_a_file_that_asks_no_program_finds_none(self):
+        for name, given in (("test_asks.py", "/a/probe"), ("test_asks_none.py", "none")):
+            said, status = self.run_these(name, last=PASSING, PROBE="/a/probe")
+            self.assertEqual((re.findall("given .*", said), status), ([f"given {given}"], 0), said)
 
     def test_what_could_not_run_is_skipped_and_told(self):
         said, status = self.run_these("test_skips.py", "test_skips_all.py", last=PASSING)
@@ -142,10 +169,34 @@ class Ordered(unittest.TestCase):
         self.write("test_seconds.txt", "# seconds\ntest_a.py 1\ntest_gone.py 20\n")
         came = {"test_a.py": (Counts(1), 70), "test_b.py": (Counts(1, 1), 80), "test_c.py": (Counts(1, 0, (("c", "no etcd"),)), 90)}
         ran = [(os.path.join(self.folder, "tests", name), ("", of, {}), seconds) for name, (of, seconds) in came.items()]
-        with mock.patch.multiple(run_tests, side_by_side=lambda paths, at_once: ran, judged=lambda *_: Counts(1)):
+        with mock.patch.multiple(run_tests, side_by_side=lambda paths, *_: [it for it in ran if it[0] in paths], judged=lambda *_: Counts(1)), \
+                contextlib.redirect_stdout(io.StringIO()):
             self.assertEqual(run_tests.run_all(1).lines()[-1], "4 passed, 1 failed, 1 skipped")
         with open(self.seconds, encoding="ascii") as file:
             self.assertEqual(file.read(), "# seconds\ntest_a.py 1\n")
+
+
+    def test_a_quick_run_leaves_out_what_is_marked_and_names_it(self):
+        for name, why in (("a", "kills"), ("c", "a browser"), ("d", "kills")):
+            self.write(os.path.join("tests", f"test_{name}.py"), f'NOT_QUICK = "{why}"\n{PASSING}')
+        self.write("test_seconds.txt", "test_a.py 9\n")
+        with contextlib.redirect_stdout(io.StringIO()) as said, mock.patch.object(run_tests, "judged", lambda *_: Counts(1)):
+            self.assertEqual(run_tests.run_all(1, is_quick=True).lines(), ["left to ./test: 3 of 4 files of tests", "left to ./test (a browser): test_c.py",
+                                                                           "left to ./test (kills): test_a.py test_d.py", "2 passed, 0 failed, 0 skipped"])
+        # it measures nothing, since files run beside compilations
+        with open(self.seconds, encoding="ascii") as file:
+            self.assertEqual(file.read(), "test_a.py 9\n")
+        self.assertEqual(said.getvalue().count("ok\n"), 1)
+
+    def test_where_many_files_failed_none_is_run_again(self):
+        for most, again in ((2, ["test_a.py", "test_b.py"]), (1, [])):
+            came, ran = {name: [Counts(0, 1), {}] for name in ("test_a.py", "test_b.py")}, []
+            came["test_c.py"] = [Counts(1), {}]
+            with mock.patch.multiple(run_tests, MOST_AGAIN=most, side_by_side=lambda paths, _: ran.extend(paths) or [(paths[0], ("", Counts(3), {}), 1)]), \
+                    contextlib.redirect_stdout(io.StringIO()):
+                told = run_tests.once_more(came)
+            self.assertEqual((ran, told), (again, tuple(f"failed once, passed when run again: {name}" for name in again)))
+            self.assertEqual([of[0].passed for of in came.values()], [3, 3, 1] if again else [0, 0, 1])
 
 
 class Measured(unittest.TestCase):
@@ -189,8 +240,8 @@ class Measured(unittest.TestCase):
 
 class Counting(unittest.TestCase):
     def test_parts_are_added(self):
-        whole = Counts(2, 0, (("a", "no etcd"),)) + Counts(3, 1) + Counts(0, 0, (("b", "no cargo"),))
-        self.assertEqual(whole.lines(), ["skipped: a: no etcd", "skipped: b: no cargo", "5 passed, 1 failed, 2 skipped"])
+        whole = Counts(2, 0, (("a", "no etcd"),)) + Counts(3, 1, told=("this", "that")) + Counts(0, 0, (("b", "no cargo"),), ("more",))
+        self.assertEqual(whole.lines(), ["skipped: a: no etcd", "skipped: b: no cargo", "this", "that", "more", "5 passed, 1 failed, 2 skipped"])
 
 
 if __name__ == "__main__":

@@ -6,6 +6,7 @@ import unittest
 
 from plain_search import Published
 from program import serve
+from teaching import TEACHING
 
 NAMES = ["a", "b", "c", "d"]
 VERSIONS = ["1.0.0", "1.1.0", "2.0.0", "2.0.0-rc.1", "0.3.1"]
@@ -48,6 +49,8 @@ def resolving(rng):
 
 
 class Selections(unittest.TestCase):
+    LONGEST = 600  # more than a thousand sessions, one after the other
+
     def check(self, registry, request, reply, told):
         lawful = registry.answers(request)
         if "selected" in reply:
@@ -104,21 +107,30 @@ class Selections(unittest.TestCase):
         self.assertGreater(sum(conflicts > 1 for conflicts in least), 8)
 
     def test_a_request_of_many_conflicts_has_a_least_budget(self):
-        """No version of one package goes with one of another, which each pair shows by itself. What that led to spares the
-        second request most of it."""
+        """No version of one package goes with one of another, which each pair shows by itself. The refusal is short enough to teach: that
+        spares the second request all conflicts but one."""
         def publish(name, version, *needs):
             return {"op": "publish", "name": name, "version": version, "needs": [need.split(" ") for need in needs]}
 
-        made = [publish("x", f"1.{row}.{patch}") for row in range(9) for patch in range(3)]
-        for row in range(8):
+        # Of each version of l, what all versions of r need is joined, a fact of each, and then both of its own needs: as many steps as there
+        # are versions, and one more. Then these are joined, and the two needs of the request.
+        rows = 6
+        steps = rows * (rows + 1) + (rows - 1) + 2
+        self.assertLessEqual(steps, TEACHING)
+        made = [publish("x", f"1.{row}.{patch}") for row in range(rows + 1) for patch in range(3)]
+        for row in range(rows):
             made += [publish("k", f"1.{row}.0"), publish("l", f"1.{row}.0", f"x ~1.{row}.0", f"k ~1.{row}.0"),
                      publish("r", f"1.{row}.0", f"x ~1.{row + 1}.0", f"k ~1.{row}.0")]
         request = {"op": "resolve", "needs": [["l", "*"], ["r", "*"]]}
+        told, = self.answers(made, [{**request, "explain": True}])
+        self.assertLessEqual(len(told["derivation"]), steps)
+        # nothing follows of l or r alone, so a conflict rules out one version of them, and the last one finds none left
         least = self.least_budget(made, request, 60)
-        self.assertGreater(least, 6)
+        self.assertGreaterEqual(least, rows)
         self.assertLess(least, 60)
-        # a listing behind it, since lines that are answered together spare each other nothing
-        self.assertLess(self.least_budget(made, request, 60, [request, {"op": "list"}]), least / 2)
+        # It is learnt that l and r don't go together, and both are needed, which is a conflict at once. Before the second request there is a
+        # listing, since lines that are answered together spare each other nothing.
+        self.assertEqual(self.least_budget(made, request, 60, [request, {"op": "list"}]), 1)
 
 
 if __name__ == "__main__":

@@ -118,6 +118,8 @@ class Full(Faulty):
             for it in threads:
                 it.join()
             wait_for(lambda: service.get("/health") == (503, FULL + "\n"))
+            # those lines may all have come before the disk was full: what comes now is refused at once
+            self.flood(service, f"p{number}-4", rng.randrange(1_000), accepted, refusals, unknown)
             self.other.unlink()
             wait_for(lambda: service.get("/health")[0] == 200)
         self.assertEqual(service.end()[0], 0)

@@ -1,7 +1,6 @@
-"""What docs/SERVICE.md tells can be done as it says: what is typed, the programs in three languages, the unit of systemd, an upgrade."""
+"""What docs/SERVICE.md tells can be done as it says: what is typed, the unit of systemd, an upgrade."""
 import configparser
 import os
-import re
 import shlex
 import signal
 import socket
@@ -12,9 +11,7 @@ import unittest
 from pathlib import Path
 
 from program import LIST, PROGRAM, TOP, heed_signals, publish, skip_without
-from library import CLIENT, FOLDER, needs_library
-from services import LONG, Case, Client, is_free, wait_for
-from test_client_rust import HERE, why_not_built
+from services import LONG, Client, is_free, wait_for
 from test_readme import answers, blocks, page
 
 sys.path.insert(0, os.path.join(TOP, "tools"))
@@ -24,7 +21,7 @@ from installed import pieces
 from registry import table
 from registry.service import client, disk, http, ops, readers, service, watching
 
-PAGE, SOCKET = "docs/SERVICE.md", "/run/registryd/socket"
+PAGE = "docs/SERVICE.md"
 BLOCKS = blocks(PAGE)
 
 
@@ -34,14 +31,10 @@ class Typed(unittest.TestCase):
             self.assertEqual(answers(folder, BLOCKS[0]), (BLOCKS[1], 0))
             self.assertTrue(Path(folder, "team.journal").read_text().endswith("\nend 2\n"))
 
-    def test_it_tells_of_each_word(self):
-        of = table.subcommand("serve")
-        told = dict(re.findall(r"^\| `(--[a-z-]+)[ `][^|]*\| [^|]* \| ([^|]*) \|$", page(PAGE), re.M))
-        self.assertEqual(set(told), {it.flag for it in of.words} - {"--mode", "--group"})
+    def test_its_help_tells_the_defaults(self):
+        words = {it.flag: it for it in table.subcommand("serve").words}
         for name in ("--readers", "--seconds", "--workers", "--clients"):
-            [word] = [it for it in of.words if it.flag == name]
-            self.assertEqual(told[name].replace(",", ""), str(word.default))
-            self.assertIn(f"(else: {word.default})", word.about)
+            self.assertIn(f"(else: {words[name].default})", words[name].about)
 
     def test_its_numbers_are_those_of_the_service(self):
         text = page(PAGE)
@@ -49,51 +42,6 @@ class Typed(unittest.TestCase):
                      f"more than {ops.LONG:,} bytes", f"A request over HTTP has {http.PATIENCE} seconds"):
             self.assertIn(said, text)
         self.assertEqual((readers.PATIENCE, watching.SLOW, http.MOST_COPIES, disk.LOOKS), (0.25, 1.0, 4, (1, 60)))
-
-
-class Languages(Case):
-    """The programs that the page shows, over a service with what they ask for."""
-
-    def setUp(self):
-        super().setUp()
-        self.service = self.begin()
-        with self.service.client() as one:
-            one.ask(publish("log", "1.3.0"), publish("app", "1.0.0", ["log ^1.2"]))
-
-    def source(self, mark, name):
-        """The file of a program of the page, with this service's socket in it."""
-        path = Path(self.folder, name)
-        # with the empty lines in it
-        text = next(it for it in re.findall(r"(?:^    .*\n|^\n(?=    ))+", page(PAGE), re.M) if mark in it)
-        self.assertIn(SOCKET, text)
-        path.write_text(re.sub("^    ", "", text.strip("\n"), flags=re.M).replace(SOCKET, self.service.socket) + "\n")
-        return path
-
-    def printed(self, *words, **more):
-        done = subprocess.run(words, stdout=subprocess.PIPE, stderr=subprocess.PIPE, text=True, timeout=300, cwd=self.folder, **more)
-        self.assertEqual((done.returncode, done.stderr), (0, ""))
-        return done.stdout
-
-    def test_python(self):
-        path = self.source("Registry(connect=", "asks.py")
-        environment = {**os.environ, "PYTHONPATH": os.path.join(TOP, "clients", "python")}
-        self.assertEqual(self.printed(sys.executable, path, env=environment), "{'app': '1.0.0', 'log': '1.3.0'}\n")
-
-    @needs_library
-    @skip_without("cc", "gcc")
-    def test_c(self):
-        path = self.source("int main(void)", "asks.c")
-        self.printed("cc", "-std=c11", "-Wall", "-Wextra", "-Werror", "-I", CLIENT, path, FOLDER / "libregistryd.a", "-lpthread", "-o", path.with_suffix(""))
-        self.assertEqual(self.printed(path.with_suffix("")), '{"revision":2,"selected":[["app","1.0.0"],["log","1.3.0"]]}\n')
-
-    def test_rust(self):
-        if without := why_not_built():
-            self.skipTest(without)
-        path, crate = self.source("fn main()", "asks.rs"), os.path.join(self.folder, "libregistryd.rlib")
-        for words in (["--crate-type", "rlib", "--crate-name", "registryd", os.path.join(HERE, "src", "lib.rs"), "-o", crate],
-                      ["-D", "warnings", "--extern", f"registryd={crate}", path, "-o", path.with_suffix("")]):
-            self.printed("rustc", "--edition", "2021", *words)
-        self.assertEqual(self.printed(path.with_suffix("")), 'Versions([("app", "1.0.0"), ("log", "1.3.0")])\n')
 
 
 class Unit(unittest.TestCase):

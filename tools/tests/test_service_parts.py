@@ -22,6 +22,7 @@ from limits import MOST_LINE_BYTES
 from registry.failures import Failed
 from registry.service import child, disk, keeper, sockets, supervisor
 
+ASKS_NO_PROGRAM = True
 A1, B1 = (journal_line(publish(name, "1.0.0")).encode() for name in "ab")
 OK = b'{"ok":true,"revision":%d}'
 

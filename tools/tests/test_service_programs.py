@@ -119,7 +119,7 @@ class Following(unittest.IsolatedAsyncioTestCase):
         self.enterContext(mock.patch.object(readers, "Child", StandIn))
         self.restarted, self.told = [], []
         self.keeper = SimpleNamespace(revision=2, followers=[])
-        self.given = SimpleNamespace(seconds=10, workers=3, budget=None, readers=2, newest=None, any=None)
+        self.given = SimpleNamespace(seconds=10, workers=3, budget=None, readers=2)
 
     async def begun(self, **more):
         made = readers.Readers(self.path, SimpleNamespace(restarted=lambda *told: self.restarted.append(told)), self.keeper, SimpleNamespace(**{**vars(self.given), **more}))
@@ -135,7 +135,7 @@ class Following(unittest.IsolatedAsyncioTestCase):
         return SimpleNamespace(line=line, op=op, client=of or Asker(), tries=0, since=0, answer=lambda reply: self.told.append((line, reply)), fail=lambda: self.told.append((line, None)))
 
     async def test_each_begins_with_the_journal_as_it_was_told(self):
-        for more, words in (({}, ["--workers=3"]), ({"budget": 0, "any": True}, ["--workers=3", "--any", "--budget=0"]), ({"newest": True, "budget": 7}, ["--workers=3", "--newest", "--budget=7"])):
+        for more, words in (({}, ["--workers=3"]), ({"budget": 0}, ["--workers=3", "--budget=0"]), ({"budget": 7}, ["--workers=3", "--budget=7"])):
             made = await self.begun(**more)
             self.assertEqual((len(made.readers), made.ready()), (2, 2))
             for it in made.readers:

@@ -7,6 +7,7 @@ import shutil
 import socket
 import ssl
 import subprocess
+import tempfile
 import unittest
 from pathlib import Path
 
@@ -29,10 +30,20 @@ def block(mark):
 @skip_without("openssl", "openssl")
 @unittest.skipUnless(any(Path("/etc/nginx/modules-enabled").glob("*-mod-stream.conf")), "nginx has no module stream (Debian: libnginx-mod-stream)")
 class Behind(Case):
+    @classmethod
+    def setUpClass(cls):
+        """Types what makes the certificates, once for all tests, and makes one more of another authority: openssl takes long to find primes."""
+        super().setUpClass()
+        cls.made = cls.enterClassContext(tempfile.TemporaryDirectory())
+        typed = [f"{line} 2>&1" if line.startswith("openssl") else line for line in block("openssl req")]
+        for lines in typed, ["openssl req -x509 -newkey rsa:2048 -nodes -subj /CN=alice -keyout other.key -out other.crt 2>&1; cat other.crt other.key > other.pem"]:
+            said, status = answers(cls.made, lines)
+            assert status == 0, said
+
     def setUp(self):
         super().setUp()
         (self.port,), self.service = free_ports(1), self.begin("--seconds", 2)
-        self.assertEqual(answers(self.folder, [f"{line} 2>&1" if line.startswith("openssl") else line for line in block("openssl req")])[1], 0)
+        shutil.copytree(self.made, self.folder, dirs_exist_ok=True)
         self.begin_proxy()
 
     def begin_proxy(self):
@@ -70,8 +81,6 @@ class Behind(Case):
 
     def test_nobody_else_is(self):
         """One without a certificate, and one with a certificate that says the same and is of another authority."""
-        typed = "openssl req -x509 -newkey rsa:2048 -nodes -subj /CN=alice -keyout other.key -out other.crt 2>&1; cat other.crt other.key > other.pem"
-        self.assertEqual(answers(self.folder, [typed])[1], 0)
         for certificate in (None, "other.pem"):
             told = b""
             try:

@@ -14,7 +14,8 @@ from program import TOP
 sys.path.insert(0, os.path.join(TOP, "tools"))
 from registry.service import child, client, readers
 
-GIVEN = SimpleNamespace(seconds=10, workers=1, budget=None, readers=2, newest=None, any=None)
+ASKS_NO_PROGRAM = True
+GIVEN = SimpleNamespace(seconds=10, workers=1, budget=None, readers=2)
 
 
 class Program:

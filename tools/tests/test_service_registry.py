@@ -78,7 +78,7 @@ class Same(Case):
         self.assertEqual(registry("list", "--journal", other, REGISTRY_CONNECT=service.socket), (0, "zlib  2.0.0  1 version\n", ""))
         self.assertEqual(registry("list", "--connect", service.socket, REGISTRY_JOURNAL=other), (0, "log  1.0.0  1 version\n", ""))
         self.assertEqual(registry("list", "--connect", "x", "--journal", "y"), (2, "", "registry: --connect can't be used with --journal: a service has its own journal\n"))
-        self.assertEqual(registry("list", "--connect", "nowhere"), (3, "", "registry: no service answers at nowhere: No such file or directory\n"))
+        self.assertEqual(registry("list", "--connect", "nowhere"), (3, "", "registry: no service answers at nowhere: No such file or directory; did you mean nowhere:PORT?\n"))
         self.assertEqual(registry("list", "--connect", "127.0.0.1:1"), (3, "", "registry: no service answers at 127.0.0.1:1: Connection refused\n"))
         self.assertEqual(registry("serve", "--port", "0", "--connect", "x")[0], 2)
         self.assertEqual(registry("--complete", "--connect", service.socket, "show", ""), (0, "words\nlog\n", ""))

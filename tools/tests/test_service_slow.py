@@ -20,6 +20,10 @@ def has_replies(client):
 
 
 class Slow(Case):
+    def assert_meanwhile(self, were_before, begun, seconds):
+        """All of these answers came before that of a search which lasts so long; or one at least, where a busy machine took longer for them."""
+        self.assertTrue(all(were_before) or any(were_before) and time.monotonic() - begun > seconds, were_before)
+
     def begin_full(self, *words, **more):
         """A service with the pigeons and their holes."""
         service = self.begin(*words, **more)
@@ -32,13 +36,14 @@ class Slow(Case):
         with service.client() as hard, service.client() as other:
             begun = time.monotonic()
             hard.send(HARD, LIST)
-            revision = len(LINES)
+            revision, were_before = len(LINES), []
             while time.monotonic() < begun + 1.5 or revision < len(LINES) + 10:
                 accepted, found, refused = other.ask(publish("log", f"1.{revision}.0"), resolve("log *"), resolve("missing *"))
                 revision += 1
                 self.assertEqual((accepted, found), ({"ok": True, "revision": revision}, {"revision": revision, "selected": [["log", f"1.{revision - 1}.0"]]}))
                 self.assertEqual(refused, {"refused": True, "revision": revision})
-            self.assertFalse(has_replies(hard))
+                were_before.append(not has_replies(hard))
+            self.assert_meanwhile(were_before, begun, 4)
             # it is told at the revision at which it was asked, and what stood behind it is asked then
             self.assertEqual(hard.line(), SPENT % len(LINES))
             self.assertLess(time.monotonic() - begun, 20)
@@ -51,7 +56,7 @@ class Slow(Case):
             self.assertEqual({it["revision"] for it in other.ask(*[resolve("log *")] * 20)}, {revision})
         status, told = service.end()
         self.assertEqual(status, 0)
-        self.assertRegex(told, r"client=\S+ connection=[0-9]+ op=resolve seconds=([4-9]|1[0-9])\.[0-9]+ reply=BudgetSpent ")
+        self.assertRegex(told, r"client=\S+ connection=[0-9]+ op=resolve seconds=([4-9]|[1-9][0-9])\.[0-9]+ reply=BudgetSpent ")
 
     def test_what_waits_behind_it_is_asked_of_another_reader(self):
         service = self.begin_full("--readers", 2, "--seconds", 30)
@@ -66,11 +71,13 @@ class Slow(Case):
     def test_one_client_holds_up_one_reader_at_most(self):
         service = self.begin_full("--readers", 2, "--seconds", 5)
         with service.client() as greedy, service.client() as other:
+            begun, were_before = time.monotonic(), []
             greedy.send(*[HARD] * 6)
             time.sleep(1)
             for _ in range(5):
                 self.assertIn("selected", other.ask(resolve("hole-1 *"))[0])
-            self.assertFalse(has_replies(greedy))
+                were_before.append(not has_replies(greedy))
+            self.assert_meanwhile(were_before, begun, 5)
             self.assertEqual(greedy.line(), SPENT % len(LINES))
 
     def test_requests_have_the_budget_of_the_service(self):

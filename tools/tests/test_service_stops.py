@@ -12,7 +12,7 @@ from pathlib import Path
 from unittest import mock
 
 from preloaded import built
-from processes import is_running
+from processes import is_idle, is_running
 from program import LIST, journal_line, publish, resolve
 from registry_folder import pigeons
 from services import LONG, PATIENT, Case, Service, kill, wait_for
@@ -97,7 +97,8 @@ class Signals(Case):
         with service.client() as client, service.client() as other:
             self.assertEqual(client.ask(*lines)[-1]["revision"], len(lines))
             client.send(resolve(*(f"{it} *" for it in needs)), publish("behind", "1.0.0"))
-            time.sleep(0.5)
+            _, [reader] = service.programs()
+            self.assertFalse(is_idle(reader))  # it searches
             self.assertEqual(other.ask(publish("log", "1.0.0"))[0]["revision"], len(lines) + 1)
             begun = time.monotonic()
             status, told = service.end()

@@ -16,7 +16,8 @@ from registry.service import service
 from registry.service.client import Client
 from registry.service.http import page
 
-GIVEN = dict(log="-", clients=2, socket=None, port=None, metrics_port=None, mode="660", group="daemon", newest=None, any=True)
+ASKS_NO_PROGRAM = True
+GIVEN = dict(log="-", clients=2, socket=None, port=None, metrics_port=None, mode="660", group="daemon")
 
 
 class StandIn:
@@ -74,7 +75,7 @@ class Case(unittest.IsolatedAsyncioTestCase):
 class Asking(Case):
     async def test_what_its_programs_are_told(self):
         made = await self.made()
-        self.assertEqual((made.keeper.given, made.readers.given), (("path", made.watch, ["--any"]), ("path", made.watch, made.keeper, made.given)))
+        self.assertEqual((made.keeper.given, made.readers.given), (("path", made.watch), ("path", made.watch, made.keeper, made.given)))
         self.assertEqual((made.watch.path, made.is_stopping, made.is_over), ("-", False, False))
 
     async def test_as_many_clients_as_may_be(self):

@@ -8,6 +8,7 @@ from program import TOP
 sys.path.insert(0, os.path.join(TOP, "tools"))
 from split_module import SHORT, Unknown, split
 
+ASKS_NO_PROGRAM = True
 HEAD = 'source_filename = "rattle"\ntarget triple = "x86_64-unknown-linux-gnu"\n\n'
 TAIL = "\n; Function Attrs: nounwind\ndeclare i64 @write(i32, ptr, i64) #0\n\nattributes #0 = { nounwind }\n!0 = !{}\n"
 TEXT = '@text = private unnamed_addr constant [9 x i8] c"@nothing\\22", align 1\n'

@@ -19,6 +19,7 @@ import try_rounds
 from edit_files import Edit
 from try_rounds import BAD, BY_CLAUSE, BY_NAME, BY_PROOF, NOT_REFUSED
 
+ASKS_NO_PROGRAM = True
 # low and side stand on nothing, mid on low, high on mid and side; top is the static library
 CRATES = {"low": ["std"], "side": [], "mid": ["low"], "high": ["mid", "side"], "top": ["high"]}
 EDITED = ("low", "mid", "high")

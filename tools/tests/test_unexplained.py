@@ -13,6 +13,7 @@ from generated_rows_search import pigeons
 from preloaded import REFUSE_MEMORY, built, each_refused
 from program import PROBE, TOP
 from small_registries import Maker
+from teaching import TEACHING
 
 sys.path.append(os.path.join(TOP, "bench"))
 import workloads
@@ -37,12 +38,31 @@ def of_pigeons():
     return rows, [{"needs": needs}]
 
 
+def with_literal(formula, literal):
+    """What a formula comes to where a literal holds."""
+    variable, value = literal
+    return [[it for it in clause if it != (variable, 1 - value)] for clause in formula if literal not in clause]
+
+
+def can_hold(formula):
+    """Whether some values make each clause true: one literal of the shortest clause is tried after the other."""
+    if not formula:
+        return True
+    return any(can_hold(with_literal(formula, literal)) for literal in min(formula, key=len))
+
+
+def formulas(size, seed, count):
+    """The requests of `sat`, and how many of them have no selection: those whose formula can't hold."""
+    rng = random.Random(seed)
+    return workloads.sat(size, seed, count), sum(not can_hold(workloads.clauses(size, rng)) for _ in range(count))
+
+
 def long_searches():
-    """Registries, each with requests of which most are refused after many conflicts."""
-    yield of_pigeons()
-    for made in (workloads.sat(30), workloads.sat(40, 2, 4), workloads.towers(6)):
-        lines, requests = made
-        yield published(lines), [json.loads(line) for line in requests[:10]]
+    """Registries, each with requests of which most are refused after many conflicts, and how many are refused. Of towers all are."""
+    yield *of_pigeons(), 1
+    towers = workloads.towers(6)
+    for (lines, requests), refused in (formulas(30, 1, 6), formulas(40, 2, 4), (towers, len(towers[1]))):
+        yield published(lines), [json.loads(line) for line in requests], refused
 
 
 def small_ones():
@@ -50,7 +70,7 @@ def small_ones():
         made = Maker(random.Random(seed))
         commands = made.commands()
         rows = [row("registry", it["op"], **{name: value for name, value in it.items() if name != "op"}) for it in commands]
-        yield rows, [made.request() for _ in range(4)]
+        yield rows, [made.request() for _ in range(4)], None
 
 
 def answered(rows, calls):
@@ -61,28 +81,33 @@ def answered(rows, calls):
 
 class Unexplained(unittest.TestCase):
     def alike(self, registries):
-        """Asks each request both ways; answers how many are refused, and how many of these offer something."""
-        refused = offering = 0
-        for rows, requests in registries:
-            calls = [solving(request, explain=explain, newest=newest) for request in requests for newest in (False, True) for explain in (True, False)]
+        """Asks each request both ways; answers for each that is refused how many steps its derivation has, and whether something is offered."""
+        told_of = []
+        for rows, requests, wanted in registries:
+            before = len(told_of)
+            calls = [solving(request, explain=explain) for request in requests for explain in (True, False)]
             told = answered(rows, calls)
             for explained, plain, call in zip(told[::2], told[1::2], calls[::2]):
                 if "derivation" in explained:
                     self.assertEqual(plain, {"selected": None, "offered": explained["offered"]}, call)
-                    refused, offering = refused + 1, offering + bool(plain["offered"])
+                    told_of.append((len(explained["derivation"]), bool(plain["offered"])))
                 else:
                     self.assertEqual(plain, explained, call)
-        return refused, offering
+            self.assertIn(wanted, (None, len(told_of) - before))
+        return told_of
 
     def test_long_searches(self):
-        refused, offering = self.alike(long_searches())
-        self.assertGreater(refused, 16)
-        self.assertGreater(offering, 8)
+        """A refusal offers something just where it is short: each of these follows from what versions need, and from needs of the request
+        alone."""
+        told_of = self.alike(long_searches())
+        self.assertEqual([offering for _, offering in told_of], [steps <= TEACHING for steps, _ in told_of])
+        # both kinds are there: pigeons take many steps in any order, and the lowest storey of towers takes few
+        self.assertEqual({offering for _, offering in told_of}, {True, False})
 
     def test_small_registries(self):
-        refused, offering = self.alike(small_ones())
-        self.assertGreater(refused, 100)
-        self.assertGreater(offering, 20)
+        told_of = self.alike(small_ones())
+        self.assertGreater(len(told_of), 100)
+        self.assertGreater(sum(offering for _, offering in told_of), 20)
 
     def test_no_oracle_changes_it(self):
         # there is a pigeon more than there are holes

@@ -1,13 +1,14 @@
-"""docs/USING.md names calls that there are, and shows the example as it stands."""
+"""docs/USING.md names calls that there are, and shows the example as it stands and what it prints."""
 import os
+import subprocess
 import unittest
 
-from program import TOP
+from program import PROBE, TOP
 from test_map import LINK, declares, read
 from test_readme import blocks
 
 PAGE = "docs/USING.md"
-EXAMPLE = os.path.join(TOP, "crates", "team")
+EXAMPLE = os.path.join(TOP, "crates", "team", "src", "lib.rt")
 
 
 def plain(lines):
@@ -26,12 +27,15 @@ class Using(unittest.TestCase):
                 self.assertTrue(name == os.path.basename(path) or declares(read(path), path, name), f"{target} has no {name}")
 
     def test_the_example_is_shown_as_it_stands(self):
-        code = plain(read(os.path.join(EXAMPLE, "src", "main.rt")).splitlines())
-        *shown, printed = blocks(PAGE)
-        self.assertEqual([*printed, ""], read(os.path.join(EXAMPLE, "stdout")).split("\n"))
+        code = plain(read(EXAMPLE).splitlines())
+        *shown, _printed = blocks(PAGE)
         for block in shown:
             wanted = plain(block)
             self.assertTrue(any(code[at:at + len(wanted)] == wanted for at in range(len(code))), block)
+
+    def test_the_example_prints_what_is_shown(self):
+        done = subprocess.run([PROBE, "team"], stdin=subprocess.DEVNULL, stdout=subprocess.PIPE, text=True, check=True, timeout=60)
+        self.assertEqual(done.stdout.split("\n"), [*blocks(PAGE)[-1], ""])
 
 
 if __name__ == "__main__":

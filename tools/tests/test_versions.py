@@ -6,6 +6,8 @@ import unittest
 
 from program import TOP
 
+ASKS_NO_PROGRAM = True
+
 
 def read(*name):
     with open(os.path.join(TOP, *name), encoding="utf-8") as text:

@@ -10,35 +10,6 @@ from preloaded import BREAK_CALLS, built
 from program import TOP, run
 
 
-# which word is meant where none is given
-DEFAULT = "--newest"
-# requests that no preferred selection meets, since w 2.0.0 needs x 1.0.0, and all selections that meet them
-MADE = b"""\
-{"op":"publish","name":"x","version":"1.0.0","needs":[]}
-{"op":"publish","name":"x","version":"2.0.0","needs":[]}
-{"op":"publish","name":"w","version":"1.0.0","needs":[]}
-{"op":"publish","name":"w","version":"2.0.0","needs":[["x","=1.0.0"]]}
-{"op":"resolve","needs":[["x","*"],["w","*"]]}
-"""
-LAWFUL = [[["w", "1.0.0"], ["x", "1.0.0"]], [["w", "1.0.0"], ["x", "2.0.0"]], [["w", "2.0.0"], ["x", "1.0.0"]]]
-
-
-class Selections(unittest.TestCase):
-    def selected(self, *words):
-        done = run(["serve", "--workers", "1", *words], MADE)
-        self.assertEqual((done.returncode, done.stderr), (0, b""), words)
-        return json.loads(done.stdout.split(b"\n")[4])["selected"]
-
-    def test_any_is_one_that_meets_the_request(self):
-        self.assertIn(self.selected("--any"), LAWFUL)
-
-    def test_the_newest_is_one_of_them(self):
-        self.assertEqual(self.selected("--newest"), LAWFUL[2])
-
-    def test_one_of_the_words_is_meant_where_none_is_given(self):
-        self.assertEqual(self.selected(), self.selected(DEFAULT))
-
-
 class Words(unittest.TestCase):
     @classmethod
     def setUpClass(cls):

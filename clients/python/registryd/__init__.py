@@ -63,8 +63,6 @@ Pairs = Union[Mapping[str, str], Iterable[tuple[str, str]]]
 Derivation = Sequence[Mapping[str, Any]]
 FilePath = Union[str, "os.PathLike[str]"]
 
-# the words that say which selection answers a request, by whether that is the newest
-SELECTING: dict[bool | None, list[str]] = {None: [], True: ["--newest"], False: ["--any"]}
 MOST_TOLD = 4096  # bytes of standard error that are kept, the last ones
 WAITED = 0.5  # seconds that a program which answers no more has to end by itself
 INTERRUPTED = 2.0  # seconds that it has where a `with` is left by an interrupt from the keyboard
@@ -246,6 +244,13 @@ class NoSelection:
 
     def __bool__(self) -> bool:
         return False
+
+    def tree(self) -> Derived:
+        """Why, as a tree that a program can walk, and in the sentences of PubGrub: `print(*refusal.tree().sentences(), sep="\n")`."""
+        from .tree import tree
+        if not self.explanation:
+            raise ValueError("a NoSelection has a tree where it answers a request with explain=True")
+        return tree(self.explanation)
 
     @property
     def selected(self) -> NoReturn:
@@ -455,9 +460,6 @@ class Registry:
     package, or the one that the system finds. What can't be started or loaded is an OSError. A session in this process has no workers
     and no budget of its own, and no signal breaks off a search there: give each request a `budget`.
 
-    `newest` says which selection answers a request: where it is true the newest one, which is the same whoever asks, and where it is
-    false the first one that a search finds, which may differ from session to session. Where it is none, that is left to the program.
-
     `connect` is the address of a service, the path of its socket or HOST:PORT. Where the connection breaks off, it is made again, and what has no reply is asked again, a command unless it
     was carried out. The `close` of such a session ends it alone.
 
@@ -467,31 +469,27 @@ class Registry:
 
     def __init__(self, program: FilePath | Sequence[str] = "registryd", *, workers: int = 1, budget: int | None = None,
                  journal: FilePath | None = None, load: FilePath | None = None, save: FilePath | None = None, embedded: bool = False,
-                 library: FilePath | None = None, connect: FilePath | None = None, newest: bool | None = None) -> None:
+                 library: FilePath | None = None, connect: FilePath | None = None) -> None:
         if journal is not None and (load is not None or save is not None):
             raise ValueError("a session that goes on with a journal loads and saves none")
         number_of(workers, "workers", 1, 64)
         if budget is not None:
             number_of(budget, "budget")
-        if newest is not None:
-            is_set(newest, "newest")
         if budget is not None and (embedded or connect is not None):
             raise ValueError("a program of its own alone takes a budget of all requests")
         if connect is not None:
             from .service import Connection
             if journal or load or save or embedded:
                 raise ValueError("a service has a journal of its own")
-            if newest is not None:
-                raise ValueError("a service selects as it was started: start it with --newest or --any")
             self._session: _Child | _Embedded | Connection = Connection(os.fspath(connect))
             return
         if embedded:
             if workers != 1:
                 raise ValueError("a session in this process has no workers")
-            self._session = _Embedded(library, journal, load, save, newest)
+            self._session = _Embedded(library, journal, load, save)
             return
         words = [os.fspath(program)] if isinstance(program, (str, os.PathLike)) else list(program)
-        words += ["serve", "--workers", str(workers)] + ([] if budget is None else ["--budget", str(budget)]) + SELECTING[newest]
+        words += ["serve", "--workers", str(workers)] + ([] if budget is None else ["--budget", str(budget)])
         for option, path in (("--journal", journal), ("--load", load), ("--save", save)):
             words += [] if path is None else [option, os.fspath(path)]
         self._session = _Child(words)
@@ -518,11 +516,6 @@ class Registry:
     def check(self, needs: Pairs, derivation: Derivation, lock: Pairs = ()) -> bool:
         """Whether the derivation of a refusal follows."""
         return self._call(Check(needs, derivation, lock)).follows
-
-    def why(self, refusal: NoSelection) -> Derived:
-        """Why no selection meets a request that was asked with explain=True: a tree to walk, for which the versions are listed."""
-        from .tree import tree
-        return tree(refusal, self.list())
 
     def _call(self, request: Request) -> Any:
         try:
@@ -883,14 +876,12 @@ NUMBER, SIZE, PLACE = ctypes.c_uint64, ctypes.c_size_t, ctypes.POINTER(ctypes.c_
 CALLS = {
     "open_embedded": (ctypes.c_char_p, ctypes.c_char_p, ctypes.POINTER(NUMBER), ctypes.c_char_p, SIZE),
     "open_embedded_journal": (ctypes.c_char_p, ctypes.POINTER(NUMBER), ctypes.c_char_p, SIZE),
-    "open_embedded_selecting": (ctypes.c_char_p, ctypes.c_char_p, ctypes.c_char_p, ctypes.c_int, ctypes.POINTER(NUMBER), ctypes.c_char_p, SIZE),
     "ask": (NUMBER, ctypes.c_char_p, SIZE, ctypes.c_char_p, SIZE, PLACE, PLACE),
     "take": (NUMBER, ctypes.c_char_p, SIZE, PLACE, PLACE),
     "error": (NUMBER, ctypes.c_char_p, SIZE),
     "save": (NUMBER,),
     "close": (NUMBER,),
 }
-NEWEST, ANY = 1, 2  # which selection answers a request
 MISUSED = 1
 ANSWERS = {MISUSED: "the library was misused, as by a process that was forked", 2: "there is no memory"}
 
@@ -916,8 +907,7 @@ def library_path(given: FilePath | None) -> str:
 class _Embedded:
     """A session in this process, by the calls of the library. One thread at a time is in it."""
 
-    def __init__(self, library: FilePath | None, journal: FilePath | None, load: FilePath | None, save: FilePath | None,
-                 newest: bool | None) -> None:
+    def __init__(self, library: FilePath | None, journal: FilePath | None, load: FilePath | None, save: FilePath | None) -> None:
         self._library = loaded(library_path(library))
         self._room = ctypes.create_string_buffer(ROOM)
         # how many bytes were taken, and how many are left to take
@@ -929,9 +919,7 @@ class _Embedded:
         self._fault = ""  # why no more lines are taken
         number, words = NUMBER(), ctypes.create_string_buffer(MOST_TOLD)
         files = [None if path is None else os.fsencode(path) for path in (journal, load, save)]
-        if newest is not None:
-            answered = self._library.registryd_open_embedded_selecting(*files, NEWEST if newest else ANY, number, words, MOST_TOLD)
-        elif journal is not None:
+        if journal is not None:
             answered = self._library.registryd_open_embedded_journal(files[0], number, words, MOST_TOLD)
         else:
             answered = self._library.registryd_open_embedded(*files[1:], number, words, MOST_TOLD)

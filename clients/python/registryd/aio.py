@@ -10,7 +10,6 @@ import asyncio
 from typing import Any
 
 from . import Check, Derivation, List, Listing, NoSelection, Pairs, Publish, Registry, Request, Resolve, Selection, Unyank, Yank, _Embedded
-from .tree import Derived, tree
 
 
 class AsyncRegistry:
@@ -48,9 +47,6 @@ class AsyncRegistry:
 
     async def list(self) -> Listing:
         return await self.ask(List())
-
-    async def why(self, refusal: NoSelection) -> Derived:
-        return tree(refusal, await self.list())
 
     async def close(self, seconds: float | None = None) -> None:
         await asyncio.to_thread(self._registry.close, seconds)

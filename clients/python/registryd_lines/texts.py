@@ -118,7 +118,8 @@ def identifiers(text, at, kind):
         at += 1
 
 
-LOOSE = re.compile(r"[\s=^~vV]*(\d+)(?:\.(\d+))?(?:\.(\d+))?(?:[-._]?([A-Za-z][0-9A-Za-z.-]*|-[0-9A-Za-z.-]+))?(\+[0-9A-Za-z.-]+)?\s*", re.ASCII)
+# .x in the place of a number is a wildcard of a requirement: there is no telling which version that is
+LOOSE = re.compile(r"[\s=^~vV]*(\d+)(?!\.[xX])(?:\.(\d+)(?!\.[xX])(?:\.(\d+))?)?(?:[-._]?([A-Za-z][0-9A-Za-z.-]*|-[0-9A-Za-z.-]+))?(\+[0-9A-Za-z.-]+)?\s*", re.ASCII)
 
 
 def version_meant(text):

@@ -12,7 +12,10 @@ fn main() -> Result<(), Error> {
     println!("{:?}", registry.resolve(Resolve { needs: &[("app", "^1")], ..Resolve::default() })?);
     let asked = Resolve { needs: &[("app", "^1"), ("log", "^2")], explain: true, ..Resolve::default() };
     if let Selected::Nothing(Some(why)) = registry.resolve(asked)? {
-        println!("{}", why.explanation.join("\n"));
+        why.tree().iter().for_each(|tree| println!("{}", tree.sentences().join("\n")));
+    }
+    if let Err(error) = registry.resolve(Resolve { needs: &[("app", "^1"), ("log", "==1")], ..Resolve::default() }) {
+        println!("{error}");
     }
     registry.close()
 }

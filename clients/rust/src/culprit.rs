@@ -14,6 +14,8 @@ pub struct Culprit {
     pub package: String,
     /// What stands there.
     pub text: String,
+    /// What was probably meant, where there is telling.
+    pub meant: Option<String>,
 }
 
 impl fmt::Display for Culprit {
@@ -21,7 +23,8 @@ impl fmt::Display for Culprit {
         match self.place.as_str() {
             "" => write!(out, "{} {}", self.package, self.text),
             place => write!(out, "{place}, {}: {:?}", self.package, self.text),
-        }
+        }?;
+        self.meant.as_ref().map_or(Ok(()), |it| write!(out, "; did you mean {it:?}?"))
     }
 }
 
@@ -52,7 +55,7 @@ pub(crate) fn shown(request: &Request<'_>, refusal: Refusal) -> Option<Culprit> 
         Refusal::SelfDependency => item("needs", needs, |_, (name, _)| own.map_or(false, |it| it.0 == name)),
         Refusal::TooManyDependencies => item("needs", needs, |place, _| place == MOST_NEEDS),
         Refusal::AlreadyPublished | Refusal::NoSuchVersion | Refusal::AlreadyYanked | Refusal::NotYanked => {
-            own.map(|(name, version)| Culprit { place: String::new(), package: name.to_string(), text: version.to_string() })
+            own.map(|(name, version)| suspect(String::new(), name, version))
         }
         _ => None,
     }
@@ -65,7 +68,7 @@ fn repeated(whose: &str, pairs: Pairs<'_>) -> Option<Culprit> {
 /// The name of the first pair that is so.
 fn item(whose: &str, pairs: Pairs<'_>, is_it: impl Fn(usize, (&str, &str)) -> bool) -> Option<Culprit> {
     let (place, (name, _)) = pairs.iter().enumerate().find(|(place, pair)| is_it(*place, **pair))?;
-    Some(Culprit { place: format!("{whose}[{place}]"), package: name.to_string(), text: name.to_string() })
+    Some(suspect(format!("{whose}[{place}]"), name, name))
 }
 
 /// The texts of a request that such a refusal may be for, in the order in which they are judged.
@@ -91,12 +94,12 @@ pub(crate) fn suspects(request: &Request<'_>, refusal: Refusal) -> Vec<Culprit> 
 }
 
 fn suspect(place: String, package: &str, text: &str) -> Culprit {
-    Culprit { place, package: package.to_string(), text: text.to_string() }
+    Culprit { place, package: package.to_string(), text: text.to_string(), meant: None }
 }
 
 /// A pair that asks about one text alone, in the needs of a request, or in its lock for a version.
-pub(crate) fn alone(suspect: &Culprit, refusal: Refusal) -> [(&str, &str); 1] {
-    [if refusal == Refusal::BadName { (suspect.text.as_str(), "*") } else { ("a", suspect.text.as_str()) }]
+pub(crate) fn alone(text: &str, refusal: Refusal) -> [(&str, &str); 1] {
+    [if refusal == Refusal::BadName { (text, "*") } else { ("a", text) }]
 }
 
 /// The request about such a pair, which searches next to nothing.

@@ -13,23 +13,11 @@ const ROOM: usize = 65_536;
 /// How many bytes of what is the matter are told, with the 0 behind them.
 const WORDS: usize = 4096;
 const OK: c_int = 0;
-/// Which selection answers a request.
-const NEWEST: c_int = 1;
-const ANY: c_int = 2;
 
 // The calls of registryd.h that are used here. Each answers `OK` where all is well.
 extern "C" {
     fn registryd_open_embedded(load: *const c_char, save: *const c_char, session: *mut u64, words: *mut c_char, room: usize) -> c_int;
     fn registryd_open_embedded_journal(journal: *const c_char, session: *mut u64, words: *mut c_char, room: usize) -> c_int;
-    fn registryd_open_embedded_selecting(
-        journal: *const c_char,
-        load: *const c_char,
-        save: *const c_char,
-        selection: c_int,
-        session: *mut u64,
-        words: *mut c_char,
-        room: usize,
-    ) -> c_int;
     fn registryd_ask(
         session: u64,
         lines: *const c_void,
@@ -69,10 +57,6 @@ impl Embedded {
         // each text ends with a 0 and outlives the call, which keeps none
         told(|words, room| unsafe {
             match journal {
-                _ if options.newest.is_some() => {
-                    let selection = if options.newest == Some(true) { NEWEST } else { ANY };
-                    registryd_open_embedded_selecting(at(&journal), at(&load), at(&save), selection, &mut session, words, room)
-                }
                 Some(_) => registryd_open_embedded_journal(at(&journal), &mut session, words, room),
                 None => registryd_open_embedded(at(&load), at(&save), &mut session, words, room),
             }

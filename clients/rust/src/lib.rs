@@ -11,7 +11,9 @@ mod connection;
 mod culprit;
 #[cfg(feature = "embedded")]
 mod embedded;
+mod explained;
 pub mod json;
+mod meant;
 mod refusal;
 mod reply;
 mod request;
@@ -19,6 +21,7 @@ mod service;
 mod session;
 
 pub use culprit::Culprit;
+pub use explained::{Derived, External, Node, Term, Tree};
 pub use refusal::Refusal;
 pub use reply::{Packages, Reply, Selected, Why};
 pub use request::{Pairs, Request, Resolve};

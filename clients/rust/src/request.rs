@@ -9,7 +9,7 @@ pub struct Resolve<'a> {
     pub needs: Pairs<'a>,
     pub lock: Pairs<'a>,
     /// How many conflicts the search may meet; beyond it the line is refused.
-    pub budget: Option<u64>,
+    pub budget: Option<u32>,
     /// Whether a request that no selection meets is to be told why.
     pub explain: bool,
 }
@@ -132,8 +132,8 @@ mod tests {
             (Request::Unyank { name: "é", version: "" }, r#"{"op":"unyank","name":"é","version":""}"#),
             (Request::Resolve(Resolve::default()), r#"{"op":"resolve","needs":[],"lock":[]}"#),
             (
-                Request::Resolve(Resolve { needs: &needs, lock: &lock, budget: Some(u64::MAX), explain: true }),
-                r#"{"op":"resolve","needs":[["b","^1.0.0"],["c","*"]],"lock":[["a","1.0.0"]],"explain":true,"budget":18446744073709551615}"#,
+                Request::Resolve(Resolve { needs: &needs, lock: &lock, budget: Some(u32::MAX), explain: true }),
+                r#"{"op":"resolve","needs":[["b","^1.0.0"],["c","*"]],"lock":[["a","1.0.0"]],"explain":true,"budget":4294967295}"#,
             ),
             (
                 Request::Check { needs: &[], lock: &lock, derivation: &derivation },

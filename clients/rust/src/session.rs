@@ -9,6 +9,7 @@ use std::time::Duration;
 use crate::child::Program;
 use crate::culprit::{self, Culprit};
 use crate::json::Value;
+use crate::meant::meant;
 use crate::reply::{self, Packages};
 use crate::service::{Service, PATIENCE};
 use crate::{Pairs, Refusal, Reply, Request, Resolve, Selected};
@@ -23,9 +24,6 @@ pub struct Options {
     /// How many conflicts the search of each request may meet that names no budget of its own; any number where it is none. A session
     /// in this process takes none.
     pub budget: Option<u32>,
-    /// Whether a request is answered by its newest selection, which is the same whoever asks, or by the first one that a search finds,
-    /// which may differ from session to session. Where it is none, that is left to the program.
-    pub newest: Option<bool>,
     /// The journal that the session goes on with, made where it is not there: it has each accepted command before the call
     /// that made it returns. With it nothing is loaded or saved.
     pub journal: Option<PathBuf>,
@@ -37,7 +35,7 @@ pub struct Options {
 
 impl Default for Options {
     fn default() -> Options {
-        Options { workers: 1, budget: None, newest: None, journal: None, load: None, save: None }
+        Options { workers: 1, budget: None, journal: None, load: None, save: None }
     }
 }
 
@@ -131,9 +129,6 @@ impl Registry {
         if let Some(budget) = options.budget {
             command.args(["--budget", &budget.to_string()]);
         }
-        if let Some(newest) = options.newest {
-            command.arg(if newest { "--newest" } else { "--any" });
-        }
         for (option, path) in [("--journal", &options.journal), ("--load", &options.load), ("--save", &options.save)] {
             if let Some(path) = path {
                 command.arg(option).arg(path);
@@ -219,14 +214,23 @@ impl Registry {
         answer
     }
 
-    /// The first text of a request that is refused alone as the request was.
+    /// The first text of a request that is refused alone as the request was, and what was probably meant, where that isn't refused.
     fn bad_text(&mut self, request: &Request<'_>, refused: Refusal) -> Option<Culprit> {
         let suspects = culprit::suspects(request, refused);
-        let pairs: Vec<_> = suspects.iter().map(|it| culprit::alone(it, refused)).collect();
+        let texts: Vec<_> = suspects.iter().map(|it| it.text.as_str()).collect();
+        let place = self.refused_alone(&texts, refused)?.into_iter().position(|it| it)?;
+        let meant = meant(texts[place], refused);
+        let is_bad = meant.as_ref().and_then(|it| self.refused_alone(&[it.as_str()], refused)).map_or(true, |it| it[0]);
+        Some(Culprit { meant: meant.filter(|_| !is_bad), ..suspects[place].clone() })
+    }
+
+    /// Of each text whether it is refused so where it is asked about alone.
+    fn refused_alone(&mut self, texts: &[&str], refused: Refusal) -> Option<Vec<bool>> {
+        let pairs: Vec<_> = texts.iter().map(|it| culprit::alone(it, refused)).collect();
         let questions: Vec<_> = pairs.iter().map(|it| culprit::question(it, refused)).collect();
         let answers = self.many(&questions).ok()?;
         let is_it = |answer: &Result<Reply, Error>| matches!(answer, Err(Error::Refused { refusal, .. }) if *refusal == refused);
-        suspects.into_iter().zip(&answers).find(|(_, answer)| is_it(answer)).map(|(it, _)| it)
+        Some(answers.iter().map(is_it).collect())
     }
 
     /// Sends lines without waiting between them; answers what each is answered, in order. Where the program ends on the way,

@@ -146,6 +146,7 @@ fn a_refusal_is_explained_and_checked<W: Way>() {
     assert_eq!(Some(&why.derivation), Value::read(line).as_ref());
     let text = "1. never (), because the request needs zed \"*\" in {} and the request must be met\nSo no selection meets the request.";
     assert_eq!(why.explanation.join("\n"), text);
+    assert_eq!(why.tree().unwrap().sentences(), ["Because the request depends on zed * and no version of zed matches *, resolving failed."]);
     assert_eq!(registry.check(&[("zed", "*")], &[], &why.derivation), Ok(true));
     assert_eq!(registry.publish("zed", "1.0.0", &[]), Ok(1));
     assert_eq!(registry.check(&[("zed", "*")], &[("zed", "1.0.0")], &why.derivation), Ok(false));
@@ -162,11 +163,11 @@ fn what_the_program_refuses<W: Way>() {
     let long = [b' '; 1_048_577];
     let (publish, resolve) = (|name, version, needs| Request::Publish { name, version, needs }, |asked| Request::Resolve(needs(asked)));
     let cases = [
-        (Refusal::BadName, publish("A", "1.0.0", &[]), "name, A: \"A\""),
+        (Refusal::BadName, publish("A", "1.0.0", &[]), "name, A: \"A\"; did you mean \"a\"?"),
         (Refusal::BadName, resolve(&[("", "*")]), "needs[0], : \"\""),
         (Refusal::BadName, Request::Yank { name: "é", version: "1.0.0" }, "name, é: \"é\""),
-        (Refusal::BadVersion, publish("a", "1.0", &[]), "version, a: \"1.0\""),
-        (Refusal::BadVersion, Request::Unyank { name: "a", version: "1.0.0\n" }, "version, a: \"1.0.0\\n\""),
+        (Refusal::BadVersion, publish("a", "1.0", &[]), "version, a: \"1.0\"; did you mean \"1.0.0\"?"),
+        (Refusal::BadVersion, Request::Unyank { name: "a", version: "1.0.0\n" }, "version, a: \"1.0.0\\n\"; did you mean \"1.0.0\"?"),
         (Refusal::BadRequirement, resolve(&[("a", "none")]), "needs[0], a: \"none\""),
         (Refusal::RepeatedDependency, resolve(&[("a", "*"), ("a", "^1")]), "needs[1], a: \"a\""),
         (Refusal::SelfDependency, publish("a", "2.0.0", &[("a", "*")]), "needs[0], a: \"a\""),
@@ -175,14 +176,21 @@ fn what_the_program_refuses<W: Way>() {
         (Refusal::NoSuchVersion, Request::Yank { name: "a", version: "3.0.0" }, "a 3.0.0"),
         (Refusal::AlreadyYanked, Request::Yank { name: "a", version: "1.0.0" }, "a 1.0.0"),
         (Refusal::NotYanked, Request::Unyank { name: "b", version: "1.0.0" }, "b 1.0.0"),
-        (Refusal::BadLine, Request::Resolve(Resolve { budget: Some(1 << 32), ..Resolve::default() }), ""),
         (Refusal::BadLine, Request::Line(b""), ""),
         (Refusal::BadLine, Request::Line(b"{\"op\":\"yank\",\"name\":\"\xff\",\"version\":\"1.0.0\"}"), ""),
         (Refusal::BadLine, Request::Line(&long), ""),
-        (Refusal::BadName, publish("a", "2.0.0", &[("b", "*"), ("C", "*"), ("D", "*")]), "needs[1], C: \"C\""),
-        (Refusal::BadName, Request::Resolve(Resolve { lock: &[("b", "1.0.0"), ("C", "1.0.0")], ..needs(&[("b", "*")]) }), "lock[1], C: \"C\""),
-        (Refusal::BadVersion, Request::Resolve(Resolve { lock: &[("b", "1.0.0"), ("c", "v1")], ..needs(&[("b", "*")]) }), "lock[1], c: \"v1\""),
-        (Refusal::BadRequirement, publish("c", "1.0.0", &[("b", "^1"), ("a", "==1"), ("d", "none")]), "needs[1], a: \"==1\""),
+        (Refusal::BadName, publish("a", "2.0.0", &[("b", "*"), ("C", "*"), ("D", "*")]), "needs[1], C: \"C\"; did you mean \"c\"?"),
+        (
+            Refusal::BadName,
+            Request::Resolve(Resolve { lock: &[("b", "1.0.0"), ("C", "1.0.0")], ..needs(&[("b", "*")]) }),
+            "lock[1], C: \"C\"; did you mean \"c\"?",
+        ),
+        (
+            Refusal::BadVersion,
+            Request::Resolve(Resolve { lock: &[("b", "1.0.0"), ("c", "v1")], ..needs(&[("b", "*")]) }),
+            "lock[1], c: \"v1\"; did you mean \"1.0.0\"?",
+        ),
+        (Refusal::BadRequirement, publish("c", "1.0.0", &[("b", "^1"), ("a", "==1"), ("d", "none")]), "needs[1], a: \"==1\"; did you mean \"=1\"?"),
         (
             Refusal::RepeatedDependency,
             Request::Resolve(Resolve { lock: &[("b", "1.0.0"), ("b", "1.0.1")], ..Resolve::default() }),

@@ -7,7 +7,7 @@ use std::sync::{Mutex, MutexGuard};
 use std::thread;
 use std::time::Duration;
 
-use common::{by_default, file, selected_of_two, told, versions};
+use common::{file, newest_of_two, selected_of_two, told};
 use registryd::{Options, Registry};
 
 static ONE_AT_A_TIME: Mutex<()> = Mutex::new(());
@@ -34,15 +34,13 @@ fn sessions_of_one_process() {
 }
 
 #[test]
-fn the_newest_selection_or_any() {
+fn the_newest_selection() {
     let _alone = alone();
-    let begun = |newest, journal| Registry::embedded(&Options { newest, journal, ..Options::default() }).unwrap();
-    for (newest, selected) in [(Some(true), versions("3.0.0", "1.0.0")), (Some(false), versions("2.0.0", "2.0.0")), (None, by_default())] {
-        assert_eq!(selected_of_two(&mut begun(newest, None)), selected);
-        let path = file("selected.journal");
-        assert_eq!(selected_of_two(&mut begun(newest, Some(path.clone()))), selected);
-        assert!(path.exists());
-    }
+    let begun = |journal| Registry::embedded(&Options { journal, ..Options::default() }).unwrap();
+    assert_eq!(selected_of_two(&mut begun(None)), newest_of_two());
+    let path = file("selected.journal");
+    assert_eq!(selected_of_two(&mut begun(Some(path.clone()))), newest_of_two());
+    assert!(path.exists());
 }
 
 #[test]

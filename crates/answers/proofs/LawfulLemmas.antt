@@ -93,9 +93,9 @@ module _ {S : Type 0} (w : Ways S) where
 
   -- what a line is answered where it asks this
   pub as_asked : (settings : Settings) (line : List ℕ) (old : S) (reply : Reply) (new : S) (said : Result Request Refusal) → asked_within settings.budget line ≡ said
-      → MatchResult said (λ request. MayAnswer w settings.newest request old reply new) (λ fault. IsRefused w fault old reply new) → IsLawfulWithin settings w line old reply new
+      → MatchResult said (λ request. MayAnswer w request old reply new) (λ fault. IsRefused w fault old reply new) → IsLawfulWithin settings w line old reply new
   as_asked settings line old reply new said is h =
-      inr (subst (λ (r : Result Request Refusal). MatchResult r (λ request. MayAnswer w settings.newest request old reply new) (λ fault. IsRefused w fault old reply new)) (sym is) h)
+      inr (subst (λ (r : Result Request Refusal). MatchResult r (λ request. MayAnswer w request old reply new) (λ fault. IsRefused w fault old reply new)) (sym is) h)
 
   -- a line that is at fault
   pub lawful_bad : (settings : Settings) (line : List ℕ) (old : S) (e : Refusal) → Refuses e (asked_within settings.budget line)
@@ -112,59 +112,59 @@ module _ {S : Type 0} (w : Ways S) where
 
   -- a line that was answered as what it asks
   pub lawful_answered : (settings : Settings) (line : List ℕ) (old : S) (request : Request) (a : Answer) (here : S) → asked_within settings.budget line ≡ Ok request
-      → LeadsTo w (λ reply new. MayAnswer w settings.newest request old reply new) a here → LeadsTo w (λ reply new. IsLawfulWithin settings w line old reply new) a here
+      → LeadsTo w (λ reply new. MayAnswer w request old reply new) a here → LeadsTo w (λ reply new. IsLawfulWithin settings w line old reply new) a here
   lawful_answered settings line old request a here said leads =
-      leads_weaker (λ reply new. MayAnswer w settings.newest request old reply new) (λ reply new. IsLawfulWithin settings w line old reply new) a here
+      leads_weaker (λ reply new. MayAnswer w request old reply new) (λ reply new. IsLawfulWithin settings w line old reply new) a here
       (λ reply new answers. as_asked settings line old reply new _ said answers) leads
 
   -- ---- what answers a request
 
   -- a call that went no further
-  pub stopped_reply : (newest : Bool) (request : Request) (old new : S) (e : Refusal) → w.looks old new → IsStopped w new e → MayAnswer w newest request old (reply_at w new (refused e)) new
-  stopped_reply newest request old new e looks stopped = inl (looks, (e, stopped, refl))
+  pub stopped_reply : (request : Request) (old new : S) (e : Refusal) → w.looks old new → IsStopped w new e → MayAnswer w request old (reply_at w new (refused e)) new
+  stopped_reply request old new e looks stopped = inl (looks, (e, stopped, refl))
 
   -- such a body, or lack of memory
-  told_reply : (newest : Bool) (request : Request) (old new : S) (is : Packages → Body → Type 0) (body : Body)
-      → (LooksAndTells w is old (reply_at w new body) new → MayAnswer w newest request old (reply_at w new body) new)
-      → w.looks old new → MayTell (is (w.packages new)) body → MayAnswer w newest request old (reply_at w new body) new
-  told_reply newest request old new is body answers looks (inl memory) = inl (looks, (NoMemory, inl refl, ap (λ (b : Body). reply_at w new b) memory))
-  told_reply newest request old new is body answers looks (inr tells) = answers (looks, (body, tells, refl))
+  told_reply : (request : Request) (old new : S) (is : Packages → Body → Type 0) (body : Body)
+      → (LooksAndTells w is old (reply_at w new body) new → MayAnswer w request old (reply_at w new body) new)
+      → w.looks old new → MayTell (is (w.packages new)) body → MayAnswer w request old (reply_at w new body) new
+  told_reply request old new is body answers looks (inl memory) = inl (looks, (NoMemory, inl refl, ap (λ (b : Body). reply_at w new b) memory))
+  told_reply request old new is body answers looks (inr tells) = answers (looks, (body, tells, refl))
 
   -- a command that was entered
-  pub entered_reply : (newest : Bool) (old new : S) (c : Command) → w.enters old (item.Command c) new → MayAnswer w newest (command (change_of c)) old (reply_at w new accepted) new
-  entered_reply newest old new c enters = inr (inl (subst (λ (i : Item). w.enters old i new) (sym (item_of-change c)) enters, refl))
+  pub entered_reply : (old new : S) (c : Command) → w.enters old (item.Command c) new → MayAnswer w (command (change_of c)) old (reply_at w new accepted) new
+  entered_reply old new c enters = inr (inl (subst (λ (i : Item). w.enters old i new) (sym (item_of-change c)) enters, refl))
 
   -- a command that was refused
-  pub refused_reply : (newest : Bool) (old new : S) (c : Command) (e : Refusal) → w.looks old new → IsStopped w new e ⊎ (w.refusal new (item.Command c) ≡ Some e)
-      → MayAnswer w newest (command (change_of c)) old (reply_at w new (refused e)) new
-  refused_reply newest old new c e looks (inl stopped) = stopped_reply newest (command (change_of c)) old new e looks stopped
-  refused_reply newest old new c e looks (inr applies) = inr (inr (looks, (e, ap (λ (i : Item). w.refusal new i) (item_of-change c) ∙ applies, refl)))
+  pub refused_reply : (old new : S) (c : Command) (e : Refusal) → w.looks old new → IsStopped w new e ⊎ (w.refusal new (item.Command c) ≡ Some e)
+      → MayAnswer w (command (change_of c)) old (reply_at w new (refused e)) new
+  refused_reply old new c e looks (inl stopped) = stopped_reply (command (change_of c)) old new e looks stopped
+  refused_reply old new c e looks (inr applies) = inr (inr (looks, (e, ap (λ (i : Item). w.refusal new i) (item_of-change c) ∙ applies, refl)))
 
   -- what the solver found is told, and then some is learnt
-  pub found_reply : (wanted : Wanted) (explain newest : Bool) (budget : Option ℕ) (old mid : S) (body : Body) → w.looks old mid → TellsFound (w.packages mid) wanted explain newest body
-      → (new : S) → LearnsSome w mid new → MayAnswer w newest (resolve wanted explain budget) old (reply_at w mid body) new
-  found_reply wanted explain newest budget old mid body looks tells new learns = inr (inl (mid, (looks, (body, tells, refl)), learns))
+  pub found_reply : (wanted : Wanted) (explain : Bool) (budget : Option ℕ) (old mid : S) (body : Body) → w.looks old mid → TellsFound (w.packages mid) wanted explain body
+      → (new : S) → LearnsSome w mid new → MayAnswer w (resolve wanted explain budget) old (reply_at w mid body) new
+  found_reply wanted explain budget old mid body looks tells new learns = inr (inl (mid, (looks, (body, tells, refl)), learns))
 
   -- a request that is left without an answer
-  pub unfound_reply : (wanted : Wanted) (explain newest : Bool) (budget : Option ℕ) (old new : S) (e : Refusal) → w.looks old new
-      → IsStopped w new e ⊎ MayStop (w.packages new) wanted budget e → MayAnswer w newest (resolve wanted explain budget) old (reply_at w new (refused e)) new
-  unfound_reply wanted explain newest budget old new e looks (inl stopped) = stopped_reply newest (resolve wanted explain budget) old new e looks stopped
-  unfound_reply wanted explain newest budget old new e looks (inr may_stop) = elim (stopped_told (w.packages new) wanted budget e may_stop) [
-    | inl memory ↦ stopped_reply newest (resolve wanted explain budget) old new e looks (inl memory)
+  pub unfound_reply : (wanted : Wanted) (explain : Bool) (budget : Option ℕ) (old new : S) (e : Refusal) → w.looks old new
+      → IsStopped w new e ⊎ MayStop (w.packages new) wanted budget e → MayAnswer w (resolve wanted explain budget) old (reply_at w new (refused e)) new
+  unfound_reply wanted explain budget old new e looks (inl stopped) = stopped_reply (resolve wanted explain budget) old new e looks stopped
+  unfound_reply wanted explain budget old new e looks (inr may_stop) = elim (stopped_told (w.packages new) wanted budget e may_stop) [
+    | inl memory ↦ stopped_reply (resolve wanted explain budget) old new e looks (inl memory)
     | inr spent ↦ inr (inr (looks, (refused e, spent, refl)))
   ]
 
   -- what may be told of a derivation
-  pub judged_reply : (newest : Bool) (wanted : Wanted) (lines : List NamedLine) (old new : S) (packages : Packages) (body : Body) → w.looks old new → packages ≡ w.packages new
-      → MayTell (TellsVerdict packages wanted lines) body → MayAnswer w newest (check wanted lines) old (reply_at w new body) new
-  judged_reply newest wanted lines old new packages body looks is may =
-      told_reply newest (check wanted lines) old new (λ p b. TellsVerdict p wanted lines b) body (λ answers. inr answers) looks
+  pub judged_reply : (wanted : Wanted) (lines : List NamedLine) (old new : S) (packages : Packages) (body : Body) → w.looks old new → packages ≡ w.packages new
+      → MayTell (TellsVerdict packages wanted lines) body → MayAnswer w (check wanted lines) old (reply_at w new body) new
+  judged_reply wanted lines old new packages body looks is may =
+      told_reply (check wanted lines) old new (λ p b. TellsVerdict p wanted lines b) body (λ answers. inr answers) looks
       (subst (λ (p : Packages). MayTell (TellsVerdict p wanted lines) body) is may)
 
   -- what may be told of what is published
-  pub listed_reply : (newest : Bool) (old new : S) → w.looks old new → (body : Body) → MayTell (TellsListing (w.packages new)) body
-      → MayAnswer w newest listing old (reply_at w new body) new
-  listed_reply newest old new looks body may = told_reply newest listing old new TellsListing body (λ answers. inr answers) looks may
+  pub listed_reply : (old new : S) → w.looks old new → (body : Body) → MayTell (TellsListing (w.packages new)) body
+      → MayAnswer w listing old (reply_at w new body) new
+  listed_reply old new looks body may = told_reply listing old new TellsListing body (λ answers. inr answers) looks may
 
   -- ---- learning
 

@@ -1,32 +1,21 @@
 -- What may be told of a registry.
-use Rattle.std.proofs.Common.{◌≡◌, ◌⊎◌, ℕ, Bool, true, List, Option, None, Some, inl, inr, refl, ap}
+use Rattle.std.proofs.Common.{◌≡◌, ◌⊎◌, ℕ, true, List, Option, None, Some, inl, inr, ap}
 use Rattle.versions.specs.Words.{Text}
 use Rattle.versions.specs.declared.refusal.Refusal.{Refusal}
 use Rattle.versions.specs.declared.refusal.Refusal.TheVariants.{NoMemory}
-use Rattle.registry.specs.Preference.{IsPreferredSelection}
 use Rattle.registry.specs.Registry.{Packages}
 use Rattle.registry.specs.Requests.{Wanted}
-use Rattle.registry.specs.Selections.{Choices, Meets}
 use Rattle.derivations.specs.Laws.{DerivationsRefute}
 use Rattle.derivations.specs.Derivations.{IsDerivation}
 use Rattle.derivations.specs.Lines.{Line}
-use Rattle.solver.specs.Outcomes.{Tells, TellsNewest, TellsOne}
 use Rattle.explain.specs.Explanations.{explanation}
 use Rattle.solver.specs.Outcomes.{MayStop}
 use Rattle.by_name.specs.Named.{IsNumbered}
-use Rattle.replies.specs.Replies.{explained, refused, selected}
+use Rattle.replies.specs.Replies.{explained, refused}
 use Rattle.by_name.specs.NamedLines.{NamedLine}
-use Rattle.answers.specs.Outcomes.{IsAnswer, IsRefuted, TellsFound, TellsNone, TellsSpent}
+use Rattle.answers.specs.Outcomes.{IsRefuted, TellsNone, TellsSpent}
 
--- ---- what is found
-
--- a selection that answers
-pub found_selection : (packages : Packages) (wanted : Wanted) (explain newest : Bool) (list : List (Text × Text)) → TellsOne packages wanted list
-    → ((s : Choices) → IsPreferredSelection packages wanted s → Meets packages wanted s → Tells packages s list)
-    → (newest ≡ true → TellsNewest packages wanted list) → TellsFound packages wanted explain newest (selected list)
-found_selection packages wanted explain newest list lawful preferred is_newest =
-    let answer : IsAnswer packages wanted newest list = record { lawful = lawful; preferred = preferred; is_newest = is_newest } in
-    inl (list, answer, refl)
+-- ---- what is told where there is none
 
 -- a derivation that there is none
 refuted_by : DerivationsRefute → (packages : Packages) (wanted : Wanted) (lines : List Line) → IsDerivation packages wanted lines → IsRefuted packages wanted

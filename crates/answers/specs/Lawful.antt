@@ -1,5 +1,5 @@
 -- Which replies are lawful for a line, whether a session answers it or a seat of a race.
-use Rattle.std.specs.Prelude.{◌≡◌, ◌⊎◌, ℕ, List, [], ◌∷◌, Bool, false, Option, Some, None, Result, Ok, Err, MatchResult}
+use Rattle.std.specs.Prelude.{◌≡◌, ◌⊎◌, ℕ, List, [], ◌∷◌, Bool, Option, Some, None, Result, Ok, Err, MatchResult}
 use Rattle.versions.specs.declared.refusal.Refusal.{Refusal}
 use Rattle.versions.specs.declared.refusal.Refusal.TheVariants.{NoMemory}
 use Rattle.registry.specs.Registry.{Packages}
@@ -75,23 +75,22 @@ abbrev pub LearnsSome : {S : Type 0} → Ways S → S → S → Type 0
 LearnsSome w old new = (offered : List (List Line)) × Learns w old offered new
 
 -- What the solver found is told. Then some of what it offers may be learnt.
-abbrev pub FindsAndLearns : {S : Type 0} → Ways S → Wanted → Bool → Bool → S → Reply → S → Type 0
-FindsAndLearns {S} w wanted explain newest old reply new = (mid : S) × LooksAndTells w (λ packages body. TellsFound packages wanted explain newest body) old reply mid
+abbrev pub FindsAndLearns : {S : Type 0} → Ways S → Wanted → Bool → S → Reply → S → Type 0
+FindsAndLearns {S} w wanted explain old reply new = (mid : S) × LooksAndTells w (λ packages body. TellsFound packages wanted explain body) old reply mid
     × LearnsSome w mid new
 
--- A request may be answered so, and where what is selected has to be the newest selection, by that one. All but a command is answered of the
--- registry where the backend then stands.
-abbrev pub Answers : {S : Type 0} → Ways S → Bool → Request → S → Reply → S → Type 0
-Answers w newest (command change) old reply new =
+-- A request may be answered so. All but a command is answered of the registry where the backend then stands.
+abbrev pub Answers : {S : Type 0} → Ways S → Request → S → Reply → S → Type 0
+Answers w (command change) old reply new =
     IsEntered w (item_of change) old reply new ⊎ LooksAndRefuses w (λ here refusal. w.refusal here (item_of change) ≡ Some refusal) old reply new
-Answers w newest (resolve wanted explain budget) old reply new =
-    FindsAndLearns w wanted explain newest old reply new ⊎ LooksAndTells w (λ packages body. TellsSpent packages wanted budget body) old reply new
-Answers w newest (check wanted lines) old reply new = LooksAndTells w (λ packages body. TellsVerdict packages wanted lines body) old reply new
-Answers w newest listing old reply new = LooksAndTells w TellsListing old reply new
+Answers w (resolve wanted explain budget) old reply new =
+    FindsAndLearns w wanted explain old reply new ⊎ LooksAndTells w (λ packages body. TellsSpent packages wanted budget body) old reply new
+Answers w (check wanted lines) old reply new = LooksAndTells w (λ packages body. TellsVerdict packages wanted lines body) old reply new
+Answers w listing old reply new = LooksAndTells w TellsListing old reply new
 
 -- A request is answered so, or a call for it goes no further.
-abbrev pub MayAnswer : {S : Type 0} → Ways S → Bool → Request → S → Reply → S → Type 0
-MayAnswer w newest request old reply new = LooksAndRefuses w (IsStopped w) old reply new ⊎ Answers w newest request old reply new
+abbrev pub MayAnswer : {S : Type 0} → Ways S → Request → S → Reply → S → Type 0
+MayAnswer w request old reply new = LooksAndRefuses w (IsStopped w) old reply new ⊎ Answers w request old reply new
 
 -- ---- one line
 
@@ -115,11 +114,11 @@ asked_within (Some budget) line = bounded_if budget (request_of line)
 -- A line may be answered so, within such settings: for lack of memory, or as what it asks is.
 abbrev pub IsLawfulWithin : {S : Type 0} → Settings → Ways S → List ℕ → S → Reply → S → Type 0
 IsLawfulWithin settings w line old reply new = IsRefused w NoMemory old reply new
-    ⊎ MatchResult (asked_within settings.budget line) (λ request. MayAnswer w settings.newest request old reply new) (λ fault. IsRefused w fault old reply new)
+    ⊎ MatchResult (asked_within settings.budget line) (λ request. MayAnswer w request old reply new) (λ fault. IsRefused w fault old reply new)
 
--- no budget but of a request that names one, and any selection may be told
+-- no budget but of a request that names one
 abbrev pub no_settings : Settings
-no_settings = record { budget = None; newest = false }
+no_settings = record { budget = None }
 
 -- ---- lines one after another
 

@@ -1,5 +1,5 @@
 -- What follows of lawful replies.
-use Rattle.std.specs.Prelude.{◌≡◌, ◌++◌, ℕ, Bool, true, List, Option, Ok}
+use Rattle.std.specs.Prelude.{◌≡◌, ◌++◌, ℕ, Bool, List, Option, Ok}
 use Rattle.versions.specs.declared.refusal.Refusal.{Refusal}
 use Rattle.registry.specs.Lawful.{IsRegistry}
 use Rattle.registry.specs.Registry.{Packages}
@@ -18,14 +18,14 @@ pub record RepliesAddUp {S : Type 0} (w : Ways S) : Type 0 where
       → AreLawfulWithin settings w more mid after new → AreLawfulWithin settings w (lines ++ more) old (replies ++ after) new
   -- what answers a request is lawful for a line that asks it
   pub asked : (settings : Settings) (line : List ℕ) (request : Request) (old : S) (reply : Reply) (new : S) → asked_within settings.budget line ≡ Ok request
-      → MayAnswer w settings.newest request old reply new → IsLawfulWithin settings w line old reply new
+      → MayAnswer w request old reply new → IsLawfulWithin settings w line old reply new
   -- what the solver found may be told, and some of what it offers learnt then
-  pub found : (wanted : Wanted) (explain newest : Bool) (budget : Option ℕ) (old mid : S) (body : Body) → w.looks old mid → TellsFound (w.packages mid) wanted explain newest body
-      → (new : S) → LearnsSome w mid new → MayAnswer w newest (resolve wanted explain budget) old (reply_at w mid body) new
+  pub found : (wanted : Wanted) (explain : Bool) (budget : Option ℕ) (old mid : S) (body : Body) → w.looks old mid → TellsFound (w.packages mid) wanted explain body
+      → (new : S) → LearnsSome w mid new → MayAnswer w (resolve wanted explain budget) old (reply_at w mid body) new
   -- a request that is left without an answer may be told why
-  pub stopped : (wanted : Wanted) (explain newest : Bool) (budget : Option ℕ) (old new : S) (e : Refusal) → w.looks old new → MayStop (w.packages new) wanted budget e
-      → MayAnswer w newest (resolve wanted explain budget) old (reply_at w new (refused e)) new
+  pub stopped : (wanted : Wanted) (explain : Bool) (budget : Option ℕ) (old new : S) (e : Refusal) → w.looks old new → MayStop (w.packages new) wanted budget e
+      → MayAnswer w (resolve wanted explain budget) old (reply_at w new (refused e)) new
 
--- where the newest selection has to be told, of the same packages and the same request one selection is told, whoever tells it
+-- of the same packages and the same request one selection is told, whoever tells it
 abbrev pub OneSelectionIsTold : Type 0
-OneSelectionIsTold = (packages : Packages) (wanted : Wanted) (one other : Body) → IsRegistry packages → TellsSelection packages wanted true one → TellsSelection packages wanted true other → one ≡ other
+OneSelectionIsTold = (packages : Packages) (wanted : Wanted) (one other : Body) → IsRegistry packages → TellsSelection packages wanted one → TellsSelection packages wanted other → one ≡ other

@@ -4,12 +4,10 @@ use Rattle.versions.specs.Words.{Text}
 use Rattle.versions.specs.declared.refusal.Refusal.TheVariants.{BudgetSpent, NoMemory}
 use Rattle.registry.specs.Registry.{Packages}
 use Rattle.registry.specs.Requests.{Wanted}
-use Rattle.registry.specs.Selections.{Choices}
 use Rattle.derivations.specs.Derivations.{IsDerivation}
 pub use Rattle.derivations.specs.Derivations.{IsRefuted}
 use Rattle.derivations.specs.Lines.{Line}
-use Rattle.walk.specs.Preferring.{IfPreferredServes}
-use Rattle.solver.specs.Outcomes.{Tells, TellsNewest, TellsOne}
+use Rattle.walk.specs.Answer.{TellsNewest}
 use Rattle.explain.specs.Explanations.{explanation}
 use Rattle.solver.specs.Outcomes.{NonePreferred}
 use Rattle.replies.specs.Listings.{IsListing, Row}
@@ -19,15 +17,9 @@ use Rattle.by_name.specs.NamedLines.{NamedLine}
 
 -- ---- requests
 
--- the list tells a selection that meets the request, which is the preferred one where that exists and meets it, and where it has to be the newest one it is
-pub record IsAnswer (packages : Packages) (wanted : Wanted) (newest : Bool) (list : List (Text × Text)) : Type 0 where
-  pub lawful : TellsOne packages wanted list
-  pub preferred : IfPreferredServes packages wanted (λ (s : Choices). Tells packages s list)
-  pub is_newest : newest ≡ true → TellsNewest packages wanted list
-
--- A selection is told that answers the request.
-abbrev pub TellsSelection : Packages → Wanted → Bool → Body → Type 0
-TellsSelection packages wanted newest body = (list : List (Text × Text)) × IsAnswer packages wanted newest list × (body ≡ selected list)
+-- The newest selection is told.
+abbrev pub TellsSelection : Packages → Wanted → Body → Type 0
+TellsSelection packages wanted body = (list : List (Text × Text)) × TellsNewest packages wanted list × (body ≡ selected list)
 
 -- It is told why no selection meets the request: a derivation by the names of the registry, and the lines that explain it.
 pub record Explains (packages : Packages) (wanted : Wanted) (body : Body) : Type 0 where
@@ -46,9 +38,9 @@ abbrev pub TellsSpent : Packages → Wanted → Option ℕ → Body → Type 0
 TellsSpent packages wanted None body = ⊥
 TellsSpent packages wanted (Some budget) body = NonePreferred packages wanted × (body ≡ refused BudgetSpent)
 
--- What the solver found is told: where it is to explain, why there is none, and where what is selected has to be the newest selection, that one.
-abbrev pub TellsFound : Packages → Wanted → Bool → Bool → Body → Type 0
-TellsFound packages wanted explain newest body = TellsSelection packages wanted newest body ⊎ TellsNone packages wanted explain body
+-- What the solver found is told: the newest selection, or that there is none, and why where it is to explain.
+abbrev pub TellsFound : Packages → Wanted → Bool → Body → Type 0
+TellsFound packages wanted explain body = TellsSelection packages wanted body ⊎ TellsNone packages wanted explain body
 
 -- ---- derivations
 

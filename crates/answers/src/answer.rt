@@ -1,5 +1,5 @@
 //! The answer to one line, of a session and of a seat of a race alike.
-ghost use Rattle.std.specs.Prelude.{◌⊎◌, Bool, ℕ, List, IfErr, IfOk};
+ghost use Rattle.std.specs.Prelude.{◌⊎◌, ℕ, List, IfErr, IfOk};
 ghost use Rattle.registry.specs.Commands.{change_of};
 ghost use Rattle.solver.specs.Outcomes.{MayStop};
 ghost use Rattle.wire.specs.Shapes as shapes;
@@ -7,6 +7,7 @@ ghost use Rattle.replies.specs.Replied.{body_of};
 ghost use Rattle.answers.specs.Answering.{IsRead, IsReadWithin, LeadsTo};
 ghost use Rattle.answers.specs.Lawful.{IsLawfulWithin, IsStopped, MayAnswer};
 ghost use Rattle.answers.specs.Outcomes.{TellsFound};
+ghost use Rattle.answers.specs.declared.settings.Settings.{Settings};
 
 use crate::backend::Backend;
 use crate::settings::Settings;
@@ -43,7 +44,7 @@ pub fn answer_line<L: Backend>(
     ensures { LeadsTo L.ways (IsLawfulWithin settings L.ways line.now backend.old) result backend.new }
 {
     let read = within(intake.read(alloc, line), settings);
-    answer_read(alloc, backend, read, settings)
+    answer_read(alloc, backend, read)
 }
 
 /// What was read of a line, with the budget of the settings where it asks to resolve and names none. An error stays
@@ -68,14 +69,13 @@ pub fn within(read: Result<Asked, Refusal>, settings: Settings) -> Result<Asked,
     }
 }
 
-/// Answers a line of which this was read within the settings.
+/// Answers a line of which this was read, within whichever settings.
 pub fn answer_read<L: Backend>(
     alloc: Global,
     backend: &mut L,
     read: Result<Asked, Refusal>,
-    settings: Settings,
 ) -> Answer
-    ensures { (line : List ℕ) → IsReadWithin settings read line → LeadsTo L.ways (IsLawfulWithin settings L.ways line backend.old) result backend.new }
+    ensures { (settings : Settings) (line : List ℕ) → IsReadWithin settings read line → LeadsTo L.ways (IsLawfulWithin settings L.ways line backend.old) result backend.new }
 {
     match read {
         Ok(Asked::Command(command)) => enter(backend, command),
@@ -85,16 +85,7 @@ pub fn answer_read<L: Backend>(
                 explain,
                 budget,
             },
-        ) => resolve(
-            alloc,
-            backend,
-            &request,
-            Options {
-                budget,
-                explain,
-                newest: settings.newest,
-            },
-        ),
+        ) => resolve(alloc, backend, &request, Options { budget, explain }),
         Ok(
             Asked::Check {
                 request,
@@ -108,7 +99,7 @@ pub fn answer_read<L: Backend>(
 
 /// Enters a command. The answer takes no memory, so that an accepted one is never told as 18.
 fn enter<L: Backend>(backend: &mut L, command: Command) -> Answer
-    ensures { (newest : Bool) → LeadsTo L.ways (MayAnswer L.ways newest (shapes.command (change_of command)) backend.old) result backend.new }
+    ensures { LeadsTo L.ways (MayAnswer L.ways (shapes.command (change_of command)) backend.old) result backend.new }
 {
     match backend.enter(Item::Command(command)) {
         Ok(()) => Answer::Told(Body::Accepted),
@@ -123,7 +114,7 @@ fn resolve<L: Backend>(
     request: &Request,
     options: Options,
 ) -> Answer
-    ensures { LeadsTo L.ways (MayAnswer L.ways options.newest (shapes.resolve request.now options.explain options.budget) backend.old) result backend.new }
+    ensures { LeadsTo L.ways (MayAnswer L.ways (shapes.resolve request.now options.explain options.budget) backend.old) result backend.new }
 {
     match found_by(alloc, backend, request, options) {
         Ok((told, offered)) => Answer::Found(told, offered),
@@ -138,7 +129,7 @@ fn judge<L: Backend>(
     request: &Request,
     derivation: &NamedDerivation,
 ) -> Answer
-    ensures { (newest : Bool) → LeadsTo L.ways (MayAnswer L.ways newest (shapes.check request.now derivation.now) backend.old) result backend.new }
+    ensures { LeadsTo L.ways (MayAnswer L.ways (shapes.check request.now derivation.now) backend.old) result backend.new }
 {
     match backend.look() {
         Ok(()) => Answer::Told(verdict_on(alloc, backend.registry(), request, derivation)),
@@ -148,7 +139,7 @@ fn judge<L: Backend>(
 
 /// Lists what is published, after a look.
 fn list<L: Backend>(backend: &mut L) -> Answer
-    ensures { (newest : Bool) → LeadsTo L.ways (MayAnswer L.ways newest shapes.listing backend.old) result backend.new }
+    ensures { LeadsTo L.ways (MayAnswer L.ways shapes.listing backend.old) result backend.new }
 {
     match backend.look() {
         Ok(()) => Answer::Listing,
@@ -164,7 +155,7 @@ fn found_by<L: Backend>(
     options: Options,
 ) -> Result<(Body<'static>, Vec<Learnt>), Refusal>
     ensures looks { L.ways.looks backend.old backend.new }
-    ensures told { IfOk result (λ r. TellsFound (L.ways.packages backend.new) request.now options.explain options.newest (body_of r.0)) }
+    ensures told { IfOk result (λ r. TellsFound (L.ways.packages backend.new) request.now options.explain (body_of r.0)) }
     ensures only { IfErr result (λ e. IsStopped L.ways backend.new e ⊎ MayStop (L.ways.packages backend.new) request.now options.budget e) }
 {
     backend.look()?;
@@ -178,7 +169,7 @@ fn found_here<L: Backend>(
     request: &Request,
     options: Options,
 ) -> Result<(Body<'static>, Vec<Learnt>), Refusal>
-    ensures told { IfOk result (λ r. TellsFound (L.ways.packages backend.now) request.now options.explain options.newest (body_of r.0)) }
+    ensures told { IfOk result (λ r. TellsFound (L.ways.packages backend.now) request.now options.explain (body_of r.0)) }
     ensures only { IfErr result (MayStop (L.ways.packages backend.now) request.now options.budget) }
 {
     let registry = backend.registry();

@@ -3,7 +3,7 @@
 ghost use Rattle.answers.specs.Laws.{OneSelectionIsTold, RepliesAddUp};
 
 use crate::backend::Backend;
-use solver::there_is_one_newest_list;
+use walk::one_answer;
 
 /// Replies that are lawful one after another are lawful together, and what answers a request is so for a line that asks
 /// it. It does nothing when it runs.
@@ -11,10 +11,10 @@ pub fn lawful_replies_add_up<L: Backend>()
     ensures { RepliesAddUp L.ways }
 {}
 
-/// Where the newest selection has to be told, one selection is told of the same packages and the same request: by any
-/// backend, whatever it learnt before. It does nothing when it runs.
+/// One selection is told of the same packages and the same request: by any backend, whatever it learnt before. It does
+/// nothing when it runs.
 pub fn one_selection_is_told()
     ensures { OneSelectionIsTold }
 {
-    there_is_one_newest_list();
+    one_answer();
 }

@@ -5,6 +5,4 @@
 pub struct Settings {
     /// The budget of each request that names none, if there is one.
     pub budget: Option<u32>,
-    /// Whether a selection that is told has to be the newest one.
-    pub newest: bool,
 }

@@ -1,7 +1,6 @@
 //! What is told in reply to a line, by a session and by the seats of a race alike.
-ghost use Rattle.std.specs.Prelude.{◌≡◌, IfOk, true};
-ghost use Rattle.walk.specs.Preferring.{IfPreferredServes};
-ghost use Rattle.solver.specs.Outcomes.{Answers, IsLawful, SelectsNewest};
+ghost use Rattle.std.specs.Prelude.{◌≡◌, IfOk};
+ghost use Rattle.solver.specs.Outcomes.{IsLawful};
 ghost use Rattle.replies.specs.Replied.{body_of, reply_of};
 ghost use Rattle.answers.specs.Outcomes.{MayTell, TellsFound, TellsVerdict};
 ghost use Rattle.answers.specs.Told.{reply_from};
@@ -37,7 +36,7 @@ impl ReplyStamp {
     }
 }
 
-/// What is told of a request for which the solver found this by these options, and what it offers to be learnt.
+/// What is told of a request for which the solver found this, and what it offers to be learnt.
 pub fn reply_body_of(
     alloc: Global,
     registry: &Registry,
@@ -45,10 +44,8 @@ pub fn reply_body_of(
     options: Options,
     outcome: Outcome,
 ) -> Result<(Body<'static>, Vec<Learnt>), AllocError>
-    requires lawful { IsLawful registry.now.packages request.now options.explain outcome }
-    requires preferred { IfPreferredServes registry.now.packages request.now (λ s. Answers registry.now.packages s outcome) }
-    requires newest { options.newest ≡ true → SelectsNewest registry.now.packages request.now outcome }
-    ensures { IfOk result (λ r. TellsFound registry.now.packages request.now options.explain options.newest (body_of r.0)) }
+    requires { IsLawful registry.now.packages request.now options.explain outcome }
+    ensures { IfOk result (λ r. TellsFound registry.now.packages request.now options.explain (body_of r.0)) }
 {
     derivations_refute();
     match outcome {

@@ -6,5 +6,5 @@ pub mod CallLemmas
 pub mod MarkLemmas
 pub mod AnswerLemmas
 pub mod ScheduleLemmas
-pub mod SelectionLemmas
+pub mod AgreeLemmas
 pub mod WorkedRows

@@ -1,8 +1,6 @@
 //! What a seat answers to requests.
-ghost use Rattle.std.specs.Prelude.{◌≡◌, ◌⊎◌, true, None, Some, Err, IfErr, IfOk, IfSome};
-ghost use Rattle.solver.specs.Outcomes as outcomes;
-ghost use Rattle.solver.specs.Outcomes.{IfPreferredServes};
-ghost use Rattle.chronicle.specs.Answers.{MayStop, NonePreferred, OnlyWhereNone, Resolves, SelectsNewest};
+ghost use Rattle.std.specs.Prelude.{◌≡◌, ◌⊎◌, true, Err, IfErr, IfOk, IfSome};
+ghost use Rattle.chronicle.specs.Answers.{MayStop, NonePreferred, OnlyWhereNone, Resolves};
 ghost use Rattle.chronicle.specs.Journals.{packages_of};
 ghost use Rattle.chronicle.specs.Seats.{IsStopped, MayHaveSeen};
 
@@ -21,12 +19,15 @@ impl<'a> Seat<'a> {
         ensures again { IfSome self.old.stray (λ e. result ≡ Err Refusal.Stray) }
         ensures answered { IfOk result (λ r. Resolves self.new.journal request.now true r.0.place r.0.revision r.1) }
         ensures none { IfOk result (λ r. OnlyWhereNone (packages_of self.new.journal) request.now r.1) }
-        ensures preferred { IfPreferredServes (packages_of self.new.journal) request.now
-            (λ s. IfOk result (λ r. outcomes.Answers (packages_of self.new.journal) s r.1)) }
-        ensures newest { IfOk result (λ r. SelectsNewest (packages_of self.new.journal) request.now r.1) }
         ensures reason { IfErr result (IsStopped self.new) }
     {
-        self.resolve_with(request, newest_within(None))
+        self.resolve_with(
+            request,
+            Options {
+                budget: None,
+                explain: true,
+            },
+        )
     }
 
     /// As [`Seat::resolve`], with at most so many conflicts: at the next one the answer is
@@ -41,16 +42,18 @@ impl<'a> Seat<'a> {
         ensures again { IfSome self.old.stray (λ e. result ≡ Err Refusal.Stray) }
         ensures answered { IfOk result (λ r. Resolves self.new.journal request.now true r.0.place r.0.revision r.1) }
         ensures none { IfOk result (λ r. OnlyWhereNone (packages_of self.new.journal) request.now r.1) }
-        ensures preferred { IfPreferredServes (packages_of self.new.journal) request.now
-            (λ s. IfOk result (λ r. outcomes.Answers (packages_of self.new.journal) s r.1)) }
-        ensures newest { IfOk result (λ r. SelectsNewest (packages_of self.new.journal) request.now r.1) }
         ensures reason { IfErr result (λ e. IsStopped self.new e ⊎ ((e ≡ Refusal.BudgetSpent) × NonePreferred (packages_of self.new.journal) request.now)) }
     {
-        self.resolve_with(request, newest_within(Some(budget)))
+        self.resolve_with(
+            request,
+            Options {
+                budget: Some(budget),
+                explain: true,
+            },
+        )
     }
 
-    /// As [`Seat::resolve`], by options: under a budget, without the reason of a refusal, or with
-    /// whichever selection is found first in place of the newest.
+    /// As [`Seat::resolve`], by options: under a budget, or without the reason of a refusal.
     pub fn resolve_with(
         &mut self,
         request: &Request,
@@ -60,24 +63,10 @@ impl<'a> Seat<'a> {
         ensures again { IfSome self.old.stray (λ e. result ≡ Err Refusal.Stray) }
         ensures answered { IfOk result (λ r. Resolves self.new.journal request.now options.explain r.0.place r.0.revision r.1) }
         ensures none { IfOk result (λ r. OnlyWhereNone (packages_of self.new.journal) request.now r.1) }
-        ensures preferred { IfPreferredServes (packages_of self.new.journal) request.now
-            (λ s. IfOk result (λ r. outcomes.Answers (packages_of self.new.journal) s r.1)) }
-        ensures newest { options.newest ≡ true → IfOk result (λ r. SelectsNewest (packages_of self.new.journal) request.now r.1) }
         ensures reason { IfErr result (λ e. IsStopped self.new e ⊎ MayStop (packages_of self.new.journal) request.now options.budget e) }
     {
         self.catch_up()?;
         Ok(answer_here(self, request, options)?)
-    }
-}
-
-/// The newest selection, or why there is none, under a budget where one is given.
-fn newest_within(budget: Option<u32>) -> Options
-    ensures { result ≡ record { budget = budget; explain = true; newest = true } }
-{
-    Options {
-        budget,
-        explain: true,
-        newest: true,
     }
 }
 
@@ -89,9 +78,6 @@ fn answer_here(
 ) -> Result<(Stamp, Outcome), Refusal>
     ensures answered { IfOk result (λ r. Resolves seat.now.journal request.now options.explain r.0.place r.0.revision r.1) }
     ensures none { IfOk result (λ r. OnlyWhereNone (packages_of seat.now.journal) request.now r.1) }
-    ensures preferred { IfPreferredServes (packages_of seat.now.journal) request.now
-        (λ s. IfOk result (λ r. outcomes.Answers (packages_of seat.now.journal) s r.1)) }
-    ensures newest { options.newest ≡ true → IfOk result (λ r. SelectsNewest (packages_of seat.now.journal) request.now r.1) }
     ensures only { IfErr result (MayStop (packages_of seat.now.journal) request.now options.budget) }
 {
     derivations_refute();

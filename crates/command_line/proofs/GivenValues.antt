@@ -16,16 +16,15 @@ use Rattle.clap.specs.Faults.{check_fault, entered_fault, fault_of, level_fault,
 use Rattle.clap.specs.declared.builder.action.ArgAction.{ArgAction}
 use Rattle.clap.specs.declared.builder.action.ArgAction.TheVariants as action
 use Rattle.clap.specs.declared.builder.ValueParser.TheVariants.{Unsigned}
-use Rattle.clap.specs.declared.builder.ValueParser.TheVariants as parser
 use Rattle.clap.specs.declared.builder.value_parser.Reading.{Reading}
 use Rattle.clap.specs.declared.builder.value_parser.Reading.TheVariants.{AsWritten}
 use Rattle.clap.specs.declared.error.ErrorKind.{ErrorKind}
 use Rattle.clap.specs.declared.error.ErrorKind.TheVariants as kind
 use Rattle.clap.specs.declared.parser.matches.ValueSource.{ValueSource}
 use Rattle.clap.specs.declared.parser.matches.ValueSource.TheVariants.{DefaultValue}
-use Rattle.command_line.specs.CommandLine.{program_app, serve_app, race_app, workers_rule, budget_rule, files_rule, flag_rule, option_rule}
+use Rattle.command_line.specs.CommandLine.{program_app, serve_app, race_app, workers_rule, budget_rule, files_rule, newest_rule, option_rule}
 use Rattle.command_line.specs.declared.words.TheConstants.{MOST_CONFLICTS, MOST_WORKERS}
-use Rattle.command_line.specs.Words.{HasBudget, HasFiles, HasFlag, HasFlags, HasWorkers, IsGiven}
+use Rattle.command_line.specs.Words.{HasBudget, HasFiles, HasWorkers, IsGiven}
 use Rattle.command_line.proofs.CommandWalk.{IsNoHelp, Keeps, StopsAtNoHelp, no_fault, walk_keeps, walk_stops, settle_keeps}
 
 append_all : {X : Type 0} (P : X → Type 0) (xs ys : List X) → AllByRecursion P xs → AllByRecursion P ys → AllByRecursion P (xs ++ ys)
@@ -177,10 +176,10 @@ WorkersGood = Good (codes "workers") is_worker_count
 BudgetGood : List Row → Type 0
 BudgetGood = Good (codes "budget") is_budget
 
--- a use of an option that takes one value, and is not the one in question
-keeps_option : (id : Text) (test : Text → Bool) (s : Shape) (a : Rule) → action_of a ≡ action.Set → bytes_eq a.id id ≡ false → Keeps (Good id test) s a
-keeps_option id test s a is other values rows good none =
-    used_good id test (action_of a) a.id (reading_by a) (values_or_missing a values) rows (λ count. cc) good (λ same. absurd (true≢false (sym same ∙ other)))
+-- a use of an argument that is not the one in question
+keeps_other : (id : Text) (test : Text → Bool) (s : Shape) (a : Rule) → (action_of a ≡ action.Count → ⊥) → bytes_eq a.id id ≡ false → Keeps (Good id test) s a
+keeps_other id test s a uncounted other values rows good none =
+    used_good id test (action_of a) a.id (reading_by a) (values_or_missing a values) rows uncounted good (λ same. absurd (true≢false (sym same ∙ other)))
 
 keeps_workers : Keeps WorkersGood serve_shape (filled workers_rule)
 unfolding WorkersGood
@@ -210,62 +209,36 @@ files_options : (id : Text) (test : Text → Bool) → bytes_eq (codes "journal"
     → Keeps (Good id test) serve_shape (filled (option_rule (codes "journal"))) × Keeps (Good id test) serve_shape (filled (option_rule (codes "load")))
     × Keeps (Good id test) serve_shape (filled (option_rule (codes "save")))
 files_options id test journal load save = (
-  keeps_option id test serve_shape (filled (option_rule (codes "journal"))) refl journal,
-  keeps_option id test serve_shape (filled (option_rule (codes "load"))) refl load,
-  keeps_option id test serve_shape (filled (option_rule (codes "save"))) refl save,
+  keeps_other id test serve_shape (filled (option_rule (codes "journal"))) (λ count. cc) journal,
+  keeps_other id test serve_shape (filled (option_rule (codes "load"))) (λ count. cc) load,
+  keeps_other id test serve_shape (filled (option_rule (codes "save"))) (λ count. cc) save,
 )
 
--- a use of a flag that is not the one in question
-keeps_flag : (id : Text) (test : Text → Bool) (s : Shape) (name : Text) → bytes_eq name id ≡ false → Keeps (Good id test) s (filled (flag_rule name))
-keeps_flag id test s name other values rows good none =
-    used_good id test action.SetTrue name AsWritten (values_or_missing (filled (flag_rule name)) values) rows (λ count. cc) good (λ same. absurd (true≢false (sym same ∙ other)))
+-- the flag has a default value
+newest_default : (id : Text) (test : Text → Bool) → bytes_eq (codes "newest") id ≡ false → KeepsDefault (Good id test) (filled newest_rule)
+newest_default id test other rows good =
+    default_good id test (codes "newest") AsWritten (codes "false") [] rows good (λ same. absurd (true≢false (sym same ∙ other))) (has_row (codes "newest") rows)
 
--- and of the one in question
-abbrev is_flag : Text → Bool
-is_flag = accepts false parser.Bool
-
-keeps_own_flag : (s : Shape) (name : Text) → Keeps (Good name is_flag) s (filled (flag_rule name))
-keeps_own_flag s name [] rows good none = used_good name is_flag action.SetTrue name AsWritten (codes "true" ∷ []) rows (λ count. cc) good (λ same. (codes "true", [], refl, refl, refl))
-keeps_own_flag s name (v ∷ vs) rows good none =
-    let again = s.args_override_self in
-    let used_well = no_fault (range_kinds 0 0 (length (v ∷ vs))) (set_fault again (filled (flag_rule name)) (v ∷ vs) rows) none in
-    let once = no_fault (repeat_fault again name rows) (values_fault (filled (flag_rule name)) (v ∷ vs)) used_well.1 in
-    let passes = accepted (is_flag v) kind.InvalidValue (values_fault (filled (flag_rule name)) vs) once.1 in
-    used_good name is_flag action.SetTrue name AsWritten (v ∷ vs) rows (λ count. cc) good (λ same. (v, vs, refl, refl, passes))
-
--- one that is not given is not set
-flag_default : (id : Text) (test : Text → Bool) (name : Text) → (bytes_eq name id ≡ true → test (codes "false") ≡ true) → KeepsDefault (Good id test) (filled (flag_rule name))
-flag_default id test name passes rows good = default_good id test name AsWritten (codes "false") [] rows good (λ same. (codes "false", [], refl, refl, passes same)) (has_row name rows)
-
--- the default values of `serve` and of `race`
-serve_defaults : (id : Text) (test : Text → Bool) → (bytes_eq (codes "newest") id ≡ true → test (codes "false") ≡ true) → (bytes_eq (codes "any") id ≡ true → test (codes "false") ≡ true)
-    → AllByRecursion (KeepsDefault (Good id test)) serve_shape.rules
-serve_defaults id test newest any =
+-- the default values of `serve`
+serve_defaults : (id : Text) (test : Text → Bool) → bytes_eq (codes "newest") id ≡ false → AllByRecursion (KeepsDefault (Good id test)) serve_shape.rules
+serve_defaults id test other =
     let none = no_default (Good id test) in
     let file = λ (name : Text). none (filled (option_rule name)) refl in
-    (none (filled workers_rule) refl, (file (codes "journal"), (file (codes "load"), (file (codes "save"), (none (filled budget_rule) refl, (flag_default id test (codes "newest") newest, (flag_default id test (codes "any") any, (none (filled help_rule) refl, tt))))))))
-
-race_defaults : (id : Text) (test : Text → Bool) → (bytes_eq (codes "newest") id ≡ true → test (codes "false") ≡ true) → (bytes_eq (codes "any") id ≡ true → test (codes "false") ≡ true)
-    → AllByRecursion (KeepsDefault (Good id test)) race_shape.rules
-race_defaults id test newest any =
-    let none = no_default (Good id test) in
-    (none (with_index 1 (filled files_rule)) refl, (flag_default id test (codes "newest") newest, (flag_default id test (codes "any") any, (none (filled help_rule) refl, tt))))
-
--- no flag is this one
-apart : {P : Type 0} (a b : Text) → bytes_eq a b ≡ false → bytes_eq a b ≡ true → P
-apart a b other same = absurd (true≢false (sym same ∙ other))
+    (none (filled workers_rule) refl, (file (codes "journal"), (file (codes "load"), (file (codes "save"), (none (filled budget_rule) refl, (newest_default id test other, (none (filled help_rule) refl, tt)))))))
 
 workers_kept : AllByRecursion (Keeps WorkersGood serve_shape) serve_shape.rules
 unfolding WorkersGood
 workers_kept =
+    let other = keeps_other (codes "workers") is_worker_count serve_shape in
     let files = files_options (codes "workers") is_worker_count refl refl refl in
-    (keeps_workers, (files.0, (files.1, (files.2, (keeps_option (codes "workers") is_worker_count serve_shape (filled budget_rule) refl refl, (keeps_flag (codes "workers") is_worker_count serve_shape (codes "newest") refl, (keeps_flag (codes "workers") is_worker_count serve_shape (codes "any") refl, (keeps_help WorkersGood serve_shape, tt))))))))
+    (keeps_workers, (files.0, (files.1, (files.2, (other (filled budget_rule) (λ count. cc) refl, (other (filled newest_rule) (λ count. cc) refl, (keeps_help WorkersGood serve_shape, tt)))))))
 
 budget_kept : AllByRecursion (Keeps BudgetGood serve_shape) serve_shape.rules
 unfolding BudgetGood
 budget_kept =
+    let other = keeps_other (codes "budget") is_budget serve_shape in
     let files = files_options (codes "budget") is_budget refl refl refl in
-    (keeps_option (codes "budget") is_budget serve_shape (filled workers_rule) refl refl, (files.0, (files.1, (files.2, (keeps_budget, (keeps_flag (codes "budget") is_budget serve_shape (codes "newest") refl, (keeps_flag (codes "budget") is_budget serve_shape (codes "any") refl, (keeps_help BudgetGood serve_shape, tt))))))))
+    (other (filled workers_rule) (λ count. cc) refl, (files.0, (files.1, (files.2, (keeps_budget, (other (filled newest_rule) (λ count. cc) refl, (keeps_help BudgetGood serve_shape, tt)))))))
 
 FilesGood : List Row → Type 0
 FilesGood = Good (codes "files") (λ _. true)
@@ -278,7 +251,14 @@ keeps_files (v ∷ vs) rows good none =
 
 files_kept : AllByRecursion (Keeps FilesGood race_shape) race_shape.rules
 unfolding FilesGood
-files_kept = (keeps_files, (keeps_flag (codes "files") (λ _. true) race_shape (codes "newest") refl, (keeps_flag (codes "files") (λ _. true) race_shape (codes "any") refl, (keeps_help FilesGood race_shape, tt))))
+files_kept = (keeps_files, (keeps_other (codes "files") (λ _. true) race_shape (filled newest_rule) (λ count. cc) refl, (keeps_help FilesGood race_shape, tt)))
+
+-- the default values of `race`
+race_defaults : AllByRecursion (KeepsDefault FilesGood) race_shape.rules
+unfolding FilesGood
+race_defaults =
+    let none = no_default (Good (codes "files") (λ _. true)) in
+    (none (with_index 1 (filled files_rule)) refl, (newest_default (codes "files") (λ _. true) refl, (none (filled help_rule) refl, tt)))
 
 -- the last checks of a level want what is required
 asked_for : (b : Bool) → check_kinds false false (not b || false) ≡ [] → b ≡ true
@@ -290,8 +270,7 @@ workers_given : (words : List Text) → level_fault serve_shape [] nothing_held 
     → HasWorkers (finished serve_shape.rules (walk serve_shape.rules [] nothing_held words).held)
 unfolding WorkersGood
 workers_given words none =
-    let left = level_leaves WorkersGood serve_shape words workers_kept
-    (serve_defaults (codes "workers") is_worker_count (apart (codes "newest") (codes "workers") refl) (apart (codes "any") (codes "workers") refl)) tt none in
+    let left = level_leaves WorkersGood serve_shape words workers_kept (serve_defaults (codes "workers") is_worker_count refl) tt none in
     let rows = finished serve_shape.rules (walk serve_shape.rules [] nothing_held words).held in
     let read = first_read (codes "workers") is_worker_count rows left.0 (asked_for (is_given (codes "workers") rows) left.1) in
     (read.0, read.2, accepts-Accepts false (Unsigned 1 MOST_WORKERS) read.0 read.4)
@@ -301,8 +280,7 @@ budget_given : (words : List Text) → level_fault serve_shape [] nothing_held w
     → HasBudget (finished serve_shape.rules (walk serve_shape.rules [] nothing_held words).held)
 unfolding BudgetGood
 budget_given words none text is =
-    let left = level_leaves BudgetGood serve_shape words budget_kept
-    (serve_defaults (codes "budget") is_budget (apart (codes "newest") (codes "budget") refl) (apart (codes "any") (codes "budget") refl)) tt none in
+    let left = level_leaves BudgetGood serve_shape words budget_kept (serve_defaults (codes "budget") is_budget refl) tt none in
     let rows = finished serve_shape.rules (walk serve_shape.rules [] nothing_held words).held in
     accepts-Accepts false (Unsigned 0 MOST_CONFLICTS) text (read_passes (codes "budget") is_budget rows left.0 text is)
 
@@ -311,55 +289,10 @@ files_given : (words : List Text) → level_fault race_shape [] nothing_held wor
     → HasFiles (finished race_shape.rules (walk race_shape.rules [] nothing_held words).held)
 unfolding FilesGood
 files_given words none =
-    let left = level_leaves FilesGood race_shape words files_kept
-    (race_defaults (codes "files") (λ _. true) (apart (codes "newest") (codes "files") refl) (apart (codes "any") (codes "files") refl)) tt none in
+    let left = level_leaves FilesGood race_shape words files_kept race_defaults tt none in
     let rows = finished race_shape.rules (walk race_shape.rules [] nothing_held words).held in
     let read = first_read (codes "files") (λ _. true) rows left.0 (asked_for (is_given (codes "files") rows) left.1) in
     (read.0 ∷ read.1, read.3, omega arith)
-
--- ---- flags
-
-newest_of_serve : AllByRecursion (Keeps (Good (codes "newest") is_flag) serve_shape) serve_shape.rules
-newest_of_serve =
-    let files = files_options (codes "newest") is_flag refl refl refl in
-    (keeps_option (codes "newest") is_flag serve_shape (filled workers_rule) refl refl, (files.0, (files.1, (files.2, (keeps_option (codes "newest") is_flag serve_shape (filled budget_rule) refl refl, (keeps_own_flag serve_shape (codes "newest"), (keeps_flag (codes "newest") is_flag serve_shape (codes "any") refl, (keeps_help (Good (codes "newest") is_flag) serve_shape, tt))))))))
-
-any_of_serve : AllByRecursion (Keeps (Good (codes "any") is_flag) serve_shape) serve_shape.rules
-any_of_serve =
-    let files = files_options (codes "any") is_flag refl refl refl in
-    (keeps_option (codes "any") is_flag serve_shape (filled workers_rule) refl refl, (files.0, (files.1, (files.2, (keeps_option (codes "any") is_flag serve_shape (filled budget_rule) refl refl, (keeps_flag (codes "any") is_flag serve_shape (codes "newest") refl, (keeps_own_flag serve_shape (codes "any"), (keeps_help (Good (codes "any") is_flag) serve_shape, tt))))))))
-
--- a use of the files is none of a flag
-files_apart : (id : Text) (test : Text → Bool) → bytes_eq (codes "files") id ≡ false → Keeps (Good id test) race_shape (with_index 1 (filled files_rule))
-files_apart id test other values rows good none =
-    used_good id test action.Append (codes "files") AsWritten (values_or_missing (with_index 1 (filled files_rule)) values) rows (λ count. cc) good (λ same. absurd (true≢false (sym same ∙ other)))
-
-newest_of_race : AllByRecursion (Keeps (Good (codes "newest") is_flag) race_shape) race_shape.rules
-newest_of_race =
-    (files_apart (codes "newest") is_flag refl, (keeps_own_flag race_shape (codes "newest"), (keeps_flag (codes "newest") is_flag race_shape (codes "any") refl, (keeps_help (Good (codes "newest") is_flag) race_shape, tt))))
-
-any_of_race : AllByRecursion (Keeps (Good (codes "any") is_flag) race_shape) race_shape.rules
-any_of_race =
-    (files_apart (codes "any") is_flag refl, (keeps_flag (codes "any") is_flag race_shape (codes "newest") refl, (keeps_own_flag race_shape (codes "any"), (keeps_help (Good (codes "any") is_flag) race_shape, tt))))
-
-flag_given : (s : Shape) (name : Text) (words : List Text) → AllByRecursion (Keeps (Good name is_flag) s) s.rules → AllByRecursion (KeepsDefault (Good name is_flag)) s.rules
-    → level_fault s [] nothing_held words false [] ≡ [] → HasFlag name (finished s.rules (walk s.rules [] nothing_held words).held)
-flag_given s name words kept defaults none text is =
-    let left = level_leaves (Good name is_flag) s words kept defaults tt none in
-    read_passes name is_flag (finished s.rules (walk s.rules [] nothing_held words).held) left.0 text is
-
--- the flags of `serve` and of `race` are set or not
-flags_of_serve : (words : List Text) → level_fault serve_shape [] nothing_held words false [] ≡ [] → HasFlags (finished serve_shape.rules (walk serve_shape.rules [] nothing_held words).held)
-flags_of_serve words none = (
-  flag_given serve_shape (codes "newest") words newest_of_serve (serve_defaults (codes "newest") is_flag (λ _. refl) (λ _. refl)) none,
-  flag_given serve_shape (codes "any") words any_of_serve (serve_defaults (codes "any") is_flag (λ _. refl) (λ _. refl)) none,
-)
-
-flags_of_race : (words : List Text) → level_fault race_shape [] nothing_held words false [] ≡ [] → HasFlags (finished race_shape.rules (walk race_shape.rules [] nothing_held words).held)
-flags_of_race words none = (
-  flag_given race_shape (codes "newest") words newest_of_race (race_defaults (codes "newest") is_flag (λ _. refl) (λ _. refl)) none,
-  flag_given race_shape (codes "any") words any_of_race (race_defaults (codes "any") is_flag (λ _. refl) (λ _. refl)) none,
-)
 
 -- ---- the whole command line
 
@@ -382,8 +315,8 @@ named_otherwise name true is other =
 
 entered_by : (words : List Text) (is_serve is_race is_help : Bool) → is_help ≡ false → let met = cond is_serve (Some serve_shape) (cond is_race (Some race_shape) (cond is_help (Some help_leaf) None)) in
     option_map_or (λ s. level_fault s [] nothing_held words false []) met [] ≡ [] → is_some (option_map (λ s. rows_at s words) met) ≡ true → IsGiven (option_map (λ s. rows_at s words) met)
-entered_by words true is_race is_help other below has = ((rows_at serve_shape words).1, inl (refl, workers_given words below, budget_given words below, flags_of_serve words below))
-entered_by words false true is_help other below has = ((rows_at race_shape words).1, inr (refl, files_given words below, flags_of_race words below))
+entered_by words true is_race is_help other below has = ((rows_at serve_shape words).1, inl (refl, workers_given words below, budget_given words below))
+entered_by words false true is_help other below has = ((rows_at race_shape words).1, inr (refl, files_given words below))
 entered_by words false false true other below has = absurd (true≢false other)
 entered_by words false false false other below has = absurd (true≢false (sym has))
 

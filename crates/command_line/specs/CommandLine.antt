@@ -9,9 +9,9 @@ use Rattle.command_line.specs.declared.words.TheConstants.{MOST_CONFLICTS, MOST_
 abbrev pub option_rule : Text → Rule
 option_rule name = record (new_rule name) { long = Some name; action = Some Set; value_names = 1 }
 
--- `--name`, which has no value, and may be left out
-abbrev pub flag_rule : Text → Rule
-flag_rule name = record (new_rule name) { long = Some name; action = Some SetTrue }
+-- `--newest`, which has no value, and may be left out
+abbrev pub newest_rule : Rule
+newest_rule = record (new_rule (codes "newest")) { long = Some (codes "newest"); action = Some SetTrue }
 
 -- `--workers N`, which has to be there, N from 1 to MOST_WORKERS
 abbrev pub workers_rule : Rule
@@ -30,18 +30,14 @@ files_rule = record (new_rule (codes "files")) {
   value_names = 1;
 }
 
--- `--newest` and `--any`, the flags that say which selections are told
-abbrev pub with_selection_rules : App → App
-with_selection_rules a = with_rule (with_rule a (flag_rule (codes "newest"))) (flag_rule (codes "any"))
-
--- `serve --workers N [--journal FILE] [--load FILE] [--save FILE] [--budget N] [--newest] [--any]`
+-- `serve --workers N [--journal FILE] [--load FILE] [--save FILE] [--budget N] [--newest]`
 abbrev pub serve_app : App
 serve_app =
-    with_selection_rules (with_rule (with_rule (with_rule (with_rule (with_rule (new_app (codes "serve")) workers_rule) (option_rule (codes "journal"))) (option_rule (codes "load"))) (option_rule (codes "save"))) budget_rule)
+    with_rule (with_rule (with_rule (with_rule (with_rule (with_rule (new_app (codes "serve")) workers_rule) (option_rule (codes "journal"))) (option_rule (codes "load"))) (option_rule (codes "save"))) budget_rule) newest_rule
 
--- `race [--newest] [--any] FILE...`
+-- `race [--newest] FILE...`
 abbrev pub race_app : App
-race_app = with_selection_rules (with_rule (new_app (codes "race")) files_rule)
+race_app = with_rule (with_rule (new_app (codes "race")) files_rule) newest_rule
 
 -- with no word for the program itself, and one of those that are to be its subcommands
 abbrev pub bare_app : App

@@ -2,7 +2,7 @@
 ghost use Rattle.std.specs.Prelude.{◌≡◌, IfOk, true, false};
 ghost use Rattle.clap.specs.Words.{app_of, rule_of, with_subcommand};
 ghost use Rattle.clap.specs.declared.Command.TheViews.{out-Command as fields_of};
-ghost use Rattle.command_line.specs.CommandLine.{option_rule, flag_rule, workers_rule, budget_rule, files_rule, with_selection_rules, serve_app, race_app, bare_app, program_app};
+ghost use Rattle.command_line.specs.CommandLine.{option_rule, newest_rule, workers_rule, budget_rule, files_rule, serve_app, race_app, bare_app, program_app};
 
 use crate::words::{MOST_CONFLICTS, MOST_WORKERS};
 use clap::builder::ValueParser;
@@ -16,8 +16,8 @@ const SERVE_EXAMPLE: &str =
 // What the help of `race` shows.
 const RACE_EXAMPLE: &str = "Example: registryd race first.lines second.lines";
 
-/// `registryd serve --workers N [--journal FILE] [--load FILE] [--save FILE] [--budget N] [--newest | --any]`,
-/// `registryd race [--newest | --any] FILE...` or `registryd help [COMMAND]`, without the program's name.
+/// `registryd serve --workers N [--journal FILE] [--load FILE] [--save FILE] [--budget N] [--newest]`,
+/// `registryd race [--newest] FILE...` or `registryd help [COMMAND]`, without the program's name.
 pub fn program<'a>(alloc: Global) -> Result<Command<'a>, AllocError>
     ensures { IfOk result (λ c. app_of c ≡ program_app) }
 {
@@ -81,20 +81,7 @@ fn serve_command<'a>(alloc: Global) -> Result<Command<'a>, AllocError>
         "Where to write the journal at the end",
     ))?;
     let with_budget = with_save.arg(budget_option(alloc))?;
-    with_selection(alloc, with_budget)
-}
-
-// The flags that say which selection is told.
-fn with_selection<'a>(alloc: Global, command: Command<'a>) -> Result<Command<'a>, AllocError>
-    ensures app { IfOk result (λ c. app_of c ≡ with_selection_rules (app_of command.entry)) }
-    ensures local { (fields_of command.entry).has_globals ≡ false → IfOk result (λ c. (fields_of c).has_globals ≡ false) }
-{
-    let with_newest = command.arg(flag(
-        alloc,
-        "newest",
-        "Tell the newest selection that meets a request",
-    ))?;
-    with_newest.arg(flag(alloc, "any", "Tell the first selection that a search finds"))
+    with_budget.arg(newest_flag(alloc))
 }
 
 fn race_command<'a>(alloc: Global) -> Result<Command<'a>, AllocError>
@@ -105,7 +92,7 @@ fn race_command<'a>(alloc: Global) -> Result<Command<'a>, AllocError>
         .about("Answers the request lines of files, a thread to each")
         .after_help(RACE_EXAMPLE);
     let with_files = bare.arg(files_argument(alloc))?;
-    with_selection(alloc, with_files)
+    with_files.arg(newest_flag(alloc))
 }
 
 fn workers_option<'a>(alloc: Global) -> Arg<'a>
@@ -144,13 +131,14 @@ fn file_option<'a>(alloc: Global, name: &'a str, help: &'a str) -> Arg<'a>
         .action(ArgAction::Set)
 }
 
-fn flag<'a>(alloc: Global, name: &'a str, help: &'a str) -> Arg<'a>
-    ensures rule { rule_of result ≡ flag_rule name.entry.now }
+// Still taken from callers that were written when there were other selections.
+fn newest_flag<'a>(alloc: Global) -> Arg<'a>
+    ensures rule { rule_of result ≡ newest_rule }
     ensures local { result.global ≡ false }
 {
-    Arg::new(alloc, name)
-        .long(name)
-        .help(help)
+    Arg::new(alloc, "newest")
+        .long("newest")
+        .help("Has no effect: each selection is the newest")
         .action(ArgAction::SetTrue)
 }
 

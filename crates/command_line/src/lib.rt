@@ -7,6 +7,5 @@ mod words;
 
 pub use limits::limits_in_numbers;
 pub use words::{
-    MOST_CONFLICTS, MOST_FILES, MOST_WORKERS, NEWEST_BY_DEFAULT, WordFault, Words, advice_on,
-    read_words,
+    MOST_CONFLICTS, MOST_FILES, MOST_WORKERS, WordFault, Words, advice_on, read_words,
 };

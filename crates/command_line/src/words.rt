@@ -1,8 +1,8 @@
 //! The words of the command line, as clap reads them.
-ghost use Rattle.std.specs.Prelude.{◌≡◌, ◌≢◌, ◌⊎◌, [], IfErr, IfOk, OnOk, IsErrOf, option_map, true, map, string_bytes};
+ghost use Rattle.std.specs.Prelude.{◌≡◌, ◌≢◌, ◌⊎◌, [], IfOk, OnOk, IsErrOf, option_map, true, map, string_bytes};
 ghost use Rattle.clap.specs.Words.{fault_of, takes, subcommand_of, subcommand_rows_of, rows_of, found_of, kind_of};
 ghost use Rattle.command_line.specs.CommandLine.{program_app};
-ghost use Rattle.command_line.specs.Words.{texts, AskForHelp, MayAskForHelp, Says, SaysNewest, SaysServe, SaysRace, HasManyFiles, HasMixedFiles, HasOpposedFlags, IsManyFiles, AreMixed, AreOpposed, HasWorkers, HasBudget, HasFlag, HasFlags, HasFiles, IsGiven, AreWords, NamesBoth, is_set};
+ghost use Rattle.command_line.specs.Words.{texts, AskForHelp, MayAskForHelp, Says, SaysServe, SaysRace, HasManyFiles, HasMixedFiles, IsManyFiles, AreMixed, HasWorkers, HasBudget, HasFiles, IsGiven, AreWords, NamesBoth};
 ghost use Rattle.command_line.specs.declared.words.WordFault.TheVariants.{Memory};
 
 use crate::command_line::program;
@@ -17,9 +17,6 @@ pub const MOST_WORKERS: u64 = 64;
 /// The largest budget of conflicts.
 pub const MOST_CONFLICTS: u64 = 4_294_967_295;
 
-/// Whether the newest selections are told where no word says which ones.
-pub const NEWEST_BY_DEFAULT: bool = true;
-
 /// The most files that a race takes: with the seat that prints the journal they are 64 seats.
 pub const MOST_FILES: usize = 63;
 
@@ -27,26 +24,23 @@ pub const MOST_FILES: usize = 63;
 #[derive(Drop)]
 pub enum Words {
     /// Answer the lines of standard input, by so many resolving threads, with this budget of each request
-    /// that names none, if one is given, by the newest selections or by the first that are found, from a
-    /// journal's commands on and with a journal at the end, where files are named for them.
+    /// that names none, if one is given, from a journal's commands on and with a journal at the end, where
+    /// files are named for them.
     Serve {
         workers: usize,
         budget: Option<u32>,
-        newest: bool,
         load: Option<String>,
         save: Option<String>,
     },
-    /// Answer the lines of standard input, by so many resolving threads, by such a budget and such
-    /// selections, from the commands of a journal's file on, which is kept as they are answered.
+    /// Answer the lines of standard input, by so many resolving threads and by such a budget, from the
+    /// commands of a journal's file on, which is kept as they are answered.
     Keep {
         workers: usize,
         budget: Option<u32>,
-        newest: bool,
         journal: String,
     },
-    /// Answer the lines of each file, side by side, by such selections.
+    /// Answer the lines of each file, side by side.
     Race {
-        newest: bool,
         files: Vec<String>,
     },
 }
@@ -58,7 +52,7 @@ pub enum WordFault {
     #[error("help is asked for")]
     Help,
     /// clap refuses the words, or a race has too many files, or a session keeps a journal and is to load or
-    /// to save one as well, or both the newest selections and any are asked for.
+    /// to save one as well.
     #[error("bad words")]
     Bad,
     #[error("no memory")]
@@ -79,12 +73,12 @@ pub fn read_words(alloc: Global, words: &[String]) -> Result<Words, WordFault>
     ensures ok { IfOk result (λ w. Says w (subcommand_of program_app (texts words.now))) }
     // Only words in which clap finds no fault are taken.
     ensures taken { OnOk result (fault_of program_app (texts words.now) ≡ []) }
-    // Only words in which clap finds a fault are bad, or too many files, or files or flags that are not named together.
+    // Only words in which clap finds a fault are bad, or too many files, or files that are not named together.
     ensures bad { IsErrOf result WordFault.Bad → fault_of program_app (texts words.now) ≡ []
-        → HasManyFiles (subcommand_of program_app (texts words.now)) ⊎ HasMixedFiles (subcommand_of program_app (texts words.now)) ⊎ HasOpposedFlags (subcommand_of program_app (texts words.now)) }
-    // Words that clap takes are bad only for too many files, or for files or flags that are not named together.
+        → HasManyFiles (subcommand_of program_app (texts words.now)) ⊎ HasMixedFiles (subcommand_of program_app (texts words.now)) }
+    // Words that clap takes are bad only for too many files, or for files that are not named together.
     ensures refused { IsErrOf result WordFault.Bad → takes program_app (texts words.now) ≡ true
-        → HasManyFiles (subcommand_of program_app (texts words.now)) ⊎ HasMixedFiles (subcommand_of program_app (texts words.now)) ⊎ HasOpposedFlags (subcommand_of program_app (texts words.now)) }
+        → HasManyFiles (subcommand_of program_app (texts words.now)) ⊎ HasMixedFiles (subcommand_of program_app (texts words.now)) }
     // Only words that clap may answer with help ask for it, and those that it answers with nothing else are not bad.
     ensures help { IsErrOf result WordFault.Help → MayAskForHelp (texts words.now) }
     ensures helped { IsErrOf result WordFault.Bad → AskForHelp (texts words.now) → ⊥ }
@@ -102,52 +96,16 @@ Usage: registryd serve --workers <N> --journal <FILE>
 For more information, try '--help'.
 ";
 
-// What to show a person who asks both for the newest selections and for any.
-const BOTH_SELECTIONS_TO_SERVE: &str =
-    "error: the argument '--newest' cannot be used with '--any': one asks for the newest selections, the other for the first that are found
-
-Usage: registryd serve --workers <N> --any
-
-For more information, try '--help'.
-";
-
-const BOTH_SELECTIONS_TO_RACE: &str =
-    "error: the argument '--newest' cannot be used with '--any': one asks for the newest selections, the other for the first that are found
-
-Usage: registryd race --any <FILE>...
-
-For more information, try '--help'.
-";
-
 /// What to show a person whose words ask for help, or are bad: what clap says to them, and where clap has nothing
-/// against them, that files or flags are not named together, or the help of the program.
+/// against them, that files are not named together, or the help of the program.
 pub fn advice_on(alloc: Global, words: &[String]) -> Result<String, AllocError> {
     match program(alloc)?.try_get_matches_from(words) {
         Ok(matches) => match matches.subcommand_matches("serve") {
-            Some(given) if names_both(given) => String::from_str(alloc, BOTH_SELECTIONS_TO_SERVE),
             Some(_) => String::from_str(alloc, MIXED_FILES),
-            None => advice_on_race(alloc, &matches),
+            None => program(alloc)?.render_help(),
         },
         Err(e) => format!(in alloc; "{e}"),
     }
-}
-
-// The same of a race.
-fn advice_on_race(alloc: Global, matches: &ArgMatches) -> Result<String, AllocError> {
-    match matches.subcommand_matches("race") {
-        Some(given) if names_both(given) => String::from_str(alloc, BOTH_SELECTIONS_TO_RACE),
-        _ => help(alloc),
-    }
-}
-
-// Whether both the newest selections and any are asked for.
-fn names_both(given: &ArgMatches) -> bool {
-    given.get_flag("newest") && given.get_flag("any")
-}
-
-// The help of the program.
-fn help(alloc: Global) -> Result<String, AllocError> {
-    program(alloc)?.render_help()
 }
 
 // What clap makes of the words.
@@ -184,7 +142,7 @@ fn words_of(alloc: Global, matches: &ArgMatches) -> Result<Words, WordFault>
     requires { IsGiven (subcommand_rows_of matches.now) }
     ensures ok { IfOk result (λ w. Says w (subcommand_rows_of matches.now)) }
     ensures bad { IsErrOf result WordFault.Bad
-        → HasManyFiles (subcommand_rows_of matches.now) ⊎ HasMixedFiles (subcommand_rows_of matches.now) ⊎ HasOpposedFlags (subcommand_rows_of matches.now) }
+        → HasManyFiles (subcommand_rows_of matches.now) ⊎ HasMixedFiles (subcommand_rows_of matches.now) }
     ensures no_help { IsErrOf result WordFault.Help → ⊥ }
 {
     match matches.subcommand_matches("serve") {
@@ -200,32 +158,29 @@ fn words_of(alloc: Global, matches: &ArgMatches) -> Result<Words, WordFault>
 fn serve_words(alloc: Global, given: &ArgMatches) -> Result<Words, WordFault>
     requires workers { HasWorkers (rows_of (found_of given.now)) }
     requires budget { HasBudget (rows_of (found_of given.now)) }
-    requires flags { HasFlags (rows_of (found_of given.now)) }
     ensures ok { IfOk result (λ w. SaysServe w (rows_of (found_of given.now))) }
-    ensures bad { IsErrOf result WordFault.Bad → AreMixed (rows_of (found_of given.now)) ⊎ AreOpposed (rows_of (found_of given.now)) }
+    ensures bad { IsErrOf result WordFault.Bad → AreMixed (rows_of (found_of given.now)) }
     ensures no_help { IsErrOf result WordFault.Help → ⊥ }
 {
     let Some(workers) = given.get_one::<usize>("workers") else {
         unreachable!()
     };
-    let newest = newest_wanted(given)?;
     let budget = given.get_one::<u32>("budget");
     let load = given.get_str("load");
     let save = given.get_str("save");
     let journal = given.get_str("journal");
-    words_with(alloc, workers, budget, newest, load, save, journal)
+    words_with(alloc, workers, budget, load, save, journal)
 }
 
 fn words_with(
     alloc: Global,
     workers: usize,
     budget: Option<u32>,
-    newest: bool,
     load: Option<&str>,
     save: Option<&str>,
     journal: Option<&str>,
 ) -> Result<Words, WordFault>
-    ensures ok { IfOk result (λ w. AreWords w workers budget newest (option_map (λ t. t.now) load.entry)
+    ensures ok { IfOk result (λ w. AreWords w workers budget (option_map (λ t. t.now) load.entry)
         (option_map (λ t. t.now) save.entry) (option_map (λ t. t.now) journal.entry)) }
     ensures bad { IsErrOf result WordFault.Bad
         → NamesBoth (option_map (λ t. t.now) load.entry) (option_map (λ t. t.now) save.entry) (option_map (λ t. t.now) journal.entry) }
@@ -235,7 +190,6 @@ fn words_with(
         None => Ok(Words::Serve {
             workers,
             budget,
-            newest,
             load: copied(alloc, load)?,
             save: copied(alloc, save)?,
         }),
@@ -246,7 +200,6 @@ fn words_with(
             Ok(Words::Keep {
                 workers,
                 budget,
-                newest,
                 journal: String::from_str(alloc, journal)?,
             })
         }
@@ -254,13 +207,11 @@ fn words_with(
 }
 
 fn race_words(alloc: Global, given: &ArgMatches) -> Result<Words, WordFault>
-    requires files { HasFiles (rows_of (found_of given.now)) }
-    requires flags { HasFlags (rows_of (found_of given.now)) }
+    requires { HasFiles (rows_of (found_of given.now)) }
     ensures ok { IfOk result (λ w. SaysRace w (rows_of (found_of given.now))) }
-    ensures bad { IsErrOf result WordFault.Bad → IsManyFiles (rows_of (found_of given.now)) ⊎ AreOpposed (rows_of (found_of given.now)) }
+    ensures bad { IsErrOf result WordFault.Bad → IsManyFiles (rows_of (found_of given.now)) }
     ensures no_help { IsErrOf result WordFault.Help → ⊥ }
 {
-    let newest = newest_wanted(given)?;
     let Some(files) = given.get_strs("files") else {
         unreachable!()
     };
@@ -268,30 +219,7 @@ fn race_words(alloc: Global, given: &ArgMatches) -> Result<Words, WordFault>
         return Err(WordFault::Bad);
     }
     let files = copies(alloc, files)?;
-    Ok(Words::Race { newest, files })
-}
-
-// Whether a flag is set.
-fn is_set(given: &ArgMatches, name: &str) -> bool
-    requires { HasFlag name.now (rows_of (found_of given.now)) }
-    ensures { result ≡ is_set name.now (rows_of (found_of given.now)) }
-{
-    given.get_flag(name)
-}
-
-// Whether the newest selections are asked for, by a word or for want of one.
-fn newest_wanted(given: &ArgMatches) -> Result<bool, WordFault>
-    requires { HasFlags (rows_of (found_of given.now)) }
-    ensures ok { IfOk result (λ newest. SaysNewest newest (rows_of (found_of given.now))) }
-    ensures opposed { IfErr result (λ fault. AreOpposed (rows_of (found_of given.now))) }
-    ensures no_help { IsErrOf result WordFault.Help → ⊥ }
-{
-    let newest = is_set(given, "newest");
-    let any = is_set(given, "any");
-    if newest && any {
-        return Err(WordFault::Bad);
-    }
-    Ok(newest || (NEWEST_BY_DEFAULT && !any))
+    Ok(Words::Race { files })
 }
 
 fn copies(alloc: Global, texts: &[&str]) -> Result<Vec<String>, AllocError>

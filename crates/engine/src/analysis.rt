@@ -6,8 +6,9 @@
 use crate::bits::Bits;
 use crate::incompats::{Incompats, Term};
 use crate::origins::Step;
-use crate::stop::{Stop, at, at_mut, count_of};
+use crate::stop::{at, at_mut, count_of};
 use crate::trail::{Entry, Trail};
+use oracle::Stop;
 use std::alloc::Global;
 
 /// The term on a package, if there is one.

@@ -5,7 +5,9 @@ use crate::engine::Engine;
 use crate::incompats::Term;
 use crate::origins::{Origin, Step};
 use crate::plain::is_plain;
-use crate::stop::{Stop, at, at_mut, count_of};
+use crate::stop::{at, at_mut, count_of};
+use crate::trail::Entry;
+use oracle::Stop;
 use std::alloc::{AllocError, Global};
 
 /// By how many steps what is told of what was learnt follows at most, all of it together: more is not offered to be
@@ -56,9 +58,35 @@ fn resolved_in(steps: &[Step], first: u32, end: u32) -> Result<u32, Stop> {
     Ok(count)
 }
 
+/// Whether one of some choices of a package is better than the selected ones.
+fn is_any_better(
+    engine: &Engine<'_>,
+    variable: u32,
+    versions: Bits,
+    selected: Bits,
+) -> Result<bool, Stop> {
+    if versions.is_empty() {
+        return Ok(false);
+    }
+    let pkg = engine.trail.variable(variable)?.pkg;
+    let best = engine.best_choice(variable, pkg, versions.or(selected))?;
+    Ok(!selected.has(best))
+}
+
+/// The further page whose choice an entry took since no version on it is left, if it took one so.
+fn emptied_page(engine: &Engine<'_>, entry: &Entry, choices: Bits) -> Result<Option<u32>, Stop> {
+    let Some(reason) = entry.reason else {
+        return Ok(None);
+    };
+    match (engine.incompats.origin(reason)?, choices.only()) {
+        (Origin::Page, Some(choice)) => engine.opened(entry.variable, choice),
+        (_, _) => Ok(None),
+    }
+}
+
 impl Cited {
     fn new(engine: &Engine<'_>, is_of_selection: bool) -> Result<Cited, Stop> {
-        let alloc = engine.question.alloc;
+        let alloc = engine.task.alloc;
         Ok(Cited {
             incompats: unset(alloc, engine.incompats.count())?,
             entries: unset(alloc, count_of(engine.trail.entries().len()))?,
@@ -75,9 +103,14 @@ impl Cited {
     }
 
     /// Cites what level 0 says of a package from an entry on, or from the beginning.
-    fn cite_entry(&mut self, variable: u32, since: Option<u32>) -> Result<(), Stop> {
+    fn cite_entry(
+        &mut self,
+        engine: &Engine<'_>,
+        variable: u32,
+        since: Option<u32>,
+    ) -> Result<(), Stop> {
         let Some(place) = since else {
-            *at_mut(&mut self.barred, variable)? = true;
+            *at_mut(&mut self.barred, engine.package(variable)?)? = true;
             return Ok(());
         };
         if !is_set(&self.entries, place) {
@@ -93,7 +126,7 @@ impl Cited {
         let mut choices = term.choices;
         let mut place = engine.trail.satisfier(row.last, choices)?;
         for _ in 0..engine.trail.entries().len() {
-            self.cite_entry(term.variable, place)?;
+            self.cite_entry(engine, term.variable, place)?;
             let Some(here) = place else {
                 return Ok(());
             };
@@ -117,7 +150,7 @@ impl Cited {
         }
         let last = engine.trail.variable(term.variable)?.last;
         let since = engine.trail.satisfier(last, term.choices)?;
-        self.cite_entry(term.variable, since)
+        self.cite_entry(engine, term.variable, since)
     }
 
     /// Cites the reason of an entry, and what satisfied its other terms.
@@ -129,7 +162,7 @@ impl Cited {
         };
         self.cite(reason)?;
         if !self.is_of_selection {
-            self.cite_entry(entry.variable, entry.previous)?;
+            self.cite_entry(engine, entry.variable, entry.previous)?;
         }
         for term in engine.incompats.terms(reason)? {
             if term.variable != entry.variable {
@@ -159,7 +192,7 @@ impl Cited {
     ) -> Result<(), Stop> {
         let mut place = since;
         for _ in 0..engine.trail.entries().len() {
-            self.cite_entry(variable, place)?;
+            self.cite_entry(engine, variable, place)?;
             let Some(here) = place else {
                 return Ok(());
             };
@@ -175,7 +208,7 @@ impl Cited {
             Step::LeftOut { on, since } if self.is_of_selection => {
                 self.cite_entries(engine, on, since)
             }
-            Step::LeftOut { on, since } => self.cite_entry(on, since),
+            Step::LeftOut { on, since } => self.cite_entry(engine, on, since),
         }
     }
 
@@ -205,16 +238,18 @@ impl Cited {
         Ok(())
     }
 
-    /// Cites the entries of a package by which a version was ruled out that is better than the selected one, but for
-    /// those whose versions are plainly out behind the packages that are passed.
-    fn cite_better(
+    /// Cites the entries of a page by which versions were ruled out that are better than the selected choices, but for those
+    /// whose versions are plainly out behind the packages that are passed. Where all versions of a further page are, that is
+    /// listed to be looked at.
+    fn cite_better_on(
         &mut self,
         engine: &Engine<'_>,
         passed: &[bool],
         variable: u32,
+        selected: Bits,
+        further: &mut Vec<u32>,
     ) -> Result<(), Stop> {
         let row = engine.trail.variable(variable)?;
-        let selected = row.left;
         let mut after = row.left;
         let mut place = row.last;
         for _ in 0..engine.trail.entries().len() {
@@ -223,10 +258,15 @@ impl Cited {
             };
             let entry = engine.trail.entry(here)?;
             let versions = entry.before.minus(after).minus(Bits::absence());
-            let best = engine.best_choice(variable, row.pkg, versions.or(selected))?;
-            if !selected.has(best) && !is_plain(engine, passed, entry)? {
-                self.cite_entry(variable, place)?;
-                self.better.push(here)?;
+            if is_any_better(engine, variable, versions, selected)? {
+                match emptied_page(engine, entry, versions)? {
+                    Some(page) => further.push(page)?,
+                    None if is_plain(engine, passed, entry)? => {}
+                    None => {
+                        self.cite_entry(engine, variable, place)?;
+                        self.better.push(here)?;
+                    }
+                }
             }
             after = entry.before;
             place = entry.previous;
@@ -234,10 +274,47 @@ impl Cited {
         Ok(())
     }
 
+    /// As `cite_better_on`, of the pages of which all versions are better than the selected one.
+    fn cite_further(
+        &mut self,
+        engine: &Engine<'_>,
+        passed: &[bool],
+        further: &mut Vec<u32>,
+    ) -> Result<(), Stop> {
+        for _ in 0..engine.page_of.len() {
+            let Some(page) = further.pop() else {
+                return Ok(());
+            };
+            self.cite_better_on(engine, passed, page, Bits::none(), further)?;
+        }
+        Ok(())
+    }
+
+    /// Cites the entries by which versions of a package were ruled out that are better than the selected one, but for those
+    /// whose versions are plainly out.
+    fn cite_better(
+        &mut self,
+        engine: &Engine<'_>,
+        passed: &[bool],
+        package: u32,
+    ) -> Result<(), Stop> {
+        let mut further = Vec::new(engine.task.alloc);
+        let mut page = package;
+        for _ in 0..engine.trail.variables().len() {
+            let selected = engine.trail.left(page)?;
+            self.cite_better_on(engine, passed, page, selected, &mut further)?;
+            match engine.selected_page(page)? {
+                None => break,
+                Some(behind) => page = behind,
+            }
+        }
+        self.cite_further(engine, passed, &mut further)
+    }
+
     /// Cites what rules better versions out than those that are selected.
     fn cite_selection(&mut self, engine: &Engine<'_>) -> Result<(), Stop> {
         let variables = count_of(engine.trail.variables().len());
-        let mut passed = unset(engine.question.alloc, variables)?;
+        let mut passed = unset(engine.task.alloc, variables)?;
         for variable in engine.turn.listed() {
             self.cite_better(engine, &passed, *variable)?;
             *at_mut(&mut passed, *variable)? = true;

@@ -2,16 +2,15 @@
 
 use crate::analysis::{Analysis, level_of};
 use crate::incompats::{Incompats, Term};
+use crate::opening::PageOf;
 use crate::order::Order;
 use crate::origins::{Step, learnt_from};
-use crate::stop::{Stop, count_of};
+use crate::pages::Paged;
+use crate::stop::count_of;
 use crate::trail::Trail;
 use crate::turn::Turn;
 use crate::view::View;
-use crate::wide::Wide;
-use heuristics::Question;
-use store::Store;
-use terms::Pkg;
+use oracle::{Stop, Task};
 
 /// For so many conflicts the dependencies of a version become incompatibilities when it is about to be
 /// decided, as in doc/solver.md. Few requests meet more, and those that do are hard. With 4 in place of 2
@@ -56,9 +55,7 @@ pub(crate) struct Late {
 /// A search.
 #[derive(Drop)]
 pub struct Engine<'a> {
-    pub(crate) question: Question<'a>,
-    pub(crate) store: &'a Store,
-    pub(crate) budget: Option<u32>,
+    pub(crate) task: Task<'a>,
     pub(crate) view: View,
     pub(crate) trail: Trail,
     pub(crate) incompats: Incompats,
@@ -69,12 +66,10 @@ pub struct Engine<'a> {
     pub(crate) phase: Phase,
     /// By number of the package, its index on the trail.
     pub(crate) numbers: Vec<Option<u32>>,
-    /// By index of the package, what its choices stand for if it has many versions, up to the last that has.
-    pub(crate) wides: Vec<Option<Wide>>,
-    /// Versions that have a choice of their own beside the best, since an earlier search came to them.
-    pub(crate) refined: Vec<(Pkg, u32)>,
-    /// How often the search began again for those that are refined.
-    pub(crate) again: u32,
+    /// The packages that have pages.
+    pub(crate) paged: Vec<Paged>,
+    /// By index on the trail, which page it is, up to the last one.
+    pub(crate) page_of: Vec<Option<PageOf>>,
     /// How many packages were asked for in the store, and how many members were looked at.
     pub(crate) asked: u32,
     pub(crate) looks: u32,
@@ -209,7 +204,7 @@ impl Engine<'_> {
 
     /// Counts a conflict, if the budget has one left.
     fn count_conflict(&mut self) -> Result<(), Stop> {
-        if self.budget == Some(self.conflicts) {
+        if self.task.options.budget == Some(self.conflicts) {
             return Err(Stop::Spent);
         }
         self.conflicts = self.conflicts.saturating_add(1);

@@ -3,12 +3,12 @@
 use crate::bits::{Bits, choice_of};
 use crate::engine::{Engine, Phase};
 use crate::incompats::Term;
-use crate::meeting::versions_meeting;
+use crate::opening::PageOf;
 use crate::origins::Origin;
-use crate::stop::{Stop, at_mut, count_of};
-use crate::trail::Variable;
-use crate::view::several_depend_alike;
-use crate::wide::{Wide, wide_at};
+use crate::pages::Page;
+use crate::stop::{at, at_mut, count_of};
+use crate::view::{Span, several_depend_alike};
+use oracle::Stop;
 use terms::Pkg;
 use versions::Name;
 
@@ -27,61 +27,42 @@ impl Engine<'_> {
 
     /// Those that are allowed, of a package whose choices stand for a version each.
     fn allowed_choices(&self, pkg: Pkg, all: Bits) -> Bits {
-        let registry = self.question.registry;
+        let registry = self.task.registry;
         if !registry.has_yanks(pkg) {
             return all;
         }
         let mut choices = Bits::absence();
         for ordinal in 0..registry.version_count(pkg) {
-            if registry.allowed(self.question.request, pkg, ordinal) {
+            if registry.allowed(self.task.request, pkg, ordinal) {
                 choices = choices.or(Bits::of(choice_of(ordinal)));
             }
         }
         choices
     }
 
-    /// All choices of a package that is reached by a requirement, and those that are allowed.
-    fn choices_for(&mut self, pkg: Pkg, by: Origin) -> Result<(Bits, Bits), Stop> {
-        let count = self.question.registry.version_count(pkg);
-        if Bits::holds(count) {
-            let all = Bits::up_to(count);
-            return Ok((all, self.allowed_choices(pkg, all)));
-        }
-        let meeting = versions_meeting(&self.question, pkg, by)?;
-        let made = Wide::new(&self.question, pkg, &meeting, &self.refined);
-        drop(meeting);
-        let wide = made?;
-        let choices = (wide.all(), wide.left());
-        self.put_wide(wide)?;
-        Ok(choices)
-    }
-
-    /// Puts a package on the trail that is reached by a requirement, and answers its index.
+    /// Puts a package on the trail, and answers its index.
     #[inline(never)]
-    fn add_variable(&mut self, pkg: Pkg, by: Origin) -> Result<u32, Stop> {
+    fn add_variable(&mut self, pkg: Pkg) -> Result<u32, Stop> {
         for _ in self.numbers.len()..pkg as usize + 1 {
             self.numbers.push(None)?;
         }
-        let (all, left) = self.choices_for(pkg, by)?;
-        let variable = self.trail.add(Variable {
-            pkg,
-            all,
-            left,
-            watched: all,
-            last: None,
-            entered: Bits::none(),
-        })?;
+        let count = self.task.registry.version_count(pkg);
+        let variable = if Bits::holds(count) {
+            let all = Bits::up_to(count);
+            self.add_row(pkg, all, self.allowed_choices(pkg, all))?
+        } else {
+            self.add_paged(pkg)?
+        };
         *at_mut(&mut self.numbers, pkg)? = Some(variable);
-        self.incompats.make_lists(self.trail.variables().len())?;
         Ok(variable)
     }
 
-    /// The index on the trail of a package that is reached by a requirement: that of a need or of a dependency.
+    /// The index of a package on the trail.
     #[inline(always)]
-    pub(crate) fn variable_of(&mut self, pkg: Pkg, by: Origin) -> Result<u32, Stop> {
+    pub(crate) fn variable_of(&mut self, pkg: Pkg) -> Result<u32, Stop> {
         match self.numbers.as_slice().get(pkg as usize) {
             Some(Some(variable)) => Ok(*variable),
-            _ => self.add_variable(pkg, by),
+            _ => self.add_variable(pkg),
         }
     }
 
@@ -100,14 +81,15 @@ impl Engine<'_> {
         self.exclude(&term, id)
     }
 
-    /// Adds that two terms do not go together.
-    fn add_two(&mut self, a: Term, b: Term, origin: Origin) -> Result<(), Stop> {
+    /// Adds that two terms do not go together. Answers its index.
+    pub(crate) fn add_two(&mut self, a: Term, b: Term, origin: Origin) -> Result<u32, Stop> {
         let id = self.incompats.add(&[a, b], origin)?;
-        self.incompats.pair(id, a, b)
+        self.incompats.pair(id, a, b)?;
+        Ok(id)
     }
 
     /// Derives what follows now from one of two terms.
-    fn derive_entered_two(&mut self, a: Term, b: Term, id: u32) -> Result<(), Stop> {
+    pub(crate) fn derive_entered_two(&mut self, a: Term, b: Term, id: u32) -> Result<(), Stop> {
         if self.trail.left(a.variable)?.is_within(a.choices) {
             return self.exclude(&b, id);
         }
@@ -144,29 +126,76 @@ impl Engine<'_> {
             ordinal: dependency.ordinal,
             index: dependency.index,
         };
-        let target = self.variable_of(dependency.target, origin)?;
-        let within = self.within(target, &dependency, origin)?;
+        let target = self.variable_of(dependency.target)?;
         let needing = Term {
             variable,
             choices: dependency.sharing,
         };
-        if within.is_empty() {
-            let _id = self.add_one(needing, origin)?;
+        if let Some(own) = self.page_of(target) {
+            for missing in self.taken(own.paged, dependency.target, origin)?.as_slice() {
+                self.add_needing(needing, *missing, origin)?;
+            }
             return Ok(());
         }
+        let within = self.within(target, &dependency, origin)?;
         let choices = self.trail.variable(target)?.all.minus(within);
         let missing = Term {
             variable: target,
             choices,
         };
-        self.add_two(needing, missing, origin)
+        self.add_needing(needing, missing, origin)
+    }
+
+    /// Adds that versions depend on what is missing; where that is the whole package, that they can't be selected.
+    fn add_needing(&mut self, needing: Term, missing: Term, origin: Origin) -> Result<(), Stop> {
+        let all = self.trail.variable(missing.variable)?.all;
+        let _id = if all.is_within(missing.choices) {
+            self.add_one(needing, origin)?
+        } else {
+            self.add_two(needing, missing, origin)?
+        };
+        Ok(())
+    }
+
+    /// Lists the dependencies of a page.
+    fn list_page(&mut self, own: PageOf, page: &Page, pkg: Pkg) -> Result<Span, Stop> {
+        let registry = self.task.registry;
+        let paged = at(&self.paged, own.paged)?;
+        if !registry.is_alike(pkg) {
+            return self.view.list_page(registry, pkg, paged.singles(page));
+        }
+        // Those of the first page stand for those of the others.
+        if own.page > 0 {
+            return Ok(Span { first: 0, end: 0 });
+        }
+        let all = page.all().minus(Bits::absence());
+        self.view.list_alike(registry, pkg, all)
+    }
+
+    /// Where the dependencies of a page stand.
+    fn span_of_page(&mut self, own: PageOf, pkg: Pkg) -> Result<Span, Stop> {
+        let page = *at(&self.paged, own.paged)?.page(own.page)?;
+        if let Some(span) = page.span {
+            return Ok(span);
+        }
+        let span = self.list_page(own, &page, pkg)?;
+        let paged = at_mut(&mut self.paged, own.paged)?;
+        paged.page_mut(own.page)?.span = Some(span);
+        Ok(span)
+    }
+
+    /// Where the dependencies of a package or a page stand.
+    fn span_of(&mut self, variable: u32, pkg: Pkg) -> Result<Span, Stop> {
+        match self.page_of(variable) {
+            None => self.view.span(self.task.registry, pkg),
+            Some(own) => self.span_of_page(own, pkg),
+        }
     }
 
     /// Adds the dependencies of a package that versions among these have, and derives what follows now.
     fn enter_rows(&mut self, variable: u32, having: Bits) -> Result<(), Stop> {
         let pkg = self.trail.variable(variable)?.pkg;
-        let wide = wide_at(&self.wides, variable);
-        let span = self.view.span(self.question.registry, pkg, wide)?;
+        let span = self.span_of(variable, pkg)?;
         let first = self.incompats.count();
         for row in span.first..span.end {
             if self.view.enters(row, having)? {
@@ -183,12 +212,15 @@ impl Engine<'_> {
         if row.entered.has(choice) {
             return Ok(());
         }
+        let own = Bits::of(choice);
         let having = match self.phase {
-            Phase::Lazy => Bits::of(choice),
+            Phase::Lazy => own,
             Phase::Ahead if self.trail.level() == 0 => row.left,
             Phase::Ahead => row.all,
         };
-        self.trail.variable_mut(variable)?.entered = row.entered.or(having);
+        self.open(variable, choice)?;
+        let known = self.known_of(variable, having)?.or(own);
+        self.trail.variable_mut(variable)?.entered = row.entered.or(known);
         self.enter_rows(variable, having)
     }
 
@@ -197,11 +229,12 @@ impl Engine<'_> {
         let row = *self.trail.variable(variable)?;
         if row.left.has_absence()
             || !row.entered.is_empty()
-            || !several_depend_alike(self.question.registry, row.pkg)
+            || !several_depend_alike(self.task.registry, row.pkg)
         {
             return Ok(());
         }
-        self.trail.variable_mut(variable)?.entered = row.all;
+        let known = self.known_of(variable, row.all)?;
+        self.trail.variable_mut(variable)?.entered = known;
         self.enter_rows(variable, row.all)
     }
 
@@ -246,7 +279,8 @@ impl Engine<'_> {
     /// Adds the dependencies of all versions of a package that are left at level 0.
     fn enter_all(&mut self, variable: u32) -> Result<(), Stop> {
         let row = *self.trail.variable(variable)?;
-        self.trail.variable_mut(variable)?.entered = row.all;
+        let known = self.known_of(variable, row.all)?;
+        self.trail.variable_mut(variable)?.entered = row.entered.or(known);
         self.enter_rows(variable, row.left)
     }
 
@@ -254,11 +288,17 @@ impl Engine<'_> {
 
     /// Adds a need of the request. Answers whether its package is numbered.
     fn enter_need(&mut self, index: usize, name: &Name) -> Result<bool, Stop> {
-        let Some(pkg) = self.question.registry.number(name) else {
+        let Some(pkg) = self.task.registry.number(name) else {
             return Ok(false);
         };
         let origin = Origin::Need(index);
-        let variable = self.variable_of(pkg, origin)?;
+        let variable = self.variable_of(pkg)?;
+        if let Some(own) = self.page_of(variable) {
+            for term in self.taken(own.paged, pkg, origin)?.as_slice() {
+                self.enter_one(*term, origin)?;
+            }
+            return Ok(true);
+        }
         let within = self.meeting(variable, pkg, origin)?;
         let choices = self.trail.variable(variable)?.all.minus(within);
         self.enter_one(Term { variable, choices }, origin)?;
@@ -269,7 +309,7 @@ impl Engine<'_> {
     /// answers: nothing meets that. So what follows from a later need is explained by the earlier ones, as lines are
     /// used newest first (doc/solver.md, "Unit Propagation").
     pub(crate) fn enter_needs(&mut self) -> Result<Option<usize>, Stop> {
-        let needs = self.question.request.needs();
+        let needs = self.task.request.needs();
         for index in (0..needs.len()).rev() {
             if let Some((name, _)) = needs.get(index) {
                 if !self.enter_need(index, name)? {

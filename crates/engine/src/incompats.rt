@@ -13,9 +13,10 @@
 
 use crate::bits::{Bits, MOST_CHOICES};
 use crate::origins::Origin;
-use crate::stop::{Stop, at, at_mut, count_of, index_of};
+use crate::stop::{at, at_mut, count_of, index_of};
 use crate::trail::Trail;
 use crate::watches::{Watch, Watches, clear_lists};
+use oracle::Stop;
 use std::alloc::Global;
 use std::mem;
 

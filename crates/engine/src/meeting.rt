@@ -1,27 +1,26 @@
 //! What meets the requirements by which packages are reached.
 
-use crate::bits::Bits;
+use crate::bits::{Bits, choice_of};
 use crate::engine::Engine;
 use crate::origins::Origin;
-use crate::stop::Stop;
 use crate::view::Dependency;
-use heuristics::Question;
+use oracle::{Stop, Task};
 use terms::{Pkg, VSet};
 use versions::Need;
 
 /// The requirement of a need or of a dependency; Lost for another origin.
-fn requirement<'a>(question: &Question<'a>, by: Origin) -> Result<&'a Need, Stop> {
+fn requirement<'a>(task: &Task<'a>, by: Origin) -> Result<&'a Need, Stop> {
     let found = match by {
-        Origin::Need(index) => question.request.needs().get(index),
+        Origin::Need(index) => task.request.needs().get(index),
         Origin::Dependency {
             pkg,
             ordinal,
             index,
-        } => match question.registry.facts_at(pkg, ordinal) {
+        } => match task.registry.facts_at(pkg, ordinal) {
             None => None,
             Some(facts) => facts.needs.get(index),
         },
-        Origin::Member(_) | Origin::Learnt { .. } => None,
+        Origin::Member(_) | Origin::Page | Origin::Learnt { .. } => None,
     };
     match found {
         None => Err(Stop::Lost),
@@ -30,26 +29,34 @@ fn requirement<'a>(question: &Question<'a>, by: Origin) -> Result<&'a Need, Stop
 }
 
 /// The versions of a package that meet the requirement of a need or of a dependency.
-pub(crate) fn versions_meeting(
-    question: &Question<'_>,
-    pkg: Pkg,
-    by: Origin,
-) -> Result<VSet, Stop> {
-    let need = requirement(question, by)?;
-    let matching = question.registry.matching_set(pkg, need)?;
-    let set = matching.set(question.alloc);
+pub(crate) fn versions_meeting(task: &Task<'_>, pkg: Pkg, by: Origin) -> Result<VSet, Stop> {
+    let need = requirement(task, by)?;
+    let matching = task.registry.matching_set(pkg, need)?;
+    let set = matching.set(task.alloc);
     drop(matching);
     Ok(set?)
 }
 
+/// The choices of these versions, among all.
+pub(crate) fn choices_among(all: Bits, versions: &VSet) -> Bits {
+    let mut choices = Bits::none();
+    for ordinal in versions.iter() {
+        let choice = choice_of(ordinal);
+        if Bits::holds(choice) {
+            choices = choices.or(Bits::of(choice));
+        }
+    }
+    choices.and(all)
+}
+
 impl Engine<'_> {
-    /// The choices of a package, which has this index, that stand for versions which meet the requirement of a need or
-    /// of a dependency.
+    /// The choices of a package that has no pages, and has this index, which stand for versions that meet the requirement of
+    /// a need or of a dependency.
     pub(crate) fn meeting(&self, variable: u32, pkg: Pkg, by: Origin) -> Result<Bits, Stop> {
-        let versions = versions_meeting(&self.question, pkg, by)?;
-        let choices = self.any_of(variable, &versions);
+        let versions = versions_meeting(&self.task, pkg, by)?;
+        let choices = self.choices(variable, &versions, false);
         drop(versions);
-        Ok(choices)
+        choices
     }
 
     /// As `meeting`, of a dependency: mostly their set is kept.
@@ -61,10 +68,7 @@ impl Engine<'_> {
         by: Origin,
     ) -> Result<Bits, Stop> {
         let (pkg, need) = (dependency.target, dependency.need);
-        if self.wide(variable).is_some() {
-            return self.meeting(variable, pkg, by);
-        }
-        match self.question.registry.low_bits(pkg, need) {
+        match self.task.registry.low_bits(pkg, need) {
             Some(versions) => Ok(Bits::of_versions(versions)),
             None => self.meeting(variable, pkg, by),
         }

@@ -3,14 +3,14 @@
 // A member was learnt from an earlier request, and holds in this one: so a request that was asked before meets
 // few of its conflicts again.
 
-use crate::bits::{Bits, choice_of};
 use crate::engine::Engine;
 use crate::incompats::Term;
 use crate::origins::Origin;
-use crate::stop::{Stop, count_of};
+use crate::stop::count_of;
 use crate::trail::Trail;
+use oracle::Stop;
 use std::mem;
-use terms::{Pkg, VSet};
+use terms::Pkg;
 
 /// The most members that are asked when a package is reached: the newest that name it.
 /// Measured at half and at twice this value: docs/BENCHMARKS.md, Constants.
@@ -19,18 +19,6 @@ const NEWEST: u32 = 256;
 /// How many members more may be asked for each incompatibility: so the store costs a share of the search at most.
 /// Measured at half and at twice this value: docs/BENCHMARKS.md, Constants.
 const LOOKS_EACH: u32 = 16;
-
-/// The choices of these versions, among all.
-pub(crate) fn choices_among(all: Bits, versions: &VSet) -> Bits {
-    let mut choices = Bits::none();
-    for ordinal in versions.iter() {
-        let choice = choice_of(ordinal);
-        if Bits::holds(choice) {
-            choices = choices.or(Bits::of(choice));
-        }
-    }
-    choices.and(all)
-}
 
 /// From which place of the trail on a term is satisfied, counted from 1; the highest number if it is not.
 fn satisfied_from(trail: &Trail, term: &Term) -> Result<u32, Stop> {
@@ -62,15 +50,16 @@ fn bring_last(trail: &Trail, terms: &mut [Term], to: usize) -> Result<(), Stop> 
 }
 
 impl Engine<'_> {
-    /// The term that says this of a package, if that was reached.
+    /// The term that says this of a package, if that was reached; where it has pages, a term on the first one that says no
+    /// less.
     fn term_of(&self, pkg: Pkg, said: &terms::Term) -> Result<Option<Term>, Stop> {
         let Some(Some(variable)) = self.numbers.as_slice().get(pkg as usize).copied() else {
             return Ok(None);
         };
         let all = self.trail.variable(variable)?.all;
         let choices = match said {
-            terms::Term::In(versions) => self.all_of(variable, versions, all),
-            terms::Term::NotIn(versions) => all.minus(self.any_of(variable, versions)),
+            terms::Term::In(versions) => self.choices(variable, versions, true)?,
+            terms::Term::NotIn(versions) => all.minus(self.choices(variable, versions, false)?),
         };
         Ok(Some(Term { variable, choices }))
     }
@@ -98,7 +87,7 @@ impl Engine<'_> {
     /// packages.
     fn list_terms(&mut self, last: u32, place: u32) -> Result<bool, Stop> {
         self.named.clear();
-        let store = self.store;
+        let store = self.task.store;
         let Some(member) = store.member(place) else {
             return Ok(false);
         };
@@ -116,7 +105,7 @@ impl Engine<'_> {
         if !self.list_terms(last, place)? {
             return Ok(());
         }
-        let mut terms = mem::replace(&mut self.named, Vec::new(self.question.alloc));
+        let mut terms = mem::replace(&mut self.named, Vec::new(self.task.alloc));
         let entered = self.enter_terms(&mut terms, Origin::Member(place));
         self.named = terms;
         entered
@@ -132,12 +121,15 @@ impl Engine<'_> {
             .min(NEWEST)
     }
 
-    /// Adds the members that were reached with a package.
+    /// Adds the members that were reached with a package. With a further page of one none is.
     fn enter_members_of(&mut self, variable: u32) -> Result<(), Stop> {
+        if self.package(variable)? != variable {
+            return Ok(());
+        }
         let number = u64::from(self.trail.variable(variable)?.pkg);
-        let mut here = self.store.naming().first(number);
+        let mut here = self.task.store.naming().first(number);
         for _ in 0..self.looks_left() {
-            let Some(link) = self.store.naming().link(here) else {
+            let Some(link) = self.task.store.naming().link(here) else {
                 return Ok(());
             };
             self.looks = self.looks.saturating_add(1);

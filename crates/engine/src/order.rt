@@ -9,8 +9,9 @@
 // A package's number of choices is a lower bound here, which is mended when it comes first. So going back touches
 // nothing of a package that is still there.
 
-use crate::stop::{Stop, at, at_mut, count_of, index_of, rows_from};
+use crate::stop::{at, at_mut, count_of, index_of, rows_from};
 use crate::trail::{Trail, Variable};
+use oracle::Stop;
 use std::alloc::Global;
 use terms::Pkg;
 

@@ -1,6 +1,7 @@
 //! Where the incompatibilities come from, so that what they say can be derived again.
 
-use crate::stop::{Stop, index_of};
+use crate::stop::index_of;
+use oracle::Stop;
 use terms::Pkg;
 
 /// Where an incompatibility comes from.
@@ -16,6 +17,8 @@ pub(crate) enum Origin {
     },
     /// The member in this place of the store.
     Member(u32),
+    /// It ties a page to the one before, and says nothing about versions (`pages.rt`).
+    Page,
     /// A conflict, that is an incompatibility, and these steps.
     Learnt {
         conflict: u32,

@@ -8,8 +8,13 @@ use crate::cited::is_set;
 use crate::engine::Engine;
 use crate::incompats::Term;
 use crate::origins::Origin;
-use crate::stop::Stop;
 use crate::trail::Entry;
+use oracle::Stop;
+
+/// Whether the package of a term comes before.
+fn is_passed(engine: &Engine<'_>, passed: &[bool], term: &Term) -> Result<bool, Stop> {
+    Ok(is_set(passed, engine.package(term.variable)?))
+}
 
 /// Whether all packages of an incompatibility but one come before.
 fn are_passed(
@@ -19,7 +24,7 @@ fn are_passed(
     variable: u32,
 ) -> Result<bool, Stop> {
     for term in engine.incompats.terms(incompat)? {
-        if term.variable != variable && !is_set(passed, term.variable) {
+        if term.variable != variable && !is_passed(engine, passed, term)? {
             return Ok(false);
         }
     }
@@ -39,7 +44,7 @@ fn is_asked(
             let own = engine.trail.variable(variable)?.pkg;
             Ok(pkg != own && are_passed(engine, passed, incompat, variable)?)
         }
-        Origin::Member(_) | Origin::Learnt { .. } => Ok(false),
+        Origin::Member(_) | Origin::Page | Origin::Learnt { .. } => Ok(false),
     }
 }
 
@@ -84,7 +89,7 @@ fn is_at_odds(
     }
     for term in engine.incompats.terms(incompat)? {
         if term.variable != variable {
-            return Ok(is_set(passed, term.variable) || is_true_so(engine, passed, term)?);
+            return Ok(is_passed(engine, passed, term)? || is_true_so(engine, passed, term)?);
         }
     }
     Ok(false)

@@ -12,9 +12,10 @@ use crate::cited::{Cited, is_set};
 use crate::engine::Engine;
 use crate::incompats::Term;
 use crate::origins::{Origin, Step as Kept};
-use crate::stop::{Stop, at, count_of, index_of};
-use crate::trace::{Record, Step, Writer};
+use crate::stop::{at, count_of};
+use crate::trace::Writer;
 use crate::trail::Entry;
+use oracle::{Record, Stop};
 
 impl Writer {
     // ---- the lines of entries
@@ -32,8 +33,8 @@ impl Writer {
             let Some(reason) = entry.reason else {
                 return Ok(());
             };
-            let (with, on) = (*at(&self.lines, here)?, row.pkg);
-            self.trace.steps.push(Step { with, on })?;
+            let with = *at(&self.lines, here)?;
+            self.step_with(engine, with, term.variable)?;
             choices = choices.or(engine.incompats.choices_on(reason, term.variable)?);
             if row.all.is_within(choices) {
                 return Ok(());
@@ -45,7 +46,12 @@ impl Writer {
 
     /// Writes the line of an entry, and answers its record: that of its reason, if the other terms of that are on packages
     /// that were decided.
-    fn write_line(&mut self, engine: &Engine<'_>, entry: &Entry, reason: u32) -> Result<u32, Stop> {
+    fn write_line(
+        &mut self,
+        engine: &Engine<'_>,
+        entry: &Entry,
+        reason: u32,
+    ) -> Result<Option<u32>, Stop> {
         let from = *at(&self.numbers, reason)?;
         let first = self.steps()?;
         for term in engine.incompats.terms(reason)? {
@@ -53,30 +59,26 @@ impl Writer {
                 self.resolve_term(engine, term)?;
             }
         }
-        let end = self.steps()?;
-        if first == end {
+        if first == self.steps()? {
             return Ok(from);
         }
-        let number = index_of(self.trace.records.len())?;
-        self.trace
-            .records
-            .push(Record::Follows { from, first, end })?;
-        Ok(number)
+        let line = self.followed(from, first)?;
+        self.add(line)
     }
 
-    /// Writes the line of the entry at a place, if it is cited, and answers its record; any, if it is not.
+    /// Writes the line of the entry at a place, if it is cited, and answers its record.
     fn write_line_at(
         &mut self,
         engine: &Engine<'_>,
         cited: &Cited,
         place: u32,
-    ) -> Result<u32, Stop> {
+    ) -> Result<Option<u32>, Stop> {
         let entry = engine.trail.entry(place)?;
         match entry.reason {
             Some(reason) if is_set(&cited.entries, place) => {
                 self.write_line(engine, entry, reason)
             }
-            _ => Ok(0),
+            _ => Ok(None),
         }
     }
 
@@ -118,14 +120,13 @@ impl Writer {
         variable: u32,
         since: Option<u32>,
     ) -> Result<(), Stop> {
-        let on = engine.trail.variable(variable)?.pkg;
         let mut place = since;
         for _ in 0..engine.trail.entries().len() {
             let Some(here) = place else {
                 return self.step_barred(engine, variable);
             };
             let with = *at(&self.lines, here)?;
-            self.trace.steps.push(Step { with, on })?;
+            self.step_with(engine, with, variable)?;
             place = engine.trail.entry(here)?.previous;
         }
         self.step_barred(engine, variable)
@@ -145,14 +146,13 @@ impl Writer {
         engine: &Engine<'_>,
         conflict: u32,
         kept: (u32, u32),
-    ) -> Result<Record, Stop> {
+    ) -> Result<Option<Record>, Stop> {
         let from = *at(&self.numbers, conflict)?;
         let first = self.steps()?;
         for index in kept.0..kept.1 {
             self.step_in_full(engine, *at(&engine.steps, index)?)?;
         }
-        let end = self.steps()?;
-        Ok(Record::Follows { from, first, end })
+        self.followed(from, first)
     }
 
     /// Writes an incompatibility, and before it the lines that it follows from.
@@ -173,9 +173,8 @@ impl Writer {
             }
             _ => self.record_of(engine, incompat)?,
         };
-        let number = index_of(self.trace.records.len())?;
+        let number = self.add(record)?;
         self.numbers.push(number)?;
-        self.trace.records.push(record)?;
         Ok(())
     }
 
@@ -185,9 +184,10 @@ impl Writer {
     fn write_ruling(&mut self, engine: &Engine<'_>, cited: &Cited) -> Result<(), Stop> {
         for place in cited.better.as_slice() {
             let variable = engine.trail.entry(*place)?.variable;
-            let record = *at(&self.lines, *place)?;
             let pkg = engine.trail.variable(variable)?.pkg;
-            self.trace.ruling.push((pkg, record))?;
+            if let Some(record) = *at(&self.lines, *place)? {
+                self.trace.ruling.push((pkg, record))?;
+            }
         }
         self.trace.ruling.sort_unstable_by(|a, b| a.0.cmp(&b.0));
         Ok(())
@@ -210,7 +210,7 @@ impl Writer {
             if is_set(&cited.incompats, incompat) {
                 self.write_in_full(engine, cited, incompat)?;
             } else {
-                self.numbers.push(0)?;
+                self.numbers.push(None)?;
             }
         }
         Ok(())

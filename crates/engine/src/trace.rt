@@ -1,8 +1,4 @@
-//! The trace of a refusal, or of a selection: what follows from what, so that it can be derived again by another.
-//
-// It holds no terms: who reads it derives each conclusion anew, so there is nothing in it to believe. That is
-// the form of proofs of unsatisfiability with hints: Cruz-Filipe et al., "Efficient certified RAT
-// verification" (LRAT), 2017.
+//! How the trace of a refusal, or of a selection, is written.
 //
 // In the trace of a refusal, what level 0 satisfies is left in the conclusions of the reader, and goes last of all: so
 // all but the last of them rest on what the registry says alone. `ruling.rt` writes that of the newest selection.
@@ -10,66 +6,24 @@
 use crate::cited::{Cited, cited_by, cited_by_learnt, cited_by_selection, is_set};
 use crate::engine::Engine;
 use crate::origins::{Origin, Step as Kept};
-use crate::stop::{Stop, at, count_of, index_of};
-use terms::Pkg;
-
-/// Something that is known of all selections that meet the request.
-#[derive(Clone, Copy)]
-pub enum Record {
-    /// By the need with this index.
-    Need(usize),
-    /// By the dependency at this index of a version, and of all that share it.
-    Dependency {
-        pkg: Pkg,
-        ordinal: u32,
-        index: usize,
-    },
-    /// Since versions of this package are not allowed.
-    NotAllowed(Pkg),
-    /// By the member in this place of the store.
-    Member(u32),
-    /// From an earlier record, by some of the steps, in order.
-    Follows {
-        from: u32,
-        first: u32,
-        end: u32,
-    },
-}
-
-/// A step: resolve with a record, on a package.
-#[derive(Clone, Copy)]
-pub struct Step {
-    pub with: u32,
-    pub on: Pkg,
-}
-
-/// Records in order, each by earlier ones. By the last one of a refusal no selection meets the request.
-#[derive(Drop)]
-pub struct Trace {
-    pub records: Vec<Record>,
-    pub steps: Vec<Step>,
-    /// Of the newest selection, packages with the ordinals of their versions.
-    pub selected: Vec<(Pkg, u32)>,
-    /// Of the newest selection, packages in rising order, each with the index of a record that rules better versions
-    /// of it out: its other terms are true of the versions of packages that come earlier in the walk.
-    pub ruling: Vec<(Pkg, u32)>,
-}
+use crate::stop::{at, count_of, index_of};
+use oracle::{Record, Step, Stop, Trace};
 
 /// A trace that is being written.
 #[derive(Drop)]
 pub(crate) struct Writer {
     pub trace: Trace,
-    /// The record of each incompatibility that is cited; any of the others.
-    pub numbers: Vec<u32>,
+    /// The record of each incompatibility that is cited, unless it says nothing about versions.
+    pub numbers: Vec<Option<u32>>,
     /// By index of the package, the record of which versions of it are not allowed, if that is cited.
     pub barred: Vec<Option<u32>>,
-    /// The record of the line of each entry of the trail (`ruling.rt`), if it is cited; any of the others.
-    pub lines: Vec<u32>,
+    /// The record of the line of each entry of the trail (`ruling.rt`) that is cited, unless it says nothing about versions.
+    pub lines: Vec<Option<u32>>,
 }
 
 impl Writer {
     fn new(engine: &Engine<'_>) -> Writer {
-        let alloc = engine.question.alloc;
+        let alloc = engine.task.alloc;
         Writer {
             trace: Trace {
                 records: Vec::new(alloc),
@@ -88,12 +42,51 @@ impl Writer {
         index_of(self.trace.steps.len())
     }
 
+    /// Adds a step with a record on a package, which may be one of its pages; none with what says nothing.
+    pub fn step_with(
+        &mut self,
+        engine: &Engine<'_>,
+        with: Option<u32>,
+        variable: u32,
+    ) -> Result<(), Stop> {
+        if let Some(with) = with {
+            let on = engine.trail.variable(variable)?.pkg;
+            self.trace.steps.push(Step { with, on })?;
+        }
+        Ok(())
+    }
+
     /// Adds a step with an incompatibility on a package.
     pub fn step(&mut self, engine: &Engine<'_>, with: u32, variable: u32) -> Result<(), Stop> {
         let with = *at(&self.numbers, with)?;
-        let on = engine.trail.variable(variable)?.pkg;
-        self.trace.steps.push(Step { with, on })?;
-        Ok(())
+        self.step_with(engine, with, variable)
+    }
+
+    /// What follows from a record by the steps from one on; where the record says nothing, from that of the first step by
+    /// the others, if there is one.
+    pub fn followed(&self, from: Option<u32>, first: u32) -> Result<Option<Record>, Stop> {
+        let end = self.steps()?;
+        if let Some(from) = from {
+            return Ok(Some(Record::Follows { from, first, end }));
+        }
+        match self.trace.steps.as_slice().get(first as usize) {
+            None => Ok(None),
+            Some(step) => Ok(Some(Record::Follows {
+                from: step.with,
+                first: first.saturating_add(1),
+                end,
+            })),
+        }
+    }
+
+    /// Adds a record, unless it says nothing. Answers its number.
+    pub fn add(&mut self, record: Option<Record>) -> Result<Option<u32>, Stop> {
+        let Some(record) = record else {
+            return Ok(None);
+        };
+        let number = index_of(self.trace.records.len())?;
+        self.trace.records.push(record)?;
+        Ok(Some(number))
     }
 
     /// The record of what was learnt from a conflict by some of the steps that were kept.
@@ -102,7 +95,7 @@ impl Writer {
         engine: &Engine<'_>,
         conflict: u32,
         kept: (u32, u32),
-    ) -> Result<Record, Stop> {
+    ) -> Result<Option<Record>, Stop> {
         let from = *at(&self.numbers, conflict)?;
         let first = self.steps()?;
         for index in kept.0..kept.1 {
@@ -110,24 +103,28 @@ impl Writer {
                 self.step(engine, with, on)?;
             }
         }
-        let end = self.steps()?;
-        Ok(Record::Follows { from, first, end })
+        self.followed(from, first)
     }
 
-    /// The record of an incompatibility.
-    pub fn record_of(&mut self, engine: &Engine<'_>, incompat: u32) -> Result<Record, Stop> {
+    /// The record of an incompatibility, unless that says nothing.
+    pub fn record_of(
+        &mut self,
+        engine: &Engine<'_>,
+        incompat: u32,
+    ) -> Result<Option<Record>, Stop> {
         match engine.incompats.origin(incompat)? {
-            Origin::Need(index) => Ok(Record::Need(index)),
+            Origin::Need(index) => Ok(Some(Record::Need(index))),
             Origin::Dependency {
                 pkg,
                 ordinal,
                 index,
-            } => Ok(Record::Dependency {
+            } => Ok(Some(Record::Dependency {
                 pkg,
                 ordinal,
                 index,
-            }),
-            Origin::Member(place) => Ok(Record::Member(place)),
+            })),
+            Origin::Member(place) => Ok(Some(Record::Member(place))),
+            Origin::Page => Ok(None),
             Origin::Learnt {
                 conflict,
                 first,
@@ -139,12 +136,13 @@ impl Writer {
     /// Writes the incompatibilities that are cited.
     fn write_cited(&mut self, engine: &Engine<'_>, cited: &Cited) -> Result<(), Stop> {
         for incompat in 0..engine.incompats.count() {
-            let number = index_of(self.trace.records.len())?;
-            self.numbers.push(number)?;
-            if is_set(&cited.incompats, incompat) {
+            let number = if is_set(&cited.incompats, incompat) {
                 let record = self.record_of(engine, incompat)?;
-                self.trace.records.push(record)?;
-            }
+                self.add(record)?
+            } else {
+                None
+            };
+            self.numbers.push(number)?;
         }
         Ok(())
     }
@@ -157,12 +155,10 @@ impl Writer {
         variable: u32,
     ) -> Result<Option<u32>, Stop> {
         let pkg = engine.trail.variable(variable)?.pkg;
-        if !is_set(&cited.barred, variable) || !engine.question.registry.has_yanks(pkg) {
+        if !is_set(&cited.barred, variable) || !engine.task.registry.has_yanks(pkg) {
             return Ok(None);
         }
-        let number = index_of(self.trace.records.len())?;
-        self.trace.records.push(Record::NotAllowed(pkg))?;
-        Ok(Some(number))
+        self.add(Some(Record::NotAllowed(pkg)))
     }
 
     /// Writes which versions are not allowed, of the packages of which that is cited.
@@ -176,10 +172,11 @@ impl Writer {
 
     /// The step by what is not allowed of a package, if that was written.
     fn barred_step(&self, engine: &Engine<'_>, variable: u32) -> Result<Option<Step>, Stop> {
-        let Some(with) = *at(&self.barred, variable)? else {
+        let package = engine.package(variable)?;
+        let Some(with) = *at(&self.barred, package)? else {
             return Ok(None);
         };
-        let on = engine.trail.variable(variable)?.pkg;
+        let on = engine.trail.variable(package)?.pkg;
         Ok(Some(Step { with, on }))
     }
 
@@ -194,7 +191,9 @@ impl Writer {
     /// Adds the steps by all that is not allowed.
     fn step_all_barred(&mut self, engine: &Engine<'_>) -> Result<(), Stop> {
         for variable in 0..count_of(self.barred.len()) {
-            self.step_barred(engine, variable)?;
+            if engine.package(variable)? == variable {
+                self.step_barred(engine, variable)?;
+            }
         }
         Ok(())
     }
@@ -220,14 +219,16 @@ impl Writer {
 
     /// The record that a conflict is resolved from: where no version of a package is left, what is not allowed of it,
     /// and the conflict comes first then.
-    fn begin_end(&mut self, engine: &Engine<'_>, conflict: u32) -> Result<u32, Stop> {
+    fn begin_end(&mut self, engine: &Engine<'_>, conflict: u32) -> Result<Option<u32>, Stop> {
         let with = *at(&self.numbers, conflict)?;
         let Some(barred) = self.barred_on(engine, conflict)? else {
             return Ok(with);
         };
-        let on = barred.on;
-        self.trace.steps.push(Step { with, on })?;
-        Ok(barred.with)
+        if let Some(with) = with {
+            let on = barred.on;
+            self.trace.steps.push(Step { with, on })?;
+        }
+        Ok(Some(barred.with))
     }
 
     /// Writes that the conflict leaves no selection: from the last entry of level 0 to the first, each term
@@ -244,10 +245,8 @@ impl Writer {
             }
         }
         self.step_all_barred(engine)?;
-        let end = self.steps()?;
-        self.trace
-            .records
-            .push(Record::Follows { from, first, end })?;
+        let end = self.followed(from, first)?;
+        let _number = self.add(end)?;
         Ok(())
     }
 
@@ -324,7 +323,7 @@ pub(crate) fn trace_of_selection(engine: &Engine<'_>) -> Result<Trace, Stop> {
 
 /// The trace of a need that nothing meets, since its package is not numbered.
 pub(crate) fn trace_of_need(engine: &Engine<'_>, index: usize) -> Result<Trace, Stop> {
-    let alloc = engine.question.alloc;
+    let alloc = engine.task.alloc;
     let mut records = Vec::new(alloc);
     records.push(Record::Need(index))?;
     Ok(Trace {

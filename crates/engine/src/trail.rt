@@ -1,7 +1,8 @@
 //! The trail: what was decided and derived, in order, and what it leaves of each package.
 
 use crate::bits::Bits;
-use crate::stop::{Stop, at, at_mut, count_of, index_of};
+use crate::stop::{at, at_mut, count_of, index_of};
+use oracle::Stop;
 use std::alloc::Global;
 use terms::Pkg;
 

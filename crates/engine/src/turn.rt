@@ -6,9 +6,9 @@
 
 use crate::bits::Bits;
 use crate::engine::Engine;
-use crate::origins::Origin;
-use crate::stop::{Stop, at_mut, count_of, rows_from};
+use crate::stop::{at_mut, count_of, rows_from};
 use crate::trail::Trail;
+use oracle::Stop;
 use std::alloc::Global;
 use std::cmp::Ordering;
 use terms::Pkg;
@@ -135,8 +135,8 @@ impl Turn {
 impl Engine<'_> {
     /// Lists the packages that the request needs, by their names.
     pub(crate) fn list_needs(&mut self) -> Result<(), Stop> {
-        let needs = self.question.request.needs();
-        let places = places_by_name(self.question.alloc, needs)?;
+        let needs = self.task.request.needs();
+        let places = places_by_name(self.task.alloc, needs)?;
         for place in places.as_slice() {
             self.list_need(needs, *place)?;
         }
@@ -148,44 +148,64 @@ impl Engine<'_> {
         let Some((name, _)) = needs.get(place) else {
             return Ok(());
         };
-        let Some(pkg) = self.question.registry.number(name) else {
+        let Some(pkg) = self.task.registry.number(name) else {
             return Ok(());
         };
-        let variable = self.variable_of(pkg, Origin::Need(place))?;
+        let variable = self.variable_of(pkg)?;
         self.turn.list(variable)
     }
 
     /// Lists what a version depends on.
     fn list_dependencies(&mut self, pkg: Pkg, ordinal: u32) -> Result<(), Stop> {
-        let registry = self.question.registry;
-        for (index, place) in registry.places(pkg, ordinal).iter().enumerate() {
-            let by = Origin::Dependency {
-                pkg,
-                ordinal,
-                index,
-            };
-            let variable = self.variable_of(place.target, by)?;
+        let registry = self.task.registry;
+        for place in registry.places(pkg, ordinal) {
+            let variable = self.variable_of(place.target)?;
             self.turn.list(variable)?;
         }
         Ok(())
     }
 
-    /// Passes a package of which a version is selected, and whose dependencies are among the
+    /// The further page of a page that is to be looked at in its place, if there is one.
+    fn page_behind(&self, page: u32) -> Result<Option<u32>, Stop> {
+        let row = self.trail.variable(page)?;
+        if row.left.is_within(row.entered) {
+            self.selected_page(page)
+        } else {
+            Ok(None)
+        }
+    }
+
+    /// The page of a package on which its version stands, as far as pages are selected; and the last entry by which that is
+    /// so, and the page has the choices that are left of it.
+    fn last_page(&self, package: u32) -> Result<(u32, Option<u32>), Stop> {
+        let mut page = package;
+        let mut entry = self.trail.variable(page)?.last;
+        for _ in 0..self.page_of.len() {
+            let Some(behind) = self.page_behind(page)? else {
+                return Ok((page, entry));
+            };
+            page = behind;
+            entry = entry.max(self.trail.variable(page)?.last);
+        }
+        Ok((page, entry))
+    }
+
+    /// Passes a package of which a version is selected on a page, by an entry, and whose dependencies are among the
     /// incompatibilities. Answers whether it is one.
-    fn pass(&mut self, variable: u32) -> Result<bool, Stop> {
-        let Some(ordinal) = self.selected(variable)? else {
+    fn pass(&mut self, page: u32, by: Option<u32>) -> Result<bool, Stop> {
+        let Some(ordinal) = self.selected(page)? else {
             return Ok(false);
         };
-        let row = *self.trail.variable(variable)?;
+        let row = *self.trail.variable(page)?;
         if !row.left.is_within(row.entered) {
             return Ok(false);
         }
-        self.turn.pass(row.last)?;
+        self.turn.pass(by)?;
         self.list_dependencies(row.pkg, ordinal)?;
         Ok(true)
     }
 
-    /// The package whose turn it is.
+    /// The package whose turn it is, or the page of it.
     pub(crate) fn next_in_walk(&mut self) -> Result<Option<u32>, Stop> {
         for _ in 0..u32::MAX {
             let Some(variable) = self.turn.first_left() else {
@@ -194,8 +214,9 @@ impl Engine<'_> {
             if self.trail.left(variable)? == Bits::absence() {
                 return Err(Stop::Lost);
             }
-            if !self.pass(variable)? {
-                return Ok(Some(variable));
+            let (page, by) = self.last_page(variable)?;
+            if !self.pass(page, by)? {
+                return Ok(Some(page));
             }
         }
         Err(Stop::Lost)

@@ -1,20 +1,11 @@
 //! What a search finds.
 
 use crate::engine::{Engine, Verdict};
-use crate::stop::{Stop, count_of};
-use crate::trace::{Trace, trace_of, trace_of_learnt, trace_of_need, trace_of_selection};
+use crate::stop::count_of;
+use crate::trace::{trace_of, trace_of_learnt, trace_of_need, trace_of_selection};
 use indexmap::IndexMap;
+use oracle::{Claim, Stop, Trace};
 use terms::Pkg;
-
-/// What a search found.
-#[derive(Drop)]
-pub enum Found {
-    /// Packages with the ordinals of their versions, which may make a selection, and the trace of what conflicts
-    /// led to first.
-    Selected(IndexMap<Pkg, u32>, Trace),
-    /// That no selection meets the request, as the trace is to show.
-    Refused(Trace),
-}
 
 impl Engine<'_> {
     /// How many conflicts were met.
@@ -25,7 +16,7 @@ impl Engine<'_> {
     /// What is selected, by package.
     fn selection(&self) -> Result<IndexMap<Pkg, u32>, Stop> {
         let variables = self.trail.variables();
-        let mut selection = IndexMap::with_capacity(self.question.alloc, variables.len())?;
+        let mut selection = IndexMap::with_capacity(self.task.alloc, variables.len())?;
         for variable in 0..count_of(variables.len()) {
             if let Some(ordinal) = self.selected(variable)? {
                 selection.insert(self.trail.variable(variable)?.pkg, ordinal)?;
@@ -34,27 +25,27 @@ impl Engine<'_> {
         Ok(selection)
     }
 
-    fn found(&self, verdict: Verdict) -> Result<Found, Stop> {
+    fn found(&self, verdict: Verdict) -> Result<Claim, Stop> {
         match verdict {
             Verdict::Selected => {
                 let trace = trace_of_learnt(self)?;
-                Ok(Found::Selected(self.selection()?, trace))
+                Ok(Claim::Selected(self.selection()?, trace))
             }
-            Verdict::Refused(conflict) => Ok(Found::Refused(trace_of(self, conflict)?)),
-            Verdict::Unnumbered(need) => Ok(Found::Refused(trace_of_need(self, need)?)),
+            Verdict::Refused(conflict) => Ok(Claim::Refused(trace_of(self, conflict)?)),
+            Verdict::Unnumbered(need) => Ok(Claim::Refused(trace_of_need(self, need)?)),
         }
     }
 
     /// Searches for a selection, whichever is found first.
-    pub fn search(&mut self) -> Result<Found, Stop> {
-        let verdict = self.run_refined()?;
+    pub fn search(&mut self) -> Result<Claim, Stop> {
+        let verdict = self.run_first()?;
         self.found(verdict)
     }
 
     /// Once a selection was found, searches on for the newest one, over what was learnt, and answers the trace
     /// of what rules better versions out than those it has.
     pub fn search_newest(&mut self) -> Result<Trace, Stop> {
-        match self.run_in_order_refined()? {
+        match self.run_in_order()? {
             Verdict::Selected => trace_of_selection(self),
             Verdict::Refused(_) | Verdict::Unnumbered(_) => Err(Stop::Lost),
         }

@@ -6,12 +6,12 @@
 // by its text. If a place were wrong, so might be what the search claims: that is refused, and another search answers.
 
 use crate::bits::{Bits, choice_of};
-use crate::stop::{Stop, at, at_mut, count_of, index_of};
-use crate::wide::Wide;
+use crate::stop::{at, at_mut, count_of, index_of};
+use oracle::Stop;
 use registry::{Place, Registry};
 use std::alloc::Global;
 use std::mem;
-use terms::{Pkg, VSet};
+use terms::Pkg;
 
 /// From how many versions on what all of them depend on is entered before one is decided. Packages with fewer are
 /// decided early. Without this, chains of such packages take 1.6 times as long.
@@ -53,8 +53,6 @@ struct Listed {
     span: Span,
     /// How many versions it had.
     versions: u32,
-    /// The search that listed it.
-    search: u32,
 }
 
 /// The dependencies of packages, in rows, which are kept from search to search: a package has the same ones as long as it
@@ -68,15 +66,6 @@ pub(crate) struct View {
     current: Vec<u32>,
     /// The number of the search, from 1 on.
     search: u32,
-}
-
-/// The choices of these versions.
-pub(crate) fn choices_of(versions: &VSet) -> Bits {
-    let mut choices = Bits::none();
-    for ordinal in versions.iter() {
-        choices = choices.or(Bits::of(choice_of(ordinal)));
-    }
-    choices
 }
 
 /// Whether several versions of a package, which are all, depend on the same, and on something.
@@ -176,12 +165,11 @@ impl View {
         Ok(())
     }
 
-    /// Notes that the version of a choice has the dependencies of the rows at hand.
-    fn share(&mut self, choice: u32) -> Result<(), Stop> {
-        let choice = Bits::of(choice);
+    /// Notes that the versions of these choices have the dependencies of the rows at hand.
+    fn share(&mut self, choices: Bits) -> Result<(), Stop> {
         for row in self.current.as_slice() {
             let row = at_mut(&mut self.rows, *row)?;
-            row.sharing = row.sharing.or(choice);
+            row.sharing = row.sharing.or(choices);
         }
         Ok(())
     }
@@ -195,77 +183,69 @@ impl View {
             if repeats.get(ordinal as usize).copied() != Some(true) {
                 self.find(first, registry.places(pkg, ordinal), ordinal)?;
             }
-            self.share(choice_of(ordinal))?;
+            self.share(Bits::of(choice_of(ordinal)))?;
         }
         let end = index_of(self.rows.len())?;
         Ok(Span { first, end })
     }
 
-    /// Makes the rows of a package that has many versions, of those that have a choice each.
-    fn list_single(&mut self, registry: &Registry, pkg: Pkg, wide: &Wide) -> Result<Span, Stop> {
+    /// Makes the rows of a page: of these versions, which have a choice each.
+    pub fn list_page(
+        &mut self,
+        registry: &Registry,
+        pkg: Pkg,
+        versions: &[u32],
+    ) -> Result<Span, Stop> {
         let first = index_of(self.rows.len())?;
         self.current.clear();
-        for (place, ordinal) in wide.best().iter().enumerate() {
-            let choice = choice_of(count_of(place));
-            if wide.is_single(choice) {
-                self.find(first, registry.places(pkg, *ordinal), *ordinal)?;
-                self.share(choice)?;
-            }
+        for (place, ordinal) in versions.iter().enumerate() {
+            self.find(first, registry.places(pkg, *ordinal), *ordinal)?;
+            self.share(Bits::of(choice_of(count_of(place))))?;
         }
+        let end = index_of(self.rows.len())?;
+        Ok(Span { first, end })
+    }
+
+    /// Makes the rows of a first page whose choices are these, where all versions of the package depend on the same.
+    pub fn list_alike(&mut self, registry: &Registry, pkg: Pkg, all: Bits) -> Result<Span, Stop> {
+        let first = index_of(self.rows.len())?;
+        self.current.clear();
+        self.find(first, registry.places(pkg, 0), 0)?;
+        self.share(all)?;
         let end = index_of(self.rows.len())?;
         Ok(Span { first, end })
     }
 
     // ---- what is asked
 
-    /// What was listed of a package, if that is so still. What a package with many versions depends on is listed anew by
-    /// each search, since its choices are made anew.
+    /// What was listed of a package, if that is so still.
     #[inline(always)]
-    fn kept(&self, pkg: Pkg, versions: u32, is_wide: bool) -> Option<Span> {
+    fn kept(&self, pkg: Pkg, versions: u32) -> Option<Span> {
         let Some(Some(listed)) = self.listed.as_slice().get(pkg as usize).copied() else {
             return None;
         };
-        if listed.versions != versions || (is_wide && listed.search != self.search) {
+        if listed.versions != versions {
             return None;
         }
         Some(listed.span)
     }
 
     /// Lists a package.
-    fn list_anew(
-        &mut self,
-        registry: &Registry,
-        pkg: Pkg,
-        versions: u32,
-        wide: Option<&Wide>,
-    ) -> Result<Span, Stop> {
+    fn list_anew(&mut self, registry: &Registry, pkg: Pkg, versions: u32) -> Result<Span, Stop> {
         for _ in self.listed.len()..pkg as usize + 1 {
             self.listed.push(None)?;
         }
-        let span = match wide {
-            None => self.list(registry, pkg)?,
-            Some(wide) => self.list_single(registry, pkg, wide)?,
-        };
-        let search = self.search;
-        *at_mut(&mut self.listed, pkg)? = Some(Listed {
-            span,
-            versions,
-            search,
-        });
+        let span = self.list(registry, pkg)?;
+        *at_mut(&mut self.listed, pkg)? = Some(Listed { span, versions });
         Ok(span)
     }
 
-    /// Where the dependencies of a package stand, which has maybe many versions.
-    pub fn span(
-        &mut self,
-        registry: &Registry,
-        pkg: Pkg,
-        wide: Option<&Wide>,
-    ) -> Result<Span, Stop> {
+    /// Where the dependencies of a package stand that has no pages.
+    pub fn span(&mut self, registry: &Registry, pkg: Pkg) -> Result<Span, Stop> {
         let versions = registry.version_count(pkg);
-        match self.kept(pkg, versions, wide.is_some()) {
+        match self.kept(pkg, versions) {
             Some(span) => Ok(span),
-            None => self.list_anew(registry, pkg, versions, wide),
+            None => self.list_anew(registry, pkg, versions),
         }
     }
 

@@ -2,8 +2,9 @@
 
 use crate::bits::Bits;
 use crate::incompats::Term;
-use crate::stop::{Stop, at, at_mut};
+use crate::stop::{at, at_mut};
 use crate::trail::Trail;
+use oracle::Stop;
 use std::alloc::Global;
 use std::mem;
 

@@ -5,17 +5,16 @@
 use crate::analysis::Analysis;
 use crate::engine::{Engine, Late, Phase};
 use crate::incompats::{Incompats, Term};
+use crate::opening::PageOf;
 use crate::order::Order;
 use crate::origins::Step;
+use crate::pages::Paged;
 use crate::stop::at_mut;
 use crate::trail::Trail;
 use crate::turn::Turn;
 use crate::view::View;
-use crate::wide::Wide;
-use heuristics::Question;
+use oracle::Task;
 use std::alloc::Global;
-use store::Store;
-use terms::Pkg;
 
 /// The memory of a search that had more incompatibilities is not kept: some 4 MB.
 const MOST_KEPT: u32 = 1 << 14;
@@ -32,8 +31,8 @@ pub struct Workspace {
     analysis: Analysis,
     steps: Vec<Step>,
     numbers: Vec<Option<u32>>,
-    wides: Vec<Option<Wide>>,
-    refined: Vec<(Pkg, u32)>,
+    paged: Vec<Paged>,
+    page_of: Vec<Option<PageOf>>,
     named: Vec<Term>,
     late: Vec<Late>,
     turn: Turn,
@@ -50,8 +49,8 @@ impl Workspace {
             analysis: Analysis::new(alloc),
             steps: Vec::new(alloc),
             numbers: Vec::new(alloc),
-            wides: Vec::new(alloc),
-            refined: Vec::new(alloc),
+            paged: Vec::new(alloc),
+            page_of: Vec::new(alloc),
             named: Vec::new(alloc),
             late: Vec::new(alloc),
             turn: Turn::new(alloc),
@@ -62,12 +61,7 @@ impl Workspace {
 impl<'a> Engine<'a> {
     /// A search for a selection that meets a request, with what is stored of earlier ones, in what earlier searches handed
     /// on. At the first conflict beyond the budget it stops.
-    pub fn new(
-        question: &Question<'a>,
-        store: &'a Store,
-        budget: Option<u32>,
-        workspace: Workspace,
-    ) -> Engine<'a> {
+    pub fn new(task: &Task<'a>, workspace: Workspace) -> Engine<'a> {
         let Workspace {
             view,
             trail,
@@ -76,16 +70,14 @@ impl<'a> Engine<'a> {
             analysis,
             steps,
             numbers,
-            wides,
-            refined,
+            paged,
+            page_of,
             named,
             late,
             turn,
         } = workspace;
         Engine {
-            question: *question,
-            store,
-            budget,
+            task: *task,
             view,
             trail,
             incompats,
@@ -94,9 +86,8 @@ impl<'a> Engine<'a> {
             steps,
             phase: Phase::Lazy,
             numbers,
-            wides,
-            refined,
-            again: 0,
+            paged,
+            page_of,
             asked: 0,
             looks: 0,
             named,
@@ -112,13 +103,12 @@ impl<'a> Engine<'a> {
     /// What the next search is handed.
     pub fn into_workspace(self) -> Workspace {
         let mut engine = self;
-        let alloc = engine.question.alloc;
+        let alloc = engine.task.alloc;
         if engine.incompats.count() > MOST_KEPT {
             drop(engine);
             return Workspace::new(alloc);
         }
         engine.clear();
-        engine.refined.clear();
         engine.into_parts()
     }
 
@@ -131,8 +121,8 @@ impl<'a> Engine<'a> {
             analysis,
             steps,
             numbers,
-            wides,
-            refined,
+            paged,
+            page_of,
             named,
             late,
             turn,
@@ -146,8 +136,8 @@ impl<'a> Engine<'a> {
             analysis,
             steps,
             numbers,
-            wides,
-            refined,
+            paged,
+            page_of,
             named,
             late,
             turn,
@@ -163,18 +153,18 @@ impl<'a> Engine<'a> {
         }
     }
 
-    /// Takes back all but the count of conflicts, what versions are to have a choice of their own, and how often the search
-    /// began again for those.
-    pub(crate) fn clear(&mut self) {
+    /// Takes back all but the count of conflicts.
+    fn clear(&mut self) {
         self.clear_numbers();
-        self.view.begin_next(self.question.alloc);
+        self.view.begin_next(self.task.alloc);
         self.trail.clear();
         self.incompats.clear();
         self.order.clear();
         self.analysis.clear();
         self.steps.clear();
         self.phase = Phase::Lazy;
-        self.wides.clear();
+        self.paged.clear();
+        self.page_of.clear();
         self.asked = 0;
         self.looks = 0;
         self.looked = 0;

@@ -5,8 +5,8 @@ use Rattle.std.specs.List.{AllZip}
 use Rattle.versions.specs.declared.refusal.Refusal.{Refusal}
 use Rattle.registry.specs.Registry.{Packages}
 use Rattle.registry.specs.Requests.{Wanted}
-use Rattle.solver.specs.declared.solving.Outcome.{Outcome}
-use Rattle.solver.specs.declared.solving.Options.{Options}
+use Rattle.solver.specs.declared.outcome.Outcome.{Outcome}
+use Rattle.oracle.specs.declared.options.Options.{Options}
 use Rattle.pool.specs.Answering.{AreAnswers, AreBegun, IsAnswerAt, IsAnswerTo}
 
 -- ---- two lists side by side

@@ -1,19 +1,17 @@
 -- What requests may be answered.
-use Rattle.std.specs.Prelude.{◌≡◌, ◌≤◌, ℕ, List, length, take, Some, IfOk, Result, MatchResult, Vec, slice_get, true, vec_capacity, vec_len}
+use Rattle.std.specs.Prelude.{◌≡◌, ◌≤◌, ℕ, List, length, take, Some, Result, Vec, slice_get, vec_capacity, vec_len}
 use Rattle.std.specs.Global.{Global}
 use Rattle.std.specs.List.{AllZip}
 use Rattle.versions.specs.declared.refusal.Refusal.{Refusal}
 use Rattle.registry.specs.Registry.{Packages}
 use Rattle.registry.specs.Requests.{Wanted}
-use Rattle.solver.specs.Outcomes.{Answers, IfPreferredServes, IsLawful, MayStop, SelectsNewest}
-use Rattle.solver.specs.declared.solving.Options.{Options}
-use Rattle.solver.specs.declared.solving.Outcome.{Outcome}
+use Rattle.solver.specs.Outcomes.{Solves}
+use Rattle.oracle.specs.declared.options.Options.{Options}
+use Rattle.solver.specs.declared.outcome.Outcome.{Outcome}
 
--- a request, with how it is to be answered, has a lawful outcome, or is left without one for lack of memory or since its budget is spent; where the preferred selection serves, the outcome is that selection, and where the newest is asked for, what is selected is that one
-pub record IsAnswerTo (packages : Packages) (asked : Wanted × Options) (answer : Result Outcome Refusal) : Type 0 where
-  pub lawful : MatchResult answer (IsLawful packages asked.0 asked.1.explain) (MayStop packages asked.0 asked.1.budget)
-  pub preferred : IfPreferredServes packages asked.0 (λ s. IfOk answer (Answers packages s))
-  pub newest : asked.1.newest ≡ true → IfOk answer (SelectsNewest packages asked.0)
+-- what a request comes to, with how it is to be answered
+abbrev pub IsAnswerTo : Packages → Wanted × Options → Result Outcome Refusal → Type 0
+IsAnswerTo packages asked = Solves packages asked.0 asked.1
 
 -- each request is answered at its place
 abbrev pub AreAnswers : Packages → List (Wanted × Options) → List (Result Outcome Refusal) → Type 0

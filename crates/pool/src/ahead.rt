@@ -94,13 +94,14 @@ impl<'a, G: Gate, Q: Query> Ahead<'a, G, Q> {
         requires { index < length Q.asked }
         ensures { result ≡ index }
     {
-        if self.share > 1 {
+        let is_looked_at = self.share > 1;
+        if is_looked_at {
             if let Some(found) = self.try_find(index, workspace) {
                 return found;
             }
             self.wake(rt);
         }
-        self.find_here(index, workspace)
+        self.find_here(index, is_looked_at, workspace)
     }
 
     /// Wakes the calling thread, if what it waits for is there.
@@ -118,12 +119,17 @@ impl<'a, G: Gate, Q: Query> Ahead<'a, G, Q> {
         self.finder.try_find(index, workspace)
     }
 
-    /// The answer to the request at an index.
-    pub(crate) fn find_here(&self, index: usize, workspace: &mut Workspace) -> Answered<Q>
+    /// The answer to the request at an index. Where `is_looked_at`, [`Ahead::try_find`] left it open.
+    pub(crate) fn find_here(
+        &self,
+        index: usize,
+        is_looked_at: bool,
+        workspace: &mut Workspace,
+    ) -> Answered<Q>
         requires { index < length Q.asked }
         ensures { result ≡ index }
     {
-        self.finder.find(index, workspace)
+        self.finder.find(index, is_looked_at, workspace)
     }
 
     /// The answer to the request at an index, if it was found and not taken yet.

@@ -40,7 +40,7 @@ pub(crate) struct Pace {
 /// longer search, and says how many threads the others are worth: one for each such effort that they will
 /// take, if they are like the first. No gate is asked.
 pub(crate) fn begin<G, Q: Query>(
-    finder: &Finder<'_, G, Q>,
+    finder: &mut Finder<'_, G, Q>,
     workers: usize,
     slots: &mut Vec<Option<Answered<Q>>>,
     workspace: &mut Workspace,
@@ -65,7 +65,7 @@ pub(crate) fn begin<G, Q: Query>(
 /// Answers requests until as much was done as starting a thread takes, and says how much it was. The last
 /// one is left, since no thread would be started for it alone.
 fn answer_first<G, Q: Query>(
-    finder: &Finder<'_, G, Q>,
+    finder: &mut Finder<'_, G, Q>,
     slots: &mut Vec<Option<Answered<Q>>>,
     workspace: &mut Workspace,
 ) -> usize
@@ -78,6 +78,7 @@ fn answer_first<G, Q: Query>(
             break;
         }
         let Some(found) = finder.try_find(index, workspace) else {
+            finder.note_looked_at(index);
             return usize::MAX;
         };
         effort = effort.saturating_add(effort_of(found.answer()));
@@ -86,8 +87,8 @@ fn answer_first<G, Q: Query>(
     effort
 }
 
-/// The answer to a request, unless more than [`CONFLICTS_WITHOUT_THREADS`] conflicts stand in its way. Where no
-/// memory was left for it, it is [`Refusal::NoMemory`].
+/// The answer to a request, unless more than [`CONFLICTS_WITHOUT_THREADS`] conflicts stand in its way or it names a
+/// larger budget. Where no memory was left for it, it is [`Refusal::NoMemory`].
 pub fn try_answer(
     alloc: Global,
     registry: &Registry,
@@ -99,11 +100,12 @@ pub fn try_answer(
     ensures { IfSome result (IsAnswerTo registry.now.packages asked.now) }
 {
     let (request, options) = asked;
-    if options
-        .budget
-        .is_some_and(|budget| budget <= CONFLICTS_WITHOUT_THREADS)
-    {
-        return Some(answer(alloc, registry, store, asked, workspace));
+    if let Some(budget) = options.budget {
+        if budget > CONFLICTS_WITHOUT_THREADS {
+            // What is counted against a budget is counted from the start on: nothing would be kept of a look.
+            return None;
+        }
+        return Some(answer(alloc, registry, store, asked, false, workspace));
     }
     match solve_at_first(
         alloc,

@@ -66,6 +66,7 @@ pub fn answer_all<R: Threads + Wait + Sync>(
         registry,
         store,
         asked,
+        false,
         workers,
         &mut workspace,
         &mut all,
@@ -97,6 +98,7 @@ pub fn answer_all_with<R: Threads + Wait + Sync, G: Gate + Sync>(
         registry,
         store,
         asked: requests.as_slice(),
+        looked_at: None,
         gate,
     };
     let mut workspace = Workspace::new(alloc);

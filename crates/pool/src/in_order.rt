@@ -3,7 +3,7 @@ ghost use Rattle.std.specs.Prelude.{◌≡◌, ◌+◌, ◌<◌, ◌≤◌, List
 ghost use Rattle.derivations.specs.Learning.{AllStand};
 ghost use Rattle.registry.specs.Registry.{Packages};
 ghost use Rattle.registry.specs.Requests.{Wanted};
-ghost use Rattle.solver.specs.declared.solving.Options.{Options};
+ghost use Rattle.oracle.specs.declared.options.Options.{Options};
 ghost use Rattle.pool.specs.Ahead.{AreFirst, AreInPlace};
 ghost use Rattle.pool.specs.Answering.{IsAnswerAt};
 ghost use Rattle.pool.specs.Taking.{IsTakerOf};
@@ -36,6 +36,8 @@ pub struct Answers<'a, G, Q: Query> {
     held: Option<Answered<Q>>,
     /// Whether the calling thread has begun the next request.
     is_own: bool,
+    /// Whether it has looked at that one, and left it open.
+    is_looked_at: bool,
 }
 
 impl<'a, G, Q: Query> Model for Answers<'a, G, Q> {
@@ -64,19 +66,19 @@ impl<'a, G: Gate, Q: Query> Answers<'a, G, Q> {
             at: 0,
             held: None,
             is_own: false,
+            is_looked_at: false,
         }
     }
 
     /// Whether the next answer is there, or was found now since few conflicts stood in its way. Where it isn't,
-    /// [`Answers::next`] may take long. The first one is not looked for here: no other is held back by its search, and
-    /// one that is cut short would be made again.
+    /// [`Answers::next`] may take long. The first one is not looked for here: no other is held back by its search.
     pub fn is_ready<R: Wait>(&mut self, rt: &R) -> bool
         requires { self.old < length Q.asked }
         ensures { self.new ≡ self.old }
     {
-        let was_own = self.is_own;
         self.look(rt);
-        if self.at > 0 && self.is_own && !was_own {
+        if self.at > 0 && self.is_own && !self.is_looked_at {
+            self.is_looked_at = true;
             self.held = self.ahead.try_find(self.at, self.workspace);
             if self.held.is_some() {
                 self.leave(rt);
@@ -95,6 +97,7 @@ impl<'a, G: Gate, Q: Query> Answers<'a, G, Q> {
         // The next place is no more than their number, and so fits.
         let _count = self.ahead.count();
         self.held = None;
+        self.is_looked_at = false;
         self.at += 1;
         found.into_answer()
     }
@@ -114,7 +117,9 @@ impl<'a, G: Gate, Q: Query> Answers<'a, G, Q> {
                 return found;
             }
         }
-        let found = self.ahead.find_here(self.at, self.workspace);
+        let found = self
+            .ahead
+            .find_here(self.at, self.is_looked_at, self.workspace);
         self.leave(rt);
         found
     }
@@ -164,7 +169,7 @@ pub trait Consumer {
     ghost use Rattle.std.specs.Prelude.{List};
     ghost use Rattle.registry.specs.Registry.{Packages};
     ghost use Rattle.registry.specs.Requests.{Wanted};
-    ghost use Rattle.solver.specs.declared.solving.Options.{Options};
+    ghost use Rattle.oracle.specs.declared.options.Options.{Options};
 
     /// What it tells at the end.
     type Output;
@@ -191,7 +196,8 @@ pub trait Consumer {
 /// itself: that for the first requests, until as much was done as starting a thread takes, and for the next one as long
 /// as no other thread searches, since none has begun yet, none could be started or there was no room to keep an answer.
 ///
-/// The calling thread searches in this workspace.
+/// The calling thread searches in this workspace. Where `is_looked_at`, [`try_answer`] left the first request open, and
+/// what that found out isn't looked for again.
 ///
 /// When the consumer ends, no other request is begun, and those that are searched for are waited for.
 pub fn answer_in_order<R: Threads + Wait + Sync, C: Consumer>(
@@ -200,6 +206,7 @@ pub fn answer_in_order<R: Threads + Wait + Sync, C: Consumer>(
     registry: &Registry,
     store: &Store,
     requests: &[RequestWithOptions],
+    is_looked_at: bool,
     workers: usize,
     workspace: &mut Workspace,
     consumer: &mut C,
@@ -213,6 +220,7 @@ pub fn answer_in_order<R: Threads + Wait + Sync, C: Consumer>(
         registry,
         store,
         asked: requests,
+        looked_at: is_looked_at.then_some(0),
         gate: &Idle,
     };
     start::<Brand, Idle, R, C>(rt, work, workers, false, workspace, consumer)
@@ -234,7 +242,7 @@ pub(crate) fn start<Q: Query + Send + Sync, G: Gate + Sync, R: Threads + Wait + 
     requires can { C.can_consume consumer.old Q.packages Q.asked }
     ensures { C.consumes consumer.old Q.packages Q.asked result consumer.new }
 {
-    let finder: Finder<'_, G, Q> = Finder::new(work);
+    let mut finder: Finder<'_, G, Q> = Finder::new(work);
     let alloc = finder.alloc();
     let Ok(mut slots) = Vec::with_capacity(alloc, finder.count()) else {
         let slots = Vec::new(alloc);
@@ -246,7 +254,7 @@ pub(crate) fn start<Q: Query + Send + Sync, G: Gate + Sync, R: Threads + Wait + 
             share: 1,
         }
     } else {
-        begin(&finder, workers, &mut slots, workspace)
+        begin(&mut finder, workers, &mut slots, workspace)
     };
     share_out(rt, finder, slots, pace, workspace, consumer)
 }

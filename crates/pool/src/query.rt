@@ -2,7 +2,7 @@
 ghost use Rattle.std.specs.Prelude.{◌≡◌, ℕ, List, IfSome};
 ghost use Rattle.registry.specs.Registry.{Packages};
 ghost use Rattle.registry.specs.Requests.{Wanted};
-ghost use Rattle.solver.specs.declared.solving.Options.{Options};
+ghost use Rattle.oracle.specs.declared.options.Options.{Options};
 ghost use Rattle.pool.specs.Answering.{IsAnswerAt};
 
 use crate::work::SolveResult;
@@ -14,7 +14,7 @@ pub trait Query {
     ghost use Rattle.std.specs.Prelude.{List};
     ghost use Rattle.registry.specs.Registry.{Packages};
     ghost use Rattle.registry.specs.Requests.{Wanted};
-    ghost use Rattle.solver.specs.declared.solving.Options.{Options};
+    ghost use Rattle.oracle.specs.declared.options.Options.{Options};
 
     ghost packages: { Packages };
 

@@ -7,7 +7,7 @@ use crate::alone::try_answer;
 use crate::gate::Gate;
 use crate::query::{Answered, Query};
 use registry::{Registry, Request};
-use solver::{Options, Outcome, Workspace, solve_in};
+use solver::{Options, Outcome, Workspace, solve_in, solve_looked_at};
 use std::alloc::Global;
 use std::marker::{Model, PhantomData};
 use store::Store;
@@ -26,20 +26,26 @@ pub(crate) struct Work<'a, G> {
     pub(crate) registry: &'a Registry,
     pub(crate) store: &'a Store,
     pub(crate) asked: &'a [RequestWithOptions],
+    /// The index of the request that [`try_answer`] left open before any thread was started.
+    pub(crate) looked_at: Option<usize>,
     pub(crate) gate: &'a G,
 }
 
-/// Answers a request.
+/// Answers a request. Where `is_looked_at`, [`try_answer`] left it open; it has looked at none that names a budget.
 pub(crate) fn answer(
     alloc: Global,
     registry: &Registry,
     store: &Store,
     asked: &RequestWithOptions,
+    is_looked_at: bool,
     workspace: &mut Workspace,
 ) -> SolveResult
     requires { All (AllStand registry.now.packages) store.now.members }
     ensures { IsAnswerTo registry.now.packages asked.now result }
 {
+    if is_looked_at && asked.1.budget.is_none() {
+        return solve_looked_at(alloc, registry, &asked.0, store, asked.1, workspace);
+    }
     solve_in(alloc, registry, &asked.0, store, asked.1, workspace)
 }
 
@@ -87,11 +93,24 @@ impl<'a, G, Q: Query> Finder<'a, G, Q> {
         self.work.asked.len()
     }
 
+    /// Notes that [`Finder::try_find`] left the request at an index open.
+    pub(crate) fn note_looked_at(&mut self, index: usize) {
+        self.work.looked_at = Some(index);
+    }
+
+    /// Whether that is noted of the request at an index.
+    fn has_looked_at(&self, index: usize) -> bool {
+        self.work.looked_at == Some(index)
+    }
+
     /// The answer to the request at an index, if few conflicts stand in its way. No gate is asked.
     pub(crate) fn try_find(&self, index: usize, workspace: &mut Workspace) -> Option<Answered<Q>>
         requires { index < length Q.asked }
         ensures { IfSome result (λ answered. answered ≡ index) }
     {
+        if self.has_looked_at(index) {
+            return None;
+        }
         match try_answer(
             self.work.alloc,
             self.work.registry,
@@ -106,8 +125,13 @@ impl<'a, G, Q: Query> Finder<'a, G, Q> {
 }
 
 impl<'a, G: Gate, Q: Query> Finder<'a, G, Q> {
-    /// The answer to the request at an index.
-    pub(crate) fn find(&self, index: usize, workspace: &mut Workspace) -> Answered<Q>
+    /// The answer to the request at an index. Where `is_looked_at`, [`Finder::try_find`] left it open.
+    pub(crate) fn find(
+        &self,
+        index: usize,
+        is_looked_at: bool,
+        workspace: &mut Workspace,
+    ) -> Answered<Q>
         requires { index < length Q.asked }
         ensures { result ≡ index }
     {
@@ -117,6 +141,7 @@ impl<'a, G: Gate, Q: Query> Finder<'a, G, Q> {
             self.work.registry,
             self.work.store,
             &self.work.asked[index],
+            is_looked_at || self.has_looked_at(index),
             workspace,
         );
         self.work.gate.after(index);

@@ -1,6 +1,6 @@
 //! Calls of chains, over lines that a row gives.
 
-use chains::{Chain, Conclusion, Place, Stop};
+use checker::{Chain, Conclusion, Place, Stop};
 use derivations::{CausedIncompatibility, Learnt};
 use rows::{AnswerText, CallResult, Shows, Unread, both, learnt_at, size_at};
 use serde_json::Value;

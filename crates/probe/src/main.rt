@@ -4,6 +4,8 @@
 //!
 //! A call is guarded by what the crate offers to test what the call requires; where that does not hold, the answer
 //! says that the call was left out.
+//!
+//! With the word `team` it reads no rows: it runs the example of that name, and writes what that tells.
 #![tactic(auto)]
 
 mod chain_calls;
@@ -22,8 +24,22 @@ mod solver_calls;
 mod term_calls;
 mod walk_calls;
 
-use std::io;
+use std::env::{self, Env};
+use std::io::{self, Write};
 
 fn main(rt: HostRuntime) -> io::Result<()> {
-    session::serve(&rt)
+    if !is_for_team(&rt)? {
+        return session::serve(&rt);
+    }
+    let mut text = Vec::new(rt.alloc());
+    match team::run(&rt, rt.alloc(), &mut text) {
+        Ok(()) => rt.stdout().write_all(text.as_slice()),
+        Err(refusal) => println!(rt; "{}", refusal.name()),
+    }
+}
+
+// Whether the first word behind the program's name is `team`.
+fn is_for_team<R: Env + AllocGlobal>(rt: &R) -> io::Result<bool> {
+    let mut words = env::args(rt)?;
+    Ok(words.nth(1).is_some_and(|word| word.as_str() == "team"))
 }

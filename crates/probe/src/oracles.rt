@@ -1,13 +1,11 @@
 //! Oracles that lose or lie, so that rows show that no answer depends on what an oracle says.
 
-use engine::{Engine, Found, Stop, Trace, Workspace};
-use heuristics::Question;
+use engine::{Engine, Workspace};
 use indexmap::IndexMap;
+use oracle::{Claim, Oracle, Stop, Task, Trace};
 use rows::{Unread, text_at};
 use serde_json::Value;
-use solver::Oracle;
 use std::alloc::Global;
-use store::Store;
 use terms::Pkg;
 
 /// What an oracle says wrongly.
@@ -90,12 +88,12 @@ fn listed(alloc: Global, decided: &IndexMap<Pkg, u32>) -> Result<Vec<(Pkg, u32)>
 }
 
 impl<'a> Liar<'a> {
-    pub fn new(question: Question<'a>, store: &'a Store, lie: Lie) -> Liar<'a> {
+    pub fn new(task: Task<'a>, lie: Lie) -> Liar<'a> {
         Liar {
-            alloc: question.alloc,
-            engine: Engine::new(&question, store, None, Workspace::new(question.alloc)),
+            alloc: task.alloc,
+            engine: Engine::new(&task, Workspace::new(task.alloc)),
             lie,
-            first: Vec::new(question.alloc),
+            first: Vec::new(task.alloc),
         }
     }
 
@@ -104,27 +102,27 @@ impl<'a> Liar<'a> {
         &mut self,
         decided: IndexMap<Pkg, u32>,
         trace: Trace,
-    ) -> Result<Found, Stop> {
+    ) -> Result<Claim, Stop> {
         match self.lie {
             Lie::Selection => {
                 let others = with_other_versions(self.alloc, &decided)?;
-                Ok(Found::Selected(others, trace))
+                Ok(Claim::Selected(others, trace))
             }
-            Lie::Refusal => Ok(Found::Refused(self.engine.search_newest()?)),
+            Lie::Refusal => Ok(Claim::Refused(self.engine.search_newest()?)),
             Lie::First => {
                 self.first = listed(self.alloc, &decided)?;
-                Ok(Found::Selected(decided, trace))
+                Ok(Claim::Selected(decided, trace))
             }
-            Lie::Lost | Lie::Newest | Lie::Ruling => Ok(Found::Selected(decided, trace)),
+            Lie::Lost | Lie::Newest | Lie::Ruling => Ok(Claim::Selected(decided, trace)),
         }
     }
 
     /// What is said in place of a refusal.
-    fn changed_refusal(&self, trace: Trace) -> Found {
+    fn changed_refusal(&self, trace: Trace) -> Claim {
         match self.lie {
-            Lie::Selection => Found::Selected(IndexMap::new(self.alloc), trace),
-            Lie::Refusal => Found::Refused(on_other_packages(trace)),
-            Lie::Lost | Lie::Newest | Lie::Ruling | Lie::First => Found::Refused(trace),
+            Lie::Selection => Claim::Selected(IndexMap::new(self.alloc), trace),
+            Lie::Refusal => Claim::Refused(on_other_packages(trace)),
+            Lie::Lost | Lie::Newest | Lie::Ruling | Lie::First => Claim::Refused(trace),
         }
     }
 
@@ -146,13 +144,13 @@ impl<'a> Liar<'a> {
 }
 
 impl Oracle for Liar<'_> {
-    fn search(&mut self) -> Result<Found, Stop> {
+    fn search(&mut self) -> Result<Claim, Stop> {
         if self.lie == Lie::Lost {
             return Err(Stop::Lost);
         }
         match self.engine.search()? {
-            Found::Selected(decided, trace) => self.changed_selection(decided, trace),
-            Found::Refused(trace) => Ok(self.changed_refusal(trace)),
+            Claim::Selected(decided, trace) => self.changed_selection(decided, trace),
+            Claim::Refused(trace) => Ok(self.changed_refusal(trace)),
         }
     }
 

@@ -5,21 +5,11 @@ use rows::{AnswerText, Shows, Unread, whole};
 use serde_json::Value;
 use solver::{Options, Outcome};
 
-/// How a row asks its request to be answered: with the newest selection where it says `"newest":true`.
+/// How a row asks its request to be answered.
 pub fn options_at(row: &Value) -> Result<Options, Unread> {
-    options_with(row, false)
-}
-
-/// The same of a seat: with the newest selection unless it says `"newest":false`.
-pub fn seat_options_at(row: &Value) -> Result<Options, Unread> {
-    options_with(row, true)
-}
-
-fn options_with(row: &Value, newest: bool) -> Result<Options, Unread> {
     Ok(Options {
         budget: budget_at(row)?,
         explain: explains(row),
-        newest: is_for_newest(row, newest),
     })
 }
 
@@ -36,14 +26,6 @@ fn explains(row: &Value) -> bool {
     match row.get("explain") {
         Some(explain) => explain.as_bool() != Some(false),
         None => true,
-    }
-}
-
-/// Whether a row asks for the newest selection, or what holds where it doesn't say.
-fn is_for_newest(row: &Value, unsaid: bool) -> bool {
-    match row.get("newest") {
-        Some(newest) => newest.as_bool() == Some(true),
-        None => unsaid,
     }
 }
 

@@ -2,10 +2,10 @@
 
 ghost use Rattle.std.specs.Prelude.{◌≡◌, ℕ, Option, Some, true, false, ◌<◌, length};
 ghost use Rattle.terms.specs.Terms.{true_of};
-ghost use Rattle.partial.specs.Assignments.{is_decided, says, IsOpenTo};
+ghost use Rattle.search.specs.Assignments.{is_decided, says, IsOpenTo};
 
-use partial::{Partial, Satisfaction};
 use rows::{AnswerText, CallResult, Given, Unread, given, given_if, items, member, text, whole};
+use search::{Partial, Satisfaction};
 use serde_json::Value;
 use std::alloc::Global;
 use terms::{Incompat, Pkg, Relation, Term, VSet, relation};

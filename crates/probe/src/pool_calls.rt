@@ -114,6 +114,7 @@ fn handed_over<R: Threads + Wait + Sync>(
         registry,
         &store,
         &requests,
+        false,
         workers,
         &mut workspace,
         &mut first,

@@ -4,7 +4,7 @@
 ghost use Rattle.std.specs.Prelude.{◌≡◌, IfOk};
 
 use crate::item_texts::put_item;
-use crate::outcomes::{offered, seat_options_at};
+use crate::outcomes::{offered, options_at};
 use chronicle::{Entry, Mark, Seat, Stamp};
 use derivations::Learnt;
 use registry::Request;
@@ -238,7 +238,7 @@ fn resolve(
 ) -> Result<CallResult, Unread>
     ensures { seat.new.row ≡ seat.old.row }
 {
-    let options = seat_options_at(given)?;
+    let options = options_at(given)?;
     let request = request_at(alloc, given)?;
     let answer = resolve_told(alloc, learns, seat, &request, options);
     drop(request);
@@ -331,7 +331,7 @@ fn resolved(
 ) -> Result<(Stamp, Outcome), Refusal>
     ensures { seat.new.row ≡ seat.old.row }
 {
-    if !options.explain || !options.newest {
+    if !options.explain {
         return seat.resolve_with(request, options);
     }
     match options.budget {

@@ -6,13 +6,13 @@ ghost use Rattle.derivations.specs.Learning.{AllStand};
 use crate::oracles::{Liar, lie_at};
 use crate::outcomes::{offered, options_at, put_outcome};
 use derivations::Learnt;
-use heuristics::Question;
+use oracle::Task;
 use registry::{Registry, Request};
 use rows::{AnswerText, CallResult, Shows, Unread, request_at, whole_at};
 use serde_json::Value;
 use solver::{
-    Options, Outcome, Workspace, solve, solve_at_first, solve_by, solve_in, solve_with,
-    solve_within,
+    Options, Outcome, Workspace, solve, solve_at_first, solve_by, solve_in, solve_looked_at,
+    solve_with, solve_within,
 };
 use std::alloc::Global;
 use store::Store;
@@ -44,6 +44,7 @@ fn answered(
         "solve_with" => Ok(solve_with(alloc, registry, request, &store, options)),
         "solve_in" => Ok(solved_again(alloc, registry, request, &store, options)),
         "solve_at_first" => solved_at_first(alloc, registry, request, &store, options, row),
+        "solve_looked_at" => solved_looked_at(alloc, registry, request, &store, options, row),
         "solve_by" => solved_by(alloc, registry, request, &store, options, row),
         _ => Err(Unread::Row),
     };
@@ -51,7 +52,7 @@ fn answered(
     Ok(outcome??)
 }
 
-/// Any selection, within the budget of conflicts that there may be.
+/// Without options, within the budget of conflicts that there may be.
 fn solved(
     alloc: Global,
     registry: &Registry,
@@ -124,6 +125,50 @@ fn solved_at_first(
     Ok(outcome)
 }
 
+/// After a first look.
+fn solved_looked_at(
+    alloc: Global,
+    registry: &Registry,
+    request: &Request,
+    store: &Store,
+    options: Options,
+    row: &Value,
+) -> Result<Result<Outcome, Refusal>, Unread>
+    requires { All (AllStand registry.now.packages) store.now.members }
+{
+    let conflicts = whole_at(row, "conflicts")?;
+    let mut workspace = Workspace::new(alloc);
+    let outcome = asked_after_a_look(
+        alloc,
+        registry,
+        request,
+        store,
+        options,
+        conflicts,
+        &mut workspace,
+    );
+    drop(workspace);
+    Ok(outcome)
+}
+
+fn asked_after_a_look(
+    alloc: Global,
+    registry: &Registry,
+    request: &Request,
+    store: &Store,
+    options: Options,
+    conflicts: u32,
+    workspace: &mut Workspace,
+) -> Result<Outcome, Refusal>
+    requires { All (AllStand registry.now.packages) store.now.members }
+{
+    let first = solve_at_first(
+        alloc, registry, request, store, options, conflicts, workspace,
+    );
+    drop(first);
+    solve_looked_at(alloc, registry, request, store, options, workspace)
+}
+
 /// By an oracle that loses or lies.
 fn solved_by(
     alloc: Global,
@@ -136,12 +181,17 @@ fn solved_by(
     requires { All (AllStand registry.now.packages) store.now.members }
 {
     let lie = lie_at(row)?;
-    let question = Question {
+    let task = Task {
         alloc,
         registry,
         request,
+        store,
+        options: Options {
+            budget: None,
+            explain: options.explain,
+        },
     };
-    let mut oracle = Liar::new(question, store, lie);
+    let mut oracle = Liar::new(task, lie);
     let outcome = solve_by(alloc, registry, request, store, options, &mut oracle);
     drop(oracle);
     Ok(outcome)

@@ -11,7 +11,7 @@ use Rattle.command_line.specs.CommandLine.{program_app}
 use Rattle.endings.specs.Ending.{IsUnread, end_of_load, end_of_run}
 use Rattle.registryd.specs.CommandOutcomes.{BreaksFrom, Ends, Falls, HasBroken, HasFallen, HasHelped, HasKept, HasNoJournal, HasNotBegun, HasServed, HasStopped, ServesFrom, Stops, TellsOfFile}
 use Rattle.session.specs.Streams.{AreUntouched, streams}
-use Rattle.command_line.specs.Words.{AreMixed, AreOpposed, AskToKeep, AskToRace, AskToServe, HasManyFiles, HasMixedFiles, HasOpposedFlags, IsKeep, IsServe, MayAskForHelp, Says, SaysNewest}
+use Rattle.command_line.specs.Words.{AreMixed, AskToKeep, AskToRace, AskToServe, HasManyFiles, HasMixedFiles, IsKeep, IsServe, MayAskForHelp, Says}
 use Rattle.command_line.specs.declared.words.TheConstants.{MOST_FILES}
 use Rattle.endings.specs.Shown.{shown_text}
 use Rattle.endings.specs.declared.fault.FileFault.{FileFault}
@@ -23,33 +23,33 @@ use Rattle.command_line.specs.declared.words.Words.{Words}
 use Rattle.command_line.specs.declared.words.Words.TheVariants.{Keep, Serve}
 
 -- serving, with the files that are named
-serve_asked : (words : Words) (workers : ℕ) (budget : Option ℕ) (newest : Bool) (load save : Option (String Global)) (given : Option (Text × List Row)) (from to : Option Text) → Says words given
-    → words ≡ Serve workers budget newest load save → from ≡ option_map string_bytes load → to ≡ option_map string_bytes save → IsServe budget newest from to given
-serve_asked words workers budget newest load save given from to says is from_is to_is =
-    let read : Says (Serve workers budget newest load save) given = subst (λ (w : Words). Says w given) is says in
+serve_asked : (words : Words) (workers : ℕ) (budget : Option ℕ) (load save : Option (String Global)) (given : Option (Text × List Row)) (from to : Option Text) → Says words given
+    → words ≡ Serve workers budget load save → from ≡ option_map string_bytes load → to ≡ option_map string_bytes save → IsServe budget from to given
+serve_asked words workers budget load save given from to says is from_is to_is =
+    let read : Says (Serve workers budget load save) given = subst (λ (w : Words). Says w given) is says in
     elim read.1 [
-      | inl serve ↦ (read.0, serve.0, serve.1.1, serve.1.2, sym serve.1.3 ∙ sym from_is, sym serve.1.4 ∙ sym to_is, serve.1.5)
+      | inl serve ↦ (read.0, serve.0, serve.1.1, sym serve.1.2 ∙ sym from_is, sym serve.1.3 ∙ sym to_is, serve.1.4)
       | inr race ↦ absurd race.1
     ]
 
-pub serve_asks : (line : List Text) (words : Words) (workers : ℕ) (budget : Option ℕ) (newest : Bool) (load save : Option (String Global)) (from to : Option Text) → fault_of program_app line ≡ []
-    → Says words (subcommand_of program_app line) → words ≡ Serve workers budget newest load save → from ≡ option_map string_bytes load → to ≡ option_map string_bytes save → AskToServe line budget newest from to
-serve_asks line words workers budget newest load save from to taken says is from_is to_is =
-    (taken, serve_asked words workers budget newest load save (subcommand_of program_app line) from to says is from_is to_is)
+pub serve_asks : (line : List Text) (words : Words) (workers : ℕ) (budget : Option ℕ) (load save : Option (String Global)) (from to : Option Text) → fault_of program_app line ≡ []
+    → Says words (subcommand_of program_app line) → words ≡ Serve workers budget load save → from ≡ option_map string_bytes load → to ≡ option_map string_bytes save → AskToServe line budget from to
+serve_asks line words workers budget load save from to taken says is from_is to_is =
+    (taken, serve_asked words workers budget load save (subcommand_of program_app line) from to says is from_is to_is)
 
 -- serving, with a journal that is kept
-keep_asked : (words : Words) (workers : ℕ) (budget : Option ℕ) (newest : Bool) (journal : String Global) (given : Option (Text × List Row)) (name : Text) → Says words given → words ≡ Keep workers budget newest journal → name ≡ string_bytes journal
-    → IsKeep budget newest name given
-keep_asked words workers budget newest journal given name says is name_is =
-    let read : Says (Keep workers budget newest journal) given = subst (λ (w : Words). Says w given) is says in
+keep_asked : (words : Words) (workers : ℕ) (budget : Option ℕ) (journal : String Global) (given : Option (Text × List Row)) (name : Text) → Says words given → words ≡ Keep workers budget journal → name ≡ string_bytes journal
+    → IsKeep budget name given
+keep_asked words workers budget journal given name says is name_is =
+    let read : Says (Keep workers budget journal) given = subst (λ (w : Words). Says w given) is says in
     elim read.1 [
-      | inl serve ↦ (read.0, serve.0, serve.1.1, serve.1.2, serve.1.3 ∙ ap (λ (t : Text). Some t) (sym name_is), serve.1.4, serve.1.5)
+      | inl serve ↦ (read.0, serve.0, serve.1.1, serve.1.2 ∙ ap (λ (t : Text). Some t) (sym name_is), serve.1.3, serve.1.4)
       | inr race ↦ absurd race.1
     ]
 
-pub keep_asks : (line : List Text) (words : Words) (workers : ℕ) (budget : Option ℕ) (newest : Bool) (journal : String Global) (name : Text) → fault_of program_app line ≡ [] → Says words (subcommand_of program_app line)
-    → words ≡ Keep workers budget newest journal → name ≡ string_bytes journal → AskToKeep line budget newest name
-keep_asks line words workers budget newest journal name taken says is name_is = (taken, keep_asked words workers budget newest journal (subcommand_of program_app line) name says is name_is)
+pub keep_asks : (line : List Text) (words : Words) (workers : ℕ) (budget : Option ℕ) (journal : String Global) (name : Text) → fault_of program_app line ≡ [] → Says words (subcommand_of program_app line)
+    → words ≡ Keep workers budget journal → name ≡ string_bytes journal → AskToKeep line budget name
+keep_asks line words workers budget journal name taken says is name_is = (taken, keep_asked words workers budget journal (subcommand_of program_app line) name says is name_is)
 
 -- ---- words that ask for nothing
 
@@ -75,43 +75,27 @@ one_rows given a b r s one two = sym (ap rows_in one) ∙ ap rows_in two
 none_named : (o : Option Text) → o ≡ None → IsSome o → ⊥
 none_named o none some = let P : Option Text → Type 0 = λ p. IsSome p in true≢false (sym (subst P none some))
 
--- one flag alone says which selections are told
-not_opposed : (newest : Bool) (rows : List Row) → SaysNewest newest rows → AreOpposed rows → ⊥
-not_opposed newest rows says both = true≢false (sym (says.asked both.0) ∙ says.declined both.1)
-
-module _ (line : List Text)
-    (bad : fault_of program_app line ≡ [] → HasManyFiles (subcommand_of program_app line) ⊎ HasMixedFiles (subcommand_of program_app line) ⊎ HasOpposedFlags (subcommand_of program_app line)) where
-  -- the rows are not those in which both flags are set
-  none_opposed : (name : Text) (newest : Bool) (rows : List Row) → SaysNewest newest rows → subcommand_of program_app line ≡ Some (name, rows) → HasOpposedFlags (subcommand_of program_app line) → ⊥
-  none_opposed name newest rows says is opposed =
-      not_opposed newest rows says (subst AreOpposed (one_rows (subcommand_of program_app line) opposed.0 name opposed.1 rows opposed.2 is) opposed.3)
-
+module _ (line : List Text) (bad : fault_of program_app line ≡ [] → HasManyFiles (subcommand_of program_app line) ⊎ HasMixedFiles (subcommand_of program_app line)) where
   -- the rows of `serve` are those in which files are mixed
-  mixed_rows : (newest : Bool) (rows : List Row) → SaysNewest newest rows → fault_of program_app line ≡ [] → subcommand_of program_app line ≡ Some (codes "serve", rows) → AreMixed rows
-  mixed_rows newest rows says taken is = elim (bad taken) [
+  mixed_rows : (rows : List Row) → fault_of program_app line ≡ [] → subcommand_of program_app line ≡ Some (codes "serve", rows) → AreMixed rows
+  mixed_rows rows taken is = elim (bad taken) [
     | inl many ↦ absurd (one_name (subcommand_of program_app line) rows many.0 is many.1)
-    | inr other ↦ elim other [
-      | inl mixed ↦ subst AreMixed (one_rows (subcommand_of program_app line) (codes "serve") (codes "serve") mixed.0 rows mixed.1 is) mixed.2
-      | inr opposed ↦ absurd (none_opposed (codes "serve") newest rows says is opposed)
-    ]
+    | inr mixed ↦ subst AreMixed (one_rows (subcommand_of program_app line) (codes "serve") (codes "serve") mixed.0 rows mixed.1 is) mixed.2
   ]
 
-  pub asks_no_serve : (budget : Option ℕ) (newest : Bool) (load save : Option Text) → AskToServe line budget newest load save → ⊥
-  asks_no_serve budget newest load save (taken, (rows, is, budget_is, newest_is, load_is, save_is, none)) = none_named (first_of (codes "journal") rows) none (mixed_rows newest rows newest_is taken is).0
+  pub asks_no_serve : (budget : Option ℕ) (load save : Option Text) → AskToServe line budget load save → ⊥
+  asks_no_serve budget load save (taken, (rows, is, budget_is, load_is, save_is, none)) = none_named (first_of (codes "journal") rows) none (mixed_rows rows taken is).0
 
-  pub asks_no_keep : (budget : Option ℕ) (newest : Bool) (journal : Text) → AskToKeep line budget newest journal → ⊥
-  asks_no_keep budget newest journal (taken, (rows, is, budget_is, newest_is, journal_is, no_load, no_save)) = elim (mixed_rows newest rows newest_is taken is).1 [
+  pub asks_no_keep : (budget : Option ℕ) (journal : Text) → AskToKeep line budget journal → ⊥
+  asks_no_keep budget journal (taken, (rows, is, budget_is, journal_is, no_load, no_save)) = elim (mixed_rows rows taken is).1 [
     | inl load ↦ none_named (first_of (codes "load") rows) no_load load
     | inr save ↦ none_named (first_of (codes "save") rows) no_save save
   ]
 
-  pub asks_no_race : (newest : Bool) (count : ℕ) → AskToRace line newest count → ⊥
-  asks_no_race newest count (taken, (rows, files, is, newest_is, all, number, most)) = elim (bad taken) [
+  pub asks_no_race : (count : ℕ) → AskToRace line count → ⊥
+  asks_no_race count (taken, (rows, files, is, all, number, most)) = elim (bad taken) [
     | inl many ↦ too_many many.0 many.1 many.2.0 many.2.1 many.2.2
-    | inr other ↦ elim other [
-      | inl mixed ↦ one_name (subcommand_of program_app line) mixed.0 rows mixed.1 is
-      | inr opposed ↦ none_opposed (codes "race") newest rows newest_is is opposed
-    ]
+    | inr mixed ↦ one_name (subcommand_of program_app line) mixed.0 rows mixed.1 is
   ]
     where
       too_many : (others : List Row) → subcommand_of program_app line ≡ Some (codes "race", others) → (found : List Text) → all_of (codes "files") others ≡ Some found → MOST_FILES < length found → ⊥
@@ -129,7 +113,7 @@ load_ends unloaded.Input = tt
 
 -- ---- what comes of the words
 
-module _ (words : List Text) (r0 r w0 w : Option (List ℕ)) (settings : Settings) (load save : Option Text) (asked : AskToServe words settings.budget settings.newest load save) where
+module _ (words : List Text) (r0 r w0 w : Option (List ℕ)) (settings : Settings) (load save : Option Text) (asked : AskToServe words settings.budget load save) where
   pub has_served : (lines_in : List ℕ → List (List ℕ)) → ServesFrom settings load (streams r0 r w0 w) lines_in → HasServed words (streams r0 r w0 w) lines_in
   has_served lines_in (loaded, items, begins, serves) =
       record { settings = settings; load = load; save = save; asked = asked; loaded = loaded; begins = begins; accepted = items; serves = serves }
@@ -138,13 +122,13 @@ module _ (words : List Text) (r0 r w0 w : Option (List ℕ)) (settings : Setting
   has_broken (loaded, begins, breaks) = record { settings = settings; load = load; save = save; asked = asked; loaded = loaded; begins = begins; breaks = breaks }
 
 -- a journal is named
-pub has_no_journal : (words : List Text) (r0 r w0 w : Option (List ℕ)) (settings : Settings) (load save : Option Text) → AskToServe words settings.budget settings.newest load save → IsSome load → AreUntouched (streams r0 r w0 w)
+pub has_no_journal : (words : List Text) (r0 r w0 w : Option (List ℕ)) (settings : Settings) (load save : Option Text) → AskToServe words settings.budget load save → IsSome load → AreUntouched (streams r0 r w0 w)
     → HasNoJournal words (streams r0 r w0 w)
 has_no_journal words r0 r w0 w settings None save asked some none = absurd (true≢false (sym some))
 has_no_journal words r0 r w0 w settings (Some load) save asked some none = record { settings = settings; load = load; save = save; asked = asked; none = none }
 
 -- a journal is kept
-module _ (words : List Text) (r0 r w0 w : Option (List ℕ)) (settings : Settings) (journal : Text) (asked : AskToKeep words settings.budget settings.newest journal) where
+module _ (words : List Text) (r0 r w0 w : Option (List ℕ)) (settings : Settings) (journal : Text) (asked : AskToKeep words settings.budget journal) where
   pub has_kept : Ends settings (streams r0 r w0 w) → HasKept words (streams r0 r w0 w)
   has_kept ends = record { settings = settings; journal = journal; asked = asked; ends = ends }
 
@@ -157,7 +141,7 @@ module _ (words : List Text) (r0 r w0 w : Option (List ℕ)) (settings : Setting
   pub has_not_begun : AreUntouched (streams r0 r w0 w) → HasNotBegun words (streams r0 r w0 w)
   has_not_begun none = record { settings = settings; journal = journal; asked = asked; none = none }
 
-pub tells_of_file : (words : List Text) (settings : Settings) (journal : Text) → AskToKeep words settings.budget settings.newest journal → (fault : FileFault) → fault.name.items ≡ shown_text journal → TellsOfFile words fault
+pub tells_of_file : (words : List Text) (settings : Settings) (journal : Text) → AskToKeep words settings.budget journal → (fault : FileFault) → fault.name.items ≡ shown_text journal → TellsOfFile words fault
 tells_of_file words settings journal asked fault named = record { settings = settings; journal = journal; asked = asked; named = named }
 
 -- help is asked for, and a text is written

@@ -82,12 +82,11 @@ where
             Words::Serve {
                 workers,
                 budget,
-                newest,
                 load,
                 save,
             },
         ) => {
-            let settings = Settings { budget, newest };
+            let settings = Settings { budget };
             let from = lent_name(&load);
             let to = lent_name(&save);
             let end = serve(rt, alloc, reader, &mut writer, workers, settings, from, to);
@@ -97,11 +96,10 @@ where
             Words::Keep {
                 workers,
                 budget,
-                newest,
                 journal,
             },
         ) => {
-            let settings = Settings { budget, newest };
+            let settings = Settings { budget };
             keep(
                 rt,
                 alloc,
@@ -112,11 +110,8 @@ where
                 journal.as_str(),
             )
         }
-        Ok(Words::Race { newest, files }) => {
-            let settings = Settings {
-                budget: None,
-                newest,
-            };
+        Ok(Words::Race { files }) => {
+            let settings = Settings { budget: None };
             let end = race_files(rt, alloc, settings, files.as_slice(), &mut writer);
             CommandOutcome { end, writer }
         }

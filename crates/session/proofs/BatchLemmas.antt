@@ -1,5 +1,5 @@
 -- Requests that wait together, and the replies to them.
-use Rattle.std.proofs.Common.{◌≡◌, Bool, ℕ, ◌+◌, ◌<◌, ◌≤◌, List, [], ◌∷◌, ◌++◌, length, take, drop, get_or, map, refl, sym, ap, subst, ◌∙◌, inl, inr, arith, length-append, Option, None, Some, Result, Ok, Err}
+use Rattle.std.proofs.Common.{◌≡◌, ℕ, ◌+◌, ◌<◌, ◌≤◌, List, [], ◌∷◌, ◌++◌, length, take, drop, get_or, map, refl, sym, ap, subst, ◌∙◌, inl, inr, arith, length-append, Option, None, Some, Result, Ok, Err}
 use Rattle.std.proofs.KnownBytes.{Appends-nil}
 use Rattle.std.proofs.lemmas.List.{append-nil, append_assoc, drop-append-le, drop_all, drop_more, take-append-drop}
 use Rattle.std.proofs.lemmas.List.Concat.{flat_map-append}
@@ -85,7 +85,7 @@ module _ {S : Type 0} (w : Ways S) where
   replied_lines settings laws (line ∷ lines) [] old new replies are replied = absurd are
   replied_lines settings laws (line ∷ lines) (request ∷ requests) old new [] are replied = absurd replied
   replied_lines settings laws (line ∷ lines) (request ∷ requests) old new (reply ∷ replies) (is, are) (mid, answers, rest) =
-      (mid, laws.asked settings line (request_in request) old reply mid is.request (subst (λ (b : Bool). MayAnswer w b (request_in request) old reply mid) is.newest answers), replied_lines settings laws lines requests mid new replies are rest)
+      (mid, laws.asked settings line (request_in request) old reply mid is answers, replied_lines settings laws lines requests mid new replies are rest)
 
 -- each request may be told that memory is wanting
 wanting : List Item → List Question → List Reply
@@ -113,12 +113,12 @@ same_reply here items body same = ap (λ (n : ℕ). reply_from (record { revisio
 
 module _ (laws : RepliesAddUp session_ways) (one : Question) (items : List Item) where
   -- what the solver found is told
-  pub told_found : (body : Body) → TellsFound (packages_of items) one.0 one.1.explain one.1.newest body → (offered : List (List Line))
+  pub told_found : (body : Body) → TellsFound (packages_of items) one.0 one.1.explain body → (offered : List (List Line))
       → MayBeTold (one ∷ []) items (reply_at session_ways items body ∷ []) offered
   told_found body tells offered here new packages revision learns = (
     new,
-    subst (λ (reply : Reply). MayAnswer session_ways one.1.newest (request_in one) here reply new) (same_reply here items body revision)
-        (laws.found one.0 one.1.explain one.1.newest one.1.budget here here body refl (subst (λ (ps : Packages). TellsFound ps one.0 one.1.explain one.1.newest body) (sym packages) tells) new (learns_some offered here new learns)),
+    subst (λ (reply : Reply). MayAnswer session_ways (request_in one) here reply new) (same_reply here items body revision)
+        (laws.found one.0 one.1.explain one.1.budget here here body refl (subst (λ (ps : Packages). TellsFound ps one.0 one.1.explain body) (sym packages) tells) new (learns_some offered here new learns)),
     refl,
   )
 
@@ -126,8 +126,8 @@ module _ (laws : RepliesAddUp session_ways) (one : Question) (items : List Item)
   pub told_stopped : (e : Refusal) → MayStop (packages_of items) one.0 one.1.budget e → MayBeTold (one ∷ []) items (reply_at session_ways items (refused e) ∷ []) []
   told_stopped e stops here new packages revision is = (
     here,
-    subst (λ (reply : Reply). MayAnswer session_ways one.1.newest (request_in one) here reply here) (same_reply here items (refused e) revision)
-        (laws.stopped one.0 one.1.explain one.1.newest one.1.budget here here e refl (subst (λ (ps : Packages). MayStop ps one.0 one.1.budget e) (sym packages) stops)),
+    subst (λ (reply : Reply). MayAnswer session_ways (request_in one) here reply here) (same_reply here items (refused e) revision)
+        (laws.stopped one.0 one.1.explain one.1.budget here here e refl (subst (λ (ps : Packages). MayStop ps one.0 one.1.budget e) (sym packages) stops)),
     is,
   )
 

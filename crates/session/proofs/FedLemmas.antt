@@ -48,15 +48,15 @@ asked_long : (line : List ℕ) → line_limit < length line → request_of line 
 unfolding request_of
 asked_long line long = rw (lt-leb (length line) line_limit long) refl
 
-told_same : (newest : Bool) (r : Result Request Refusal) (fault : Refusal) (old : List Item) (reply : Reply) (new : List Item) → r ≡ Err fault
-    → MatchResult r (λ request. MayAnswer session_ways newest request old reply new) (λ f. IsRefused session_ways f old reply new) → new ≡ old
-told_same newest (Ok request) fault old reply new is told = absurd (cc)
-told_same newest (Err other) fault old reply new is told = told.0
+told_same : (r : Result Request Refusal) (fault : Refusal) (old : List Item) (reply : Reply) (new : List Item) → r ≡ Err fault
+    → MatchResult r (λ request. MayAnswer session_ways request old reply new) (λ f. IsRefused session_ways f old reply new) → new ≡ old
+told_same (Ok request) fault old reply new is told = absurd (cc)
+told_same (Err other) fault old reply new is told = told.0
 
 fault_same : (settings : Settings) (line : List ℕ) (fault : Refusal) (old : List Item) (reply : Reply) (new : List Item) → asked_within settings.budget line ≡ Err fault
     → IsLawfulWithin settings session_ways line old reply new → new ≡ old
 fault_same settings line fault old reply new is (inl refused) = refused.0
-fault_same settings line fault old reply new is (inr told) = told_same settings.newest (asked_within settings.budget line) fault old reply new is told
+fault_same settings line fault old reply new is (inr told) = told_same (asked_within settings.budget line) fault old reply new is told
 
 -- a line of which nothing was read changed nothing
 pub unread_same : (settings : Settings) (fault : Refusal) (old new : List Item)

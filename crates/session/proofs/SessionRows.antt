@@ -16,7 +16,6 @@ use Rattle.registry.specs.declared.commands.Command.TheVariants as command
 use Rattle.book.specs.Items.{after, empty, packages_of, refusal, revision_of, stepped}
 use Rattle.book.specs.declared.item.Item.{Item}
 use Rattle.book.specs.declared.item.Item.TheVariants as item
-use Rattle.registry.specs.Laws.{OnePreferredSelection}
 use Rattle.terms.specs.Incompats.{joined, true_at}
 use Rattle.terms.specs.Terms.{is_in}
 use Rattle.terms.specs.declared.term.Term.TheVariants.{In, NotIn}
@@ -25,15 +24,15 @@ use Rattle.derivations.specs.Derivations.{FollowsOn, IsDerivation, IsDerivedBy, 
 use Rattle.derivations.specs.Facts.{need_terms}
 use Rattle.derivations.specs.declared.facts.Cause.TheVariants.{Need, Root}
 use Rattle.derivations.specs.Lines.{Line}
+use Rattle.walk.specs.Answer.{Tells, TellsNewest}
 use Rattle.walk.specs.Choosing.{choice_of}
-use Rattle.walk.specs.Newest.{IsAhead, IsNewest, is_preferred_to, next_package}
-use Rattle.solver.specs.Outcomes.{Tells}
+use Rattle.walk.specs.Newest.{IsAhead, IsNewest, IsTurn, is_preferred_to, next_package}
 use Rattle.replies.specs.Replies.{Body, follows, no_selection, refused, selected}
 use Rattle.wire.specs.Shapes.{check, resolve}
 use Rattle.derivations.specs.declared.facts.Cause.TheVariants as cause
 use Rattle.by_name.specs.NamedLines.{NamedLine}
 use Rattle.solver.specs.Outcomes.{NonePreferred}
-use Rattle.answers.specs.Outcomes.{IsAnswer, IsRefuted, Proves, TellsNone, TellsSpent, TellsVerdict}
+use Rattle.answers.specs.Outcomes.{IsRefuted, Proves, TellsNone, TellsSpent, TellsVerdict}
 use Rattle.answers.specs.Lawful.{Answers, reply_at}
 use Rattle.session.specs.Session.{session_ways}
 
@@ -182,29 +181,20 @@ none-ahead (suc j) ahead = none-some ahead.one ahead.first
 a_found : List (ℕ × ℕ)
 a_found = (1, 0) ∷ []
 
-a-walked : (i : ℕ) (e : ℕ × ℕ) → slice_get a_found i ≡ Some e → next_package a_alone needs_a.needs (take i a_found) ≡ Some e.0
+a-turns : (i : ℕ) (e : ℕ × ℕ) → slice_get a_found i ≡ Some e → IsTurn a_alone needs_a (take i a_found) e
 unfolding a_found
-a-walked zero e is = a-next ∙ ap (λ (x : ℕ × ℕ). Some x.0) (same_Some (1, 0) e is)
-a-walked (suc i) e is = absurd (none-some e is)
-
-a-best : (i j : ℕ) (e : ℕ × ℕ) → slice_get a_found i ≡ Some e → IsAhead a_alone needs_a e.0 j e.1 → ⊥
-unfolding a_found
-a-best zero j e is ahead = none-ahead j (subst (λ (x : ℕ × ℕ). IsAhead a_alone needs_a x.0 j x.1) (sym (same_Some (1, 0) e is)) ahead)
-a-best (suc i) j e is ahead = none-some e is
+a-turns zero e is = subst (IsTurn a_alone needs_a []) (same_Some (1, 0) e is) (a-next, λ j ahead. absurd (none-ahead j ahead))
+a-turns (suc i) e is = absurd (none-some e is)
 
 first-newest : IsNewest a_alone needs_a first
 unfolding a_found
-first-newest = record { found = a_found; selects = refl; meets = first-meets; walked = a-walked; best = λ i j e is ahead t meets has have. a-best i j e is ahead }
+first-newest = record { found = a_found; selects = refl; meets = first-meets; best = record { turns = a-turns } }
 
--- the reply that lists `a` 1.0.0 is lawful, under every budget and without one, whether an explanation is asked or not, and whether the newest selection has to be told or not
-listed-a : OnePreferredSelection → (explain newest : Bool) (budget : Option ℕ) → Answers session_ways newest (resolve needs_a explain budget) one (record { revision = 1; stamp = None; body = selected a_selected }) one
-listed-a once explain newest budget =
-    let answer : IsAnswer a_alone needs_a newest a_selected = record {
-      lawful = record { selection = first; meets = first-meets; tells = a-tells };
-      preferred = λ s is meets. subst (λ (x : Choices). Tells a_alone x a_selected) (λ i p. once a_alone needs_a first s first-preferred is p i) a-tells;
-      is_newest = λ on. record { selection = first; newest = first-newest; tells = a-tells };
-    } in
-    let told = inl (a_selected, subst (λ packages. IsAnswer packages needs_a newest a_selected) (sym at-one) answer, refl) in
+-- the reply that lists `a` 1.0.0 is lawful, under every budget and without one, and whether an explanation is asked or not
+listed-a : (explain : Bool) (budget : Option ℕ) → Answers session_ways (resolve needs_a explain budget) one (record { revision = 1; stamp = None; body = selected a_selected }) one
+listed-a explain budget =
+    let newest : TellsNewest a_alone needs_a a_selected = record { selection = first; newest = first-newest; tells = a-tells } in
+    let told = inl (a_selected, subst (λ packages. TellsNewest packages needs_a a_selected) (sym at-one) newest, refl) in
     inl (one, (refl, (selected a_selected, told, after-one (selected a_selected))), ([], refl))
 
 -- and no reply that none meets the request is
@@ -276,12 +266,12 @@ zed-none refute = refute [] needs_zed (end ∷ []) zed-derivation
 zed-refuted : DerivationsRefute → IsRefuted (packages_of []) needs_zed
 zed-refuted refute = subst (λ packages. IsRefuted packages needs_zed) (sym at-none) (record { lines = end ∷ []; derivation = zed-derivation; none = zed-none refute })
 
-refused-zed : DerivationsRefute → (newest : Bool) (budget : Option ℕ) → Answers session_ways newest (resolve needs_zed false budget) [] (record { revision = 0; stamp = None; body = no_selection }) []
-refused-zed refute newest budget = inl ([], (refl, (no_selection, inr (zed-refuted refute, refl), after-none no_selection)), ([], refl))
+refused-zed : DerivationsRefute → (budget : Option ℕ) → Answers session_ways (resolve needs_zed false budget) [] (record { revision = 0; stamp = None; body = no_selection }) []
+refused-zed refute budget = inl ([], (refl, (no_selection, inr (zed-refuted refute, refl), after-none no_selection)), ([], refl))
 
 -- under a budget it may be told that this is spent
-spent-zed : DerivationsRefute → (newest : Bool) → Answers session_ways newest (resolve needs_zed false (Some 0)) [] (record { revision = 0; stamp = None; body = refused BudgetSpent }) []
-spent-zed refute newest =
+spent-zed : DerivationsRefute → Answers session_ways (resolve needs_zed false (Some 0)) [] (record { revision = 0; stamp = None; body = refused BudgetSpent }) []
+spent-zed refute =
     inr (refl, (refused BudgetSpent, (subst (λ packages. NonePreferred packages needs_zed) (sym at-none) (λ s is meets. zed-none refute s meets), refl), after-none (refused BudgetSpent)))
 
 -- and without one it may not
@@ -298,8 +288,8 @@ unfolding zed_named end
 zed-proves = (end ∷ [], record { same = refl; lawful = (tt, tt) }, subst (λ packages. IsDerivation packages needs_zed (end ∷ [])) (sym at-none) zed-derivation)
 
 -- it may be told to follow
-follows-zed : (newest : Bool) → Answers session_ways newest (check needs_zed zed_named) [] (record { revision = 0; stamp = None; body = follows true }) []
-follows-zed newest = (refl, (follows true, (true, (λ _. zed-proves, λ _. refl), refl), after-none (follows true)))
+follows-zed : Answers session_ways (check needs_zed zed_named) [] (record { revision = 0; stamp = None; body = follows true }) []
+follows-zed = (refl, (follows true, (true, (λ _. zed-proves, λ _. refl), refl), after-none (follows true)))
 
 -- and may not be told not to
 denied-zed : TellsVerdict (packages_of []) needs_zed zed_named (follows false) → ⊥

@@ -15,7 +15,7 @@ use Rattle.session.specs.Batches.{Question, Tells}
 use Rattle.session.specs.Committing.{Telling, TellsOn}
 use Rattle.session.specs.declared.committed.Committed.{Committed}
 use Rattle.session.proofs.BatchLemmas.{HasTold, drop_past, part_length, tells_err, tells_ok, tells_puts_none, tells_then}
-use Rattle.solver.specs.declared.solving.Options.{Options}
+use Rattle.oracle.specs.declared.options.Options.{Options}
 
 -- what waits may have been written, behind what was told
 pub told_puts : PutsAddUp → ReplayGrows → (E : Type 0) (v : Unit {0}) (a b c : Option (List ℕ)) (p q s : List ℕ) (requests left : List Question) (items : List Item) (before after : List (List Line))

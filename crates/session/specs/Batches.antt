@@ -12,7 +12,7 @@ use Rattle.book.specs.declared.item.Item.{Item}
 use Rattle.answers.specs.Lawful.{AreLawfulWithin, LearnsSome, MayAnswer, Ways, asked_within}
 use Rattle.answers.specs.declared.settings.Settings.{Settings}
 use Rattle.session.specs.Session.{session_ways}
-use Rattle.solver.specs.declared.solving.Options.{Options}
+use Rattle.oracle.specs.declared.options.Options.{Options}
 
 -- a request, and how it is to be answered
 abbrev pub Question : Type 0
@@ -23,9 +23,8 @@ abbrev pub request_in : Question → Request
 request_in one = resolve one.0 one.1.explain one.1.budget
 
 -- the line asks for this within these settings
-pub record IsAskedBy (settings : Settings) (line : List ℕ) (one : Question) : Type 0 where
-  pub request : asked_within settings.budget line ≡ Ok (request_in one)
-  pub newest : one.1.newest ≡ settings.newest
+abbrev pub IsAskedBy : Settings → List ℕ → Question → Type 0
+IsAskedBy settings line one = asked_within settings.budget line ≡ Ok (request_in one)
 
 -- each of these lines asks for what stands at its place, within these settings
 abbrev pub AreAsked : Settings → List (List ℕ) → List Question → Type 0
@@ -34,7 +33,7 @@ AreAsked settings = AllZip (IsAskedBy settings)
 -- The requests may be answered so, one reply a request, each after what those before it left.
 abbrev pub AreReplied : {S : Type 0} → Ways S → List Question → S → List Reply → S → Type 0
 AreReplied {S} w [] old [] new = new ≡ old
-AreReplied {S} w (request ∷ requests) old (reply ∷ replies) new = (mid : S) × MayAnswer w request.1.newest (request_in request) old reply mid × AreReplied w requests mid replies new
+AreReplied {S} w (request ∷ requests) old (reply ∷ replies) new = (mid : S) × MayAnswer w (request_in request) old reply mid × AreReplied w requests mid replies new
 AreReplied {S} w [] old (reply ∷ replies) new = ⊥
 AreReplied {S} w (request ∷ requests) old [] new = ⊥
 

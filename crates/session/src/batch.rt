@@ -32,6 +32,8 @@ pub const BATCH_LIMIT: usize = 256;
 #[derive(Drop)]
 pub struct Batch {
     asked: Vec<RequestWithOptions>,
+    /// Whether [`Batch::try_reply`] tried the first of them and left it open.
+    is_tried: bool,
     workers: usize,
     workspace: Workspace,
 }
@@ -55,6 +57,7 @@ impl Batch {
     {
         Ok(Batch {
             asked: Vec::with_capacity(alloc, BATCH_LIMIT)?,
+            is_tried: false,
             workers,
             workspace: Workspace::new(alloc),
         })
@@ -126,6 +129,7 @@ impl Batch {
             Err(e) => {
                 drop(offered);
                 self.asked.clear();
+                self.is_tried = false;
                 Err(e)
             }
         }
@@ -175,6 +179,7 @@ impl Batch {
             self.old self.new served.now offered.old.items offered.new.items }
     {
         let mut count = 0;
+        let mut is_tried = false;
         let effort = if self.workers < 2 { usize::MAX } else { THREAD };
         let put = try_put(
             alloc,
@@ -186,8 +191,9 @@ impl Batch {
             &mut self.workspace,
             offered,
             &mut count,
+            &mut is_tried,
         );
-        self.leave_out(count);
+        self.leave_out(count, is_tried);
         put
     }
 
@@ -228,12 +234,13 @@ impl Batch {
         let most = if self.workers < 2 { 1 } else { BATCH_LIMIT };
         let asked = first_of(self.asked.as_slice(), most);
         let count = asked.len();
+        let is_tried = self.is_tried;
         let workers = self.workers;
         let workspace = &mut self.workspace;
         let put = tell_in_order(
-            rt, alloc, served, outbox, writer, asked, workers, workspace, offered,
+            rt, alloc, served, outbox, writer, asked, is_tried, workers, workspace, offered,
         );
-        self.leave_out(count);
+        self.leave_out(count, false);
         put
     }
 
@@ -256,21 +263,24 @@ impl Batch {
         let most = if self.workers < 2 { 1 } else { BATCH_LIMIT };
         let asked = first_of(self.asked.as_slice(), most);
         let count = asked.len();
+        let is_tried = self.is_tried;
         let workers = self.workers;
         let workspace = &mut self.workspace;
         let put = tell_kept_in_order(
-            rt, alloc, devices, served, outbox, held, at, asked, workers, workspace, offered,
+            rt, alloc, devices, served, outbox, held, at, asked, is_tried, workers, workspace,
+            offered,
         );
-        self.leave_out(count);
+        self.leave_out(count, false);
         put
     }
 
-    /// Leaves out the first requests.
-    fn leave_out(&mut self, count: usize)
+    /// Leaves out the first requests, and keeps whether the next one was tried.
+    fn leave_out(&mut self, count: usize, is_tried: bool)
         requires { count ≤ length self.old }
         ensures { self.new ≡ drop count self.old }
     {
         drop_first(&mut self.asked, count);
+        self.is_tried = is_tried;
     }
 }
 

@@ -5,6 +5,7 @@ ghost use Rattle.lines.specs.Unread.{StandsFor};
 ghost use Rattle.lines.specs.Texts.{Writes};
 ghost use Rattle.answers.specs.Answering.{IsReadWithin};
 ghost use Rattle.answers.specs.Lawful.{IsLawfulWithin};
+ghost use Rattle.answers.specs.declared.settings.Settings.{Settings};
 ghost use Rattle.replies.specs.Replies.{Reply, reply_text};
 ghost use Rattle.session.specs.Fed.{IsFed, IsStopped, RepliesWhole, is_read_search};
 ghost use Rattle.session.specs.Session.{session_ways};
@@ -50,7 +51,7 @@ pub(crate) fn feed_lines<R: Read>(
             },
             found => {
                 let read = read_found(alloc, intake, lines, found, settings);
-                match reply_whole(alloc, served, outbox, replies, read, settings) {
+                match reply_whole(alloc, served, outbox, replies, read) {
                     Ok(rests_on) => *needs = rests_on,
                     Err(e) => return Err(e),
                 }
@@ -68,16 +69,15 @@ fn reply_whole(
     outbox: &mut Outbox,
     replies: &mut Vec<u8>,
     read: Result<Asked, Refusal>,
-    settings: Settings,
 ) -> Result<usize, AllocError>
     requires sent { outbox.old ≡ [] }
-    ensures replied { (line : List ℕ) → IsReadWithin settings read line → RepliesWhole settings line served.old served.new replies.old.items replies.new.items result }
+    ensures replied { (settings : Settings) (line : List ℕ) → IsReadWithin settings read line → RepliesWhole settings line served.old served.new replies.old.items replies.new.items result }
     ensures sent { OnOk result (outbox.new ≡ []) }
 {
     let before = replies.len();
     let count = served.items().len();
     let searches = is_search(&read);
-    match reply_at_once(alloc, served, outbox, replies, read, settings) {
+    match reply_at_once(alloc, served, outbox, replies, read) {
         Ok(()) => Ok(rests_on(searches, count, served)),
         Err(_) => {
             replies.truncate(before);
@@ -111,14 +111,13 @@ fn reply_at_once<W: Write>(
     outbox: &mut Outbox,
     writer: &mut W,
     read: Result<Asked, Refusal>,
-    settings: Settings,
 ) -> io::Result<()>
     requires sent { outbox.old ≡ [] }
-    ensures replied { (line : List ℕ) → IsReadWithin settings read line → (reply : Reply) × IsLawfulWithin settings session_ways line served.old reply served.new
+    ensures replied { (settings : Settings) (line : List ℕ) → IsReadWithin settings read line → (reply : Reply) × IsLawfulWithin settings session_ways line served.old reply served.new
         × Writes (W.contents writer.old) (W.contents writer.new) result (reply_text reply) }
     ensures sent { OnOk result (outbox.new ≡ []) }
 {
-    match reply_to(alloc, served, outbox, writer, read, settings) {
+    match reply_to(alloc, served, outbox, writer, read) {
         Ok(()) => outbox.send(writer),
         Err(e) => Err(e),
     }

@@ -4,6 +4,7 @@ ghost use Rattle.lines.specs.Unread.{IsFound};
 ghost use Rattle.answers.specs.Answering.{IsReadWithin};
 ghost use Rattle.session.specs.Batches.{AreAsked, Takes};
 ghost use Rattle.answers.specs.Lawful.{IsLawfulWithin};
+ghost use Rattle.answers.specs.declared.settings.Settings.{Settings};
 ghost use Rattle.session.specs.Putting.{PutsReply};
 ghost use Rattle.session.specs.Session.{session_ways};
 
@@ -54,9 +55,8 @@ pub fn take<H: Threads + Wait + Sync, W: Write>(
     outbox: &mut Outbox,
     writer: &mut W,
     read: Result<Asked, Refusal>,
-    settings: Settings,
 ) -> io::Result<()>
-    ensures { (waiting : List (List ℕ)) (line : List ℕ) → AreAsked settings waiting batch.old → IsReadWithin settings read line
+    ensures { (settings : Settings) (waiting : List (List ℕ)) (line : List ℕ) → AreAsked settings waiting batch.old → IsReadWithin settings read line
         → Takes settings (W.contents writer.old) (W.contents writer.new) outbox.old outbox.new result (waiting ++ line ∷ []) served.old served.new batch.new }
 {
     lawful_replies_add_up::<SessionState>();
@@ -69,34 +69,11 @@ pub fn take<H: Threads + Wait + Sync, W: Write>(
             },
         ) => {
             batch.make_room(rt, alloc, served, outbox, writer)?;
-            let options = Options {
-                budget,
-                explain,
-                newest: settings.newest,
-            };
-            batch.push(request, options);
+            batch.push(request, Options { budget, explain });
             Ok(())
         }
-        Ok(asked) => reply_behind(
-            rt,
-            alloc,
-            served,
-            batch,
-            outbox,
-            writer,
-            Ok(asked),
-            settings,
-        ),
-        Err(fault) => reply_behind(
-            rt,
-            alloc,
-            served,
-            batch,
-            outbox,
-            writer,
-            Err(fault),
-            settings,
-        ),
+        Ok(asked) => reply_behind(rt, alloc, served, batch, outbox, writer, Ok(asked)),
+        Err(fault) => reply_behind(rt, alloc, served, batch, outbox, writer, Err(fault)),
     }
 }
 
@@ -109,15 +86,14 @@ fn reply_behind<H: Threads + Wait + Sync, W: Write>(
     outbox: &mut Outbox,
     writer: &mut W,
     read: Result<Asked, Refusal>,
-    settings: Settings,
 ) -> io::Result<()>
-    ensures { (waiting : List (List ℕ)) (line : List ℕ) → AreAsked settings waiting batch.old → IsReadWithin settings read line
+    ensures { (settings : Settings) (waiting : List (List ℕ)) (line : List ℕ) → AreAsked settings waiting batch.old → IsReadWithin settings read line
         → Takes settings (W.contents writer.old) (W.contents writer.new) outbox.old outbox.new result (waiting ++ line ∷ []) served.old served.new batch.new }
 {
     puts_add_up();
     lawful_replies_add_up::<SessionState>();
     match batch.reply(rt, alloc, served, outbox, writer, false) {
-        Ok(()) => reply_to(alloc, served, outbox, writer, read, settings),
+        Ok(()) => reply_to(alloc, served, outbox, writer, read),
         Err(e) => {
             drop(read);
             Err(e)
@@ -133,12 +109,11 @@ pub fn reply_to<W: Write>(
     outbox: &mut Outbox,
     writer: &mut W,
     read: Result<Asked, Refusal>,
-    settings: Settings,
 ) -> io::Result<()>
-    ensures { (line : List ℕ) → IsReadWithin settings read line
+    ensures { (settings : Settings) (line : List ℕ) → IsReadWithin settings read line
         → PutsReply (λ reply. IsLawfulWithin settings session_ways line served.old reply served.new) (W.contents writer.old) (W.contents writer.new) outbox.old outbox.new result }
 {
-    match answer_read(alloc, served, read, settings) {
+    match answer_read(alloc, served, read) {
         Answer::Told(body) => put_reply(outbox, writer, served.standing(), body),
         Answer::Found(body, offered) => {
             let put = send_told(outbox, writer, served.standing(), body);

@@ -34,7 +34,7 @@ pub(crate) fn send_if<W: Write>(asked: bool, outbox: &mut Outbox, writer: &mut W
 }
 
 /// Puts the replies to the first requests for which few conflicts do, with this effort at most, and counts them. Answers
-/// whether the next one may be answered so.
+/// whether the next one may be answered so, and tells whether that was tried and left open.
 pub(crate) fn try_put<W: Write>(
     alloc: Global,
     served: &SessionState,
@@ -45,6 +45,7 @@ pub(crate) fn try_put<W: Write>(
     workspace: &mut Workspace,
     offered: &mut Vec<Learnt>,
     count: &mut usize,
+    is_tried: &mut bool,
 ) -> io::Result<bool>
     requires { count.old ≡ 0 }
     ensures told { Tells (W.contents writer.old) (W.contents writer.new) outbox.old outbox.new result
@@ -60,6 +61,7 @@ pub(crate) fn try_put<W: Write>(
         }
         let one = &asked[at];
         let Some(answer) = try_one(alloc, served, one, workspace) else {
+            *is_tried = true;
             return Ok(false);
         };
         effort = effort.saturating_add(effort_of(&answer));
@@ -130,7 +132,7 @@ fn told_to(
     answer: SolveResult,
 ) -> Result<(Body<'static>, Vec<Learnt>), Refusal>
     requires { IsAnswerTo registry.now.packages asked.now answer }
-    ensures told { IfOk result (λ r. TellsFound registry.now.packages asked.now.0 asked.now.1.explain asked.now.1.newest (body_of r.0)) }
+    ensures told { IfOk result (λ r. TellsFound registry.now.packages asked.now.0 asked.now.1.explain (body_of r.0)) }
     ensures only { IfErr result (MayStop registry.now.packages asked.now.0 asked.now.1.budget) }
 {
     let outcome = answer?;

@@ -61,8 +61,8 @@ impl<'a, W: Write> Consumer for Telling<'a, W> {
     }
 }
 
-/// Replies to requests in order, each as soon as its answer and all before it are there. All replies are written before
-/// an answer is waited for.
+/// Replies to requests in order, the first of which was tried or not, each as soon as its answer and all before it are
+/// there. All replies are written before an answer is waited for.
 pub(crate) fn tell_in_order<H: Threads + Wait + Sync, W: Write>(
     rt: &H,
     alloc: Global,
@@ -70,6 +70,7 @@ pub(crate) fn tell_in_order<H: Threads + Wait + Sync, W: Write>(
     outbox: &mut Outbox,
     writer: &mut W,
     asked: &[RequestWithOptions],
+    is_tried: bool,
     workers: usize,
     workspace: &mut Workspace,
     offered: &mut Vec<Learnt>,
@@ -91,6 +92,7 @@ pub(crate) fn tell_in_order<H: Threads + Wait + Sync, W: Write>(
         served.registry(),
         served.store(),
         asked,
+        is_tried,
         workers,
         workspace,
         &mut telling,

@@ -70,8 +70,8 @@ impl<'a, D: Devices> Consumer for TellingKept<'a, D> {
     }
 }
 
-/// Replies to requests in order, each as soon as its answer and all before it are there. All replies go out before an
-/// answer is waited for, and where the outbox has no room for another.
+/// Replies to requests in order, the first of which was tried or not, each as soon as its answer and all before it are
+/// there. All replies go out before an answer is waited for, and where the outbox has no room for another.
 pub(crate) fn tell_kept_in_order<H: Threads + Wait + Sync, D: Devices>(
     rt: &H,
     alloc: Global,
@@ -81,6 +81,7 @@ pub(crate) fn tell_kept_in_order<H: Threads + Wait + Sync, D: Devices>(
     held: &mut Vec<u8>,
     at: &mut Committed,
     asked: &[RequestWithOptions],
+    is_tried: bool,
     workers: usize,
     workspace: &mut Workspace,
     offered: &mut Vec<Learnt>,
@@ -104,6 +105,7 @@ pub(crate) fn tell_kept_in_order<H: Threads + Wait + Sync, D: Devices>(
         served.registry(),
         served.store(),
         asked,
+        is_tried,
         workers,
         workspace,
         &mut telling,

@@ -1,11 +1,10 @@
 -- What holds of outcomes, whatever led to them.
-use Rattle.std.specs.Prelude.{◌≡◌, List}
-use Rattle.versions.specs.Words.{Text}
-use Rattle.registry.specs.Lawful.{IsRegistry}
+use Rattle.std.specs.Prelude.{Bool}
 use Rattle.registry.specs.Registry.{Packages}
 use Rattle.registry.specs.Requests.{Wanted}
-use Rattle.solver.specs.Outcomes.{TellsNewest}
+use Rattle.solver.specs.declared.outcome.Outcome.{Outcome}
+use Rattle.solver.specs.Outcomes.{IsAnswer, IsLawful, answer_of}
 
--- one list tells the newest selection of a request
-abbrev pub OneNewestList : Type 0
-OneNewestList = (packages : Packages) (wanted : Wanted) (xs ys : List (Text × Text)) → IsRegistry packages → TellsNewest packages wanted xs → TellsNewest packages wanted ys → xs ≡ ys
+-- a lawful outcome is the answer of its request
+abbrev pub OutcomeIsAnswer : Type 0
+OutcomeIsAnswer = (packages : Packages) (wanted : Wanted) (explain : Bool) (outcome : Outcome) → IsLawful packages wanted explain outcome → IsAnswer packages wanted (answer_of outcome)

@@ -1,16 +1,13 @@
-//! What a search found, before it is told.
+//! What was found, before it is told.
 
-ghost use Rattle.std.specs.Prelude.{◌≡◌, true, IfOk};
-ghost use Rattle.solver.specs.Answering.{EndsBy, IsAnswer};
-ghost use Rattle.solver.specs.Finding.{IsFirstAnswer, IsFound};
+ghost use Rattle.search.specs.Answering.{EndsBy};
+ghost use Rattle.solver.specs.Finding.{IsFound};
 
-use crate::offering::offered_of;
-use crate::task::Task;
-use crate::turns::Ended;
+use checker::offered_of;
 use derivations::{CausedIncompatibility, Learnt};
-use std::alloc::AllocError;
+use oracle::Task;
+use search::Ended;
 use terms::Pkg;
-use walk::is_plainly_newest;
 
 /// What was found for a request, and what may be learnt of it.
 #[derive(Drop)]
@@ -43,14 +40,4 @@ pub(crate) fn found_of(
             Found::Refused(known, end, offered)
         }
     }
-}
-
-/// Whether a selection that was found is what is asked for: any is, unless the newest one is asked for.
-pub(crate) fn suffices(task: &Task<'_>, list: &[(Pkg, u32)]) -> Result<bool, AllocError>
-    ensures { IfOk result (λ answer. answer ≡ true → IsFirstAnswer task.now list.now → IsAnswer task.now list.now) }
-{
-    if !task.newest {
-        return Ok(true);
-    }
-    is_plainly_newest(task.alloc, task.registry, task.request, list)
 }

@@ -1,14 +1,12 @@
 //! Laws: what holds of every outcome.
 
-ghost use Rattle.solver.specs.Laws.{OneNewestList};
+ghost use Rattle.solver.specs.Laws.{OutcomeIsAnswer};
 
-use registry::names_have_their_numbers;
-use walk::there_is_one_newest_selection;
+use derivations::derivations_refute;
 
-/// One list tells the newest selection of a request, whatever was learnt before. It does nothing when it runs.
-pub fn there_is_one_newest_list()
-    ensures { OneNewestList }
+/// A lawful outcome is the answer of its request. It does nothing when it runs.
+pub fn an_outcome_is_the_answer()
+    ensures { OutcomeIsAnswer }
 {
-    names_have_their_numbers();
-    there_is_one_newest_selection();
+    derivations_refute();
 }

@@ -1,74 +1,45 @@
-//! What an oracle says, checked: a selection by the walk, a refusal by a replay of its trace.
+//! What an oracle says, checked: a selection by the walk, a refusal by a replay of its trace or by chains.
 
-ghost use Rattle.std.specs.Prelude.{All, IfErr, IfOk, IfSome};
-ghost use Rattle.derivations.specs.Learning.{AllStand};
-ghost use Rattle.solver.specs.Answering.{IsAnswer};
-ghost use Rattle.solver.specs.Finding.{IsFirstAnswer, IsFound, IsValidated};
-ghost use Rattle.solver.specs.Reusing.{StoreStands};
-ghost use Rattle.solver.specs.Searching.{MayRefuse};
+ghost use Rattle.std.specs.Prelude.{IfErr, IfOk, IfSome};
+ghost use Rattle.facts.specs.Tasks.{IsNewestList, IsSelectionList, MayRefuse, StoreStands};
+ghost use Rattle.solver.specs.Finding.{IsFound, IsValidated};
 
-use crate::by_chains::{newest_by_chains, selects};
-use crate::found::{Found, found_of, suffices};
-use crate::greedy::selection_of;
-use crate::novelty::{Learnable, is_learnt_whole};
-use crate::offering::offered_of;
-use crate::oracle::Oracle;
-use crate::over_trace::search_over;
-use crate::replaying::{is_short, replay, replay_learnt, replay_marked};
-use crate::showing::show_refusal;
-use crate::task::Task;
-use crate::turns::Ended;
-use chains::Stop as Unshown;
-use derivations::Learnt;
-use engine::{Found as Claim, Stop, Trace};
+use crate::found::{Found, found_of};
+use crate::look::Look;
+use checker::{
+    Stop as Unshown, is_refused_by_chains, may_teach, newest_by_chains, replay, replay_learnt,
+    selection_by, selects,
+};
 use indexmap::IndexMap;
+use oracle::{Claim, Oracle, Stop, Task, Trace};
+use search::Ended;
 use std::alloc::AllocError;
 use terms::Pkg;
 use versions::Refusal;
-use walk::NewestChoice;
+use walk::{NewestChoice, is_plainly_newest};
 
 /// After so many versions that were taken back, a search only to learn costs more than what it teaches is worth: on the
 /// workload `partial` it was half of the instructions of each request.
 const MOST_TAKEN_BACK: usize = 32;
 
-/// What a search that stopped so leaves: the request is refused, or nothing was found.
-fn stopped(task: &Task<'_>, stop: Stop) -> Result<Option<Found>, Refusal>
-    ensures found { IfOk result (IsValidated task.now) }
-    ensures only { IfErr result (MayRefuse task.now.budget) }
+/// Refuses the request, where the oracle stopped for lack of memory, or since the budget is spent.
+fn stopped(task: &Task<'_>, stop: Stop) -> Result<(), Refusal>
+    ensures { IfErr result (MayRefuse task.now.options.budget) }
 {
     match stop {
         Stop::NoMemory => Err(Refusal::NoMemory),
-        Stop::Spent => match task.budget {
-            None => Ok(None),
+        Stop::Spent => match task.options.budget {
+            None => Ok(()),
             Some(_) => Err(Refusal::BudgetSpent),
         },
-        Stop::Lost => Ok(None),
+        Stop::Lost => Ok(()),
     }
 }
 
-/// The selection that these decisions make, if they do.
-pub(crate) fn selection_by(
-    task: &Task<'_>,
-    decided: &IndexMap<Pkg, u32>,
-) -> Result<Option<Vec<(Pkg, u32)>>, AllocError>
-    ensures { IfOk result (λ found. IfSome found (λ list. IsFirstAnswer task.now list.items)) }
-{
-    let any = Task {
-        alloc: task.alloc,
-        registry: task.registry,
-        request: task.request,
-        store: task.store,
-        budget: task.budget,
-        newest: false,
-        explain: task.explain,
-    };
-    selection_of(&any, decided)
-}
-
-/// A selection that is an answer, with what may be learnt of a trace; nothing for lack of memory.
+/// The newest selection, with what may be learnt of a trace; nothing for lack of memory.
 fn found_with(task: &Task<'_>, list: Vec<(Pkg, u32)>, trace: &Trace) -> Found
     requires stored { StoreStands task.now }
-    requires answer { IsAnswer task.now list.items }
+    requires newest { IsNewestList task.now list.items }
     ensures { IsFound task.now result }
 {
     match replay_learnt(task, trace) {
@@ -81,9 +52,8 @@ fn found_with(task: &Task<'_>, list: Vec<(Pkg, u32)>, trace: &Trace) -> Found
 }
 
 /// The newest selection, where one was found that is not seen to be it, with what may be learnt of the trace of that:
-/// the oracle searches on, and if its trace does not show that what it found is the newest, the search that is proved
-/// goes over the trace's lines. Nothing, if the trace can't be followed, or says too much to be kept. What was found first
-/// is given if it was looked at, so that it is not walked again if it is the newest.
+/// the oracle searches on, and its trace is to show that what it found is the newest. Nothing, if it doesn't. What was
+/// found first is given if it was looked at, so that it is not walked again if it is the newest.
 fn find_newest<O: Oracle>(
     task: &Task<'_>,
     oracle: &mut O,
@@ -92,13 +62,15 @@ fn find_newest<O: Oracle>(
     learnt: &Trace,
 ) -> Result<Option<Found>, Refusal>
     requires stored { StoreStands task.now }
-    requires first { IfSome first (λ list. IsFirstAnswer task.now list.items) }
+    requires first { IfSome first (λ list. IsSelectionList task.now list.items) }
     ensures found { IfOk result (IsValidated task.now) }
-    ensures only { IfErr result (MayRefuse task.now.budget) }
+    ensures only { IfErr result (MayRefuse task.now.options.budget) }
 {
-    let room = decided.len();
     match oracle.search_newest() {
-        Err(stop) => stopped(task, stop),
+        Err(stop) => {
+            stopped(task, stop)?;
+            Ok(None)
+        }
         Ok(trace) => {
             let same = if first.is_some() && selects(&trace, decided) {
                 first
@@ -107,12 +79,7 @@ fn find_newest<O: Oracle>(
             };
             match newest_by_chains(task, &trace, same) {
                 Ok(Some(list)) => Ok(Some(found_with(task, list, learnt))),
-                Ok(None) => {
-                    let conflicts = oracle.conflicts();
-                    Ok(Some(search_over(task, &trace, room, conflicts)?))
-                }
-                // It would take as much memory to search over it.
-                Err(Unshown::Unknown) => Ok(None),
+                Ok(None) | Err(Unshown::Unknown) => Ok(None),
                 Err(Unshown::NoMemory) => Err(Refusal::NoMemory),
             }
         }
@@ -123,10 +90,10 @@ fn find_newest<O: Oracle>(
 /// shows it to be the newest: never in the workloads `sat` and `stairs`. Under a budget the search for the newest would
 /// count more of them.
 fn is_looked_at(task: &Task<'_>, conflicts: u32) -> bool {
-    !task.newest || task.budget.is_some() || conflicts == 0
+    task.options.budget.is_some() || conflicts == 0
 }
 
-/// What is right of a selection: that one, if it is what is asked for, else the newest.
+/// What is right of a selection: that one, if it is seen to be the newest, else the newest.
 fn validate_selection<O: Oracle>(
     task: &Task<'_>,
     oracle: &mut O,
@@ -135,7 +102,7 @@ fn validate_selection<O: Oracle>(
 ) -> Result<Option<Found>, Refusal>
     requires { StoreStands task.now }
     ensures found { IfOk result (IsValidated task.now) }
-    ensures only { IfErr result (MayRefuse task.now.budget) }
+    ensures only { IfErr result (MayRefuse task.now.options.budget) }
 {
     if !is_looked_at(task, oracle.conflicts()) {
         return find_newest(task, oracle, decided, None, trace);
@@ -143,27 +110,13 @@ fn validate_selection<O: Oracle>(
     let Some(list) = selection_by(task, decided)? else {
         return Ok(None);
     };
-    if suffices(task, &list)? {
+    if is_plainly_newest(task.alloc, task.registry, task.request, &list)? {
         return Ok(Some(found_with(task, list, trace)));
     }
     find_newest(task, oracle, decided, Some(list), trace)
 }
 
-/// What may be learnt of the marked records of a trace; nothing for lack of memory. What they rest on is marked too.
-fn offered_of_marked(task: &Task<'_>, trace: &Trace, marks: &[bool]) -> Vec<Learnt>
-    requires { StoreStands task.now }
-    ensures { All (AllStand task.now.registry.now.packages) result.items }
-{
-    if !marks.contains(&true) {
-        return Vec::new(task.alloc);
-    }
-    match replay_marked(task, trace, marks) {
-        Ok(replayed) => offered_of(task, &replayed.known, &replayed.learnt, None),
-        Err(_) => Vec::new(task.alloc),
-    }
-}
-
-/// The refusal that a trace shows by lines, if it does. Where the trace has many steps nothing is offered.
+/// The refusal that a trace shows by lines, if it does. Nothing is offered where it can't teach anything.
 fn refusal_by_lines(task: &Task<'_>, trace: &Trace) -> Result<Option<Found>, AllocError>
     requires { StoreStands task.now }
     ensures { IfOk result (IsValidated task.now) }
@@ -171,7 +124,7 @@ fn refusal_by_lines(task: &Task<'_>, trace: &Trace) -> Result<Option<Found>, All
     let Some(replayed) = replay(task, trace)? else {
         return Ok(None);
     };
-    if is_short(trace) {
+    if may_teach(task, trace) {
         let ended = Ended::Refused(replayed.end);
         return Ok(Some(found_of(task, ended, replayed.known, &replayed.learnt)));
     }
@@ -179,17 +132,14 @@ fn refusal_by_lines(task: &Task<'_>, trace: &Trace) -> Result<Option<Found>, All
     Ok(Some(Found::Refused(replayed.known, replayed.end, offered)))
 }
 
-/// The refusal that a trace shows, if it does. Where it is not asked to be explained it is shown by chains, and lines
-/// are made of what may be learnt alone, if that is known.
+/// The refusal that a trace shows, if it does. One that can't teach anything is shown by chains, unless it is asked to be
+/// explained.
 fn validate_refusal(task: &Task<'_>, trace: &Trace) -> Result<Option<Found>, AllocError>
     requires { StoreStands task.now }
     ensures { IfOk result (IsValidated task.now) }
 {
-    if !task.explain && !is_learnt_whole(task, trace) {
-        if let Some(Learnable::Marked(marks)) = show_refusal(task, trace)? {
-            let offered = offered_of_marked(task, trace, &marks);
-            return Ok(Some(Found::Unexplained(offered)));
-        }
+    if !task.options.explain && !may_teach(task, trace) && is_refused_by_chains(task, trace)? {
+        return Ok(Some(Found::Unexplained(Vec::new(task.alloc))));
     }
     refusal_by_lines(task, trace)
 }
@@ -198,42 +148,59 @@ fn validate_refusal(task: &Task<'_>, trace: &Trace) -> Result<Option<Found>, All
 pub(crate) fn validate<O: Oracle>(task: &Task<'_>, oracle: &mut O) -> Result<Option<Found>, Refusal>
     requires { StoreStands task.now }
     ensures found { IfOk result (IsValidated task.now) }
-    ensures only { IfErr result (MayRefuse task.now.budget) }
+    ensures only { IfErr result (MayRefuse task.now.options.budget) }
 {
     match oracle.search() {
         Ok(Claim::Selected(decided, trace)) => validate_selection(task, oracle, &decided, &trace),
         Ok(Claim::Refused(trace)) => Ok(validate_refusal(task, &trace)?),
-        Err(stop) => stopped(task, stop),
+        Err(stop) => {
+            stopped(task, stop)?;
+            Ok(None)
+        }
     }
 }
 
 /// Whether a choice for which so many versions were taken back is answered without asking the oracle. Where the request
 /// names a budget its conflicts count.
-fn is_answered_at_once(has_budget: bool, taken_back: usize) -> bool {
-    taken_back == 0 || (!has_budget && taken_back > MOST_TAKEN_BACK)
+fn is_answered_at_once(look: Look, taken_back: usize) -> bool {
+    taken_back == 0 || (look != Look::Budgeted && taken_back > MOST_TAKEN_BACK)
 }
 
-/// The newest selection, where it was chosen without a search. Where few choices were taken back for it, or the request
-/// names a budget, the oracle is asked all the same: it counts the conflicts, and what it learns of them may be learnt. Nothing
-/// is answered where it doesn't find a selection.
+/// The trace of what the oracle learns on its way to a selection, if it comes to one.
+fn taught<O: Oracle>(task: &Task<'_>, look: Look, oracle: &mut O) -> Result<Option<Trace>, Refusal>
+    ensures { IfErr result (MayRefuse task.now.options.budget) }
+{
+    match oracle.search() {
+        Ok(Claim::Selected(_, trace)) => Ok(Some(trace)),
+        Ok(Claim::Refused(_)) => Ok(None),
+        // The selection is known, so there is no need to look again.
+        Err(Stop::Spent) if look == Look::First => Ok(None),
+        Err(stop) => {
+            stopped(task, stop)?;
+            Ok(None)
+        }
+    }
+}
+
+/// The newest selection, as it was chosen without a search. Where few choices were taken back for it, or the request names a
+/// budget, the oracle is asked all the same: for what may be learnt, and since its conflicts count under such a budget.
 pub(crate) fn validate_choice<O: Oracle>(
     task: &Task<'_>,
-    has_budget: bool,
+    look: Look,
     oracle: &mut O,
     choice: NewestChoice,
-) -> Result<Option<Found>, Refusal>
+) -> Result<Found, Refusal>
     requires stored { StoreStands task.now }
-    requires answer { IsAnswer task.now choice.list.items }
-    ensures found { IfOk result (IsValidated task.now) }
-    ensures only { IfErr result (MayRefuse task.now.budget) }
+    requires newest { IsNewestList task.now choice.list.items }
+    ensures found { IfOk result (IsFound task.now) }
+    ensures only { IfErr result (MayRefuse task.now.options.budget) }
 {
     let NewestChoice { list, ruled_out } = choice;
-    if is_answered_at_once(has_budget, ruled_out) {
-        return Ok(Some(Found::Selected(list, Vec::new(task.alloc))));
+    if is_answered_at_once(look, ruled_out) {
+        return Ok(Found::Selected(list, Vec::new(task.alloc)));
     }
-    match oracle.search() {
-        Ok(Claim::Selected(_, trace)) => Ok(Some(found_with(task, list, &trace))),
-        Ok(Claim::Refused(_)) => Ok(None),
-        Err(stop) => stopped(task, stop),
+    match taught(task, look, oracle)? {
+        Some(trace) => Ok(found_with(task, list, &trace)),
+        None => Ok(Found::Selected(list, Vec::new(task.alloc))),
     }
 }

@@ -1,54 +1,34 @@
 -- Choosing the best versions in the order of the walk: what is kept of packages, and what is asked.
-use Rattle.std.proofs.Common.{◌≡◌, ◌<◌, ◌≤◌, ◌+◌, ◌∙◌, ◌⊎◌, ℕ, zero, suc, refl, sym, ap, subst, arith, Bool, true, false, true≢false, not, ◌&&◌, ◌||◌, if◌then◌else◌, List, [], ◌∷◌, ◌++◌, length, take, drop, map, get_or, inl, inr, nat_eq}
-use Rattle.std.specs.Cmp.{IsTotalOrder, tied_itself}
-use Rattle.std.proofs.lemmas.Bool.{cases_Bool, cases_eq, eq-eqb, eqb-true, and_from}
+use Rattle.std.proofs.Common.{◌≡◌, ◌<◌, ◌≤◌, ◌+◌, ◌∙◌, ◌⊎◌, ℕ, zero, suc, refl, sym, ap, subst, arith, Bool, true, false, true≢false, not, ◌&&◌, ◌||◌, List, [], ◌∷◌, ◌++◌, length, take, drop, map, get_or, inl, inr, nat_eq}
+use Rattle.std.specs.Cmp.{IsTotalOrder}
+use Rattle.std.proofs.lemmas.Bool.{cases_Bool, eq-eqb, eqb-true, and_from}
 use Rattle.std.proofs.Math.Seq.{take-append_seam}
 use Rattle.std.proofs.lemmas.Option.{none-some, same_Some, slice_get_within, get_or_from_slice_get}
-use Rattle.std.proofs.lemmas.List.{append_assoc, append-nil, take_all, take-append-le, map-append}
-use Rattle.std.specs.Prelude.{None, Option, Some, Contains, is_some, slice_get}
+use Rattle.std.proofs.lemmas.List.{append_assoc, append-nil, take_all, map-append}
+use Rattle.std.specs.Prelude.{None, Option, Some, Contains, slice_get}
 use Rattle.versions.specs.Words.{Text, precedence}
 use Rattle.terms.specs.Sets.{has}
 use Rattle.terms.specs.Sets.{has as has_in}
 use Rattle.terms.specs.Terms.{true_of}
 use Rattle.terms.specs.declared.term.Term.{Term}
 use Rattle.terms.specs.declared.term.Term.TheVariants.{In, NotIn}
-use Rattle.std.specs.declared.cmp.Ordering.TheVariants.{Equal, Less}
 use Rattle.registry.specs.Dependencies.{IsDependency}
-use Rattle.registry.specs.Highest.{IsHighest}
-use Rattle.std.specs.Option.{option_and_then}
-use Rattle.registry.specs.Registry.{Package, Packages, Publication, is_published, meets_at, needs_of, number_of, package_at, publication_at, versions_or_none}
+use Rattle.registry.specs.Registry.{Packages, is_published, meets_at, needs_of, number_of, package_at, publication_at, versions_or_none}
 use Rattle.registry.specs.Requests.{Wanted}
 use Rattle.registry.specs.Selections.{Choices, Meets}
-use Rattle.walk.specs.Best.{AreAlike, AreBest, ArePassed, AreTargets, AskAlike, AsksAt, AsksOf, AsksOne, HasNone, Holds, IsBest, IsChoosing, IsGrown, IsOf, IsOut, MeetsOf, NamesAt, Narrows, OfEach, Pushes}
+use Rattle.walk.specs.Best.{AreAlike, ArePassed, AreTargets, AskAlike, AsksAt, AsksOf, AsksOne, HasNone, Holds, IsChoosing, IsGrown, IsLeft, IsOf, MeetsOf, NamesAt, Narrows, Pushes}
 use Rattle.walk.specs.Choosing.{Follows, choice_of}
 use Rattle.walk.specs.Left.{term_of}
-use Rattle.walk.specs.PlainlyNewest.{IsLocked, NoneLocked}
-use Rattle.walk.specs.Newest.{IsAhead, IsNewest, dependencies_of, first_new, in_name_order, new_or_later, next_package}
+use Rattle.walk.specs.Newest.{AreBest, AreWalked, IsAhead, IsBest, IsNewest, IsOut, IsTurn, OfEach, dependencies_of, first_new, in_name_order, next_package}
 use Rattle.walk.specs.declared.choosing.Choosing.{Choosing}
 use Rattle.walk.specs.declared.choosing.Needed.{Needed}
-use Rattle.walk.proofs.Better.{ahead_cases}
-use Rattle.walk.proofs.Listings.{pushed_at}
-use Rattle.walk.proofs.Lists.{choice-left, choice-push_cases, choice-push_here, get-contains}
-use Rattle.walk.proofs.NewestLaws.{is_new}
+use Rattle.walk.proofs.Better.{not_ahead}
+use Rattle.walk.proofs.Listings.{each_pushed, first_behind, first_here}
+use Rattle.walk.proofs.Lists.{choice-left, choice-push_cases, choice-push_here, front-next, get-before, get-contains, get-left, one_more, pushed_at, some_value, take_one}
+use Rattle.walk.proofs.NewestLaws.{own_choice}
 use Rattle.walk.proofs.OneListing.{list-selects}
-use Rattle.walk.proofs.Orders.{get-some}
-use Rattle.walk.proofs.Publications.{listed_at, own}
-
--- ---- lists
-
-get-cases : {A : Type 0} (xs : List A) (y : A) (i : ℕ) (x : A) → slice_get (xs ++ y ∷ []) i ≡ Some x → (slice_get xs i ≡ Some x) ⊎ (y ≡ x)
-get-cases [] y zero x h = inr (same_Some y x h)
-get-cases [] y (suc i) x h = absurd (none-some x h)
-get-cases (z ∷ xs) y zero x h = inl h
-get-cases (z ∷ xs) y (suc i) x h = get-cases xs y i x h
-
-take_one : (xs : List (Text × Text)) (i : ℕ) (x : Text × Text) → slice_get xs i ≡ Some x → take (i + 1) xs ≡ take i xs ++ x ∷ []
-take_one xs i x at = let s : i + 1 ≡ suc i = omega arith in ap (λ n. take n xs) s ∙ one xs i at
-  where
-    one : (ys : List (Text × Text)) (j : ℕ) → slice_get ys j ≡ Some x → take (suc j) ys ≡ take j ys ++ x ∷ []
-    one [] j h = absurd (none-some x h)
-    one (y ∷ ys) zero h = ap (λ z. z ∷ []) (same_Some y x h)
-    one (y ∷ ys) (suc j) h = ap (λ zs. y ∷ zs) (one ys j h)
+use Rattle.walk.proofs.Publications.{listed_at}
+use Rattle.walk.proofs.Steps.{met_at}
 
 -- ---- versions that depend alike
 
@@ -59,50 +39,60 @@ all_alike packages p alike zero lt = refl
 all_alike packages p alike (suc j) lt = alike (suc j) j (omega arith) lt ∙ all_alike packages p alike j (omega (arith, lt))
 
 pub published_within : (packages : Packages) (p k : ℕ) → is_published packages p k ≡ true → k < length (versions_or_none (package_at packages p))
-unfolding publication_at
-published_within packages p k e = by (package_at packages p) e
-  where
-    by : (o : Option Package) → is_some (option_and_then (λ (pack : Package). slice_get pack.versions k) o) ≡ true → k < length (versions_or_none o)
-    by None e = absurd (true≢false (sym e))
-    by (Some pack) e = here (slice_get pack.versions k) refl e
-      where
-        here : (v : Option Publication) → slice_get pack.versions k ≡ v → is_some v ≡ true → k < length pack.versions
-        here None at e = absurd (true≢false (sym e))
-        here (Some v) at e = slice_get_within pack.versions k v at
+published_within packages p k e = let v = some_value (publication_at packages p k) e in slice_get_within (versions_or_none (package_at packages p)) k v.0 (listed_at packages p k v.0 v.1)
 
 -- ---- what holds of selections
 
+pub same_found : (old new : Choosing) → new.found ≡ old.found → new.found.entries ≡ old.found.entries ++ []
+same_found old new found = ap (λ m. m.entries) found ∙ sym (append-nil old.found.entries)
+
 module _ (packages : Packages) (wanted : Wanted) where
-  pub each_more : (found more : List (ℕ × ℕ)) (P : Choices → Type 0) → OfEach packages wanted found P → OfEach packages wanted (found ++ more) P
-  each_more found more P h t meets has = h t meets (λ p k e. has p k (choice-left found more p k e))
+  -- what is left and needed was so before, or is so of each
+  holds_from : (old new : Choosing) (more : List (ℕ × ℕ)) → new.found.entries ≡ old.found.entries ++ more
+      → ((i : ℕ) (e : Needed) → slice_get new.needed.items i ≡ Some e → (slice_get old.needed.items i ≡ Some e) ⊎ IsLeft packages wanted old.found.entries e.pkg (term_of e.left))
+      → ((i q : ℕ) → slice_get new.fresh.items i ≡ Some q → (slice_get old.fresh.items i ≡ Some q) ⊎ OfEach packages wanted old.found.entries (λ t. (k : ℕ) × (t q ≡ Some k))) → Holds packages wanted old → Holds packages wanted new
+  holds_from old new more grown needed fresh h = record {
+    left = λ i e at. moved (λ t. true_of (term_of e.left) (t e.pkg) ≡ true) (elim (needed i e at) [
+      | inl before ↦ h.left i e before
+      | inr here ↦ here
+    ]);
+    fresh = λ i q at. moved (λ t. (k : ℕ) × (t q ≡ Some k)) (elim (fresh i q at) [
+      | inl before ↦ h.fresh i q before
+      | inr here ↦ here
+    ]);
+  }
+    where
+      moved : (P : Choices → Type 0) → OfEach packages wanted old.found.entries P → OfEach packages wanted new.found.entries P
+      moved P each t meets has = each t meets (λ p k e. has p k (ap (λ (xs : List (ℕ × ℕ)). choice_of xs p) grown ∙ choice-left old.found.entries more p k e))
 
   -- where more is chosen
   pub holds_more : (old new : Choosing) (more : List (ℕ × ℕ)) → new.found.entries ≡ old.found.entries ++ more → new.needed ≡ old.needed → new.fresh ≡ old.fresh → Holds packages wanted old → Holds packages wanted new
-  holds_more old new more grown needed fresh h = record {
-    left = λ i e at.
-        subst (λ (xs : List (ℕ × ℕ)). OfEach packages wanted xs (λ t. true_of (term_of e.left) (t e.pkg) ≡ true)) (sym grown)
-        (each_more old.found.entries more (λ t. true_of (term_of e.left) (t e.pkg) ≡ true) (h.left i e (ap (λ v. slice_get v.items i) (sym needed) ∙ at)));
-    fresh = λ i q at.
-        subst (λ (xs : List (ℕ × ℕ)). OfEach packages wanted xs (λ t. (k : ℕ) × (t q ≡ Some k))) (sym grown)
-        (each_more old.found.entries more (λ t. (k : ℕ) × (t q ≡ Some k)) (h.fresh i q (ap (λ v. slice_get v.items i) (sym fresh) ∙ at)));
-  }
+  holds_more old new more grown needed fresh =
+      holds_from old new more grown (λ i e at. inl (ap (λ v. slice_get v.items i) (sym needed) ∙ at)) (λ i q at. inl (ap (λ v. slice_get v.items i) (sym fresh) ∙ at))
 
-  -- a version that one of these selections has depends on what they have
+  -- where nothing of it changes
+  pub holds_same : (old new : Choosing) → new.found ≡ old.found → new.needed ≡ old.needed → new.fresh ≡ old.fresh → Holds packages wanted old → Holds packages wanted new
+  holds_same old new found needed fresh = holds_more old new [] (same_found old new found) needed fresh
+
+  -- a version that a selection has depends on what it has
+  depends_on : (t : Choices) (p k index target : ℕ) (ordinals : List ℕ) → Meets packages wanted t → t p ≡ Some k → IsDependency packages p k index target ordinals → IsOf ordinals (t target)
+  depends_on t p k index target ordinals meets has d =
+      let there = met_at packages t d.name d.need target (meets.closed p k d.name d.need has (get-contains _ index (d.name, d.need) d.at)) d.number in
+      (there.0, there.1, d.members there.0 ∙ there.2)
+
   pub dependency_of : (found : List (ℕ × ℕ)) (p k index target : ℕ) (ordinals : List ℕ) → AskAlike packages wanted found p k → IsDependency packages p k index target ordinals → OfEach packages wanted found (λ t. IsOf ordinals (t target))
   dependency_of found p k index target ordinals asks d t meets has =
       let here = asks t meets has in
       let among : Contains (needs_of packages p here.0) (d.name, d.need) = subst (λ lines. Contains lines (d.name, d.need)) (sym here.2) (get-contains _ index (d.name, d.need) d.at) in
-      let met = meets.closed p here.0 d.name d.need here.1 among in
-      let same : met.target ≡ target = same_Some met.target target (sym met.numbered ∙ d.number) in
-      (met.ordinal, ap t (sym same) ∙ met.selected, d.members met.ordinal ∙ ap (λ q. meets_at packages q met.ordinal d.need) (sym same) ∙ met.meeting)
+      let there = met_at packages t d.name d.need target (meets.closed p here.0 d.name d.need here.1 among) d.number in
+      (there.0, there.1, d.members there.0 ∙ there.2)
 
   -- and what the request needs
   pub need_of : (found : List (ℕ × ℕ)) (name need : Text) (target : ℕ) (ordinals : List ℕ) → Contains wanted.needs (name, need) → number_of packages name ≡ Some target → ((k : ℕ) → has ordinals k ≡ meets_at packages target k need)
       → OfEach packages wanted found (λ t. IsOf ordinals (t target))
   need_of found name need target ordinals among numbered members t meets has =
-      let met = meets.needs name need among in
-      let same : met.target ≡ target = same_Some met.target target (sym met.numbered ∙ numbered) in
-      (met.ordinal, ap t (sym same) ∙ met.selected, members met.ordinal ∙ ap (λ q. meets_at packages q met.ordinal need) (sym same) ∙ met.meeting)
+      let there = met_at packages t name need target (meets.needs name need among) numbered in
+      (there.0, there.1, members there.0 ∙ there.2)
 
 pub is_of-true : (set : List ℕ) (choice : Option ℕ) → IsOf set choice → true_of (In set) choice ≡ true
 is_of-true set choice h = ap (λ c. true_of (In set) c) h.1 ∙ h.2
@@ -119,16 +109,13 @@ narrows_pushed term left p old new push gives = record {
   found = push.found;
   asked = ap (λ v. v.items) push.asked;
   needed = (push.entry ∷ [], push.needed);
-  holds = λ packages wanted each h. record {
-    left = λ i e at.
-        subst (λ m. OfEach packages wanted m.entries (λ t. true_of (term_of e.left) (t e.pkg) ≡ true)) (sym push.found)
-        (elim (get-cases old.needed.items push.entry i e (ap (λ xs. slice_get xs i) (sym push.needed) ∙ at)) [
-          | inl before ↦ h.left i e before
-          | inr last ↦ λ t meets has.
-              subst (λ (x : Needed). true_of (term_of x.left) (t x.pkg) ≡ true) last (ap (λ l. true_of l (t push.entry.pkg)) push.is ∙ ap (λ q. true_of left (t q)) push.of ∙ gives packages wanted each h t meets has)
-        ]);
-    fresh = λ i q at. subst (λ m. OfEach packages wanted m.entries (λ t. (k : ℕ) × (t q ≡ Some k))) (sym push.found) (h.fresh i q (ap (λ v. slice_get v.items i) (sym push.fresh) ∙ at));
-  };
+  holds = λ packages wanted each h. holds_from packages wanted old new [] (same_found old new push.found)
+      (λ i e at. elim (pushed_at old.needed.items push.entry i e (ap (λ xs. slice_get xs i) (sym push.needed) ∙ at)) [
+        | inl before ↦ inl before
+        | inr last ↦ inr (λ t meets has.
+            subst (λ (x : Needed). true_of (term_of x.left) (t x.pkg) ≡ true) last.1 (ap (λ l. true_of l (t push.entry.pkg)) push.is ∙ ap (λ q. true_of left (t q)) push.of ∙ gives packages wanted each h t meets has))
+      ])
+      (λ i q at. inl (ap (λ v. slice_get v.items i) (sym push.fresh) ∙ at)) h;
 }
 
 -- where a package is looked at once more
@@ -141,15 +128,11 @@ narrows_again set p old new found asked needed fresh = record {
   found = found;
   asked = ap (λ v. v.items) asked;
   needed = ([], ap (λ v. v.items) needed ∙ sym (append-nil old.needed.items));
-  holds = λ packages wanted each h. record {
-    left = λ i e at. subst (λ m. OfEach packages wanted m.entries (λ t. true_of (term_of e.left) (t e.pkg) ≡ true)) (sym found) (h.left i e (ap (λ v. slice_get v.items i) (sym needed) ∙ at));
-    fresh = λ i q at.
-        subst (λ m. OfEach packages wanted m.entries (λ t. (k : ℕ) × (t q ≡ Some k))) (sym found)
-        (elim (get-cases old.fresh.items p i q (ap (λ xs. slice_get xs i) (sym fresh) ∙ at)) [
-          | inl before ↦ h.fresh i q before
-          | inr last ↦ λ t meets has. let one = some_true set (t p) (each t meets has) in (one.0, ap t (sym last) ∙ one.1)
-        ]);
-  };
+  holds = λ packages wanted each. holds_from packages wanted old new [] (same_found old new found) (λ i e at. inl (ap (λ v. slice_get v.items i) (sym needed) ∙ at))
+      (λ i q at. elim (pushed_at old.fresh.items p i q (ap (λ xs. slice_get xs i) (sym fresh) ∙ at)) [
+        | inl before ↦ inl before
+        | inr last ↦ inr (λ t meets has. let one = some_true set (t p) (each t meets has) in (one.0, ap t (sym last.1) ∙ one.1))
+      ]);
 }
 
 -- one after the other
@@ -187,6 +170,10 @@ grown_both old mid new one two = record {
   needed = (one.needed.0 ++ two.needed.0, two.needed.1 ∙ ap (λ xs. xs ++ two.needed.0) one.needed.1 ∙ append_assoc old.needed.items one.needed.0 two.needed.0);
 }
 
+-- something is looked at, and then what is left is added to
+pub grown_after : (start old mid new : Choosing) → IsGrown start old → mid.asked ≡ old.asked → mid.needed ≡ old.needed → IsGrown mid new → IsGrown start new
+grown_after start old mid new before asked needed grown = grown_both start mid new (grown_both start old mid before (grown_of old mid asked needed)) grown
+
 pub grown_narrows : (term : Term) (p : ℕ) (old new : Choosing) → Narrows term p old new → IsGrown old new
 grown_narrows term p old new n = record { asked = ([], n.asked ∙ sym (append-nil old.asked.items)); needed = n.needed }
 
@@ -213,25 +200,23 @@ asks_none packages lines false old = refl
 pub asks_all : (packages : Packages) (lines : List (Text × Text)) (index : ℕ) (is_chosen : Bool) (old new : List ℕ) → length lines ≤ index → AsksOf packages (take index lines) is_chosen old new → AsksOf packages lines is_chosen old new
 asks_all packages lines index is_chosen old new all h = subst (λ (ls : List (Text × Text)). AsksOf packages ls is_chosen old new) (take_all index lines all) h
 
--- one more line of what each selection depends on
-pub meets_more : (packages : Packages) (p k index target : ℕ) (ordinals : List ℕ) (old mid asked new : Choosing) → IsDependency packages p k index target ordinals → MeetsOf packages p k old mid
-    → asked.found ≡ mid.found → asked.needed ≡ mid.needed → asked.fresh ≡ mid.fresh → Narrows (In ordinals) target asked new → MeetsOf packages p k old new
-meets_more packages p k index target ordinals old mid asked new d before found needed fresh narrows = record {
-  found = narrows.found ∙ found ∙ before.found;
+-- one line of what each selection depends on
+pub meets_one : (packages : Packages) (p k index target : ℕ) (ordinals : List ℕ) (old asked new : Choosing) → IsDependency packages p k index target ordinals → asked.found ≡ old.found → asked.needed ≡ old.needed → asked.fresh ≡ old.fresh
+    → Narrows (In ordinals) target asked new → MeetsOf packages p k old new
+meets_one packages p k index target ordinals old asked new d found needed fresh narrows = record {
+  found = narrows.found ∙ found;
   holds = λ wanted asks h.
-      let here = before.holds wanted asks h in
-      let there = holds_more packages wanted mid asked [] (ap (λ m. m.entries) found ∙ sym (append-nil mid.found.entries)) needed fresh here in
-      let same : asked.found.entries ≡ old.found.entries = ap (λ m. m.entries) (found ∙ before.found) in
       narrows.holds packages wanted
-      (subst (λ (xs : List (ℕ × ℕ)). OfEach packages wanted xs (λ t. true_of (In ordinals) (t target) ≡ true)) (sym same)
-      (λ t meets has. is_of-true ordinals (t target) (dependency_of packages wanted old.found.entries p k index target ordinals asks d t meets has))) there;
+      (subst (λ m. OfEach packages wanted m.entries (λ t. true_of (In ordinals) (t target) ≡ true)) (sym found)
+      (λ t meets has. is_of-true ordinals (t target) (dependency_of packages wanted old.found.entries p k index target ordinals asks d t meets has)))
+      (holds_same packages wanted old asked found needed fresh h);
 }
 
 -- where a package is asked for, and nothing else
 pub meets_asked : (packages : Packages) (p k : ℕ) (old new : Choosing) → new.found ≡ old.found → new.needed ≡ old.needed → new.fresh ≡ old.fresh → MeetsOf packages p k old new
 meets_asked packages p k old new found needed fresh = record {
   found = found;
-  holds = λ wanted asks h. holds_more packages wanted old new [] (ap (λ m. m.entries) found ∙ sym (append-nil old.found.entries)) needed fresh h;
+  holds = λ wanted asks h. holds_same packages wanted old new found needed fresh h;
 }
 
 -- one after the other
@@ -251,38 +236,17 @@ names_dependency packages p k index target ordinals d = ((d.name, d.need), d.at,
 pub meets_none : (packages : Packages) (p k : ℕ) (c : Choosing) → MeetsOf packages p k c c
 meets_none packages p k c = record { found = refl; holds = λ wanted asks h. h }
 
--- one line of what each selection depends on
-pub meets_one : (packages : Packages) (p k index target : ℕ) (ordinals : List ℕ) (old asked new : Choosing) → IsDependency packages p k index target ordinals → asked.found ≡ old.found → asked.needed ≡ old.needed → asked.fresh ≡ old.fresh
-    → Narrows (In ordinals) target asked new → MeetsOf packages p k old new
-meets_one packages p k index target ordinals old asked new d found needed fresh narrows = meets_more packages p k index target ordinals old old asked new d (meets_none packages p k old) found needed fresh narrows
-
 -- ---- versions that are not to be had
 
 module _ (packages : Packages) (wanted : Wanted) (found : List (ℕ × ℕ)) where
-  pub odds_chosen : (p k index target chosen : ℕ) (ordinals : List ℕ) → IsDependency packages p k index target ordinals → choice_of found target ≡ Some chosen → has ordinals chosen ≡ false → IsOut packages wanted found p k
-  odds_chosen p k index target chosen ordinals d there out t meets has is =
-      let met = meets.closed p k d.name d.need is (get-contains _ index (d.name, d.need) d.at) in
-      let same : met.target ≡ target = same_Some met.target target (sym met.numbered ∙ d.number) in
-      let version : met.ordinal ≡ chosen = same_Some met.ordinal chosen (sym met.selected ∙ ap t same ∙ has target chosen there) in
-      true≢false (sym (ap (λ q. meets_at packages q met.ordinal d.need) (sym same) ∙ met.meeting) ∙ sym (d.members met.ordinal) ∙ ap (has_of ordinals) version ∙ out)
-    where
-      has_of : List ℕ → ℕ → Bool
-      has_of set n = true_of (In set) (Some n)
+  -- where no selection has a version that the dependency may have
+  pub odds_none : (p k index target : ℕ) (ordinals : List ℕ) → IsDependency packages p k index target ordinals → HasNone packages wanted found target ordinals → IsOut packages wanted found p k
+  odds_none p k index target ordinals d none t meets has is = let there = depends_on packages wanted t p k index target ordinals meets is d in none there.0 there.2 t meets has there.1
 
   pub odds_left : (p k index target : ℕ) (ordinals : List ℕ) (left : Term) → IsDependency packages p k index target ordinals → OfEach packages wanted found (λ t. true_of left (t target) ≡ true)
       → ((j : ℕ) → is_published packages target j ≡ true → true_of left (Some j) ≡ true → true_of (In ordinals) (Some j) ≡ true → ⊥) → IsOut packages wanted found p k
-  odds_left p k index target ordinals left d each apart t meets has is =
-      let met = meets.closed p k d.name d.need is (get-contains _ index (d.name, d.need) d.at) in
-      let same : met.target ≡ target = same_Some met.target target (sym met.numbered ∙ d.number) in
-      let chosen : t target ≡ Some met.ordinal = ap t (sym same) ∙ met.selected in
-      apart met.ordinal (meets.selection target met.ordinal chosen) (ap (true_of left) (sym chosen) ∙ each t meets has) (d.members met.ordinal ∙ ap (λ q. meets_at packages q met.ordinal d.need) (sym same) ∙ met.meeting)
-
-  -- where no selection has a version that the dependency may have
-  pub odds_none : (p k index target : ℕ) (ordinals : List ℕ) → IsDependency packages p k index target ordinals → HasNone packages wanted found target ordinals → IsOut packages wanted found p k
-  odds_none p k index target ordinals d none t meets has is =
-      let met = meets.closed p k d.name d.need is (get-contains _ index (d.name, d.need) d.at) in
-      let same : met.target ≡ target = same_Some met.target target (sym met.numbered ∙ d.number) in
-      none met.ordinal (d.members met.ordinal ∙ ap (λ q. meets_at packages q met.ordinal d.need) (sym same) ∙ met.meeting) t meets has (ap t (sym same) ∙ met.selected)
+  odds_left p k index target ordinals left d each apart = odds_none p k index target ordinals d (λ j member t meets has is.
+      apart j (meets.selection target j is) (ap (true_of left) (sym is) ∙ each t meets has) member)
 
   -- where the version that is chosen is another
   pub none_chosen : (p chosen : ℕ) (set : List ℕ) → choice_of found p ≡ Some chosen → has_in set chosen ≡ false → HasNone packages wanted found p set
@@ -290,32 +254,22 @@ module _ (packages : Packages) (wanted : Wanted) (found : List (ℕ × ℕ)) whe
       let same : j ≡ chosen = same_Some j chosen (sym is ∙ has p chosen there) in
       true≢false (sym member ∙ ap (λ n. has_in set n) same ∙ out)
 
+  pub odds_chosen : (p k index target chosen : ℕ) (ordinals : List ℕ) → IsDependency packages p k index target ordinals → choice_of found target ≡ Some chosen → has_in ordinals chosen ≡ false → IsOut packages wanted found p k
+  odds_chosen p k index target chosen ordinals d there out = odds_none p k index target ordinals d (none_chosen target chosen ordinals there out)
+
   -- where none of those that are left is in the set
   pub none_both : (p : ℕ) (left : Term) (set : List ℕ) → OfEach packages wanted found (λ t. true_of left (t p) ≡ true) → ((j : ℕ) → true_of left (Some j) ≡ true → has_in set j ≡ true → ⊥) → HasNone packages wanted found p set
   none_both p left set each apart j member t meets has is = apart j (ap (true_of left) (sym is) ∙ each t meets has) member
 
 -- ---- packages that are newly needed
 
-left_of : {A : Type 0} (xs ys : List A) (i : ℕ) (x : A) → slice_get xs i ≡ Some x → slice_get (xs ++ ys) i ≡ Some x
-left_of [] ys i x h = absurd (none-some x h)
-left_of (z ∷ xs) ys zero x h = h
-left_of (z ∷ xs) ys (suc i) x h = left_of xs ys i x h
-
 pub holds_popped : (packages : Packages) (wanted : Wanted) (old new : Choosing) (rest : List ℕ) → new.found ≡ old.found → new.needed ≡ old.needed → old.fresh.items ≡ new.fresh.items ++ rest → Holds packages wanted old → Holds packages wanted new
-holds_popped packages wanted old new rest found needed fresh h = record {
-  left = λ i e at. subst (λ m. OfEach packages wanted m.entries (λ t. true_of (term_of e.left) (t e.pkg) ≡ true)) (sym found) (h.left i e (ap (λ v. slice_get v.items i) (sym needed) ∙ at));
-  fresh = λ i q at.
-      subst (λ m. OfEach packages wanted m.entries (λ t. (k : ℕ) × (t q ≡ Some k))) (sym found)
-      (h.fresh i q (ap (λ xs. slice_get xs i) fresh ∙ left_of new.fresh.items rest i q at));
-}
+holds_popped packages wanted old new rest found needed fresh =
+    holds_from packages wanted old new [] (same_found old new found) (λ i e at. inl (ap (λ v. slice_get v.items i) (sym needed) ∙ at)) (λ i q at. inl (ap (λ xs. slice_get xs i) fresh ∙ get-left new.fresh.items rest i q at))
 
 -- the one that is taken out is needed
 pub popped_needed : (packages : Packages) (wanted : Wanted) (old : Choosing) (rest : List ℕ) (p : ℕ) → old.fresh.items ≡ rest ++ p ∷ [] → Holds packages wanted old → OfEach packages wanted old.found.entries (λ t. (k : ℕ) × (t p ≡ Some k))
-popped_needed packages wanted old rest p fresh h = h.fresh (length rest) p (ap (λ xs. slice_get xs (length rest)) fresh ∙ last rest)
-  where
-    last : (xs : List ℕ) → slice_get (xs ++ p ∷ []) (length xs) ≡ Some p
-    last [] = refl
-    last (x ∷ xs) = last xs
+popped_needed packages wanted old rest p fresh h = h.fresh (length rest) p (front-next old.fresh.items rest [] p fresh)
 
 -- each selection that has a package depends on what all its versions do
 pub ask_alike : (packages : Packages) (wanted : Wanted) (found : List (ℕ × ℕ)) (p : ℕ) → AreAlike packages p → OfEach packages wanted found (λ t. (k : ℕ) × (t p ≡ Some k)) → AskAlike packages wanted found p 0
@@ -346,97 +300,56 @@ first_target packages found [] (q ∷ asked) at p targets here passed none = abs
     zero_suc : 0 ≡ suc (length (map (λ (n : ℕ). Some n) asked)) → ⊥
     zero_suc e = omega (arith, e)
 first_target packages found (line ∷ lines) (q ∷ asked) zero p targets here passed none =
-    ap (λ o. new_or_later found o (first_new packages found lines)) (first_of targets ∙ here) ∙ ap (λ (o : Option ℕ). if is_some o then first_new packages found lines else Some p) none
-  where
-    first_of : map (λ (l : Text × Text). number_of packages l.0) (line ∷ lines) ≡ map Some (q ∷ asked) → number_of packages line.0 ≡ Some q
-    first_of e = same_Some (number_of packages line.0) (Some q) (ap (λ xs. slice_get xs 0) e)
+    first_here packages found line lines p (same_Some (number_of packages line.0) (Some q) (ap (λ xs. slice_get xs 0) targets) ∙ here) none
 first_target packages found (line ∷ lines) (q ∷ asked) (suc at) p targets here passed none =
+    first_behind packages found line lines (λ r numbered.
+    let same : q ≡ r = same_Some q r (sym (same_Some (number_of packages line.0) (Some q) (ap (λ xs. slice_get xs 0) targets)) ∙ numbered) in
     let was = passed 0 q (omega arith) refl in
-    let rest : map (λ (l : Text × Text). number_of packages l.0) lines ≡ map Some asked = ap (drop 1) targets in
-    ap (λ o. new_or_later found o (first_new packages found lines)) (same_Some (number_of packages line.0) (Some q) (ap (λ xs. slice_get xs 0) targets))
-    ∙ ap (λ (o : Option ℕ). if is_some o then first_new packages found lines else Some q) was.1
-    ∙ first_target packages found lines asked at p rest here (λ j r lt at_j. passed (suc j) r (omega (arith, lt)) at_j) none
+    (was.0, ap (choice_of found) (sym same) ∙ was.1))
+    ∙ first_target packages found lines asked at p (ap (drop 1) targets) here (λ j r lt. passed (suc j) r (omega (arith, lt))) none
 
 -- ---- the best version
 
-Less≢Equal : Less ≡ Equal → ⊥
-Less≢Equal e = cc e
+-- the only version that is left
+only_true : (k : ℕ) (choice : Option ℕ) → true_of (In (k ∷ [])) choice ≡ true → choice ≡ Some k
+only_true k None h = absurd (true≢false (sym h))
+only_true k (Some j) h = elim (cases_Bool (nat_eq k j)) [
+  | inl same ↦ ap Some (sym (eqb-true k j same))
+  | inr apart ↦ absurd (true≢false (sym h ∙ ap (λ (b : Bool). b || false) apart))
+]
 
-module _ (packages : Packages) (wanted : Wanted) (found : List (ℕ × ℕ)) (p : ℕ) where
-  highest_open : (k : ℕ) (Gives : ℕ → Bool → Type 0) → IsHighest Gives (versions_or_none (package_at packages p)) k → ((j : ℕ) → Gives j false → IsOut packages wanted found p j)
-      → (j : ℕ) (a : IsAhead packages wanted p j k) → precedence a.other.version a.one.version ≡ Less → IsOut packages wanted found p j
-  highest_open k Gives h out j a less = out j (h.fails j a.other a.one (listed_at packages p k a.other a.second) (listed_at packages p j a.one a.first) less)
-
-  pub best_unlocked : (k : ℕ) (Gives : ℕ → Bool → Type 0) → NoneLocked packages wanted p → IsHighest Gives (versions_or_none (package_at packages p)) k → ((j : ℕ) → Gives j false → IsOut packages wanted found p j) → IsBest packages wanted found p k
-  best_unlocked k Gives none h out j a = elim (ahead_cases packages wanted p k j a) [
-    | inl locked ↦ absurd (true≢false (sym locked.0 ∙ none j))
-    | inr above ↦ highest_open k Gives h out j a above.1
-  ]
-
-  pub best_other : (k q : ℕ) (Gives : ℕ → Bool → Type 0) → IsLocked packages wanted p q → IsOut packages wanted found p q → IsHighest Gives (versions_or_none (package_at packages p)) k → ((j : ℕ) → Gives j false → IsOut packages wanted found p j)
-      → IsBest packages wanted found p k
-  best_other k q Gives there gone h out j a = elim (ahead_cases packages wanted p k j a) [
-    | inl locked ↦ subst (λ i. IsOut packages wanted found p i) (sym (there.only j locked.0)) gone
-    | inr above ↦ highest_open k Gives h out j a above.1
-  ]
-
-  -- the only version that is left is the best: no version is ahead of itself, and the others are out
-  not_ahead_of_itself : IsTotalOrder precedence → (k : ℕ) → IsAhead packages wanted p k k → ⊥
-  not_ahead_of_itself ordered k a = elim (ahead_cases packages wanted p k k a) [
-    | inl locked ↦ true≢false (sym locked.0 ∙ locked.1)
-    | inr above ↦
-        let same : a.other ≡ a.one = same_Some a.other a.one (sym a.second ∙ a.first) in
-        Less≢Equal (sym above.1 ∙ ap (λ (x : Publication). precedence x.version a.one.version) same ∙ tied_itself ordered a.one.version)
-  ]
-
-  pub best_only : (k : ℕ) → IsTotalOrder precedence → OfEach packages wanted found (λ t. true_of (In (k ∷ [])) (t p) ≡ true) → IsBest packages wanted found p k
-  best_only k ordered left j a t meets has chosen = elim (cases_Bool (nat_eq k j)) [
-    | inl same ↦ not_ahead_of_itself ordered k (subst (λ i. IsAhead packages wanted p i k) (sym (eqb-true k j same)) a)
-    | inr apart ↦
-        let is : true_of (In (k ∷ [])) (Some j) ≡ true = sym (ap (true_of (In (k ∷ []))) chosen) ∙ left t meets has in
-        true≢false (sym is ∙ ap (λ (b : Bool). b || false) apart)
-  ]
+-- the only version that is left is the best: no version is ahead of itself, and the others are out
+pub best_only : (packages : Packages) (wanted : Wanted) (found : List (ℕ × ℕ)) (p k : ℕ) → IsTotalOrder precedence → OfEach packages wanted found (λ t. true_of (In (k ∷ [])) (t p) ≡ true) → IsBest packages wanted found p k
+best_only packages wanted found p k ordered left j a t meets has chosen =
+    let same : k ≡ j = same_Some k j (sym (only_true k (t p) (left t meets has)) ∙ chosen) in
+    not_ahead packages wanted p k ordered (subst (λ i. IsAhead packages wanted p i k) (sym same) a)
 
 -- ---- one more that is chosen
 
 pub best_none : (packages : Packages) (wanted : Wanted) (found : List (ℕ × ℕ)) → found ≡ [] → AreBest packages wanted found
 best_none packages wanted found empty = record {
-  walked = λ i e at. absurd (none-some e (sym (ap (λ (xs : List (ℕ × ℕ)). slice_get xs i) empty) ∙ at));
-  best = λ i e at. absurd (none-some e (sym (ap (λ (xs : List (ℕ × ℕ)). slice_get xs i) empty) ∙ at));
+  turns = λ i e at. absurd (none-some e (sym (ap (λ (xs : List (ℕ × ℕ)). slice_get xs i) empty) ∙ at));
 }
 
 pub best_push : (packages : Packages) (wanted : Wanted) (found : List (ℕ × ℕ)) (p k : ℕ) → AreBest packages wanted found → next_package packages wanted.needs found ≡ Some p → IsBest packages wanted found p k → AreBest packages wanted (found ++ (p, k) ∷ [])
-best_push packages wanted found p k h next best = record {
-  walked = λ i e at. elim (pushed_at found (p, k) i e at) [
-    | inl before ↦
-        let lt = slice_get_within found i e before in
-        ap (next_package packages wanted.needs) (take-append-le i found ((p, k) ∷ []) (omega (arith, lt))) ∙ h.walked i e before
-    | inr last ↦
-        ap (next_package packages wanted.needs) (ap (λ n. take n (found ++ (p, k) ∷ [])) last.0 ∙ take-append_seam found ((p, k) ∷ []))
-        ∙ next ∙ ap (λ (x : ℕ × ℕ). Some x.0) last.1
-  ];
-  best = λ i e at. elim (pushed_at found (p, k) i e at) [
-    | inl before ↦
-        let lt = slice_get_within found i e before in
-        subst (λ (xs : List (ℕ × ℕ)). IsBest packages wanted xs e.0 e.1) (sym (take-append-le i found ((p, k) ∷ []) (omega (arith, lt)))) (h.best i e before)
-    | inr last ↦
-        let whole : take i (found ++ (p, k) ∷ []) ≡ found = ap (λ n. take n (found ++ (p, k) ∷ [])) last.0 ∙ take-append_seam found ((p, k) ∷ []) in
-        subst (λ (xs : List (ℕ × ℕ)). IsBest packages wanted xs e.0 e.1) (sym whole) (subst (λ (x : ℕ × ℕ). IsBest packages wanted found x.0 x.1) last.1 best)
-  ];
-}
+best_push packages wanted found p k h next best = record { turns = each_pushed (IsTurn packages wanted) found (p, k) h.turns (next, best) }
+
+-- the best ones stand in the order of the walk
+pub best_walked : (packages : Packages) (wanted : Wanted) (found : List (ℕ × ℕ)) → AreBest packages wanted found → AreWalked packages wanted.needs found
+best_walked packages wanted found h i e at = (h.turns i e at).0
 
 -- ---- the selection
 
 -- a list in the order of the walk, each the best, selects the newest selection, if a selection that meets the request follows it
-pub best_newest : (packages : Packages) (wanted : Wanted) (found : List (ℕ × ℕ)) (s : Choices) → AreBest packages wanted found → ((i : ℕ) (e : ℕ × ℕ) → slice_get found i ≡ Some e → choice_of found e.0 ≡ Some e.1)
-    → Follows (choice_of found) s → Meets packages wanted s → IsNewest packages wanted s
-best_newest packages wanted found s h own follows meets = record {
-  found = found;
-  selects = λ i p. list-selects packages wanted (choice_of found) s found (record { walked = h.walked; chosen = own }) (λ p k from e. e) follows meets p i;
-  meets = meets;
-  walked = h.walked;
-  best = λ i j e at ahead t others has chosen. h.best i e at j ahead t others has chosen;
-}
+pub best_newest : (packages : Packages) (wanted : Wanted) (found : List (ℕ × ℕ)) (s : Choices) → AreBest packages wanted found → Follows (choice_of found) s → Meets packages wanted s → IsNewest packages wanted s
+best_newest packages wanted found s h follows meets =
+    let order = best_walked packages wanted found h in
+    record {
+      found = found;
+      selects = λ i p. list-selects packages wanted (choice_of found) s found (record { walked = order; chosen = own_choice packages wanted.needs found order }) (λ p k from e. e) follows meets p i;
+      meets = meets;
+      best = h;
+    }
 
 -- what is left of a package, as it is read
 pub left_read : (packages : Packages) (wanted : Wanted) (c : Choosing) (place p : ℕ) (e x : Needed) → Holds packages wanted c → slice_get c.needed.items place ≡ Some e → e.pkg ≡ p → x ≡ get_or c.needed.items place x
@@ -444,14 +357,6 @@ pub left_read : (packages : Packages) (wanted : Wanted) (c : Choosing) (place p 
 left_read packages wanted c place p e x h at own read t meets has =
     let same : e ≡ x = sym (get_or_from_slice_get c.needed.items place e x at) ∙ sym read in
     subst (λ (y : Needed). true_of (term_of y.left) (t p) ≡ true) same (ap (λ q. true_of (term_of e.left) (t q)) (sym own) ∙ h.left place e at t meets has)
-
--- the only version that is left
-pub only_true : (k : ℕ) (choice : Option ℕ) → true_of (In (k ∷ [])) choice ≡ true → choice ≡ Some k
-only_true k None h = absurd (true≢false (sym h))
-only_true k (Some j) h = elim (cases_Bool (nat_eq k j)) [
-  | inl same ↦ ap Some (sym (eqb-true k j same))
-  | inr apart ↦ absurd (true≢false (sym h ∙ ap (λ (b : Bool). b || false) apart))
-]
 
 -- each selection has the only version that is left of a package
 pub only_left : (packages : Packages) (wanted : Wanted) (c : Choosing) (place p k : ℕ) (e x : Needed) → Holds packages wanted c → slice_get c.needed.items place ≡ Some e → e.pkg ≡ p → x ≡ get_or c.needed.items place x → term_of x.left ≡ In (k ∷ [])
@@ -497,11 +402,8 @@ pub taken_same : {A : Type 0} (xs more ys : List A) (n : ℕ) → ys ≡ xs ++ m
 taken_same xs more ys n is count = ap (λ m. take m ys) count ∙ ap (take (length xs)) is ∙ take-append_seam xs more
 
 pub holds_taken : (packages : Packages) (wanted : Wanted) (old new : Choosing) → new.found.entries ≡ old.found.entries → new.needed.items ≡ old.needed.items → new.fresh.items ≡ [] → Holds packages wanted old → Holds packages wanted new
-holds_taken packages wanted old new found needed fresh h = record {
-  left = λ i e at.
-      subst (λ (xs : List (ℕ × ℕ)). OfEach packages wanted xs (λ t. true_of (term_of e.left) (t e.pkg) ≡ true)) (sym found) (h.left i e (ap (λ xs. slice_get xs i) (sym needed) ∙ at));
-  fresh = λ i q at. absurd (none-some q (sym (ap (λ (xs : List ℕ). slice_get xs i) fresh) ∙ at));
-}
+holds_taken packages wanted old new found needed fresh =
+    holds_from packages wanted old new [] (found ∙ sym (append-nil old.found.entries)) (λ i e at. inl (ap (λ xs. slice_get xs i) (sym needed) ∙ at)) (λ i q at. absurd (none-some q (sym (ap (λ (xs : List ℕ). slice_get xs i) fresh) ∙ at)))
 
 -- a package of which nothing is left
 pub none_left : (packages : Packages) (wanted : Wanted) (c : Choosing) (at : ℕ) (e : Needed) → slice_get c.needed.items at ≡ Some e → ((choice : Option ℕ) → true_of (term_of e.left) choice ≡ true → ⊥) → Holds packages wanted c → OfEach packages wanted c.found.entries (λ t. ⊥)
@@ -546,38 +448,13 @@ choosing_first packages wanted start met new empty one two targets asked holds =
 -- ---- what was passed
 
 pub passed_here : (c : Choosing) (at p k : ℕ) → ArePassed c at → slice_get c.asked.items at ≡ Some p → choice_of c.found.entries p ≡ Some k → ArePassed c (at + 1)
-passed_here c at p k before here chosen j q lt at_j = elim (cases_eq j at) [
-  | inl same ↦
-      let is : p ≡ q = same_Some p q (sym here ∙ ap (slice_get c.asked.items) (sym same) ∙ at_j) in
-      (k, ap (choice_of c.found.entries) (sym is) ∙ chosen)
-  | inr apart ↦ before j q (omega (arith, lt, apart)) at_j
-]
+passed_here c at p k before here chosen = one_more (λ q. (j : ℕ) × (choice_of c.found.entries q ≡ Some j)) c.asked.items at p before here (k, chosen)
 
 pub passed_more : (old new : Choosing) (at p k : ℕ) (more : List ℕ) → ArePassed old at → slice_get old.asked.items at ≡ Some p → choice_of old.found.entries p ≡ None → new.found.entries ≡ old.found.entries ++ (p, k) ∷ []
     → new.asked.items ≡ old.asked.items ++ more → ArePassed new (at + 1)
-passed_more old new at p k more before here none found asked j q lt at_j = elim (cases_eq j at) [
-  | inl same ↦
-      let there : slice_get new.asked.items at ≡ Some p = ap (λ xs. slice_get xs at) asked ∙ left_of old.asked.items more at p here in
-      let is : p ≡ q = same_Some p q (sym there ∙ ap (slice_get new.asked.items) (sym same) ∙ at_j) in
-      (k, ap (choice_of new.found.entries) (sym is) ∙ ap (λ (xs : List (ℕ × ℕ)). choice_of xs p) found ∙ choice-push_here old.found.entries p k none)
-  | inr apart ↦
-      let low : j < at = omega (arith, lt, apart) in
-      let was = get-some old.asked.items j (omega (arith, low, slice_get_within old.asked.items at p here)) in
-      let is : was.0 ≡ q = same_Some was.0 q (sym (left_of old.asked.items more j was.0 was.1) ∙ ap (λ xs. slice_get xs j) (sym asked) ∙ at_j) in
-      let passed = before j was.0 low was.1 in
-      (passed.0, ap (choice_of new.found.entries) (sym is) ∙ ap (λ (xs : List (ℕ × ℕ)). choice_of xs was.0) found ∙ choice-left old.found.entries ((p, k) ∷ []) was.0 passed.0 passed.1)
-]
-
--- each version stands once in the walk
-pub own_choice : (packages : Packages) (wanted : Wanted) (found : List (ℕ × ℕ)) → AreBest packages wanted found → (i : ℕ) (e : ℕ × ℕ) → slice_get found i ≡ Some e → choice_of found e.0 ≡ Some e.1
-own_choice packages wanted found h i e at = choice-at found i e at (is_new packages (take i found) (in_name_order wanted.needs ++ dependencies_of packages (take i found)) e.0 (h.walked i e at))
-  where
-    choice-at : (xs : List (ℕ × ℕ)) (n : ℕ) (x : ℕ × ℕ) → slice_get xs n ≡ Some x → choice_of (take n xs) x.0 ≡ None → choice_of xs x.0 ≡ Some x.1
-    choice-at [] n x here new = absurd (none-some x here)
-    choice-at (y ∷ xs) zero x here new =
-        let same : y ≡ x = same_Some y x here in
-        subst (λ (z : ℕ × ℕ). choice_of (z ∷ xs) x.0 ≡ Some x.1) (sym same) (rw (eq-eqb x.0 x.0 refl) refl)
-    choice-at (y ∷ xs) (suc n) x here new = elim (cases_Bool (nat_eq x.0 y.0)) [
-      | inl t ↦ absurd (none-some y.1 (sym (rw t at new)))
-      | inr f ↦ rw f (choice-at xs n x here (rw f at new))
-    ]
+passed_more old new at p k more before here none found asked = one_more (λ q. (j : ℕ) × (choice_of new.found.entries q ≡ Some j)) new.asked.items at p
+    (λ j q lt at_j.
+    let passed = before j q lt (get-before old.asked.items more at j q p here lt (ap (λ xs. slice_get xs j) (sym asked) ∙ at_j)) in
+    (passed.0, ap (λ (xs : List (ℕ × ℕ)). choice_of xs q) found ∙ choice-left old.found.entries ((p, k) ∷ []) q passed.0 passed.1))
+    (ap (λ xs. slice_get xs at) asked ∙ get-left old.asked.items more at p here)
+    (k, ap (λ (xs : List (ℕ × ℕ)). choice_of xs p) found ∙ choice-push_here old.found.entries p k none)

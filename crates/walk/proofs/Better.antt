@@ -1,19 +1,20 @@
 -- Versions that are preferred to a selected one, and what shows that they are not to be had.
 use Rattle.std.proofs.Common.{◌≡◌, ◌∙◌, ℕ, refl, sym, ap, subst, ◌⊎◌, inl, inr, List, ◌&&◌, ◌||◌, not, Bool, true, false, true≢false}
+use Rattle.std.proofs.lemmas.Option.{same_Some}
 use Rattle.std.specs.Prelude.{IfNone, IfSome, None, Option, Some}
 use Rattle.std.specs.Option.{option_map}
 use Rattle.std.specs.Ordering.{is_lt}
 use Rattle.std.specs.declared.cmp.Ordering.{Ordering}
 use Rattle.std.specs.declared.cmp.Ordering.TheVariants.{Less, Equal, Greater}
+use Rattle.versions.specs.Precedence.{PrecedenceIsATotalPreorder}
 use Rattle.versions.specs.Words.{Text, precedence}
 use Rattle.registry.specs.Highest.{IsHighest}
 use Rattle.registry.specs.Registry.{Package, Packages, Publication, equals_at, package_at, publication_at, publication_equals, versions_or_none}
 use Rattle.registry.specs.Requests.{Wanted, is_locked, locks}
-use Rattle.walk.specs.Best.{IsBest, IsOut}
-use Rattle.walk.specs.Newest.{IsAhead}
+use Rattle.walk.specs.Newest.{IsAhead, IsBest, IsOut}
 use Rattle.walk.specs.PlainlyNewest.{AreHigherOut, IsLocked, NoneLocked, is_locked_at, locks_some}
 use Rattle.walk.proofs.Preferring.{package-named}
-use Rattle.walk.proofs.Publications.{listed_at}
+use Rattle.walk.proofs.Publications.{listed_at, own}
 
 -- ---- what the lock names
 
@@ -78,7 +79,7 @@ preferred_cases true false above h = inl (refl, refl)
 preferred_cases false true above h = absurd (true≢false (sym h))
 preferred_cases false false above h = inr (inr refl, h)
 
-less_is : (a b : Text) → is_lt (precedence a b) ≡ true → precedence a b ≡ Less
+pub less_is : (a b : Text) → is_lt (precedence a b) ≡ true → precedence a b ≡ Less
 less_is a b h = by (precedence a b) refl
   where
     by : (o : Ordering) → precedence a b ≡ o → precedence a b ≡ Less
@@ -101,6 +102,13 @@ module _ (packages : Packages) (wanted : Wanted) (p k : ℕ) where
           | inr unlocked ↦ inr (inr (other ∙ unlocked), less_is a.other.version a.one.version higher.1)
         ]
       ]
+
+  -- no version is preferred to itself
+  pub not_ahead : PrecedenceIsATotalPreorder → IsAhead packages wanted p k k → ⊥
+  not_ahead total a = elim (ahead_cases k a) [
+    | inl locked ↦ true≢false (sym locked.0 ∙ locked.1)
+    | inr above ↦ own total a.one.version (ap (λ (x : Publication). precedence x.version a.one.version) (same_Some a.one a.other (sym a.first ∙ a.second)) ∙ above.1)
+  ]
 
   -- behind what fails a test, each version of higher precedence than the highest that passes it is out
   pub higher_out : (before : List (ℕ × ℕ)) (Gives : ℕ → Bool → Type 0) → IsHighest Gives (versions_or_none (package_at packages p)) k → ((j : ℕ) → Gives j false → IsOut packages wanted before p j)

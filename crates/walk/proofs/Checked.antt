@@ -1,26 +1,24 @@
 -- What is chosen in the order of the walk is reached, so it meets the request where it is checked.
-use Rattle.std.proofs.Common.{◌≡◌, ◌<◌, ◌≤◌, ◌+◌, ◌∙◌, ℕ, zero, suc, refl, sym, ap, subst, arith, List, [], ◌∷◌, ◌++◌, inl, inr, length, take, if◌then◌else◌}
-use Rattle.std.proofs.lemmas.Bool.{cases_eq}
+use Rattle.std.proofs.Common.{◌≡◌, ◌<◌, ◌≤◌, ◌+◌, ◌∙◌, ℕ, zero, suc, sym, ap, arith, List, [], inl, inr, length, take}
 use Rattle.std.proofs.lemmas.List.{append-nil}
-use Rattle.std.proofs.lemmas.Option.{none-some, same_Some, slice_get_within}
-use Rattle.std.specs.List.{AllByRecursion}
-use Rattle.std.specs.Prelude.{None, Option, Some, is_some, slice_get}
+use Rattle.std.proofs.lemmas.Option.{same_Some, slice_get_within}
+use Rattle.std.specs.Prelude.{Some, slice_get}
 use Rattle.versions.specs.Words.{Text}
 use Rattle.registry.specs.Dependencies.{IsDependency}
 use Rattle.registry.specs.Laws.{AllowedIsPublished}
 use Rattle.registry.specs.Places.{IsPlace}
-use Rattle.registry.specs.Registry.{Packages, meets_at, needs_of, number_of}
+use Rattle.registry.specs.Registry.{Packages, meets_at, needs_of}
 use Rattle.registry.specs.Requests.{Wanted}
 use Rattle.registry.specs.declared.place.Place.{Place}
 use Rattle.registry.specs.Selections.{Choices, IsReached, Meets, along, needed}
-use Rattle.walk.specs.Best.{AreBest, IsOf}
+use Rattle.walk.specs.Best.{IsOf}
 use Rattle.walk.specs.Choosing.{choice_of}
-use Rattle.walk.specs.Newest.{IsNewest, dependencies_of, first_new, in_name_order, new_or_later}
+use Rattle.walk.specs.Newest.{AreBest, AreWalked, IsNewest}
 use Rattle.walk.specs.Walks.{AreAllChecked, IsChecked, IsMetAt, MeetsNamed}
-use Rattle.walk.proofs.Bests.{best_newest, own_choice}
-use Rattle.walk.proofs.Lists.{choice-entry}
-use Rattle.walk.proofs.NewestLaws.{both, dependencies_met, each, ordered}
-use Rattle.walk.proofs.NewestPreferred.{get_taken}
+use Rattle.walk.proofs.Bests.{best_newest, best_walked}
+use Rattle.walk.proofs.Listings.{next_named}
+use Rattle.walk.proofs.Lists.{choice-entry, get-taken}
+use Rattle.walk.proofs.NewestLaws.{own_choice}
 use Rattle.walk.proofs.Steps.{line_met, met_more}
 
 -- ---- what is met
@@ -40,15 +38,6 @@ placed_met packages named p k index place s at has =
     let same : m.need ≡ at.need = same_Some m.need at.need (sym m.stands ∙ at.stands) in
     line_met packages (needs_of packages p k) index at.name at.need at.at place.target has.0 s at.number has.1 (ap (meets_at packages place.target has.0) (sym same) ∙ m.meeting)
 
-pub checked_next : (packages : Packages) (wanted : Wanted) (s : Choices) (found : List (ℕ × ℕ)) (i : ℕ) (x : ℕ × ℕ) → ((j : ℕ) (e : ℕ × ℕ) → j < i → slice_get found j ≡ Some e → IsChecked packages wanted s e.0 e.1)
-    → slice_get found i ≡ Some x → IsChecked packages wanted s x.0 x.1 → (j : ℕ) (e : ℕ × ℕ) → j < i + 1 → slice_get found j ≡ Some e → IsChecked packages wanted s e.0 e.1
-checked_next packages wanted s found i x before here checked j e below at = elim (cases_eq j i) [
-  | inl same ↦
-      let is : x ≡ e = same_Some x e (sym here ∙ ap (slice_get found) (sym same) ∙ at) in
-      subst (λ (y : ℕ × ℕ). IsChecked packages wanted s y.0 y.1) is checked
-  | inr apart ↦ before j e (omega (arith, below, apart)) at
-]
-
 pub checked_all : (packages : Packages) (wanted : Wanted) (found : List (ℕ × ℕ)) (i : ℕ) → length found ≤ i → ((j : ℕ) (e : ℕ × ℕ) → j < i → slice_get found j ≡ Some e → IsChecked packages wanted (choice_of found) e.0 e.1)
     → (p k : ℕ) → choice_of found p ≡ Some k → IsChecked packages wanted (choice_of found) p k
 checked_all packages wanted found i all checked p k chosen =
@@ -57,39 +46,21 @@ checked_all packages wanted found i all checked p k chosen =
 
 -- ---- what is reached
 
--- what comes next is the package of one of the lines
-named_next : (packages : Packages) (P : ℕ → Type 0) (found : List (ℕ × ℕ)) (lines : List (Text × Text)) (p : ℕ) → AllByRecursion (λ (line : Text × Text). (q : ℕ) → number_of packages line.0 ≡ Some q → P q) lines
-    → first_new packages found lines ≡ Some p → P p
-named_next packages P found [] p all e = absurd (none-some p e)
-named_next packages P found (line ∷ rest) p all e = by (named_next packages P found rest p all.1) (number_of packages line.0) refl
-  where
-    by : (first_new packages found rest ≡ Some p → P p) → (o : Option ℕ) → number_of packages line.0 ≡ o → P p
-    by later None at = later (sym (ap (λ o. new_or_later found o (first_new packages found rest)) at) ∙ e)
-    by later (Some q) at = here (choice_of found q) refl
-      where
-        now : new_or_later found (Some q) (first_new packages found rest) ≡ Some p
-        now = sym (ap (λ o. new_or_later found o (first_new packages found rest)) at) ∙ e
-
-        here : (o : Option ℕ) → choice_of found q ≡ o → P p
-        here None f = all.0 p (at ∙ sym (ap (λ (o : Option ℕ). if is_some o then first_new packages found rest else Some q) f) ∙ now)
-        here (Some k) f = later (sym (ap (λ (o : Option ℕ). if is_some o then first_new packages found rest else Some q) f) ∙ now)
-
-module _ (packages : Packages) (wanted : Wanted) (found : List (ℕ × ℕ)) (best : AreBest packages wanted found) where
+module _ (packages : Packages) (wanted : Wanted) (found : List (ℕ × ℕ)) (walked : AreWalked packages wanted.needs found) where
   abbrev Reached : ℕ → Type 0
   Reached p = IsReached packages wanted.needs (choice_of found) p
-
-  abbrev Reaches : Text × Text → Type 0
-  Reaches line = (q : ℕ) → number_of packages line.0 ≡ Some q → Reached q
 
   -- a need asks for it, or a version that was chosen before
   here : (i : ℕ) (e : ℕ × ℕ) → slice_get found i ≡ Some e → ((j : ℕ) (x : ℕ × ℕ) → j < i → slice_get found j ≡ Some x → Reached x.0) → Reached e.0
   here i e at before =
-      let lines = both Reaches (in_name_order wanted.needs) (dependencies_of packages (take i found))
-      (ordered Reaches wanted.needs (each Reaches wanted.needs (λ line among q numbered. needed q line.0 line.1 among numbered)))
-      (dependencies_met packages Reaches (take i found) (λ j x there.
-      let whole = get_taken found i j x there in
-      each Reaches (needs_of packages x.0 x.1) (λ line among q numbered. along x.0 x.1 q line.0 line.1 (before j x whole.0 whole.1) (own_choice packages wanted found best j x whole.1) among numbered))) in
-      named_next packages Reached (take i found) (in_name_order wanted.needs ++ dependencies_of packages (take i found)) e.0 lines (best.walked i e at)
+      let named = next_named packages wanted.needs (take i found) e.0 (walked i e at) in
+      let line = named.0 in
+      elim named.3 [
+        | inl need ↦ needed e.0 line.0 line.1 need named.1
+        | inr on ↦
+            let there = get-taken i found on.0 on.1 on.2 in
+            along on.1.0 on.1.1 e.0 line.0 line.1 (before on.0 on.1 there.0 there.1) (own_choice packages wanted.needs found walked on.0 on.1 there.1) on.3 named.1
+      ]
 
   before : (n i : ℕ) (e : ℕ × ℕ) → i < n → slice_get found i ≡ Some e → Reached e.0
   before zero i e lt at = absurd (omega arith)
@@ -100,7 +71,7 @@ module _ (packages : Packages) (wanted : Wanted) (found : List (ℕ × ℕ)) (be
 
   -- ---- where it is checked, it meets the request
 
-  checked_meets : AllowedIsPublished → AreAllChecked packages wanted (choice_of found) → Meets packages wanted (choice_of found)
+  pub checked_meets : AllowedIsPublished → AreAllChecked packages wanted (choice_of found) → Meets packages wanted (choice_of found)
   checked_meets published all = record {
     selection = λ p k chosen. published packages wanted p k (all.checked p k chosen).allowed;
     closed = λ p k name need chosen among. (all.checked p k chosen).met name need among;
@@ -109,5 +80,6 @@ module _ (packages : Packages) (wanted : Wanted) (found : List (ℕ × ℕ)) (be
     reached = chosen_reached;
   }
 
-  pub checked_newest : AllowedIsPublished → AreAllChecked packages wanted (choice_of found) → IsNewest packages wanted (choice_of found)
-  checked_newest published all = best_newest packages wanted found (choice_of found) best (own_choice packages wanted found best) (λ p k e. e) (checked_meets published all)
+pub checked_newest : (packages : Packages) (wanted : Wanted) (found : List (ℕ × ℕ)) → AreBest packages wanted found → AllowedIsPublished → AreAllChecked packages wanted (choice_of found) → IsNewest packages wanted (choice_of found)
+checked_newest packages wanted found best published all =
+    best_newest packages wanted found (choice_of found) best (λ p k e. e) (checked_meets packages wanted found (best_walked packages wanted found best) published all)

@@ -1,11 +1,13 @@
 -- What a list of chosen versions selects, where each package stands once.
-use Rattle.std.proofs.Common.{arith, drop, length, take, Contains, ◌≡◌, ◌∙◌, ℕ, suc, zero, List, [], ◌∷◌, ◌++◌, inl, inr, ap, subst, sym, refl, nat_eq, false, true≢false, if◌then◌else◌}
+use Rattle.std.proofs.Common.{arith, drop, length, take, Contains, ◌≡◌, ◌<◌, ◌≤◌, true, ◌∙◌, ℕ, List, [], ◌∷◌, ◌++◌, inl, inr, ap, subst, sym, refl, nat_eq, false, true≢false, if◌then◌else◌}
 use Rattle.std.proofs.lemmas.Bool.{cases_Bool, eq-eqb, eqb-true}
 use Rattle.std.proofs.lemmas.Cmp.{nat_eq_equiv}
-use Rattle.std.proofs.lemmas.List.{length_push, take-append-drop, take-take, take_at}
+use Rattle.std.proofs.lemmas.List.{length-map, length_push, take-append-drop, take-take, take_at}
 use Rattle.std.proofs.lemmas.List.Elements.{Contains-append_left, Contains-append_right}
+use Rattle.std.proofs.lemmas.Map.Entries.{lookup_from_place}
 use Rattle.std.proofs.lemmas.Map.Keys.{IsDistinct-push}
-use Rattle.std.proofs.lemmas.Option.{none-some, same_Some}
+use Rattle.std.proofs.lemmas.Map.Steps.{length-le_from_distinct_below}
+use Rattle.std.proofs.lemmas.Option.{none-some}
 use Rattle.std.specs.List.{AllByRecursion, IsDistinct, list_any}
 use Rattle.std.specs.Map.{keys_of}
 use Rattle.std.specs.Prelude.{None, Some, slice_get}
@@ -26,6 +28,21 @@ keys-push (x ∷ xs) e = ap (λ ks. x.0 ∷ ks) (keys-push xs e)
 
 pub once_pushed : (xs : List (ℕ × ℕ)) (p k : ℕ) → IsDistinct nat_eq (keys_of xs) → choice_of xs p ≡ None → IsDistinct nat_eq (keys_of (xs ++ (p, k) ∷ []))
 once_pushed xs p k once none = rw (keys-push xs (p, k)) (IsDistinct-push nat_eq_equiv (keys_of xs) p once (unchosen_key xs p none))
+
+-- a key has a version
+chosen_key : (xs : List (ℕ × ℕ)) (p : ℕ) → list_any (nat_eq p) (keys_of xs) ≡ true → (k : ℕ) × (choice_of xs p ≡ Some k)
+chosen_key [] p e = absurd (true≢false (sym e))
+chosen_key (x ∷ xs) p e = elim (cases_Bool (nat_eq p x.0)) [
+  | inl t ↦ (x.1, rw t refl)
+  | inr f ↦ let rest = chosen_key xs p (rw f at e) in (rest.0, rw f rest.1)
+]
+
+-- packages below a number, each once, are at most so many
+pub once_short : (xs : List (ℕ × ℕ)) (n : ℕ) → IsDistinct nat_eq (keys_of xs) → ((p k : ℕ) → choice_of xs p ≡ Some k → p < n) → length xs ≤ n
+once_short xs n once within =
+    let l : length (keys_of xs) ≡ length xs = length-map xs (λ (x : ℕ × ℕ). x.0) in
+    let few = length-le_from_distinct_below (keys_of xs) n once (λ p e. let here = chosen_key xs p e in within p here.0 here.1) in
+    omega (arith, few, l)
 
 -- what a list selects with one version more
 pub choice_pushed : (xs : List (ℕ × ℕ)) (p k : ℕ) → choice_of xs p ≡ None → (q : ℕ) → choice_of (xs ++ (p, k) ∷ []) q ≡ (if nat_eq q p then Some k else choice_of xs q)
@@ -72,20 +89,8 @@ choice_popped xs e once q = elim (cases_Bool (nat_eq q e.0)) [
 
 -- ---- what stands at a place
 
-all_at : (P : ℕ → Type 0) (xs : List (ℕ × ℕ)) (i : ℕ) (e : ℕ × ℕ) → AllByRecursion P (keys_of xs) → slice_get xs i ≡ Some e → P e.0
-all_at P [] i e h at = absurd (none-some e at)
-all_at P (x ∷ xs) zero e h at = subst (λ (y : ℕ × ℕ). P y.0) (same_Some x e at) h.0
-all_at P (x ∷ xs) (suc i) e h at = all_at P xs i e h.1 at
-
 pub entry_chosen : (xs : List (ℕ × ℕ)) (i : ℕ) (e : ℕ × ℕ) → IsDistinct nat_eq (keys_of xs) → slice_get xs i ≡ Some e → choice_of xs e.0 ≡ Some e.1
-unfolding IsDistinct
-entry_chosen [] i e once at = absurd (none-some e at)
-entry_chosen (x ∷ xs) zero e once at =
-    let same : x ≡ e = same_Some x e at in
-    rw (eq-eqb e.0 x.0 (ap (λ (y : ℕ × ℕ). y.0) (sym same))) (ap (λ (y : ℕ × ℕ). Some y.1) same)
-entry_chosen (x ∷ xs) (suc i) e once at =
-    let apart : nat_eq e.0 x.0 ≡ false = nat_eq_equiv.symm e.0 x.0 ∙ all_at (λ y. nat_eq x.0 y ≡ false) xs i e once.0 at in
-    rw apart (entry_chosen xs i e once.1 at)
+entry_chosen xs i e once at = lookup_from_place nat_eq_equiv xs i e.0 e.1 once at
 
 -- and so is what is among a part of the list
 pub part_chosen : (part xs : List (ℕ × ℕ)) (a b p k : ℕ) → part ≡ xs → IsDistinct nat_eq (keys_of xs) → Contains (take a (drop b part)) (p, k) → choice_of xs p ≡ Some k

@@ -20,4 +20,7 @@ pub mod Bests
 pub mod Lows
 pub mod Checked
 pub mod PreferredNewest
-pub mod Settling
+pub mod NewestExists
+pub mod OneList
+pub mod AnswerLaws
+pub mod AnswerRows

@@ -1,9 +1,14 @@
 -- Lists in the order of the walk: what comes next, and that a visit keeps the order.
-use Rattle.std.proofs.Common.{◌≡◌, ◌<◌, ◌≤◌, ◌+◌, ◌∙◌, ℕ, zero, suc, refl, sym, ap, subst, arith, ◌⊎◌, inl, inr, List, [], ◌∷◌, ◌++◌, length, take, if◌then◌else◌}
-use Rattle.std.proofs.lemmas.Bool.{cases_eq}
+use Rattle.std.proofs.Common.{◌≡◌, ◌<◌, ◌≤◌, ◌+◌, ◌∙◌, ℕ, zero, suc, refl, sym, ap, subst, arith, ◌⊎◌, inl, inr, List, [], ◌∷◌, ◌++◌, Contains, length, take, if◌then◌else◌}
+use Rattle.std.proofs.lemmas.Bool.{cases_Bool}
 use Rattle.std.proofs.lemmas.List.{append-nil, take-append-le}
 use Rattle.std.proofs.lemmas.Option.{none-some, same_Some, slice_get_within}
+use Rattle.std.proofs.lemmas.List.Elements.{Contains-append_cases, Contains-append_left, Contains-append_right}
+use Rattle.std.proofs.lemmas.List.Sorted.{Contains-permutation, IsPermutation-cons, IsPermutation-middle, IsPermutation-refl, IsPermutation-sym, IsPermutation-trans}
 use Rattle.std.proofs.Math.Seq.{take-append_seam}
+use Rattle.std.specs.Cmp.Lexicographic.{slice_cmp}
+use Rattle.std.specs.List.Sorted.{IsPermutation}
+use Rattle.std.specs.Ordering.{is_lt, nat_cmp}
 use Rattle.std.specs.Prelude.{IfNone, IfSome, None, Option, Some, is_some, slice_get}
 use Rattle.versions.specs.Words.{Text}
 use Rattle.registry.specs.Registry.{Packages, needs_of, number_of}
@@ -11,9 +16,9 @@ use Rattle.registry.specs.Selections.{Choices}
 use Rattle.walk.specs.Choosing.{choice_of}
 use Rattle.walk.specs.declared.reached.Asker.TheVariants as asker
 use Rattle.walk.specs.Listing.{AllPassed, ArePassed, IsListing, IsNext, IsPassed, IsPassedTo, Passes}
-use Rattle.walk.specs.Newest.{dependencies_of, first_new, in_name_order, new_or_later, next_package}
+use Rattle.walk.specs.Newest.{AreWalked, dependencies_of, first_new, in_name_order, insert_by_name, new_or_later, next_package}
 use Rattle.walk.specs.Walks.{Grows}
-use Rattle.walk.proofs.Lists.{choice-left, choice-push_here, get-before, get-left}
+use Rattle.walk.proofs.Lists.{choice-left, choice-push_here, contains_at, get-before, get-left, one_more, pushed_at}
 
 -- ---- what was passed stays so
 
@@ -26,12 +31,7 @@ all_grown packages old new lines g h j line at = passed_grown packages old new l
 -- one more line, where it was passed
 pub passed_more : (packages : Packages) (old new : List (ℕ × ℕ)) (lines : List (Text × Text)) (i : ℕ) (line : Text × Text) → Grows old new → ArePassed packages old lines i → slice_get lines i ≡ Some line
     → IsPassed packages new line → ArePassed packages new lines (i + 1)
-passed_more packages old new lines i line g before at here j other lt at_j = elim (cases_eq j i) [
-  | inl same ↦
-      let is : line ≡ other = same_Some line other (sym at ∙ ap (slice_get lines) (sym same) ∙ at_j) in
-      subst (λ (l : Text × Text). IsPassed packages new l) is here
-  | inr apart ↦ passed_grown packages old new other g (before j other (omega (arith, lt, apart)) at_j)
-]
+passed_more packages old new lines i line g before at here = one_more (IsPassed packages new) lines i line (λ j other lt at_j. passed_grown packages old new other g (before j other lt at_j)) at here
 
 -- all of them, where each place was passed
 pub passed_all : (packages : Packages) (found : List (ℕ × ℕ)) (lines : List (Text × Text)) (i : ℕ) → length lines ≤ i → ArePassed packages found lines i → AllPassed packages found lines
@@ -40,20 +40,37 @@ passed_all packages found lines i all h j line at = let lt = slice_get_within li
 -- ---- what comes next
 
 module _ (packages : Packages) (found : List (ℕ × ℕ)) where
+  -- the first line's package is new, or was passed and the others tell
+  abbrev Begins : Text × Text → List (Text × Text) → Type 0
+  Begins line rest = ((p : ℕ) × (number_of packages line.0 ≡ Some p) × (choice_of found p ≡ None) × (first_new packages found (line ∷ rest) ≡ Some p))
+      ⊎ (IsPassed packages found line × (first_new packages found (line ∷ rest) ≡ first_new packages found rest))
+
+  begins : (line : Text × Text) (rest : List (Text × Text)) → Begins line rest
+  begins line rest = by (number_of packages line.0) refl
+    where
+      by : (o : Option ℕ) → number_of packages line.0 ≡ o → Begins line rest
+      by None at = inr (λ p numbered. absurd (none-some p (sym at ∙ numbered)), ap (λ o. new_or_later found o (first_new packages found rest)) at)
+      by (Some q) at = here (choice_of found q) refl
+        where
+          is : (o : Option ℕ) → choice_of found q ≡ o → first_new packages found (line ∷ rest) ≡ (if is_some o then first_new packages found rest else Some q)
+          is o f = ap (λ n. new_or_later found n (first_new packages found rest)) at ∙ ap (λ (n : Option ℕ). if is_some n then first_new packages found rest else Some q) f
+
+          here : (o : Option ℕ) → choice_of found q ≡ o → Begins line rest
+          here None f = inl (q, at, f, is None f)
+          here (Some k) f = inr (λ p numbered. (k, ap (choice_of found) (same_Some p q (sym numbered ∙ at)) ∙ f), is (Some k) f)
+
+  -- behind a line that was passed the others tell
+  pub first_behind : (line : Text × Text) (rest : List (Text × Text)) → IsPassed packages found line → first_new packages found (line ∷ rest) ≡ first_new packages found rest
+  first_behind line rest passed = elim (begins line rest) [
+    | inl new ↦ let there = passed new.0 new.1 in absurd (none-some there.0 (sym new.2 ∙ there.1))
+    | inr behind ↦ behind.1
+  ]
+
   first_passed : (lines rest : List (Text × Text)) → AllPassed packages found lines → first_new packages found (lines ++ rest) ≡ first_new packages found rest
   first_passed [] rest h = refl
-  first_passed (line ∷ lines) rest h = by (first_passed lines rest (λ j l at. h (suc j) l at)) (number_of packages line.0) refl
-    where
-      by : first_new packages found (lines ++ rest) ≡ first_new packages found rest → (o : Option ℕ) → number_of packages line.0 ≡ o
-          → first_new packages found (line ∷ (lines ++ rest)) ≡ first_new packages found rest
-      by later None at = ap (λ o. new_or_later found o (first_new packages found (lines ++ rest))) at ∙ later
-      by later (Some p) at =
-          let here = h 0 line refl p at in
-          ap (λ o. new_or_later found o (first_new packages found (lines ++ rest))) at
-          ∙ ap (λ (o : Option ℕ). if is_some o then first_new packages found (lines ++ rest) else Some p) here.1
-          ∙ later
+  first_passed (line ∷ lines) rest h = first_behind line (lines ++ rest) (h 0 line refl) ∙ first_passed lines rest (λ j. h (suc j))
 
-  first_here : (line : Text × Text) (rest : List (Text × Text)) (p : ℕ) → number_of packages line.0 ≡ Some p → choice_of found p ≡ None → first_new packages found (line ∷ rest) ≡ Some p
+  pub first_here : (line : Text × Text) (rest : List (Text × Text)) (p : ℕ) → number_of packages line.0 ≡ Some p → choice_of found p ≡ None → first_new packages found (line ∷ rest) ≡ Some p
   first_here line rest p numbered none =
       ap (λ o. new_or_later found o (first_new packages found rest)) numbered
       ∙ ap (λ (o : Option ℕ). if is_some o then first_new packages found rest else Some p) none
@@ -66,12 +83,30 @@ module _ (packages : Packages) (found : List (ℕ × ℕ)) where
       let same : l ≡ line = same_Some l line at in
       first_here l (lines ++ rest) p (ap (λ (x : Text × Text). number_of packages x.0) same ∙ numbered) none
   first_at (l ∷ lines) rest (suc i) line p at before numbered none =
-      let first : AllPassed packages found (l ∷ []) = alone l (before 0 l (omega arith) refl) in
-      first_passed (l ∷ []) (lines ++ rest) first ∙ first_at lines rest i line p at (λ j other lt here. before (suc j) other (omega (arith, lt)) here) numbered none
+      first_behind l (lines ++ rest) (before 0 l (omega arith) refl) ∙ first_at lines rest i line p at (λ j other lt. before (suc j) other (omega (arith, lt))) numbered none
+
+  -- what comes first is the package of a line, and was not found yet
+  first_line : (lines : List (Text × Text)) (p : ℕ) → first_new packages found lines ≡ Some p → (line : Text × Text) × Contains lines line × (number_of packages line.0 ≡ Some p) × (choice_of found p ≡ None)
+  first_line [] p e = absurd (none-some p e)
+  first_line (line ∷ rest) p e = elim (begins line rest) [
+    | inl new ↦ let same : new.0 ≡ p = same_Some new.0 p (sym new.3 ∙ e) in (line, (0, omega arith, refl), new.1 ∙ ap Some same, ap (choice_of found) (sym same) ∙ new.2)
+    | inr passed ↦ let there = first_line rest p (sym passed.1 ∙ e) in (there.0, Contains-append_right (line ∷ []) rest there.0 there.1, there.2, there.3)
+  ]
+
+  -- where none comes, each line was passed
+  pub none_first : (lines : List (Text × Text)) → first_new packages found lines ≡ None → (line : Text × Text) → Contains lines line → IsPassed packages found line
+  none_first [] none line among = absurd (omega (arith, among.1))
+  none_first (l ∷ rest) none line among = elim (begins l rest) [
+    | inl new ↦ absurd (none-some new.0 (sym none ∙ new.3))
+    | inr passed ↦ elim (Contains-append_cases (l ∷ []) rest line among) [
+      | inl first ↦ let at = contains_at (l ∷ []) line first in alone at.0 at.1 passed.0
+      | inr later ↦ none_first rest (sym passed.1 ∙ none) line later
+    ]
+  ]
     where
-      alone : (l : Text × Text) → IsPassed packages found l → AllPassed packages found (l ∷ [])
-      alone l h zero line at = subst (λ (x : Text × Text). IsPassed packages found x) (same_Some l line at) h
-      alone l h (suc j) line at = absurd (none-some line at)
+      alone : (i : ℕ) → slice_get (l ∷ []) i ≡ Some line → IsPassed packages found l → IsPassed packages found line
+      alone zero at h = subst (IsPassed packages found) (same_Some l line at) h
+      alone (suc i) at h = absurd (none-some line at)
 
   -- what the versions depend on, from a place on, behind versions whose dependencies were passed
   first_asked : (entries : List (ℕ × ℕ)) (place : ℕ) (e : ℕ × ℕ) → slice_get entries place ≡ Some e
@@ -107,29 +142,75 @@ module _ (packages : Packages) (found : List (ℕ × ℕ)) where
       first_passed (in_name_order needs) (dependencies_of packages found) to.asked
       ∙ none_asked found (λ j f at. let lt = slice_get_within found j f at in to.before j f (omega (arith, lt, all)) at)
 
+-- ---- who asks
+
+inserted : (need : Text × Text) (xs : List (Text × Text)) → IsPermutation (need ∷ xs) (insert_by_name need xs)
+inserted need [] = IsPermutation-refl (need ∷ [])
+inserted need (x ∷ xs) = elim (cases_Bool (is_lt (slice_cmp nat_cmp x.0 need.0))) [
+  | inl t ↦
+      rw t (IsPermutation-trans (need ∷ x ∷ xs) (x ∷ need ∷ xs) (x ∷ insert_by_name need xs) (IsPermutation-middle (need ∷ []) x xs)
+      (IsPermutation-cons x (need ∷ xs) (insert_by_name need xs) (inserted need xs)))
+  | inr f ↦ rw f (IsPermutation-refl (need ∷ x ∷ xs))
+]
+
+pub ordered : (xs : List (Text × Text)) → IsPermutation xs (in_name_order xs)
+ordered [] = IsPermutation-refl []
+ordered (x ∷ xs) = IsPermutation-trans (x ∷ xs) (x ∷ in_name_order xs) (in_name_order (x ∷ xs)) (IsPermutation-cons x xs (in_name_order xs) (ordered xs)) (inserted x (in_name_order xs))
+
+pub need_in : (needs : List (Text × Text)) (line : Text × Text) → Contains (in_name_order needs) line → Contains needs line
+need_in needs line = Contains-permutation (in_name_order needs) needs line (IsPermutation-sym needs (in_name_order needs) (ordered needs))
+
+module _ (packages : Packages) where
+  -- a version that was found asks for the line
+  abbrev pub IsAskedIn : List (ℕ × ℕ) → Text × Text → Type 0
+  IsAskedIn found line = (i : ℕ) × (e : ℕ × ℕ) × (slice_get found i ≡ Some e) × Contains (needs_of packages e.0 e.1) line
+
+  asked_in : (found : List (ℕ × ℕ)) (line : Text × Text) → Contains (dependencies_of packages found) line → IsAskedIn found line
+  asked_in [] line among = absurd (omega (arith, among.1))
+  asked_in (x ∷ found) line among = elim (Contains-append_cases (needs_of packages x.0 x.1) (dependencies_of packages found) line among) [
+    | inl here ↦ (0, x, refl, here)
+    | inr later ↦ let there = asked_in found line later in (suc there.0, there.1, there.2, there.3)
+  ]
+
+  pub depended : (found : List (ℕ × ℕ)) (i : ℕ) (e : ℕ × ℕ) (line : Text × Text) → slice_get found i ≡ Some e → Contains (needs_of packages e.0 e.1) line → Contains (dependencies_of packages found) line
+  depended [] i e line at among = absurd (none-some e at)
+  depended (x ∷ found) zero e line at among =
+      Contains-append_left (needs_of packages x.0 x.1) (dependencies_of packages found) line (subst (λ (y : ℕ × ℕ). Contains (needs_of packages y.0 y.1) line) (sym (same_Some x e at)) among)
+  depended (x ∷ found) (suc i) e line at among = Contains-append_right (needs_of packages x.0 x.1) (dependencies_of packages found) line (depended found i e line at among)
+
+  -- what comes next is asked for, and was not found yet
+  pub next_named : (needs : List (Text × Text)) (found : List (ℕ × ℕ)) (p : ℕ) → next_package packages needs found ≡ Some p
+      → (line : Text × Text) × (number_of packages line.0 ≡ Some p) × (choice_of found p ≡ None) × (Contains needs line ⊎ IsAskedIn found line)
+  next_named needs found p e =
+      let there = first_line packages found (in_name_order needs ++ dependencies_of packages found) p e in
+      let asks : Contains needs there.0 ⊎ IsAskedIn found there.0 = elim (Contains-append_cases (in_name_order needs) (dependencies_of packages found) there.0 there.1) [
+        | inl need ↦ inl (need_in needs there.0 need)
+        | inr later ↦ inr (asked_in found there.0 later)
+      ] in
+      (there.0, there.2, there.3, asks)
+
 -- ---- a visit
 
-pub pushed_at : (xs : List (ℕ × ℕ)) (x : ℕ × ℕ) (i : ℕ) (e : ℕ × ℕ) → slice_get (xs ++ x ∷ []) i ≡ Some e → (slice_get xs i ≡ Some e) ⊎ ((i ≡ length xs) × (x ≡ e))
-pushed_at [] x zero e at = inr (refl, same_Some x e at)
-pushed_at [] x (suc i) e at = absurd (none-some e at)
-pushed_at (y ∷ xs) x zero e at = inl at
-pushed_at (y ∷ xs) x (suc i) e at = elim (pushed_at xs x i e at) [
-  | inl before ↦ inl before
-  | inr last ↦ inr (omega (arith, last.0), last.1)
+-- what holds of each behind those before it, and of one more behind them all
+pub each_pushed : (P : List (ℕ × ℕ) → ℕ × ℕ → Type 0) (found : List (ℕ × ℕ)) (x : ℕ × ℕ) → ((i : ℕ) (e : ℕ × ℕ) → slice_get found i ≡ Some e → P (take i found) e) → P found x
+    → (i : ℕ) (e : ℕ × ℕ) → slice_get (found ++ x ∷ []) i ≡ Some e → P (take i (found ++ x ∷ [])) e
+each_pushed P found x each here i e at = elim (pushed_at found x i e at) [
+  | inl before ↦
+      let lt = slice_get_within found i e before in
+      subst (λ xs. P xs e) (sym (take-append-le i found (x ∷ []) (omega (arith, lt)))) (each i e before)
+  | inr last ↦
+      let whole : take i (found ++ x ∷ []) ≡ found = ap (λ n. take n (found ++ x ∷ [])) last.0 ∙ take-append_seam found (x ∷ []) in
+      subst (λ xs. P xs e) (sym whole) (subst (P found) last.1 here)
 ]
+
+pub walked_push : (packages : Packages) (needs : List (Text × Text)) (found : List (ℕ × ℕ)) (p k : ℕ) → AreWalked packages needs found → next_package packages needs found ≡ Some p → AreWalked packages needs (found ++ (p, k) ∷ [])
+walked_push packages needs found p k walked next = each_pushed (λ before (e : ℕ × ℕ). next_package packages needs before ≡ Some e.0) found (p, k) walked next
 
 module _ (packages : Packages) (needs : List (Text × Text)) (chooses : Choices) where
   pub listing_push : (found : List (ℕ × ℕ)) (p k : ℕ) → IsListing packages needs chooses found → next_package packages needs found ≡ Some p → chooses p ≡ Some k
       → IsListing packages needs chooses (found ++ (p, k) ∷ [])
   listing_push found p k listing next chosen = record {
-    walked = λ i e at. elim (pushed_at found (p, k) i e at) [
-      | inl before ↦
-          let lt = slice_get_within found i e before in
-          ap (next_package packages needs) (take-append-le i found ((p, k) ∷ []) (omega (arith, lt))) ∙ listing.walked i e before
-      | inr last ↦
-          ap (next_package packages needs) (ap (λ n. take n (found ++ (p, k) ∷ [])) last.0 ∙ take-append_seam found ((p, k) ∷ []))
-          ∙ next ∙ ap (λ (x : ℕ × ℕ). Some x.0) last.1
-    ];
+    walked = walked_push packages needs found p k listing.walked next;
     chosen = λ i e at. elim (pushed_at found (p, k) i e at) [
       | inl before ↦ listing.chosen i e before
       | inr last ↦ subst (λ (x : ℕ × ℕ). chooses x.0 ≡ Some x.1) last.1 chosen
@@ -197,10 +278,5 @@ pub to_more : (packages : Packages) (needs : List (Text × Text)) (found : List 
     → AllPassed packages found (needs_of packages e.0 e.1) → IsPassedTo packages needs found (place + 1)
 to_more packages needs found place e at to here = record {
   asked = to.asked;
-  before = λ j f lt at_j. elim (cases_eq j place) [
-    | inl same ↦
-        let is : e ≡ f = same_Some e f (sym at ∙ ap (slice_get found) (sym same) ∙ at_j) in
-        subst (λ (x : ℕ × ℕ). AllPassed packages found (needs_of packages x.0 x.1)) is here
-    | inr apart ↦ to.before j f (omega (arith, lt, apart)) at_j
-  ];
+  before = one_more (λ (x : ℕ × ℕ). AllPassed packages found (needs_of packages x.0 x.1)) found place e to.before at here;
 }

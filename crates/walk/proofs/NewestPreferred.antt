@@ -1,32 +1,30 @@
--- That the preferred selection is the newest one, where it meets the request.
-use Rattle.std.proofs.Common.{◌≡◌, ◌<◌, ◌∙◌, ◌+◌, inl, inr, ℕ, zero, suc, List, [], ◌∷◌, ◌++◌, take, refl, sym, ap, subst, arith, true, false, true≢false, ◌&&◌, ◌||◌, not, cond, filter, if◌then◌else◌, Bool, Contains}
+-- Nothing that can be had is preferred to a preferred version; and what comes next in the walk of a selection.
+use Rattle.std.proofs.Common.{◌≡◌, ◌∙◌, ◌+◌, inl, inr, ℕ, zero, suc, List, [], ◌∷◌, refl, sym, ap, subst, arith, true, false, true≢false, ◌&&◌, ◌||◌, not, Bool, Contains}
 use Rattle.std.proofs.lemmas.Bool.{cases_Bool, and_parts, or_parts, not-true}
 use Rattle.std.proofs.lemmas.Option.{none-some, same_Some}
 use Rattle.std.proofs.lemmas.Slice.Eq.{bytes_eq-Decides}
-use Rattle.std.specs.Prelude.{None, Option, Some, find, is_some, slice_get}
-use Rattle.std.specs.List.{AllByRecursion, enumerate_from, list_all}
-use Rattle.std.specs.Option.{option_and_then, option_map, option_or}
+use Rattle.std.specs.Prelude.{None, Option, Some, find, slice_get}
+use Rattle.std.specs.List.{enumerate_from, list_all}
+use Rattle.std.specs.Option.{option_map, option_or}
 use Rattle.std.specs.Ordering.{is_eq, is_lt}
 use Rattle.std.specs.declared.cmp.Ordering.{Ordering}
 use Rattle.std.specs.declared.cmp.Ordering.TheVariants.{Less, Equal, Greater}
 use Rattle.std.specs.Str.{bytes_eq}
-use Rattle.versions.specs.Precedence.{EqualPrecedenceIsATie, EqualPrecedenceIsAnEquivalence, PrecedenceIsATotalPreorder}
+use Rattle.versions.specs.Precedence.{EqualPrecedenceIsATie, EqualPrecedenceIsAnEquivalence}
 use Rattle.versions.specs.Words.{Text, meets, precedence, same_precedence}
-use Rattle.registry.specs.Laws.{HighestIsOne, NamesHaveTheirNumbers}
+use Rattle.registry.specs.Laws.{NamesHaveTheirNumbers}
 use Rattle.registry.specs.Lawful.{IsRegistry}
 use Rattle.registry.specs.Needs.{has_name, repeats_name}
-use Rattle.registry.specs.Preference.{IsPreferredSelection, candidates, highest_candidate, is_candidate, locked_candidate, meets_needs, preferred, preferred_in}
+use Rattle.registry.specs.Preference.{candidates, highest_candidate, is_candidate, locked_candidate, meets_needs, preferred_in}
 use Rattle.registry.specs.Registry.{Package, Packages, Publication, needs_of, number_of, package_at, publication_at, publication_meets}
 use Rattle.registry.specs.Requests.{Wanted, allows, is_locked}
 use Rattle.registry.specs.Selections.{Choices, IsMet, IsReached, Meets, along, needed}
-use Rattle.walk.specs.Newest.{Has, IsNewest, dependencies_of, first_new, in_name_order, is_preferred_to, new_or_later}
-use Rattle.walk.proofs.NewestLaws.{ahead, dependencies_met, both, each, entry, met_by, ordered, published}
-use Rattle.walk.specs.Choosing.{choice_of}
-use Rattle.walk.proofs.Lists.{choice-entry}
-use Rattle.walk.proofs.Preferring.{passing-all}
+use Rattle.walk.specs.Newest.{is_preferred_to, next_package}
+use Rattle.walk.proofs.Listings.{next_named}
+use Rattle.walk.proofs.NewestLaws.{met_by}
+use Rattle.walk.proofs.Preferring.{find-filter, passing-all}
 use Rattle.walk.proofs.Publications.{is_allowed-published, publication_at-package}
-
--- ---- bools
+use Rattle.walk.proofs.Steps.{met_at}
 
 -- ---- a lock names a package once
 
@@ -55,13 +53,6 @@ module _ (equal : EqualPrecedenceIsAnEquivalence) where
       alone false y e f = absurd (true≢false (sym e ∙ f))
 
 -- ---- what is found among those that pass a test
-
-find-filter : {A : Type 0} (t q : A → Bool) (xs : List A) → find q (filter t xs) ≡ find (λ x. t x && q x) xs
-find-filter t q [] = refl
-find-filter t q (x ∷ xs) = elim (cases_Bool (t x)) [
-  | inl e ↦ rw e (ap (λ o. cond (q x) (Some x) o) (find-filter t q xs))
-  | inr e ↦ rw e (find-filter t q xs)
-]
 
 module _ {A : Type 0} where
   -- what is found passes, and stands at its place
@@ -179,25 +170,18 @@ candidate numbers packages wanted s p j pack v lawful m chosen at at_j = rw (is_
 
 -- ---- the walk
 
-pub get_taken : (xs : List (ℕ × ℕ)) (n i : ℕ) (x : ℕ × ℕ) → slice_get (take n xs) i ≡ Some x → (i < n) × (slice_get xs i ≡ Some x)
-get_taken xs zero i x at = absurd (none-some x at)
-get_taken [] (suc n) i x at = absurd (none-some x at)
-get_taken (y ∷ xs) (suc n) zero x at = (omega arith, at)
-get_taken (y ∷ xs) (suc n) (suc i) x at = let rest = get_taken xs n i x at in (omega (arith, rest.0), rest.1)
-
--- what comes next has a version, where all lines are met
-pub next_chosen : (packages : Packages) (t : Choices) (found : List (ℕ × ℕ)) (lines : List (Text × Text)) (p : ℕ) → AllByRecursion (λ (line : Text × Text). IsMet packages t line.0 line.1) lines
-    → first_new packages found lines ≡ Some p → (k : ℕ) × (t p ≡ Some k)
-next_chosen packages t found [] p all e = absurd (none-some p e)
-next_chosen packages t found (line ∷ rest) p all e = elim (cases_Bool (is_some (choice_of found all.0.target))) [
-  | inl b ↦ next_chosen packages t found rest p all.1 (sym (ap (λ b. if b then first_new packages found rest else Some all.0.target) b) ∙ now)
-  | inr b ↦
-      let same : all.0.target ≡ p = same_Some all.0.target p (sym (ap (λ b. if b then first_new packages found rest else Some all.0.target) b) ∙ now) in
-      (all.0.ordinal, ap t (sym same) ∙ all.0.selected)
-]
-  where
-    now : new_or_later found (Some all.0.target) (first_new packages found rest) ≡ Some p
-    now = sym (ap (λ o. new_or_later found o (first_new packages found rest)) all.0.numbered) ∙ e
+-- what comes next has a version, where a selection meets the request and has the versions before
+pub next_met : (packages : Packages) (wanted : Wanted) (t : Choices) (found : List (ℕ × ℕ)) (p : ℕ) → Meets packages wanted t → ((i : ℕ) (e : ℕ × ℕ) → slice_get found i ≡ Some e → t e.0 ≡ Some e.1)
+    → next_package packages wanted.needs found ≡ Some p → (k : ℕ) × (t p ≡ Some k)
+next_met packages wanted t found p meets chosen next =
+    let named = next_named packages wanted.needs found p next in
+    let line = named.0 in
+    let met : IsMet packages t line.0 line.1 = elim named.3 [
+      | inl need ↦ meets.needs line.0 line.1 need
+      | inr on ↦ meets.closed on.1.0 on.1.1 line.0 line.1 (chosen on.0 on.1 on.2) on.3
+    ] in
+    let here = met_at packages t line.0 line.1 p met named.1 in
+    (here.0, here.1)
 
 -- what holds of each package that is needed, and where it holds of a package of each that its version depends on, holds of each that is reached
 pub holds-reached : (packages : Packages) (needs : List (Text × Text)) (s : Choices) (P : ℕ → Type 0)
@@ -207,86 +191,3 @@ pub holds-reached : (packages : Packages) (needs : List (Text × Text)) (s : Cho
 holds-reached packages needs s P first next _ (needed p name need among at) = first p name need among at
 holds-reached packages needs s P first next _ (along from k to name need reached chosen among at) =
     next from k to name need (holds-reached packages needs s P first next from reached) chosen among at
-
-module _ (highest : HighestIsOne) (numbers : NamesHaveTheirNumbers) (total : PrecedenceIsATotalPreorder) (equal : EqualPrecedenceIsAnEquivalence) (tie : EqualPrecedenceIsATie) (packages : Packages) (wanted : Wanted) (s t : Choices) (lawful : IsRegistry packages)
-    (once : repeats_name wanted.lock ≡ false) (one : IsNewest packages wanted s) (other : IsPreferredSelection packages wanted t) (m : Meets packages wanted t) where
-  preferred_is : (p k : ℕ) → t p ≡ Some k → preferred packages wanted p ≡ Some k
-  preferred_is p k e = let here = other.reached p (other.others p k e) in here.1 ∙ sym here.2 ∙ e
-
-  in_package : (p k : ℕ) (pack : Package) → package_at packages p ≡ Some pack → preferred packages wanted p ≡ Some k → preferred_in wanted pack ≡ Some k
-  unfolding preferred
-  in_package p k pack at e = sym (ap (λ o. option_and_then (preferred_in wanted) o) at) ∙ e
-
-  -- the package that comes next has the same version in both
-  same_here : (n : ℕ) (e : ℕ × ℕ) → slice_get one.found n ≡ Some e → ((i : ℕ) (x : ℕ × ℕ) → i < n → slice_get one.found i ≡ Some x → t x.0 ≡ Some x.1) → t e.0 ≡ Some e.1
-  same_here n e at before = elim (ahead highest total packages wanted e.0 there.0 e.1 u.0 v.0 lawful u.1 v.1) [
-    | inl same ↦ there.1 ∙ ap Some same
-    | inr apart ↦ elim apart [
-      | inl better ↦ absurd (one.best n there.0 e at better t m has there.1)
-      | inr worse ↦ absurd (
-          let at_k : publication_at packages e.0 there.0 ≡ Some worse.other = worse.second in
-          let at_j = publication_at-package packages e.0 e.1 worse.one worse.first in
-          let same : at_j.0 ≡ worse.pack = same_Some at_j.0 worse.pack (sym at_j.1 ∙ worse.of) in
-          best equal tie packages wanted once e.0 worse.pack worse.of e.1 there.0 worse.one worse.other (sym (ap (λ (q : Package). slice_get q.versions e.1) same) ∙ at_j.2)
-          (candidate numbers packages wanted s e.0 e.1 worse.pack worse.one lawful one.meets mine worse.of worse.first) at_k
-          (in_package e.0 there.0 worse.pack worse.of (preferred_is e.0 there.0 there.1)) worse.preferred)
-    ]
-  ]
-    where
-      Met : Text × Text → Type 0
-      Met line = IsMet packages t line.0 line.1
-
-      has : Has t (take n one.found)
-      has p k e = let place = choice-entry (take n one.found) p k e in
-          let whole = get_taken one.found n place.0 (p, k) place.1 in before place.0 (p, k) whole.0 whole.1
-
-      lines : AllByRecursion Met (in_name_order wanted.needs ++ dependencies_of packages (take n one.found))
-      lines = both Met (in_name_order wanted.needs) (dependencies_of packages (take n one.found))
-          (ordered Met wanted.needs (each Met wanted.needs (λ line among. m.needs line.0 line.1 among)))
-          (dependencies_met packages Met (take n one.found) (λ i x here. let whole = get_taken one.found n i x here in
-          each Met (needs_of packages x.0 x.1) (λ line among. m.closed x.0 x.1 line.0 line.1 (before i x whole.0 whole.1) among)))
-
-      there : (k : ℕ) × (t e.0 ≡ Some k)
-      there = next_chosen packages t (take n one.found) (in_name_order wanted.needs ++ dependencies_of packages (take n one.found)) e.0 lines (one.walked n e at)
-
-      mine : s e.0 ≡ Some e.1
-      mine = sym (ap (λ c. c e.0) one.selects) ∙ entry highest total packages wanted lawful s one n e at
-
-      u : (v : Publication) × (publication_at packages e.0 there.0 ≡ Some v)
-      u = by (publication_at packages e.0 there.0) refl (m.selection e.0 there.0 there.1)
-        where
-          by : (o : Option Publication) → publication_at packages e.0 there.0 ≡ o → is_some o ≡ true → (v : Publication) × (publication_at packages e.0 there.0 ≡ Some v)
-          by None e t = absurd (true≢false (sym t))
-          by (Some v) e t = (v, e)
-
-      v : (v : Publication) × (publication_at packages e.0 e.1 ≡ Some v)
-      v = published highest total packages wanted lawful s one e.0 e.1 mine
-
-  same_before : (n i : ℕ) (x : ℕ × ℕ) → i < n → slice_get one.found i ≡ Some x → t x.0 ≡ Some x.1
-  same_before zero i x lt at = absurd (omega arith)
-  same_before (suc n) i x lt at = same_here i x at (λ j y below here. same_before n j y (omega (arith, below, lt)) here)
-
-  -- what the newest has, the preferred has
-  has_too : (p k : ℕ) → s p ≡ Some k → t p ≡ Some k
-  has_too p k e = let place = choice-entry one.found p k (ap (λ c. c p) one.selects ∙ e) in same_before (suc place.0) place.0 (p, k) (omega arith) place.1
-
-  -- and what the preferred has, the newest has a version of
-  has_some : (p : ℕ) → IsReached packages wanted.needs t p → (k : ℕ) × (s p ≡ Some k)
-  has_some = holds-reached packages wanted.needs t (λ p. (k : ℕ) × (s p ≡ Some k))
-      (λ p name need among numbered. let met = one.meets.needs name need among in (met.ordinal, ap s (same_Some p met.target (sym numbered ∙ met.numbered)) ∙ met.selected))
-      (λ from k to name need here chosen among numbered.
-      let same : here.0 ≡ k = same_Some here.0 k (sym (has_too from here.0 here.1) ∙ chosen) in
-      let met = one.meets.closed from k name need (here.1 ∙ ap Some same) among in
-      (met.ordinal, ap s (same_Some to met.target (sym numbered ∙ met.numbered)) ∙ met.selected))
-
-  same_all : (p : ℕ) → s p ≡ t p
-  same_all p = by (s p) (t p) refl refl
-    where
-      by : (a b : Option ℕ) → s p ≡ a → t p ≡ b → a ≡ b
-      by None None e f = refl
-      by None (Some k) e f = let here = has_some p (m.reached p k f) in absurd (none-some here.0 (sym e ∙ here.1))
-      by (Some k) b e f = sym (has_too p k e) ∙ f
-
-pub newest-preferred : HighestIsOne → NamesHaveTheirNumbers → PrecedenceIsATotalPreorder → EqualPrecedenceIsAnEquivalence → EqualPrecedenceIsATie → (packages : Packages) (wanted : Wanted) (s t : Choices) → IsRegistry packages
-    → repeats_name wanted.lock ≡ false → IsNewest packages wanted s → IsPreferredSelection packages wanted t → Meets packages wanted t → (p : ℕ) → s p ≡ t p
-newest-preferred highest numbers total equal tie packages wanted s t lawful once one other m p = same_all highest numbers total equal tie packages wanted s t lawful once one other m p

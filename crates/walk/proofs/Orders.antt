@@ -1,8 +1,7 @@
 -- An order of the walk that is kept: what is cut off, and what is found and noted more.
-use Rattle.std.proofs.Common.{◌≡◌, ◌<◌, ◌≤◌, ◌+◌, ◌∙◌, ℕ, zero, suc, refl, sym, ap, subst, arith, List, [], ◌∷◌, ◌++◌, length, take, inl, inr}
-use Rattle.std.proofs.lemmas.Bool.{cases_eq}
+use Rattle.std.proofs.Common.{◌≡◌, ◌≤◌, ◌+◌, ◌∙◌, ℕ, zero, suc, refl, sym, ap, subst, arith, List, [], ◌∷◌, ◌++◌, length, take, inl, inr}
 use Rattle.std.proofs.lemmas.List.{take-append-le}
-use Rattle.std.proofs.lemmas.Option.{none-some, same_Some, slice_get_within}
+use Rattle.std.proofs.lemmas.Option.{slice_get_within}
 use Rattle.std.specs.Prelude.{Some, slice_get}
 use Rattle.versions.specs.Words.{Text}
 use Rattle.registry.specs.Registry.{Packages}
@@ -12,14 +11,9 @@ use Rattle.walk.specs.Listing.{AreChosen, IsListing, IsOrder, IsPassedTo, IsStag
 use Rattle.walk.specs.Newest.{next_package}
 use Rattle.walk.specs.Walks.{Grows}
 use Rattle.walk.proofs.Listings.{to_grown}
+use Rattle.walk.proofs.Lists.{get-some, pushed_at, take_one}
 
 -- ---- beginnings of lists
-
-get-taken : {A : Type 0} (m : ℕ) (xs : List A) (i : ℕ) (x : A) → slice_get (take m xs) i ≡ Some x → (i < m) × (slice_get xs i ≡ Some x)
-get-taken zero xs i x h = absurd (none-some x h)
-get-taken (suc m) [] i x h = absurd (none-some x h)
-get-taken (suc m) (z ∷ xs) zero x h = (omega arith, h)
-get-taken (suc m) (z ∷ xs) (suc i) x h = let more = get-taken m xs i x h in (omega (arith, more.0), more.1)
 
 -- a beginning that is at least as long as the list before grew from it
 taken-grows : (old more : List (ℕ × ℕ)) (i : ℕ) → length old ≤ i → Grows old (take i (old ++ more))
@@ -27,28 +21,13 @@ taken-grows [] more i le = (take i more, refl)
 taken-grows (x ∷ old) more zero le = absurd (omega (arith, le))
 taken-grows (x ∷ old) more (suc i) le = let rest = taken-grows old more i (omega (arith, le)) in (rest.0, ap (λ xs. x ∷ xs) rest.1)
 
-taken-at : {A : Type 0} (m : ℕ) (xs : List A) (i : ℕ) (x : A) → i < m → slice_get xs i ≡ Some x → slice_get (take m xs) i ≡ Some x
-taken-at zero xs i x lt at = absurd (omega (arith, lt))
-taken-at (suc m) [] i x lt at = absurd (none-some x at)
-taken-at (suc m) (y ∷ xs) zero x lt at = at
-taken-at (suc m) (y ∷ xs) (suc i) x lt at = taken-at m xs i x (omega (arith, lt)) at
-
-pub get-some : {A : Type 0} (xs : List A) (i : ℕ) → i < length xs → (x : A) × (slice_get xs i ≡ Some x)
-get-some [] i lt = absurd (omega (arith, lt))
-get-some (x ∷ xs) zero lt = (x, refl)
-get-some (x ∷ xs) (suc i) lt = get-some xs i (omega (arith, lt))
-
 -- one more that is chosen
 pub chosen_more : (chooses : Choices) (found : List (ℕ × ℕ)) (place : ℕ) (e : ℕ × ℕ) → AreChosen chooses (take place found) → slice_get found place ≡ Some e → chooses e.0 ≡ Some e.1
     → AreChosen chooses (take (place + 1) found)
-chosen_more chooses found place e before at chosen i x here =
-    let there = get-taken (place + 1) found i x here in
-    elim (cases_eq i place) [
-      | inl same ↦
-          let is : e ≡ x = same_Some e x (sym at ∙ ap (slice_get found) (sym same) ∙ there.1) in
-          subst (λ (y : ℕ × ℕ). chooses y.0 ≡ Some y.1) is chosen
-      | inr apart ↦ before i x (taken-at place found i x (omega (arith, there.0, apart)) there.1)
-    ]
+chosen_more chooses found place e before at chosen = subst (AreChosen chooses) (sym (take_one found place e at)) (λ i x here. elim (pushed_at (take place found) e i x here) [
+  | inl there ↦ before i x there
+  | inr last ↦ subst (λ (y : ℕ × ℕ). chooses y.0 ≡ Some y.1) last.1 chosen
+])
 
 -- ---- stages
 

@@ -25,6 +25,11 @@ pub resized_same : {A T E : Type 0} (r : Result T E) (old new : List A) (n m : �
 resized_same (Ok x) old new n m d e long i = ap (λ l. get_or l i d) (e ∙ ap (λ l. l ++ replicate m d) (take_all n old long)) ∙ behind_same old m i d
 resized_same (Err x) old new n m d e long i = ap (λ l. get_or l i d) e
 
+-- of a list that was empty nothing is read
+pub resized_none : {A T E : Type 0} (r : Result T E) (old new : List (Option A)) (n m : ℕ) → new ≡ (if is_ok r then take n old ++ replicate m None else old) → old ≡ [] → (i : ℕ) → get_or new i None ≡ None
+resized_none {A} r old new n m e empty i =
+    resized_same r old new n m None e (omega (arith, ap length empty)) i ∙ ap (λ (l : List (Option A)). get_or l i None) empty ∙ get_or_past [] i None (omega arith)
+
 pub number_same : (old new : List ℕ) (numbers : List (Option ℕ)) → AreSame old new → (p : ℕ) → number_in new numbers p ≡ number_in old numbers p
 unfolding number_in
 number_same old new numbers same p = ap (λ page. get_or numbers (32 * page + p % 32) None) (same (p / 32))

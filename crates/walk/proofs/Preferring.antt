@@ -1,6 +1,6 @@
 -- The preferred version, as it is found; and that there is one preferred selection, which is what follows the preferred versions and meets the request.
 use Rattle.std.proofs.Common.{Bor, ◌≡◌, ◌<◌, ◌+◌, ◌∙◌, ℕ, zero, suc, refl, sym, ap, subst, arith, Bool, true, false, true≢false, not, ◌&&◌, ◌||◌, cond, List, [], ◌∷◌, length, filter, inl, inr}
-use Rattle.std.proofs.lemmas.Bool.{cases_Bool, and_parts, or_parts}
+use Rattle.std.proofs.lemmas.Bool.{cases_Bool, and_parts, false_from_ne_true, or_parts}
 use Rattle.std.proofs.lemmas.Option.{none-some, same_Some, slice_get_within}
 use Rattle.std.specs.Prelude.{Option, IfNone, IfSome, None, Some, find, slice_get}
 use Rattle.std.specs.List.{enumerate_from, list_all}
@@ -17,11 +17,12 @@ use Rattle.registry.specs.Requests.{Wanted, is_locked, locks}
 use Rattle.registry.specs.Selections.{Choices, Meets}
 use Rattle.walk.specs.Choosing.{Follows}
 use Rattle.walk.specs.Preferring.{Fails, Highest, is_kept, is_kept_at, is_open, is_open_at}
+use Rattle.walk.proofs.Lists.{get-some}
 use Rattle.walk.proofs.Steps.{reached_by_both, selected}
 
 -- ---- tests of elements that are counted
 
-find-filter : {A : Type 0} (t q : A → Bool) (xs : List A) → find q (filter t xs) ≡ find (λ x. t x && q x) xs
+pub find-filter : {A : Type 0} (t q : A → Bool) (xs : List A) → find q (filter t xs) ≡ find (λ x. t x && q x) xs
 find-filter t q [] = refl
 find-filter t q (x ∷ xs) = elim (cases_Bool (t x)) [
   | inl e ↦ rw e (ap (λ o. cond (q x) (Some x) o) (find-filter t q xs))
@@ -122,10 +123,8 @@ kept_equals need locked (Some v) e = (and_parts (same_precedence locked v.versio
 
 -- nor where no version has the precedence of the one that is named
 pub kept-absent : (packages : Packages) (p : ℕ) (need : Option Text) (locked : Text) → ((k : ℕ) → equals_at packages p k locked ≡ false) → Fails packages p (is_kept_at need (Some locked))
-kept-absent packages p need locked none k lt = elim (cases_Bool (is_kept_at need (Some locked) (publication_at packages p k))) [
-  | inl e ↦ absurd (true≢false (sym (kept_equals need locked (publication_at packages p k) e) ∙ none k))
-  | inr e ↦ e
-]
+kept-absent packages p need locked none k lt =
+    false_from_ne_true (is_kept_at need (Some locked) (publication_at packages p k)) (λ e. true≢false (sym (kept_equals need locked (publication_at packages p k) e) ∙ none k))
 
 -- the one that has it is the only one that can be kept
 pub kept-once : (packages : Packages) (p : ℕ) (need : Option Text) (locked : Text) (k : ℕ) → ((j : ℕ) → equals_at packages p j locked ≡ true → j ≡ k)
@@ -135,12 +134,9 @@ kept-once packages p need locked k only j e = only j (kept_equals need locked (p
 -- nor where the one that is named is not
 pub kept-only : (packages : Packages) (p : ℕ) (need : Option Text) (locked : Text) (k : ℕ) → ((j : ℕ) → equals_at packages p j locked ≡ true → j ≡ k)
     → is_kept_at need (Some locked) (publication_at packages p k) ≡ false → Fails packages p (is_kept_at need (Some locked))
-kept-only packages p need locked k only fails j lt = elim (cases_Bool (is_kept_at need (Some locked) (publication_at packages p j))) [
-  | inl e ↦
-      let place : j ≡ k = kept-once packages p need locked k only j e in
-      absurd (true≢false (sym e ∙ ap (λ i. is_kept_at need (Some locked) (publication_at packages p i)) place ∙ fails))
-  | inr e ↦ e
-]
+kept-only packages p need locked k only fails j lt = false_from_ne_true (is_kept_at need (Some locked) (publication_at packages p j)) (λ e.
+    let place : j ≡ k = kept-once packages p need locked k only j e in
+    true≢false (sym e ∙ ap (λ i. is_kept_at need (Some locked) (publication_at packages p i)) place ∙ fails))
 
 -- ---- the preferred version of a package
 
@@ -264,13 +260,8 @@ module _ (packages : Packages) (wanted : Wanted) (p : ℕ) (pack : Package) (at 
   top_of : (test : Option Publication → Bool) (k : ℕ) → Highest packages p test k → (v : Publication) × (slice_get pack.versions k ≡ Some v) × (test (Some v) ≡ true)
   top_of test k h =
       let within : k < length pack.versions = subst (λ (o : Option Package). k < length (versions_or_none o)) at h.published in
-      let v = there pack.versions k within in
+      let v = get-some pack.versions k within in
       (v.0, v.1, ap test (sym (published k v.0 v.1)) ∙ h.passes)
-    where
-      there : (xs : List Publication) (i : ℕ) → i < length xs → (v : Publication) × (slice_get xs i ≡ Some v)
-      there [] i lt = absurd (omega (arith, lt))
-      there (x ∷ xs) zero lt = (x, refl)
-      there (x ∷ xs) (suc i) lt = there xs i (omega (arith, lt))
 
   preferred-is : preferred packages wanted p ≡ preferred_in wanted pack
   unfolding preferred
@@ -311,11 +302,6 @@ module _ (packages : Packages) (wanted : Wanted) (p : ℕ) (pack : Package) (at 
       preferred-is
       ∙ ap (λ o. first_of o (highest_candidate wanted pack)) (locked-none (each-fails (is_kept_at need locked) kept_fails))
       ∙ ap (λ o. first_of None o) (highest-none (each-fails (is_open_at need locked) open_fails))
-
-  -- what is found where the lock names none
-  preferred-else : HighestIsOne → IsRegistry packages → Fails packages p (is_kept_at need locked) → (o : Option ℕ) → IfSome o (Highest packages p (is_open_at need locked)) → IfNone o (Fails packages p (is_open_at need locked)) → o ≡ preferred packages wanted p
-  preferred-else one lawful kept_fails None some none = sym (preferred-none kept_fails none)
-  preferred-else one lawful kept_fails (Some k) some none = sym (preferred-open one lawful k kept_fails some)
 
 -- a package that is not numbered has none
 pub preferred-unnumbered : (packages : Packages) (wanted : Wanted) (p : ℕ) → package_at packages p ≡ None → preferred packages wanted p ≡ None
@@ -359,7 +345,8 @@ module _ (packages : Packages) (wanted : Wanted) (p : ℕ) (name : Text) (named 
   -- else the highest, where there is one
   pub preferred-unlocked : HighestIsOne → IsRegistry packages → Fails packages p (is_kept_at need locked) → (o : Option ℕ) → IfSome o (Highest packages p (is_open_at need locked))
       → IfNone o (Fails packages p (is_open_at need locked)) → o ≡ preferred packages wanted p
-  preferred-unlocked one lawful fails o some none = preferred-else packages wanted p found.0 found.1 need locked own_need own_line one lawful fails o some none
+  preferred-unlocked one lawful fails None some none = sym (preferred-none packages wanted p found.0 found.1 need locked own_need own_line fails none)
+  preferred-unlocked one lawful fails (Some k) some none = sym (preferred-open packages wanted p found.0 found.1 need locked own_need own_line one lawful k fails some)
 
 -- ---- the preferred selection
 

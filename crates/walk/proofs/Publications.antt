@@ -1,12 +1,12 @@
 -- What a publication's place says: its package, whether it is allowed, and that no two of a package have equal precedence.
-use Rattle.std.proofs.Common.{◌≡◌, ◌∙◌, ◌||◌, ℕ, refl, sym, ap, inl, inr, nat_eq, Bool, true, false}
-use Rattle.std.proofs.lemmas.Bool.{cases_Bool, eq-eqb, eqb-true}
+use Rattle.std.proofs.Common.{◌≡◌, ◌∙◌, ◌||◌, ℕ, refl, sym, ap, nat_eq, Bool, true, false}
+use Rattle.std.proofs.lemmas.Bool.{eq-eqb, eqb-true, false_from_ne_true}
 use Rattle.std.proofs.lemmas.Option.{none-some, same_Some, slice_get_within}
 use Rattle.std.specs.Prelude.{None, Option, Some, slice_get}
 use Rattle.std.specs.Option.{option_and_then}
+use Rattle.std.specs.Cmp.{tied_itself}
 use Rattle.std.specs.Ordering.{ordering_reverse}
-use Rattle.std.specs.declared.cmp.Ordering.{Ordering}
-use Rattle.std.specs.declared.cmp.Ordering.TheVariants.{Less, Equal, Greater}
+use Rattle.std.specs.declared.cmp.Ordering.TheVariants.{Less, Equal}
 use Rattle.versions.specs.Precedence.{PrecedenceIsATotalPreorder}
 use Rattle.versions.specs.Words.{Text, precedence}
 use Rattle.registry.specs.Highest.{IsHighest}
@@ -44,15 +44,7 @@ is_allowed-published packages wanted p k pack publication e at =
 -- ---- equal precedence
 
 pub own : (total : PrecedenceIsATotalPreorder) (a : Text) → precedence a a ≡ Less → ⊥
-own total a e = by (precedence a a) e (total.antisymm a a)
-  where
-    by : (o : Ordering) → o ≡ Less → o ≡ ordering_reverse o → ⊥
-    by Less e r = differ r
-      where
-        differ : Less ≡ Greater → ⊥
-        differ h = cc
-    by Equal e r = cc
-    by Greater e r = cc
+own total a e = cc (sym e ∙ tied_itself total a)
 
 -- versions of a package between which the order is a tie are one
 pub tied_once : HighestIsOne → PrecedenceIsATotalPreorder → (packages : Packages) (p i j : ℕ) (u v : Publication) → IsRegistry packages → publication_at packages p i ≡ Some u → publication_at packages p j ≡ Some v
@@ -76,38 +68,20 @@ tied_once once total packages p i j u v lawful at_i at_j tie =
     forth : precedence v.version u.version ≡ Less → ⊥
     forth e = cc (sym e ∙ total.antisymm v.version u.version ∙ ap ordering_reverse tie)
 
-    pack : (pack : Package) × (package_at packages p ≡ Some pack) × (slice_get pack.versions i ≡ Some u)
-    pack = publication_at-package packages p i u at_i
-
-    in_pack : (k : ℕ) (w : Publication) → slice_get (versions_or_none (package_at packages p)) k ≡ Some w → slice_get pack.0.versions k ≡ Some w
-    in_pack k w e = sym (ap (λ (o : Option Package). slice_get (versions_or_none o) k) pack.1) ∙ e
-
-    listed : (k : ℕ) (w : Publication) → publication_at packages p k ≡ Some w → slice_get (versions_or_none (package_at packages p)) k ≡ Some w
-    listed k w e = ap (λ (o : Option Package). slice_get (versions_or_none o) k) pack.1 ∙ publication_in packages p k pack.0 w pack.1 e
-
     top : (k : ℕ) (w : Publication) → publication_at packages p k ≡ Some w → test k ≡ true → (precedence w.version u.version ≡ Less → ⊥) → (precedence w.version v.version ≡ Less → ⊥)
         → IsHighest (λ l b. test l ≡ b) (versions_or_none (package_at packages p)) k
     top k w at passes not_u not_v = record {
-      published = slice_get_within (versions_or_none (package_at packages p)) k w (listed k w at);
+      published = slice_get_within (versions_or_none (package_at packages p)) k w (listed_at packages p k w at);
       passes = passes;
-      fails = λ l version other at_k at_l less. fails l version other at_k at_l less;
+      fails = λ l version other at_k at_l less.
+          let one : version ≡ w = same_Some version w (sym at_k ∙ listed_at packages p k w at) in
+          let below : precedence w.version other.version ≡ Less = ap (λ (x : Publication). precedence x.version other.version) (sym one) ∙ less in
+          ap (λ b. b || nat_eq l j) (apart l i other u at_l at_i below not_u) ∙ apart l j other v at_l at_j below not_v;
     }
       where
-        fails : (l : ℕ) (version other : Publication) → slice_get (versions_or_none (package_at packages p)) k ≡ Some version → slice_get (versions_or_none (package_at packages p)) l ≡ Some other
-            → precedence version.version other.version ≡ Less → test l ≡ false
-        fails l version other at_k at_l less = elim (cases_Bool (nat_eq l i)) [
-          | inl t ↦
-              let place : l ≡ i = eqb-true l i t in
-              let same : other ≡ u = same_Some other u (sym at_l ∙ ap (slice_get (versions_or_none (package_at packages p))) place ∙ listed i u at_i) in
-              absurd (not_u (ap (λ (x : Publication). precedence x.version u.version) (sym own_one) ∙ ap (λ (x : Publication). precedence version.version x.version) (sym same) ∙ less))
-          | inr f ↦ elim (cases_Bool (nat_eq l j)) [
-            | inl t ↦
-                let place : l ≡ j = eqb-true l j t in
-                let same : other ≡ v = same_Some other v (sym at_l ∙ ap (slice_get (versions_or_none (package_at packages p))) place ∙ listed j v at_j) in
-                absurd (not_v (ap (λ (x : Publication). precedence x.version v.version) (sym own_one) ∙ ap (λ (x : Publication). precedence version.version x.version) (sym same) ∙ less))
-            | inr g ↦ ap (λ b. b || nat_eq l j) f ∙ g
-          ]
-        ]
-          where
-            own_one : version ≡ w
-            own_one = same_Some version w (sym at_k ∙ listed k w at)
+        -- a version above this one is none that is not
+        apart : (l m : ℕ) (other x : Publication) → slice_get (versions_or_none (package_at packages p)) l ≡ Some other → publication_at packages p m ≡ Some x → precedence w.version other.version ≡ Less
+            → (precedence w.version x.version ≡ Less → ⊥) → nat_eq l m ≡ false
+        apart l m other x at_l at_m less not_x = false_from_ne_true (nat_eq l m) (λ t.
+            let same : other ≡ x = same_Some other x (sym at_l ∙ ap (slice_get (versions_or_none (package_at packages p))) (eqb-true l m t) ∙ listed_at packages p m x at_m) in
+            not_x (ap (λ (y : Publication). precedence w.version y.version) (sym same) ∙ less))

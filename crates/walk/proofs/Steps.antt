@@ -46,6 +46,12 @@ follows_push chooses found q v follows chosen p k h = elim (choice-push_cases fo
 
 -- ---- a need at a place
 
+-- a need that is met has a version that meets it of the package that it names
+pub met_at : (packages : Packages) (s : Choices) (name need : Text) (p : ℕ) → IsMet packages s name need → number_of packages name ≡ Some p → (k : ℕ) × (s p ≡ Some k) × (meets_at packages p k need ≡ true)
+met_at packages s name need p m numbered =
+    let same : m.target ≡ p = same_Some m.target p (sym m.numbered ∙ numbered) in
+    (m.ordinal, ap s (sym same) ∙ m.selected, ap (λ q. meets_at packages q m.ordinal need) (sym same) ∙ m.meeting)
+
 module _ (packages : Packages) (needs : List (Text × Text)) (index : ℕ) (name need : Text) (at : slice_get needs index ≡ Some (name, need)) where
   -- it is met where its package has a version that meets it
   pub line_met : (target k : ℕ) (s : Choices) → number_of packages name ≡ Some target → s target ≡ Some k → meets_at packages target k need ≡ true → IsMetAt packages s needs index
@@ -198,16 +204,14 @@ module _ (packages : Packages) (wanted : Wanted) (chooses : Choices) (found left
   -- what the choices reach is found, and reached by what is found
   walked : (p : ℕ) → IsReached packages wanted.needs chooses p → ((k : ℕ) × (choice_of found p ≡ Some k)) × IsReached packages wanted.needs (choice_of found) p
   walked _ (needed p name need among numbered) =
-      let m = w.needs name need among in
-      let same : m.target ≡ p = same_Some m.target p (sym m.numbered ∙ numbered) in
-      ((m.ordinal, subst (λ q. choice_of found q ≡ Some m.ordinal) same m.selected), needed p name need among numbered)
+      let here = met_at packages (choice_of found) name need p (w.needs name need among) numbered in
+      ((here.0, here.1), needed p name need among numbered)
   walked _ (along from k to name need r chosen among numbered) =
       let before = walked from r in
       let same : before.0.0 ≡ k = same_Some before.0.0 k (sym (w.follows from before.0.0 before.0.1) ∙ chosen) in
       let here : choice_of found from ≡ Some k = before.0.1 ∙ ap Some same in
-      let m = (check from k here).met name need among in
-      let there : m.target ≡ to = same_Some m.target to (sym m.numbered ∙ numbered) in
-      ((m.ordinal, subst (λ q. choice_of found q ≡ Some m.ordinal) there m.selected), along from k to name need before.1 here among numbered)
+      let there = met_at packages (choice_of found) name need to ((check from k here).met name need among) numbered in
+      ((there.0, there.1), along from k to name need before.1 here among numbered)
 
   pub walk_meets : AllowedIsPublished → IsDistinct nat_eq (keys_of found) → IsSelected packages wanted chooses found
   walk_meets published once = record {
@@ -227,14 +231,12 @@ module _ (packages : Packages) (wanted : Wanted) (chooses : Choices) (found left
 module _ (packages : Packages) (wanted : Wanted) (chooses s : Choices) (follows : Follows chooses s) (meets : Meets packages wanted s) where
   -- it selects each package that the choices reach
   pub selected : (p : ℕ) → IsReached packages wanted.needs chooses p → (k : ℕ) × (s p ≡ Some k)
-  selected _ (needed p name need among numbered) =
-      let m = meets.needs name need among in
-      (m.ordinal, subst (λ q. s q ≡ Some m.ordinal) (same_Some m.target p (sym m.numbered ∙ numbered)) m.selected)
+  selected _ (needed p name need among numbered) = let here = met_at packages s name need p (meets.needs name need among) numbered in (here.0, here.1)
   selected _ (along from k to name need r chosen among numbered) =
       let before = selected from r in
       let same : before.0 ≡ k = same_Some before.0 k (sym (follows from before.0 before.1) ∙ chosen) in
-      let m = meets.closed from k name need (before.1 ∙ ap Some same) among in
-      (m.ordinal, subst (λ q. s q ≡ Some m.ordinal) (same_Some m.target to (sym m.numbered ∙ numbered)) m.selected)
+      let there = met_at packages s name need to (meets.closed from k name need (before.1 ∙ ap Some same) among) numbered in
+      (there.0, there.1)
 
   -- by the version that is chosen
   pub selected_as : (p k : ℕ) → IsReached packages wanted.needs chooses p → chooses p ≡ Some k → s p ≡ Some k

@@ -1,23 +1,18 @@
 -- The best versions in the order of the walk, and what is left of packages.
-use Rattle.std.specs.Prelude.{◌≡◌, ◌<◌, ◌++◌, ℕ, Bool, true, false, List, [], ◌∷◌, map, slice_get, take, Option, Some}
+use Rattle.std.specs.Prelude.{◌≡◌, ◌<◌, ◌++◌, ℕ, Bool, true, false, List, [], ◌∷◌, map, slice_get, Option, Some}
 use Rattle.versions.specs.Words.{Text}
 use Rattle.terms.specs.Sets.{has}
 use Rattle.terms.specs.Terms.{true_of}
 use Rattle.terms.specs.declared.term.Term.{Term}
 use Rattle.registry.specs.Registry.{Packages, is_published, needs_of, number_of}
 use Rattle.registry.specs.Requests.{Wanted}
-use Rattle.registry.specs.Selections.{Choices, Meets}
 use Rattle.walk.specs.Choosing.{choice_of}
 use Rattle.walk.specs.Left.{term_of}
-use Rattle.walk.specs.Newest.{Has, IsAhead, dependencies_of, in_name_order, next_package}
+use Rattle.walk.specs.Newest.{AreBest, OfEach, dependencies_of, in_name_order}
 use Rattle.walk.specs.declared.choosing.Choosing.{Choosing}
 use Rattle.walk.specs.declared.choosing.Needed.{Needed}
 use Rattle.walk.specs.declared.trial.Tried.{Tried}
 use Rattle.walk.specs.declared.trial.Tried.TheVariants as tried
-
--- so it is of each selection that meets the request and has these versions
-abbrev pub OfEach : Packages → Wanted → List (ℕ × ℕ) → (Choices → Type 0) → Type 0
-OfEach packages wanted found P = (t : Choices) → Meets packages wanted t → Has t found → P t
 
 -- it is a version of this set
 abbrev pub IsOf : List ℕ → Option ℕ → Type 0
@@ -26,19 +21,6 @@ IsOf set choice = (k : ℕ) × (choice ≡ Some k) × (has set k ≡ true)
 -- no such selection has a version of the package that is in this set
 abbrev pub HasNone : Packages → Wanted → List (ℕ × ℕ) → ℕ → List ℕ → Type 0
 HasNone packages wanted found p set = (j : ℕ) → has set j ≡ true → OfEach packages wanted found (λ t. t p ≡ Some j → ⊥)
-
--- no such selection has this version of the package
-abbrev pub IsOut : Packages → Wanted → List (ℕ × ℕ) → ℕ → ℕ → Type 0
-IsOut packages wanted found p j = OfEach packages wanted found (λ t. t p ≡ Some j → ⊥)
-
--- nor one that is preferred to this one
-abbrev pub IsBest : Packages → Wanted → List (ℕ × ℕ) → ℕ → ℕ → Type 0
-IsBest packages wanted found p k = (j : ℕ) → IsAhead packages wanted p j k → IsOut packages wanted found p j
-
--- they stand in the order of the walk, and each is the best with those before
-pub record AreBest (packages : Packages) (wanted : Wanted) (found : List (ℕ × ℕ)) : Type 0 where
-  pub walked : (i : ℕ) (e : ℕ × ℕ) → slice_get found i ≡ Some e → next_package packages wanted.needs (take i found) ≡ Some e.0
-  pub best : (i : ℕ) (e : ℕ × ℕ) → slice_get found i ≡ Some e → IsBest packages wanted (take i found) e.0 e.1
 
 -- these are the packages that the lines name, one after the other
 abbrev pub AreTargets : Packages → List (Text × Text) → List ℕ → Type 0

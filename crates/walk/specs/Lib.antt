@@ -5,6 +5,7 @@ pub mod Walks
 pub mod Preferring
 pub mod Names
 pub mod Newest
+pub mod Answer
 pub mod PlainlyNewest
 pub mod Best
 pub mod Left

@@ -6,7 +6,7 @@ use Rattle.registry.specs.Registry.{Packages, needs_of, number_of}
 use Rattle.registry.specs.Requests.{Wanted}
 use Rattle.registry.specs.Selections.{Choices, Meets}
 use Rattle.walk.specs.Choosing.{Follows, choice_of}
-use Rattle.walk.specs.Newest.{in_name_order, insert_by_name, next_package}
+use Rattle.walk.specs.Newest.{AreWalked, in_name_order, insert_by_name, next_package}
 use Rattle.walk.specs.declared.listing.WalkListing.{WalkListing}
 use Rattle.walk.specs.declared.listing.NextPackage.{NextPackage}
 use Rattle.walk.specs.declared.order.Order.{Order}
@@ -15,7 +15,7 @@ use Rattle.walk.specs.declared.reached.Asker.TheVariants as asker
 
 -- the packages stand in the order of the walk, each with the version that is chosen
 pub record IsListing (packages : Packages) (needs : List (Text × Text)) (chooses : Choices) (found : List (ℕ × ℕ)) : Type 0 where
-  pub walked : (i : ℕ) (e : ℕ × ℕ) → slice_get found i ≡ Some e → next_package packages needs (take i found) ≡ Some e.0
+  pub walked : AreWalked packages needs found
   pub chosen : (i : ℕ) (e : ℕ × ℕ) → slice_get found i ≡ Some e → chooses e.0 ≡ Some e.1
 
 -- what is asked: the needs, or the dependencies of a version
@@ -99,7 +99,7 @@ IsStage packages needs found (suc place) = IsPassedTo packages needs found place
 
 -- the packages stand in the order of the walk, each with the stage in which it was found, whatever versions are chosen now
 pub record IsOrder (packages : Packages) (needs : List (Text × Text)) (order : Order) : Type 0 where
-  pub walked : (i : ℕ) (e : ℕ × ℕ) → slice_get order.found.entries i ≡ Some e → next_package packages needs (take i order.found.entries) ≡ Some e.0
+  pub walked : AreWalked packages needs order.found.entries
   pub noted : length order.stages.items ≡ length order.found.entries
   pub stages : (i stage : ℕ) → slice_get order.stages.items i ≡ Some stage → IsStage packages needs (take i order.found.entries) stage
   pub come : IsStage packages needs order.found.entries order.stage

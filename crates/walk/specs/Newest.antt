@@ -1,13 +1,13 @@
 -- The newest selection of a request.
-use Rattle.std.specs.Prelude.{◌≡◌, ◌++◌, ◌⊎◌, ℕ, Contains, false, ◌&&◌, ◌||◌, Bool, true, not, List, [], ◌∷◌, take, is_some, slice_get, Option, None, Some, if◌then◌else◌}
+use Rattle.std.specs.Prelude.{◌≡◌, ◌++◌, ℕ, false, ◌&&◌, ◌||◌, Bool, true, not, List, [], ◌∷◌, take, is_some, slice_get, Option, None, Some, if◌then◌else◌}
 use Rattle.std.specs.Cmp.Lexicographic.{slice_cmp}
 use Rattle.std.specs.Ordering.{is_lt, nat_cmp}
 use Rattle.versions.specs.Words.{Text, precedence}
 use Rattle.registry.specs.Lawful.{IsRegistry}
-use Rattle.registry.specs.Registry.{Package, Packages, Publication, meets_at, needs_of, number_of, package_at, publication_at}
+use Rattle.registry.specs.Registry.{Package, Packages, Publication, needs_of, number_of, package_at, publication_at}
 use Rattle.registry.specs.Needs.{repeats_name}
 use Rattle.registry.specs.Preference.{IsPreferredSelection}
-use Rattle.registry.specs.Requests.{Wanted, is_allowed, is_locked}
+use Rattle.registry.specs.Requests.{Wanted, is_locked}
 use Rattle.registry.specs.Selections.{Choices, Meets}
 use Rattle.walk.specs.Choosing.{choice_of}
 
@@ -58,74 +58,52 @@ first_new packages found (line ∷ rest) = new_or_later found (number_of package
 abbrev pub next_package : Packages → List (Text × Text) → List (ℕ × ℕ) → Option ℕ
 next_package packages needs found = first_new packages found (in_name_order needs ++ dependencies_of packages found)
 
+-- they stand in the order of the walk
+abbrev pub AreWalked : Packages → List (Text × Text) → List (ℕ × ℕ) → Type 0
+AreWalked packages needs found = (i : ℕ) (e : ℕ × ℕ) → slice_get found i ≡ Some e → next_package packages needs (take i found) ≡ Some e.0
+
 -- ---- newest
 
 -- the selection has each of these versions
 abbrev pub Has : Choices → List (ℕ × ℕ) → Type 0
 Has s found = (p k : ℕ) → choice_of found p ≡ Some k → s p ≡ Some k
 
+-- so it is of each selection that meets the request and has these versions
+abbrev pub OfEach : Packages → Wanted → List (ℕ × ℕ) → (Choices → Type 0) → Type 0
+OfEach packages wanted found P = (t : Choices) → Meets packages wanted t → Has t found → P t
+
+-- no such selection has this version of the package
+abbrev pub IsOut : Packages → Wanted → List (ℕ × ℕ) → ℕ → ℕ → Type 0
+IsOut packages wanted found p j = OfEach packages wanted found (λ t. t p ≡ Some j → ⊥)
+
+-- nor one that is preferred to this one
+abbrev pub IsBest : Packages → Wanted → List (ℕ × ℕ) → ℕ → ℕ → Type 0
+IsBest packages wanted found p k = (j : ℕ) → IsAhead packages wanted p j k → IsOut packages wanted found p j
+
+-- behind these versions the package comes next in the order of the walk, and the version is the best of it
+abbrev pub IsTurn : Packages → Wanted → List (ℕ × ℕ) → ℕ × ℕ → Type 0
+IsTurn packages wanted before e = (next_package packages wanted.needs before ≡ Some e.0) × IsBest packages wanted before e.0 e.1
+
+-- each stands at its turn
+pub record AreBest (packages : Packages) (wanted : Wanted) (found : List (ℕ × ℕ)) : Type 0 where
+  pub turns : (i : ℕ) (e : ℕ × ℕ) → slice_get found i ≡ Some e → IsTurn packages wanted (take i found) e
+
 -- it meets the request, and package by package in the order of the walk no selection that meets the request has the same versions before and a preferred one there
 pub record IsNewest (packages : Packages) (wanted : Wanted) (s : Choices) : Type 0 where
   pub found : List (ℕ × ℕ)
   pub selects : choice_of found ≡ s
   pub meets : Meets packages wanted s
-  pub walked : (i : ℕ) (e : ℕ × ℕ) → slice_get found i ≡ Some e → next_package packages wanted.needs (take i found) ≡ Some e.0
-  pub best : (i j : ℕ) (e : ℕ × ℕ) → slice_get found i ≡ Some e → IsAhead packages wanted e.0 j e.1
-      → (t : Choices) → Meets packages wanted t → Has t (take i found) → t e.0 ≡ Some j → ⊥
-
--- there is one newest selection at most
-abbrev pub OneNewestSelection : Type 0
-OneNewestSelection = (packages : Packages) (wanted : Wanted) (s t : Choices) → IsRegistry packages → IsNewest packages wanted s → IsNewest packages wanted t → (p : ℕ) → s p ≡ t p
-
--- ---- what shows that a version can't be had
-
--- a line that is asked for behind these versions names the package with a requirement that the version does not meet
-pub record IsExcluded (packages : Packages) (wanted : Wanted) (before : List (ℕ × ℕ)) (p j : ℕ) : Type 0 where
-  pub name : Text
-  pub need : Text
-  pub among : Contains wanted.needs (name, need) ⊎ ((q k : ℕ) × (choice_of before q ≡ Some k) × Contains (needs_of packages q k) (name, need))
-  pub numbered : number_of packages name ≡ Some p
-  pub unmet : meets_at packages p j need ≡ false
-
--- the version depends on one of these packages with a requirement that its version does not meet
-pub record IsAtOdds (packages : Packages) (before : List (ℕ × ℕ)) (p j : ℕ) : Type 0 where
-  pub name : Text
-  pub need : Text
-  pub among : Contains (needs_of packages p j) (name, need)
-  pub target : ℕ
-  pub ordinal : ℕ
-  pub numbered : number_of packages name ≡ Some target
-  pub chosen : choice_of before target ≡ Some ordinal
-  pub unmet : meets_at packages target ordinal need ≡ false
-
--- the version depends on a package with a requirement, and each version of that package that meets it is excluded by a line that is asked for behind these versions
-pub record IsApart (packages : Packages) (wanted : Wanted) (before : List (ℕ × ℕ)) (p j : ℕ) : Type 0 where
-  pub name : Text
-  pub need : Text
-  pub among : Contains (needs_of packages p j) (name, need)
-  pub target : ℕ
-  pub numbered : number_of packages name ≡ Some target
-  pub apart : (k : ℕ) → meets_at packages target k need ≡ true → IsExcluded packages wanted before target k
-
--- behind these versions the version is not to be had, as can be seen without a search
-abbrev pub IsPlainlyOut : Packages → Wanted → List (ℕ × ℕ) → ℕ → ℕ → Type 0
-IsPlainlyOut packages wanted before p j = (is_allowed packages wanted p j ≡ false) ⊎ (IsExcluded packages wanted before p j ⊎ (IsAtOdds packages before p j ⊎ IsApart packages wanted before p j))
-
--- what the list selects meets the request, they stand in the order of the walk, and each version that is preferred to one of them is plainly out there
-pub record IsPlainlyNewest (packages : Packages) (wanted : Wanted) (found : List (ℕ × ℕ)) : Type 0 where
-  pub meets : Meets packages wanted (choice_of found)
-  pub walked : (i : ℕ) (e : ℕ × ℕ) → slice_get found i ≡ Some e → next_package packages wanted.needs (take i found) ≡ Some e.0
-  pub out : (i j : ℕ) (e : ℕ × ℕ) → slice_get found i ≡ Some e → IsAhead packages wanted e.0 j e.1 → IsPlainlyOut packages wanted (take i found) e.0 j
-
--- what is plainly newest is the newest selection
-abbrev pub PlainlyNewestIsNewest : Type 0
-PlainlyNewestIsNewest = (packages : Packages) (wanted : Wanted) (found : List (ℕ × ℕ)) → IsPlainlyNewest packages wanted found → IsNewest packages wanted (choice_of found)
+  pub best : AreBest packages wanted found
 
 -- where the preferred selection meets a request whose lock names nothing twice, it is the newest one
 abbrev pub PreferredIsNewest : Type 0
 PreferredIsNewest = (packages : Packages) (wanted : Wanted) (t : Choices) → IsRegistry packages → repeats_name wanted.lock ≡ false → IsPreferredSelection packages wanted t → Meets packages wanted t → IsNewest packages wanted t
 
--- and the newest one is it
+-- there is one newest selection at most
+abbrev pub OneNewestSelection : Type 0
+OneNewestSelection = (packages : Packages) (wanted : Wanted) (s t : Choices) → IsRegistry packages → IsNewest packages wanted s → IsNewest packages wanted t → (p : ℕ) → s p ≡ t p
+
+-- so where the preferred selection meets such a request, the newest one is it
 abbrev pub NewestIsPreferred : Type 0
 NewestIsPreferred = (packages : Packages) (wanted : Wanted) (s t : Choices) → IsRegistry packages → repeats_name wanted.lock ≡ false
     → IsNewest packages wanted s → IsPreferredSelection packages wanted t → Meets packages wanted t → (p : ℕ) → s p ≡ t p

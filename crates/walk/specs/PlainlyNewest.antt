@@ -5,9 +5,8 @@ use Rattle.versions.specs.Words.{precedence}
 use Rattle.registry.specs.Registry.{Package, Packages, Publication, package_at, publication_at}
 use Rattle.registry.specs.Requests.{Wanted, is_locked}
 use Rattle.registry.specs.Selections.{Meets}
-use Rattle.walk.specs.Best.{IsOut}
 use Rattle.walk.specs.Choosing.{choice_of}
-use Rattle.walk.specs.Newest.{IsAhead, IsNewest}
+use Rattle.walk.specs.Newest.{IsAhead, IsNewest, IsOut}
 
 -- ---- the version that the lock names
 

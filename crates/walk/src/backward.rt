@@ -5,7 +5,8 @@
 
 ghost use Rattle.std.specs.Prelude.{◌≡◌, ◌<◌, true, length, IfOk, IfSome, OnOk};
 ghost use Rattle.registry.specs.Requests.{Wanted};
-ghost use Rattle.walk.specs.Best.{Holds, IsGrown, IsOut};
+ghost use Rattle.walk.specs.Best.{Holds, IsGrown};
+ghost use Rattle.walk.specs.Newest.{IsOut};
 
 use crate::choosing::Choosing;
 use crate::dependents::Line;

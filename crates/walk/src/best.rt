@@ -5,7 +5,8 @@ ghost use Rattle.std.specs.Bool.{OnFalse};
 ghost use Rattle.terms.specs.Terms.{true_of};
 ghost use Rattle.registry.specs.Registry.{Packages, needs_of};
 ghost use Rattle.registry.specs.Requests.{Wanted};
-ghost use Rattle.walk.specs.Best.{HasNone, Holds, IsBest, IsOut, OfEach};
+ghost use Rattle.walk.specs.Best.{HasNone, Holds};
+ghost use Rattle.walk.specs.Newest.{IsBest, IsOut, OfEach};
 ghost use Rattle.walk.specs.Left.{term_of};
 ghost use Rattle.walk.specs.Walks.{ArePlaces};
 

@@ -8,7 +8,8 @@ ghost use Rattle.releases.specs.Matching.{ordinals_of};
 ghost use Rattle.terms.specs.declared.term.Term.TheVariants.{In, NotIn};
 ghost use Rattle.registry.specs.Registry.{Packages};
 ghost use Rattle.registry.specs.Requests.{Wanted};
-ghost use Rattle.walk.specs.Best.{Holds, Narrows, OfEach, Pushes};
+ghost use Rattle.walk.specs.Best.{Holds, Narrows, Pushes};
+ghost use Rattle.walk.specs.Newest.{OfEach};
 ghost use Rattle.walk.specs.Left.{term_of};
 ghost use Rattle.walk.specs.declared.choosing.Needed.{Needed};
 

@@ -1,11 +1,33 @@
 //! Laws: the newest selection, and lists in the order of the walk.
 
+ghost use Rattle.walk.specs.Answer.{OneAnswer, SomeAnswer};
 ghost use Rattle.walk.specs.Listing.{ListIsSelection, NothingComesNext, OneListInOrder};
-ghost use Rattle.walk.specs.Newest.{NewestIsPreferred, OneNewestSelection, PlainlyNewestIsNewest, PreferredIsNewest};
+ghost use Rattle.walk.specs.Newest.{NewestIsPreferred, OneNewestSelection, PreferredIsNewest};
 ghost use Rattle.walk.specs.PlainlyNewest.{AheadIsLockedOrHigher};
 
-use registry::{names_have_their_numbers, ordinals_are_below_the_count, the_highest_is_one};
+use registry::{
+    allowed_is_published, names_have_their_numbers, ordinals_are_below_the_count,
+    the_highest_is_one,
+};
 use versions::{equal_precedence_is_an_equivalence, precedence_is_a_total_preorder};
+
+/// A request has one answer at most. It does nothing when it runs.
+pub fn one_answer()
+    ensures { OneAnswer }
+{
+    the_highest_is_one();
+    names_have_their_numbers();
+    precedence_is_a_total_preorder();
+}
+
+/// Each request has an answer: a newest selection, or none meets it. It does nothing when it runs.
+pub fn some_answer()
+    ensures { SomeAnswer }
+{
+    ordinals_are_below_the_count();
+    allowed_is_published();
+    precedence_is_a_total_preorder();
+}
 
 /// There is one newest selection of a request at most. It does nothing when it runs.
 pub fn there_is_one_newest_selection()
@@ -15,20 +37,14 @@ pub fn there_is_one_newest_selection()
     precedence_is_a_total_preorder();
 }
 
-/// What is plainly newest is the newest selection. It does nothing when it runs.
-pub fn plainly_newest_is_newest()
-    ensures { PlainlyNewestIsNewest }
-{}
-
 /// Where the preferred selection meets a request, it is the newest one. It does nothing when it runs.
 pub fn the_preferred_is_the_newest()
     ensures preferred { PreferredIsNewest }
     ensures newest { NewestIsPreferred }
 {
-    the_highest_is_one();
+    there_is_one_newest_selection();
     names_have_their_numbers();
     ordinals_are_below_the_count();
-    precedence_is_a_total_preorder();
     equal_precedence_is_an_equivalence();
 }
 

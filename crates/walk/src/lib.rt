@@ -33,7 +33,7 @@ pub use choice_map::ChoiceMap;
 pub use chooser::Chooser;
 pub use evidence::Evidence;
 pub use laws::{
-    a_list_in_order_is_its_selection, ahead_is_locked_or_higher, plainly_newest_is_newest,
+    a_list_in_order_is_its_selection, ahead_is_locked_or_higher, one_answer, some_answer,
     the_preferred_is_the_newest, there_is_one_list_in_order, there_is_one_newest_selection,
     what_is_asked_is_listed,
 };

@@ -6,8 +6,8 @@
 ghost use Rattle.std.specs.Prelude.{◌≡◌, ◌<◌, ℕ, true, length, [], Some, IfOk, OnOk};
 ghost use Rattle.registry.specs.Registry.{needs_of};
 ghost use Rattle.registry.specs.Requests.{Wanted};
-ghost use Rattle.walk.specs.Best.{AreAlike, AreTargets, AsksAt, AsksFor, AsksNeed, AsksOne, Holds, IsGrown, MeetsOf, OfEach};
-ghost use Rattle.walk.specs.Newest.{in_name_order};
+ghost use Rattle.walk.specs.Best.{AreAlike, AreTargets, AsksAt, AsksFor, AsksNeed, AsksOne, Holds, IsGrown, MeetsOf};
+ghost use Rattle.walk.specs.Newest.{OfEach, in_name_order};
 ghost use Rattle.walk.specs.Walks.{ArePlaces};
 
 use crate::choosing::Choosing;

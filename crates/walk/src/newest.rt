@@ -3,7 +3,8 @@
 ghost use Rattle.std.specs.Prelude.{◌≡◌, ◌<◌, ◌+◌, ◌++◌, true, length, [], ◌∷◌, None, IfOk, OnOk};
 ghost use Rattle.std.specs.Bool.{OnFalse};
 ghost use Rattle.registry.specs.Requests.{Wanted};
-ghost use Rattle.walk.specs.Best.{AreBest, ArePassed, AsksFor, Holds, IsBest, IsChoosing, IsGrown, IsLeft, IsOut};
+ghost use Rattle.walk.specs.Best.{ArePassed, AsksFor, Holds, IsChoosing, IsGrown, IsLeft};
+ghost use Rattle.walk.specs.Newest.{AreBest, IsBest, IsOut};
 ghost use Rattle.walk.specs.Choosing.{choice_of, Follows};
 ghost use Rattle.walk.specs.Left.{term_of};
 ghost use Rattle.walk.specs.PlainlyNewest.{AreHigherOut, IsNewestIfMet, ShowsWhatIsOut};

@@ -6,9 +6,9 @@
 ghost use Rattle.std.specs.Prelude.{◌≡◌, ◌<◌, ◌+◌, ◌++◌, ℕ, true, length, nat_eq, List, [], ◌∷◌, None, Some, IfOk, IfSome};
 ghost use Rattle.std.specs.List.{IsDistinct};
 ghost use Rattle.std.specs.Map.{keys_of};
-ghost use Rattle.walk.specs.Best.{AreBest, ArePassed, IsChoosing};
+ghost use Rattle.walk.specs.Best.{ArePassed, IsChoosing};
 ghost use Rattle.walk.specs.Choosing.{choice_of};
-ghost use Rattle.walk.specs.Newest.{next_package, IsNewest};
+ghost use Rattle.walk.specs.Newest.{AreBest, IsNewest, next_package};
 
 use crate::checking::is_met_by;
 use crate::choosing::Choosing;

@@ -6,9 +6,9 @@
 ghost use Rattle.std.specs.Prelude.{◌≡◌, ◌++◌, true, length, take, [], ◌∷◌, None, Some, IfOk, OnOk};
 ghost use Rattle.registry.specs.Registry.{Packages};
 ghost use Rattle.registry.specs.Requests.{Wanted};
-ghost use Rattle.walk.specs.Best.{AsksFor, ComesTo, Holds, IsBest, IsChoosing, IsGrown, IsOut, OfEach};
+ghost use Rattle.walk.specs.Best.{AsksFor, ComesTo, Holds, IsChoosing, IsGrown};
 ghost use Rattle.walk.specs.Choosing.{choice_of};
-ghost use Rattle.walk.specs.Newest.{next_package};
+ghost use Rattle.walk.specs.Newest.{IsBest, IsOut, OfEach, next_package};
 
 use crate::choosing::Choosing;
 use crate::meeting::are_alike;

@@ -25,7 +25,7 @@ def run(given, out):
 
 def row(name, versions):
     """A package in short."""
-    all_of = [Version(text, is_yanked, ()) for text, is_yanked in versions]
+    all_of = [Version(text, is_yanked) for text, is_yanked in versions]
     return SimpleNamespace(name=name, newest=newest(all_of).text, versions=len(all_of), yanked=sum(it.is_yanked for it in all_of))
 
 

@@ -1,10 +1,11 @@
 """`registry lock check`: whether a lock file holds: each version is there, and the lock has what each needs."""
 from check_derivation import admits, read_version
 
+from ..catalog import catalog_of
 from ..failures import REFUSED
 from ..locks import lock_of
 from ..needs import needs_known
-from ..packages import registry_of
+from ..packages import registry_in
 from ..refusals import accepted, listed, not_there
 from ..session import reading
 from ..walk import walk
@@ -15,7 +16,7 @@ def run(given, out):
     judged = {"op": "check", "needs": needs or [], "derivation": []}  # the program says whether these are needs
     with reading(given) as session:
         accepted(session, judged, *session.ask(judged))
-        packages, registry = listed(session), registry_of(session.commands(), lock)
+        packages, registry = listed(session), registry_in(catalog_of(session.journal()), lock)
     found = list(faults(lock, needs or [], registry, packages))
     if not found and needs is not None:
         found = [(name, f"nothing needs {name} {lock[name]}") for name in sorted(set(lock) - set(walk(needs, lock, registry)))]

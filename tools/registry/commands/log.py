@@ -3,9 +3,9 @@ import json
 import sys
 import time
 
+from ..catalog import commands_in
 from ..connected import PATIENCE, page_of_service
 from ..failures import Failed
-from ..journal_file import commands_in
 from ..service.times import UNKNOWN, now
 from ..session import journal_of, service_of, snapshot
 

@@ -4,14 +4,15 @@ from types import SimpleNamespace
 from check_derivation import RELEASE, admits, read_version
 
 from ..cases import Case
+from ..catalog import catalog_of
 from ..derivation import Dependency
 from ..failures import REFUSED, Refused
 from ..locks import DEFAULT, changes, lock_of
-from ..packages import registry_of
+from ..packages import registry_in
 from ..questions import Question
 from ..refusals import listed
 from ..requests import answered, refused, request_of
-from ..session import reading, selecting
+from ..session import reading
 
 BUDGET = 10_000  # conflicts of each question what holds a version back
 MOST_TOLD = 2
@@ -26,22 +27,22 @@ def run(given, out):
         reply = answered(session, request)
         if "selected" not in reply:
             return refused(session, request, reply, out)
-        rows = outdated(session, lock, request, reply, listed(session), given.budget or BUDGET, selecting(given))
+        rows = outdated(session, lock, request, reply, listed(session), given.budget or BUDGET)
     out.give([vars(it) for it in rows], lines(rows, out))
     if not rows:
         out.note(f"everything in {path} is the newest version")
     return REFUSED if rows and given.exit_status else None
 
 
-def outdated(session, lock, request, reply, packages, budget, words):
+def outdated(session, lock, request, reply, packages, budget):
     """A row for each package that an upgrade would change, or of which there is a newer version."""
-    commands, rows, selected = session.commands(), [], dict(reply["selected"])
+    catalog, rows, selected = catalog_of(session.journal()), [], dict(reply["selected"])
 
     def registry(names):
-        return registry_of(commands, names)
+        return registry_in(catalog, names)
 
     case = Case(request, reply, registry, lambda it: session.ask({**it, "budget": budget})[0], packages,
-                put=lambda question, it: question.put(commands, {**it, "budget": budget}, registry, words))
+                put=lambda question, it: question.put(session.commands(), {**it, "budget": budget}, registry))
     for name, locked in sorted(lock.items()):
         allowed, newest = selected.get(name), newest_of(packages.get(name, []), locked)
         if allowed and read_version(allowed) == read_version(locked) and not is_newer(newest, locked):

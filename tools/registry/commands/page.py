@@ -3,14 +3,14 @@ import sys
 
 from ..page.journal import File, Journal, Service
 from ..page.server import Server
-from ..session import journal_of, selecting, service_of
+from ..session import journal_of, service_of
 
 SECONDS = 10  # that a search may take
 
 
 def run(given, out):
-    service, words = service_of(given), selecting(given)
-    journal = Journal(Service(service, words) if service else File(journal_of(given), words), given.seconds or SECONDS)
+    service = service_of(given)
+    journal = Journal(Service(service) if service else File(journal_of(given)), given.seconds or SECONDS)
     try:
         for it in journal.view.warnings:
             out.note(it)

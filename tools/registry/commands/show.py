@@ -1,18 +1,18 @@
 """`registry show`: one package, its versions, what the newest needs, and who needs it."""
-from ..catalog import Catalog
+from ..catalog import catalog_of
 from ..session import reading
 
 
 def run(given, out):
     with reading(given) as session:
-        catalog = Catalog(session.journal())
+        catalog = catalog_of(session.journal())
     versions, newest = catalog.versions(given.name), catalog.newest(given.name)
     told_of = catalog.version(given.name, given.version) if given.version else newest
     needing = list(catalog.needing(given.name))
     out.give({"name": given.name,
               "versions": [{"version": it.text, "yanked": it.is_yanked, "needs": it.needs} for it in versions],
               "newest": newest.text,
-              "needed_by": [{"name": name, "version": it.text, "requirement": requirement} for name, it, requirement in needing]},
+              "needed_by": [{"name": name, "version": version, "requirement": requirement} for name, version, requirement in needing]},
              told(given.name, versions, told_of, needing, out))
 
 
@@ -24,5 +24,5 @@ def told(name, versions, told_of, needing, out):
     for target, requirement in told_of.needs:
         yield f"  {target} {requirement}"
     yield out.style("needed by", "bold") + ("" if needing else " nothing")
-    for other, it, requirement in needing:
-        yield f"  {other} {it.text}, as {name} {requirement}"
+    for other, version, requirement in needing:
+        yield f"  {other} {version}, as {name} {requirement}"

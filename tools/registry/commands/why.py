@@ -1,33 +1,36 @@
 """`registry why`: in English why a request is refused, or why a version was not selected, from a derivation that is checked first."""
 import math
 import sys
+import time
 
 from check_derivation import (NAME, RESOLVE, demand, formed, read_journal, read_lines, read_version, session as replayed)
 
-from ..bar import timed
 from ..cases import Case
+from ..catalog import catalog_of
 from ..explaining import tell
 from ..failures import Failed, Refused, Usage
 from ..files import write_file
 from ..folding import MOST_SHOWN
-from ..packages import registry_of
+from ..packages import registry_in
 from ..requests import request_of
-from ..session import Session, reading, selecting, service_of
+from ..searching import explaining
+from ..session import Session, reading
 
 
 def run(given, out):
     """Tells what is asked, and draws it; of several requests the last one."""
     check(given)
-    picture, answers = None, []
+    picture, answers, begun = None, [], None
     try:
         for case in of_files(given) if given.asked else of_journal(given):
-            with timed("explaining"):
+            with explaining("selected" not in case.reply, begun):
                 lines = case.why_not(*given.version) if given.version else case.answer()
             answers.append({"request": case.request, "reply": case.reply, "told": lines})
             if not out.is_json:
                 out.give(None, [""] * (len(answers) > 1))
                 tell(case, lines, sys.stdout, given.full or not sys.stdout.isatty(), "--full tells all of them")
             picture = case.draw
+            begun = time.monotonic()  # the next one has seconds of its own
         if out.is_json:
             out.give(answers, [])
         if given.picture:
@@ -54,17 +57,15 @@ def check(given):
 def of_journal(given):
     """The one case of needs that are asked for now."""
     request = request_of(given)
-    # which version is better than which, and comes before which, is said of the newest selection
-    given.newest = given.newest or bool(given.version and not given.any and not service_of(given))
     with reading(given) as session:
-        names = {it["name"] for it in session.commands() if it["op"] == "publish"}
+        names = set(catalog_of(session.journal()).lines)
         budget = {name: value for name, value in request.items() if name == "budget"}
 
         def registry(named):
-            return registry_of(session.commands(), named)  # a service may have more commands once it has replied
+            return registry_in(catalog_of(session.journal()), named)  # a service may have more commands once it has replied
 
         yield Case(request, None, registry, lambda it: session.ask({**it, **budget})[0], names,
-                   put=lambda question, it: question.put(session.commands(), {**it, **budget}, registry, selecting(given)))
+                   put=lambda question, it: question.put(session.commands(), {**it, **budget}, registry))
 
 
 def of_files(given):
@@ -77,7 +78,7 @@ def of_files(given):
         commands += [request] if reply.get("ok") is True else []
         if number in wanted:
             before = commands[:] if journal is None else journal[:registry.revision]
-            yield case_of(number, request, reply, registry, before, selecting(given))
+            yield case_of(number, request, reply, registry, before)
 
 
 def lines_of(path):
@@ -87,15 +88,15 @@ def lines_of(path):
         raise Failed(f"{path}: {fault.strerror}") from None
 
 
-def case_of(number, request, reply, registry, commands, words):
+def case_of(number, request, reply, registry, commands):
     """The case of a request line and its reply, of a session that had obeyed these commands."""
-    return Case(request, reply, lambda _: registry, lambda it: asked_anew(commands, it, words), told=f"request {number}, ",
-                put=lambda question, it: question.put(commands, it, lambda _: registry, words))
+    return Case(request, reply, lambda _: registry, lambda it: asked_anew(commands, it), told=f"request {number}, ",
+                put=lambda question, it: question.put(commands, it, lambda _: registry))
 
 
-def asked_anew(commands, request, words):
+def asked_anew(commands, request):
     """The reply of a program that has obeyed these commands."""
-    with Session("the session", words) as session:
+    with Session("the session", ()) as session:
         return session.ask(*commands, request)[-1]
 
 

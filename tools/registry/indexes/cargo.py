@@ -32,6 +32,8 @@ class Cargo(Index):
             if "Cargo.toml" in files:
                 self.read(Path(folder))
         self.lock = self.read_lock()
+        if self.top.is_file():
+            raise Unusable(f"{top} is no folder; did you mean {os.path.dirname(top) or '.'}?")
         if not self.manifests and not self.lock:
             raise Unusable(f"{top} has neither a Cargo.toml that can be read nor a Cargo.lock")
         self.packages = defaultdict(list)  # folders by name

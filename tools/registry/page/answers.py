@@ -65,7 +65,7 @@ def package(journal, query):
     versions = view.versions(name) if name in view.listed else []
     return {**in_short(view, name), "revision": view.revision, "near": None if versions else nearest(name, view.listed),
             "versions": [{"version": it.text, "yanked": it.is_yanked, "pre_release": it.is_pre_release, "needs": it.needs} for it in versions],
-            "needed_by": [{"name": other, "version": it.text, "requirement": requirement} for other, it, requirement in view.needing(name)]}
+            "needed_by": [{"name": other, "version": version, "requirement": requirement} for other, version, requirement in view.needing(name)]}
 
 
 def resolve(journal, query):
@@ -96,7 +96,7 @@ def field_of(needs, number):
 
 def selection(view, selected):
     """The packages of a selection, with what each needs, and what is newer."""
-    return [{"name": name, "version": version, "needs": view.needs[name, version], "newest": newer(view, name, version)}
+    return [{"name": name, "version": version, "needs": view.version(name, version).needs, "newest": newer(view, name, version)}
             for name, version in selected.items()]
 
 

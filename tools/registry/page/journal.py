@@ -1,24 +1,19 @@
 """The journal that a page shows: as it stood when it was read last, with the program that selects from it."""
-import functools
-import json
 import os
-import re
 import threading
 
 from ..catalog import Catalog
 from ..failures import Failed, Unanswered
-from ..journal_file import commands_in
 from ..session import EMPTY, Reading, snapshot
 
 MOST_PAGES = 1_000  # whose last search is known
-TARGET = re.compile(r'\["([^"]+)","')  # how a dependency begins
 
 
 class File:
-    """A journal's file that is shown. The words are the program's, which say how it selects."""
+    """A journal's file that is shown."""
 
-    def __init__(self, path, words=()):
-        self.path, self.words = path, words
+    def __init__(self, path):
+        self.path = path
 
     def text(self):
         return snapshot(self.path)
@@ -35,8 +30,8 @@ class File:
 class Service:
     """The journal of a service that is shown. A search in it is none of the service's."""
 
-    def __init__(self, address, words=()):
-        self.path, self.words = address, words
+    def __init__(self, address):
+        self.path = address
 
     def text(self):
         from ..connected import journal_of_service
@@ -55,11 +50,11 @@ class View(Catalog):
     """A journal as it stood at one moment."""
 
     def __init__(self, source):
-        self.path, self.words, self.text, self.searches, self.ranks = source.path, source.words, source.text(), 0, {}
-        self.session = Reading(self.path, self.text, self.words)
+        self.path, self.text, self.searches, self.ranks = source.path, source.text(), 0, {}
+        self.session = Reading(self.path, self.text)
         try:
             super().__init__(self.text)  # while the program loads it
-            self.names = sorted({*self.listed, *TARGET.findall(self.lines)})
+            self.names = sorted(self.mentioned)
             self.warnings = self.session.warnings
             self.session.ask(EMPTY)  # it says where a line is at fault
         except BaseException:
@@ -67,10 +62,6 @@ class View(Catalog):
             raise
         self.counts = {"packages": len(self.listed), "versions": sum(map(len, self.listed.values())),
                        "yanked": sum(is_yanked for held in self.listed.values() for _, is_yanked in held)}
-
-    @functools.cached_property
-    def commands(self):
-        return [json.loads(it) for it in commands_in(self.text)]
 
     def versions(self, name):
         if name not in self.ranks:
@@ -80,7 +71,7 @@ class View(Catalog):
     def program(self):
         """The program over this text, begun anew where a search was ended with it."""
         if self.session is None:
-            self.session = Reading(self.path, self.text, self.words)
+            self.session = Reading(self.path, self.text)
         return self.session
 
     def leave(self):

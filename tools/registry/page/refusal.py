@@ -3,13 +3,13 @@ from check_derivation import ROOT
 
 from ..cases import Case, hints
 from ..derivation import Dependency
-from ..packages import registry_of
+from ..packages import registry_in
 from ..telling import Telling
 
 
 def refusal(view, request, reply):
     """The value for the page."""
-    case = Case(request, reply, lambda named: registry_of(view.commands, named), None, set(view.listed))
+    case = Case(request, reply, lambda named: registry_in(view, named), None, set(view.lines))
     derivation = case.derivation(case.title(), request, reply)
     telling = Telling(derivation)
     told = {place: step for step, place in telling.places.items()}

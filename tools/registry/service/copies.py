@@ -1,5 +1,5 @@
 """Copies of the journal as it stood at a revision."""
-from ..journal_file import LEARN
+from ..catalog import LEARN
 
 PIECE = 262_144  # bytes
 

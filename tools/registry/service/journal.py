@@ -1,8 +1,8 @@
 """What stands in the journal's file while the program appends to it."""
 import hashlib
 
+from ..catalog import commands_in
 from ..failures import Failed
-from ..journal_file import commands_in
 from ..session import snapshot
 
 

@@ -16,13 +16,13 @@ class Keeper(Supervisor):
     again waits for that. While the journal can't be written, commands are refused."""
     role = "keeper"
 
-    def __init__(self, path, watch, words=()):
+    def __init__(self, path, watch):
         super().__init__(path, watch)
-        self.words, self.revision, self.accepted, self.followers, self.disk = words, 0, hashlib.sha256(), [], Disk(self)
+        self.revision, self.accepted, self.followers, self.disk = 0, hashlib.sha256(), [], Disk(self)
 
     async def begin(self):
         """Goes on with the journal's file. What stands there and was told to nobody is accepted now."""
-        self.child = Child(self.path, ["--workers=1", *self.words, f"--journal={self.path}"])
+        self.child = Child(self.path, ["--workers=1", f"--journal={self.path}"])
         revision = await self.child.begin()
         for line in commands_after(self.path, self.revision, self.accepted):
             self.accept(line)

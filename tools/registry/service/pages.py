@@ -10,7 +10,6 @@ from tied import Tied
 
 from ..failures import Failed
 from ..program import TOP
-from ..session import selecting
 from .supervisor import Supervisor
 
 
@@ -38,7 +37,7 @@ class Page(Supervisor):
         super().__init__(service.path, service.watch)
         self.port, self.address, self.threads = service.given.page_port, "", ThreadPoolExecutor(2)
         self.starting = self.keeping = None  # tasks
-        self.words = [f"--connect={address}", f"--seconds={service.given.seconds}", *selecting(service.given)]
+        self.words = [f"--connect={address}", f"--seconds={service.given.seconds}"]
 
     async def begin(self):
         self.child = Shower(self.threads, [*self.words, f"--port={self.port}"])

@@ -11,7 +11,7 @@ import select
 from collections import deque
 from itertools import islice
 
-from ..session import selecting, shared
+from ..session import shared
 from .child import ACCEPTED, Child
 from .client import UNAVAILABLE
 from .copies import text_at
@@ -118,7 +118,7 @@ class Readers:
 
     def __init__(self, path, watch, keeper, given):
         self.path, self.watch, self.keeper, self.limit = path, watch, keeper, given.seconds
-        self.words = [f"--workers={given.workers}", *selecting(given), *([] if given.budget is None else [f"--budget={given.budget}"])]
+        self.words = [f"--workers={given.workers}", *([] if given.budget is None else [f"--budget={given.budget}"])]
         self.loop, self.waiting = asyncio.get_running_loop(), deque()
         self.now = self.loop.time
         self.readers = [Reader(self, is_quick=0 < number == given.readers - 1) for number in range(given.readers)]

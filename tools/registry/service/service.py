@@ -4,7 +4,6 @@ import signal
 from contextlib import ExitStack
 from pathlib import Path
 
-from ..session import selecting
 from .client import Client
 from .http import MOST_COPIES, build, page
 from .keeper import Keeper
@@ -26,7 +25,7 @@ class Service:
         self.clients, self.pages, self.guests = set(), set(), set()  # connections: of lines, of HTTP, and those beyond the clients that may be
         self.copying, self.left = asyncio.Semaphore(MOST_COPIES), ExitStack()  # it removes the socket, also where this can't begin
         self.watch, self.signalled = Watch(given.log), asyncio.Event()
-        self.keeper = Keeper(path, self.watch, selecting(given))
+        self.keeper = Keeper(path, self.watch)
         self.times, self.readers = Times(self.keeper), Readers(path, self.watch, self.keeper, given)
 
     def takes_in(self, connection, kind):

@@ -1,7 +1,7 @@
 """When each command was accepted. The journal has no times: of what stood there before the service began none is known."""
 from datetime import datetime, timezone
 
-from ..journal_file import commands_in
+from ..catalog import commands_in
 from .copies import text_at
 
 UNKNOWN = "-"

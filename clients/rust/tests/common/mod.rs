@@ -29,8 +29,7 @@ pub fn needs<'a>(needs: &'a [(&'a str, &'a str)]) -> Resolve<'a> {
     Resolve { needs, ..Resolve::default() }
 }
 
-/// Publishes a registry that has two selections for a request for any a and any b. A search takes the package with the fewest versions
-/// first, so the first one that it finds has b 2.0.0, with which a 3.0.0 is out.
+/// Publishes a registry where a 3.0.0 needs an old b, and asks for any of both.
 pub fn selected_of_two(registry: &mut Registry) -> Selected {
     let versions: [(&str, &str, &[(&str, &str)]); 5] =
         [("a", "1.0.0", &[]), ("a", "2.0.0", &[]), ("a", "3.0.0", &[("b", "=1.0.0")]), ("b", "1.0.0", &[]), ("b", "2.0.0", &[])];
@@ -40,13 +39,9 @@ pub fn selected_of_two(registry: &mut Registry) -> Selected {
     registry.resolve(needs(&[("b", "*"), ("a", "*")])).unwrap()
 }
 
-pub fn versions(a: &str, b: &str) -> Selected {
-    Selected::Versions(vec![("a".to_string(), a.to_string()), ("b".to_string(), b.to_string())])
-}
-
-/// What the program selects without a word.
-pub fn by_default() -> Selected {
-    versions("3.0.0", "1.0.0")
+/// The newest selection of these two: a is decided before b.
+pub fn newest_of_two() -> Selected {
+    Selected::Versions(vec![("a".to_string(), "3.0.0".to_string()), ("b".to_string(), "1.0.0".to_string())])
 }
 
 /// How a call tells that the session has ended.

@@ -17,4 +17,4 @@ solve_with-requires c = record {
 
 pub returns-clause-none : goal.returns-clause-none
 returns-clause-none c =
-    none_here c.args.seat.now.journal c.args.request.now c.args.options.explain c.registry-registry.result.now.packages c.registry-registry.ensures.packages c.derivations_refute.ensures c.in_ok-outcome.outcome c.in_ok-outcome.ensures.lawful
+    none_here c.args.seat.now.journal c.args.request.now c.args.options.explain c.registry-registry.result.now.packages c.registry-registry.ensures.packages c.derivations_refute.ensures c.in_ok-outcome.outcome c.in_ok-outcome.ensures

@@ -5,7 +5,6 @@ use Rattle.clap.specs.Words.{app_of, new_app, with_rule}
 use Rattle.clap.specs.declared.Command.{Command}
 use Rattle.clap.specs.declared.Command.TheOpen.{Command-F}
 use Rattle.clap.specs.declared.Command.TheViews.{out-Command as fields_of}
-use Rattle.command_line.specs.CommandLine.{with_selection_rules}
 use Rattle.command_line.proofs.command_line.serve_command.Goals as goal
 
 pub returns-clause-app : goal.returns-clause-app
@@ -16,7 +15,7 @@ returns-clause-app c =
     ∙ ap₂ with_rule (c.in_ok-with_journal.ensures.shape c.file_option.ensures.local
     ∙ ap₂ with_rule (c.in_ok-with_workers.ensures.shape c.workers_option.ensures.local
     ∙ ap₂ with_rule bare c.workers_option.ensures.rule) c.file_option.ensures.rule) c.file_option-2.ensures.rule) c.file_option-3.ensures.rule) c.budget_option.ensures.rule in
-    IfOk-weaker c.with_selection.result _ _ (λ whole same. same ∙ ap with_selection_rules budget) c.with_selection.ensures.app
+    IfOk-weaker c.arg-6.result _ _ (λ whole adds. adds.shape c.newest_flag.ensures.local ∙ ap₂ with_rule budget c.newest_flag.ensures.rule) c.arg-6.ensures
 
 -- no argument is global
 pub returns-clause-local : goal.returns-clause-local
@@ -28,4 +27,4 @@ returns-clause-local c =
     let load : (fields_of c.in_ok-with_load.with_load).has_globals ≡ false = c.in_ok-with_load.ensures.globals ∙ ap₂ ◌||◌ journal c.file_option-2.ensures.local in
     let save : (fields_of c.in_ok-with_save.with_save).has_globals ≡ false = c.in_ok-with_save.ensures.globals ∙ ap₂ ◌||◌ load c.file_option-3.ensures.local in
     let budget : (fields_of c.in_ok-with_budget.with_budget).has_globals ≡ false = c.in_ok-with_budget.ensures.globals ∙ ap₂ ◌||◌ save c.budget_option.ensures.local in
-    c.with_selection.ensures.local budget
+    IfOk-weaker c.arg-6.result _ _ (λ whole adds. adds.globals ∙ ap₂ ◌||◌ budget c.newest_flag.ensures.local) c.arg-6.ensures

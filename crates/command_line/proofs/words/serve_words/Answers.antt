@@ -1,4 +1,4 @@
-use Rattle.std.proofs.Common.{◌≡◌, ◌∙◌, ◌⊎◌, inl, Bool, codes, subst, sym, ◌≤◌, ℕ, List, Option, Some, None, Result, Ok, Err, IfOk, IsErrOf, arith, refl}
+use Rattle.std.proofs.Common.{◌≡◌, ◌∙◌, codes, subst, sym, ◌≤◌, ℕ, List, Option, Some, None, Result, Ok, Err, IfOk, IsErrOf, arith, refl}
 use Rattle.std.specs.Str.Parse.{ExplainsUnsignedError, HasUnsignedDigitsIfOk, ParsesUnsigned}
 use Rattle.std.specs.declared.num.ParseIntError.{ParseIntError}
 use Rattle.clap.specs.Words.{ReadsOne, Row, Text, found_of, first_of, one_of, rows_of}
@@ -8,23 +8,21 @@ use Rattle.command_line.specs.declared.words.WordFault.{WordFault}
 use Rattle.command_line.specs.declared.words.WordFault.TheVariants.{Bad}
 use Rattle.command_line.specs.declared.words.Words.{Words}
 use Rattle.command_line.specs.declared.words.Words.TheVariants.{Keep, Race, Serve}
-use Rattle.command_line.specs.Words.{AreMixed, AreOpposed, AreWords, HasBudget, NamesBoth, SaysBudget, SaysNewest, SaysServe, SaysWorkers}
+use Rattle.command_line.specs.Words.{AreMixed, AreWords, HasBudget, NamesBoth, SaysBudget, SaysServe, SaysWorkers}
 use Rattle.command_line.proofs.words.serve_words.Goals as goal
 
-module _ (n : ℕ) (b : Option ℕ) (v : Bool) (rows : List Row) (some : SaysWorkers n rows) (budget : SaysBudget b rows) (newest : SaysNewest v rows) where
+module _ (n : ℕ) (b : Option ℕ) (rows : List Row) (some : SaysWorkers n rows) (budget : SaysBudget b rows) where
   -- the files are those of the rows
-  said : (w : Words) → AreWords w n b v (first_of (codes "load") rows) (first_of (codes "save") rows) (first_of (codes "journal") rows) → SaysServe w rows
-  said (Serve workers own selects load save) are =
+  said : (w : Words) → AreWords w n b (first_of (codes "load") rows) (first_of (codes "save") rows) (first_of (codes "journal") rows) → SaysServe w rows
+  said (Serve workers own load save) are =
       let P : ℕ → Type 0 = λ k. SaysWorkers k rows in
       let Q : Option ℕ → Type 0 = λ k. SaysBudget k rows in
-      let R : Bool → Type 0 = λ k. SaysNewest k rows in
-      (subst P (sym are.0) some, subst Q (sym are.1) budget, subst R (sym are.2) newest, are.3, are.4, are.5)
-  said (Keep workers own selects journal) are =
+      (subst P (sym are.0) some, subst Q (sym are.1) budget, are.2, are.3, are.4)
+  said (Keep workers own journal) are =
       let P : ℕ → Type 0 = λ k. SaysWorkers k rows in
       let Q : Option ℕ → Type 0 = λ k. SaysBudget k rows in
-      let R : Bool → Type 0 = λ k. SaysNewest k rows in
-      (subst P (sym are.0) some, subst Q (sym are.1) budget, subst R (sym are.2) newest, are.3, are.4, are.5)
-  said (Race selects files) are = absurd are
+      (subst P (sym are.0) some, subst Q (sym are.1) budget, are.2, are.3, are.4)
+  said (Race files) are = absurd are
 
 module _ (rows : List Row) (from to kept : Option Text) (from_is : from ≡ first_of (codes "load") rows) (to_is : to ≡ first_of (codes "save") rows) (kept_is : kept ≡ first_of (codes "journal") rows) where
   by_rows : (P : Option Text → Option Text → Option Text → Type 0) → P from to kept → P (first_of (codes "load") rows) (first_of (codes "save") rows) (first_of (codes "journal") rows)
@@ -33,12 +31,12 @@ module _ (rows : List Row) (from to kept : Option Text) (from_is : from ≡ firs
       let C : Option Text → Type 0 = λ o. P (first_of (codes "load") rows) (first_of (codes "save") rows) o in
       subst C kept_is (subst B to_is (subst A from_is is))
 
-  all_said : (r : Result Words WordFault) (n : ℕ) (b : Option ℕ) (v : Bool) → SaysWorkers n rows → SaysBudget b rows → SaysNewest v rows → IfOk r (λ w. AreWords w n b v from to kept) → IfOk r (λ w. SaysServe w rows)
-  all_said (Ok w) n b v some budget newest are = said n b v rows some budget newest w (by_rows (AreWords w n b v) are)
-  all_said (Err e) n b v some budget newest are = are
+  all_said : (r : Result Words WordFault) (n : ℕ) (b : Option ℕ) → SaysWorkers n rows → SaysBudget b rows → IfOk r (λ w. AreWords w n b from to kept) → IfOk r (λ w. SaysServe w rows)
+  all_said (Ok w) n b some budget are = said n b rows some budget w (by_rows (AreWords w n b) are)
+  all_said (Err e) n b some budget are = are
 
-  both_named : (r : Result Words WordFault) → (IsErrOf r Bad → NamesBoth from to kept) → IsErrOf r Bad → AreMixed rows ⊎ AreOpposed rows
-  both_named r names bad = inl (by_rows NamesBoth (names bad))
+  both_named : (r : Result Words WordFault) → (IsErrOf r Bad → NamesBoth from to kept) → IsErrOf r Bad → AreMixed rows
+  both_named r names bad = by_rows NamesBoth (names bad)
 
 -- what is read of a text as a number of 32 bits
 abbrev Gives : Text → Result ℕ ParseIntError → Type 0
@@ -74,7 +72,7 @@ returns-clause-ok c =
     (c.get_str-load.ensures ∙ first_value-rows found (codes "load"))
     (c.get_str-save.ensures ∙ first_value-rows found (codes "save"))
     (c.get_str-journal.ensures ∙ first_value-rows found (codes "journal"))
-    c.words_with.result _ _ _ (least, most, (text.0, text.1, (read.0.0, sym read.1))) budget c.in_ok-newest.ensures.ok c.words_with.ensures.ok
+    c.words_with.result _ _ (least, most, (text.0, text.1, (read.0.0, sym read.1))) budget c.words_with.ensures.ok
 
 pub returns-clause-bad : goal.returns-clause-bad
 returns-clause-bad c =

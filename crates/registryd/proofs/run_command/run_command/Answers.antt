@@ -7,14 +7,14 @@ use Rattle.registryd.proofs.run_command.run_command.Goals as goal
 pub returns-in-Ok-Serve-clause-done : goal.returns-in-Ok-Serve-clause-done
 returns-in-Ok-Serve-clause-done g c = λ is.
     let words = c.in-Ok-Serve in
-    let asked = serve_asks _ _ _ _ _ _ _ _ _ words.ensures.taken words.ensures.ok words.field-0-is c.lent_name-from.ensures c.lent_name-to.ensures in
+    let asked = serve_asks _ _ _ _ _ _ _ _ words.ensures.taken words.ensures.ok words.field-0-is c.lent_name-from.ensures c.lent_name-to.ensures in
     let done = c.serve-end.ensures.done is in
     inl (has_served _ _ _ _ _ _ _ _ asked _ done.1, done.0)
 
 pub returns-in-Ok-Serve-clause-input : goal.returns-in-Ok-Serve-clause-input
 returns-in-Ok-Serve-clause-input g c = λ is.
     let words = c.in-Ok-Serve in
-    let asked = serve_asks _ _ _ _ _ _ _ _ _ words.ensures.taken words.ensures.ok words.field-0-is c.lent_name-from.ensures c.lent_name-to.ensures in
+    let asked = serve_asks _ _ _ _ _ _ _ _ words.ensures.taken words.ensures.ok words.field-0-is c.lent_name-from.ensures c.lent_name-to.ensures in
     elim (c.serve-end.ensures.input is) [
       | inl served ↦ inl (has_served _ _ _ _ _ _ _ _ asked _ served)
       | inr kept ↦ inr (inr (inl (has_no_journal _ _ _ _ _ _ _ _ asked kept.0 kept.1)))
@@ -23,7 +23,7 @@ returns-in-Ok-Serve-clause-input g c = λ is.
 pub returns-in-Ok-Serve-clause-output : goal.returns-in-Ok-Serve-clause-output
 returns-in-Ok-Serve-clause-output g c = λ is.
     let words = c.in-Ok-Serve in
-    let asked = serve_asks _ _ _ _ _ _ _ _ _ words.ensures.taken words.ensures.ok words.field-0-is c.lent_name-from.ensures c.lent_name-to.ensures in
+    let asked = serve_asks _ _ _ _ _ _ _ _ words.ensures.taken words.ensures.ok words.field-0-is c.lent_name-from.ensures c.lent_name-to.ensures in
     elim (c.serve-end.ensures.output is) [
       | inl broken ↦ inl (has_broken _ _ _ _ _ _ _ _ asked broken)
       | inr served ↦ inr (inr (inl (has_served _ _ _ _ _ _ _ _ asked _ served.1, served.0)))
@@ -32,7 +32,7 @@ returns-in-Ok-Serve-clause-output g c = λ is.
 pub returns-in-Ok-Serve-clause-journal : goal.returns-in-Ok-Serve-clause-journal
 returns-in-Ok-Serve-clause-journal g c = λ line is.
     let words = c.in-Ok-Serve in
-    let asked = serve_asks _ _ _ _ _ _ _ _ _ words.ensures.taken words.ensures.ok words.field-0-is c.lent_name-from.ensures c.lent_name-to.ensures in
+    let asked = serve_asks _ _ _ _ _ _ _ _ words.ensures.taken words.ensures.ok words.field-0-is c.lent_name-from.ensures c.lent_name-to.ensures in
     let kept = c.serve-end.ensures.journal line is in
     has_no_journal _ _ _ _ _ _ _ _ asked kept.0 kept.1
 
@@ -44,25 +44,25 @@ returns-in-Ok-Serve-clause-kept g c = λ fault is. absurd (c.serve-end.ensures.k
 pub returns-in-Ok-Keep-clause-done : goal.returns-in-Ok-Keep-clause-done
 returns-in-Ok-Keep-clause-done g c = λ is.
     let words = c.in-Ok-Keep in
-    let asked = keep_asks _ _ _ _ _ _ _ words.ensures.taken words.ensures.ok words.field-0-is c.as_str.ensures.value in
+    let asked = keep_asks _ _ _ _ _ _ words.ensures.taken words.ensures.ok words.field-0-is c.as_str.ensures.value in
     inr (inl (has_kept _ _ _ _ _ _ _ asked (c.keep.ensures.done is)))
 
 pub returns-in-Ok-Keep-clause-input : goal.returns-in-Ok-Keep-clause-input
 returns-in-Ok-Keep-clause-input g c = λ is.
     let words = c.in-Ok-Keep in
-    let asked = keep_asks _ _ _ _ _ _ _ words.ensures.taken words.ensures.ok words.field-0-is c.as_str.ensures.value in
+    let asked = keep_asks _ _ _ _ _ _ words.ensures.taken words.ensures.ok words.field-0-is c.as_str.ensures.value in
     inr (inl (has_stopped _ _ _ _ _ _ _ asked (c.keep.ensures.input is)))
 
 pub returns-in-Ok-Keep-clause-output : goal.returns-in-Ok-Keep-clause-output
 returns-in-Ok-Keep-clause-output g c = λ is.
     let words = c.in-Ok-Keep in
-    let asked = keep_asks _ _ _ _ _ _ _ words.ensures.taken words.ensures.ok words.field-0-is c.as_str.ensures.value in
+    let asked = keep_asks _ _ _ _ _ _ words.ensures.taken words.ensures.ok words.field-0-is c.as_str.ensures.value in
     inr (inl (has_fallen _ _ _ _ _ _ _ asked (c.keep.ensures.output is)))
 
 pub returns-in-Ok-Keep-clause-kept : goal.returns-in-Ok-Keep-clause-kept
 returns-in-Ok-Keep-clause-kept g c = λ fault is.
     let words = c.in-Ok-Keep in
-    let asked = keep_asks _ _ _ _ _ _ _ words.ensures.taken words.ensures.ok words.field-0-is c.as_str.ensures.value in
+    let asked = keep_asks _ _ _ _ _ _ words.ensures.taken words.ensures.ok words.field-0-is c.as_str.ensures.value in
     let kept = c.keep.ensures.kept fault is in (
       tells_of_file _ _ _ asked fault kept.0,
       elim kept.1 [

@@ -7,7 +7,7 @@ use Rattle.registry.specs.Requests.{Wanted}
 use Rattle.pool.specs.Answering.{IsAnswerTo}
 use Rattle.session.proofs.BatchLemmas.{drop_requests, tells_err, tells_next, tells_none, tells_ok, tells_then}
 use Rattle.session.proofs.TellingLemmas.{told_cut, told_puts}
-use Rattle.solver.specs.declared.solving.Options.{Options}
+use Rattle.oracle.specs.declared.options.Options.{Options}
 use Rattle.session.proofs.telling.tell_each.Goals as goal
 
 pub loop-at-init : goal.loop-at-init

@@ -8,7 +8,7 @@ use Rattle.pool.specs.Answering.{IsAnswerTo}
 use Rattle.session.proofs.BatchLemmas.{drop_requests, tells_before, tells_next}
 use Rattle.session.proofs.DurableLemmas.{telling_puts}
 use Rattle.session.proofs.TellingLemmas.{telling_left}
-use Rattle.solver.specs.declared.solving.Options.{Options}
+use Rattle.oracle.specs.declared.options.Options.{Options}
 use Rattle.session.proofs.telling_kept.tell_each.Goals as goal
 
 pub loop-place-init : goal.loop-place-init

@@ -1,12 +1,11 @@
-use Rattle.std.proofs.Common.{◌≡◌, ◌<◌, ◌≤◌, ℕ, List, [], arith, get_or, length, subst, sym}
-use Rattle.std.proofs.lemmas.List.{append-nil}
+use Rattle.std.proofs.Common.{◌≡◌, ◌<◌, ◌≤◌, ℕ, List, arith, get_or, length, subst}
 use Rattle.std.specs.Prelude.{None, Option, Some, slice_get}
 use Rattle.versions.specs.Words.{Text}
 use Rattle.registry.specs.Registry.{Packages}
 use Rattle.registry.specs.Selections.{Choices}
 use Rattle.walk.specs.Listing.{ArePassed, AreInOrder, IsListing, PassesAt}
 use Rattle.walk.specs.Newest.{in_name_order}
-use Rattle.walk.proofs.Lists.{grown-grown}
+use Rattle.walk.proofs.Lists.{grown-grown, grown_none}
 use Rattle.walk.proofs.Listings.{IsPass, next_by_need, next_need, pass, passed_all, passed_more}
 use Rattle.walk.proofs.NeedsInOrder.{in_order_at, length_in_order, place_read, within_at}
 use Rattle.walk.proofs.listing.pass_needs.Goals as goal
@@ -41,7 +40,7 @@ pass_need-requires g c =
 pub loop-i-init : goal.loop-i-init
 loop-i-init g c = record {
   listing = c.requires;
-  grown = ([], sym (append-nil c.args.found.now.entries));
+  grown = grown_none c.args.found.now.entries;
   passed = λ j line lt at. absurd (omega (arith, lt));
 }
 
@@ -60,41 +59,32 @@ loop-i-preserved g c =
       passed = passed_more packages old new (in_name_order needs) c.loop-i.i one.line one.passes.grown c.loop-i.invariant.passed one.in_order one.passes.passed;
     }
 
-pub returns-in-Some-clause-listing : goal.returns-in-Some-clause-listing
-returns-in-Some-clause-listing g c =
-    let read = place_read c.in_ok-places.places.items c.loop-i.i c.index-index.result.now (omega arith) c.index-index.ensures in
-    let one = turn c.args.registry.now.packages c.needs-needs.result.now c.args.request.now.needs (g.C.Chooser.chooses c.args.chooser.now) c.in_ok-places.places.items c.loop-i.i c.index-index.result.now
-    c.loop-i.found.entries c.pass_need.new.found.entries (Some c.in-Some.pkg) c.needs-needs.ensures.needs read c.in_ok-places.ensures (omega arith) c.loop-i.invariant.listing c.loop-i.invariant.passed
-    (rw c.in-Some.is at c.in_ok-pkg.ensures) in
-    one.passes.listing
-
-pub returns-in-Some-clause-grown : goal.returns-in-Some-clause-grown
-returns-in-Some-clause-grown g c =
-    let new = c.pass_need.new.found.entries in
-    let read = place_read c.in_ok-places.places.items c.loop-i.i c.index-index.result.now (omega arith) c.index-index.ensures in
-    let one = turn c.args.registry.now.packages c.needs-needs.result.now c.args.request.now.needs (g.C.Chooser.chooses c.args.chooser.now) c.in_ok-places.places.items c.loop-i.i c.index-index.result.now
-    c.loop-i.found.entries new (Some c.in-Some.pkg) c.needs-needs.ensures.needs read c.in_ok-places.ensures (omega arith) c.loop-i.invariant.listing c.loop-i.invariant.passed
-    (rw c.in-Some.is at c.in_ok-pkg.ensures) in
-    grown-grown c.args.found.now.entries c.loop-i.found.entries new c.loop-i.invariant.grown one.passes.grown
-
-pub returns-clause-grown : goal.returns-clause-grown
-returns-clause-grown g c = c.loop-i.invariant.grown
-
-pub returns-in-Some-clause-next : goal.returns-in-Some-clause-next
-returns-in-Some-clause-next g c =
+pub returns-in-Some : goal.returns-in-Some
+returns-in-Some g c =
     let packages = c.args.registry.now.packages in
     let needs = c.args.request.now.needs in
     let chooses = g.C.Chooser.chooses c.args.chooser.now in
+    let old = c.loop-i.found.entries in
     let new = c.pass_need.new.found.entries in
     let read = place_read c.in_ok-places.places.items c.loop-i.i c.index-index.result.now (omega arith) c.index-index.ensures in
-    let one = turn packages c.needs-needs.result.now needs chooses c.in_ok-places.places.items c.loop-i.i c.index-index.result.now c.loop-i.found.entries new (Some c.in-Some.pkg) c.needs-needs.ensures.needs read
+    let one = turn packages c.needs-needs.result.now needs chooses c.in_ok-places.places.items c.loop-i.i c.index-index.result.now old new (Some c.in-Some.pkg) c.needs-needs.ensures.needs read
     c.in_ok-places.ensures (omega arith) c.loop-i.invariant.listing c.loop-i.invariant.passed (rw c.in-Some.is at c.in_ok-pkg.ensures) in
-    next_by_need packages needs chooses new c.index-index.result.now c.in-Some.pkg one.line one.at one.passes.comes.0 one.passes.comes.1 one.passes.comes.2
+    record {
+      listing = one.passes.listing;
+      grown = grown-grown c.args.found.now.entries old new c.loop-i.invariant.grown one.passes.grown;
+      passed = tt;
+      next = next_by_need packages needs chooses new c.index-index.result.now c.in-Some.pkg one.line one.at one.passes.comes.0 one.passes.comes.1 one.passes.comes.2;
+    }
 
-pub returns-clause-passed : goal.returns-clause-passed
-returns-clause-passed g c =
+pub returns : goal.returns
+returns g c =
     let needs = c.args.request.now.needs in
     let places = c.in_ok-places.places.items in
     let order = subst (λ (ns : List (Text × Text)). AreInOrder ns places) c.needs-needs.ensures.needs c.in_ok-places.ensures in
     let all : length (in_name_order needs) ≤ c.loop-i.i = omega (arith, length_in_order needs places order) in
-    passed_all c.args.registry.now.packages c.loop-i.found.entries (in_name_order needs) c.loop-i.i all c.loop-i.invariant.passed
+    record {
+      listing = c.loop-i.invariant.listing;
+      grown = c.loop-i.invariant.grown;
+      passed = passed_all c.args.registry.now.packages c.loop-i.found.entries (in_name_order needs) c.loop-i.i all c.loop-i.invariant.passed;
+      next = tt;
+    }

@@ -17,31 +17,20 @@ moved_behind list new fronted sorted behind moved taken =
     let back : ℕ × (ℕ × ℕ) → ℕ × ℕ = λ f. f.1 in
     subst (IsPermutation list) (sym taken) (subst (λ (l : List (ℕ × ℕ)). IsPermutation l (map back sorted)) behind (IsPermutation-map back fronted sorted moved))
 
-pub returns-in-Ok-clause-sorted : goal.returns-in-Ok-clause-sorted
-returns-in-Ok-clause-sorted c =
+pub returns-in-Ok : goal.returns-in-Ok
+returns-in-Ok c =
     let back : ℕ × (ℕ × ℕ) → ℕ × ℕ = λ f. f.1 in
     let packages = c.args.registry.now.packages in
+    let list = c.args.list.now in
+    let new = c.take_order.new.list in
     let fronted = c.in-Ok.fronted.items in
     let sorted = c.sort_fronted.new.fronted in
-    let taken : c.take_order.new.list ≡ map back sorted = c.take_order.ensures ∙ ap (map back) (c.deref.ensures.value ∙ put c.in-Ok.fronted.len sorted fronted (omega (arith, c.in-Ok.fronted.ok.0)) (omega (arith, c.sort_fronted.auto.fronted, c.deref_mut.ensures.len, ap length c.deref_mut.ensures.value))) in
+    let taken : new ≡ map back sorted = c.take_order.ensures ∙ ap (map back) (c.deref.ensures.value ∙ put c.in-Ok.fronted.len sorted fronted (omega (arith, c.in-Ok.fronted.ok.0)) (omega (arith, c.sort_fronted.auto.fronted, c.deref_mut.ensures.len, ap length c.deref_mut.ensures.value))) in
     let moved : IsPermutation fronted sorted = subst (λ (l : List (ℕ × (ℕ × ℕ))). IsPermutation l sorted) c.deref_mut.ensures.value c.sort_fronted.ensures.moved in
     let right : All (IsFronted packages) fronted = c.in-Ok.ensures.fronted in
-    subst (IsSorted (by_name packages)) (sym taken) (sorted_names packages sorted (All-permutation (IsFronted packages) fronted sorted moved right) c.sort_fronted.ensures.sorted)
-
-pub returns-in-Ok-clause-same : goal.returns-in-Ok-clause-same
-returns-in-Ok-clause-same c =
-    let back : ℕ × (ℕ × ℕ) → ℕ × ℕ = λ f. f.1 in
-    let fronted = c.in-Ok.fronted.items in
-    let sorted = c.sort_fronted.new.fronted in
-    let taken : c.take_order.new.list ≡ map back sorted = c.take_order.ensures ∙ ap (map back) (c.deref.ensures.value ∙ put c.in-Ok.fronted.len sorted fronted (omega (arith, c.in-Ok.fronted.ok.0)) (omega (arith, c.sort_fronted.auto.fronted, c.deref_mut.ensures.len, ap length c.deref_mut.ensures.value))) in
-    let moved : IsPermutation fronted sorted = subst (λ (l : List (ℕ × (ℕ × ℕ))). IsPermutation l sorted) c.deref_mut.ensures.value c.sort_fronted.ensures.moved in
-    same_moved c.args.list.now c.take_order.new.list (moved_behind c.args.list.now c.take_order.new.list fronted sorted c.in-Ok.ensures.same moved taken) c.requires
-
-pub returns-in-Ok-clause-once : goal.returns-in-Ok-clause-once
-returns-in-Ok-clause-once c =
-    let back : ℕ × (ℕ × ℕ) → ℕ × ℕ = λ f. f.1 in
-    let fronted = c.in-Ok.fronted.items in
-    let sorted = c.sort_fronted.new.fronted in
-    let taken : c.take_order.new.list ≡ map back sorted = c.take_order.ensures ∙ ap (map back) (c.deref.ensures.value ∙ put c.in-Ok.fronted.len sorted fronted (omega (arith, c.in-Ok.fronted.ok.0)) (omega (arith, c.sort_fronted.auto.fronted, c.deref_mut.ensures.len, ap length c.deref_mut.ensures.value))) in
-    let moved : IsPermutation fronted sorted = subst (λ (l : List (ℕ × (ℕ × ℕ))). IsPermutation l sorted) c.deref_mut.ensures.value c.sort_fronted.ensures.moved in
-    once_moved c.args.list.now c.take_order.new.list (moved_behind c.args.list.now c.take_order.new.list fronted sorted c.in-Ok.ensures.same moved taken) c.requires
+    let moves = moved_behind list new fronted sorted c.in-Ok.ensures.same moved taken in
+    record {
+      sorted = subst (IsSorted (by_name packages)) (sym taken) (sorted_names packages sorted (All-permutation (IsFronted packages) fronted sorted moved right) c.sort_fronted.ensures.sorted);
+      same = same_moved list new moves c.requires;
+      once = once_moved list new moves c.requires;
+    }

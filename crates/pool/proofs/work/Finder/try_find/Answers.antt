@@ -3,7 +3,7 @@ use Rattle.std.specs.Prelude.{slice_get}
 use Rattle.std.proofs.lemmas.Option.{get_or_from_slice_get}
 use Rattle.registry.specs.Registry.{Packages}
 use Rattle.registry.specs.Requests.{Wanted}
-use Rattle.solver.specs.declared.solving.Options.{Options}
+use Rattle.oracle.specs.declared.options.Options.{Options}
 use Rattle.pool.specs.Answering.{IsAnswerTo}
 use Rattle.pool.proofs.work.Finder.try_find.Goals as goal
 

@@ -1,49 +1,36 @@
-use Rattle.std.proofs.Common.{◌≡◌, ◌∙◌, ◌++◌, [], ◌∷◌, ap, refl, rules}
+use Rattle.std.proofs.Common.{◌∙◌, ap, refl, rules, sym, true≢false}
 use Rattle.registry.specs.Registry.{needs_of}
 use Rattle.walk.specs.declared.choosing.Choosing.{Choosing}
 use Rattle.walk.proofs.Bests.{asks_between, chosen_holds, grown_both, grown_narrows, grown_of}
 use Rattle.walk.proofs.choosing.Choosing.choose_version.Goals as goal
 
-pub returns-then-not-branch-clause-found : goal.returns-then-not-branch-clause-found
-returns-then-not-branch-clause-found c =
-    ap (λ m. m.entries) (c.in_ok-meet.ensures.meets.found ∙ c.in_ok-keep_only.ensures.found) ∙ c.in_ok-push.ensures
+pub returns-then-not-branch : goal.returns-then-not-branch
+returns-then-not-branch c =
+    let old = c.args.self.now in
+    let mid : Choosing = record { found = c.push.new.self; asked = old.asked; needed = old.needed; numbers = old.numbers; fresh = old.fresh; taken = old.taken; ruled_out = old.ruled_out; dependents = old.dependents } in
+    let kept = c.keep_only.new.self in
+    let keeps = c.in_ok-keep_only.ensures in
+    let met = c.in_ok-meet.ensures in
+    record {
+      found = ap (λ m. m.entries) (met.meets.found ∙ keeps.found) ∙ c.in_ok-push.ensures;
+      asks = λ whole. absurd (true≢false (sym whole));
+      grown = grown_both old kept c.meet.new.self (grown_both old mid kept (grown_of old mid refl refl) (grown_narrows _ c.args.version.0 mid kept keeps)) met.grown;
+      holds = λ wanted. chosen_holds c.args.registry.now.packages wanted old mid kept c.meet.new.self c.args.version.0 c.args.version.1 c.requires.new c.in_ok-push.ensures refl refl keeps met.meets;
+    }
 
-pub returns-clause-found : goal.returns-clause-found
-returns-clause-found c =
-    ap (λ m. m.entries) (c.in_ok-settle.ensures.found ∙ c.in_ok-meet.ensures.meets.found ∙ c.in_ok-keep_only.ensures.found) ∙ c.in_ok-push.ensures
-
-pub returns-clause-asks : goal.returns-clause-asks
-returns-clause-asks c = λ whole.
+pub returns : goal.returns
+returns c =
     let packages = c.args.registry.now.packages in
-    asks_between packages (needs_of packages c.args.version.0 c.args.version.1) c.args.self.now.asked.items c.keep_only.new.self.asked.items c.meet.new.self.asked.items c.settle.new.self.asked.items (c.in_ok-meet.ensures.asks (search rules))
-    c.in_ok-keep_only.ensures.asked (c.in_ok-settle.ensures.asked whole)
-
-pub returns-then-not-branch-clause-grown : goal.returns-then-not-branch-clause-grown
-returns-then-not-branch-clause-grown c =
     let old = c.args.self.now in
     let mid : Choosing = record { found = c.push.new.self; asked = old.asked; needed = old.needed; numbers = old.numbers; fresh = old.fresh; taken = old.taken; ruled_out = old.ruled_out; dependents = old.dependents } in
     let kept = c.keep_only.new.self in
-    grown_both old kept c.meet.new.self (grown_both old mid kept (grown_of old mid refl refl) (grown_narrows _ c.args.version.0 mid kept c.in_ok-keep_only.ensures)) c.in_ok-meet.ensures.grown
-
-pub returns-clause-grown : goal.returns-clause-grown
-returns-clause-grown c =
-    let old = c.args.self.now in
-    let mid : Choosing = record { found = c.push.new.self; asked = old.asked; needed = old.needed; numbers = old.numbers; fresh = old.fresh; taken = old.taken; ruled_out = old.ruled_out; dependents = old.dependents } in
-    let kept = c.keep_only.new.self in
-    grown_both old c.meet.new.self c.settle.new.self (grown_both old kept c.meet.new.self (grown_both old mid kept (grown_of old mid refl refl) (grown_narrows _ c.args.version.0 mid kept c.in_ok-keep_only.ensures)) c.in_ok-meet.ensures.grown)
-    c.in_ok-settle.ensures.grown
-
-pub returns-then-not-branch-clause-holds : goal.returns-then-not-branch-clause-holds
-returns-then-not-branch-clause-holds c = λ wanted h.
-    let old = c.args.self.now in
-    let mid : Choosing = record { found = c.push.new.self; asked = old.asked; needed = old.needed; numbers = old.numbers; fresh = old.fresh; taken = old.taken; ruled_out = old.ruled_out; dependents = old.dependents } in
-    let found : mid.found.entries ≡ old.found.entries ++ (c.args.version.0, c.args.version.1) ∷ [] = c.in_ok-push.ensures in
-    chosen_holds c.args.registry.now.packages wanted old mid c.keep_only.new.self c.meet.new.self c.args.version.0 c.args.version.1 c.requires.new found refl refl c.in_ok-keep_only.ensures c.in_ok-meet.ensures.meets h
-
-pub returns-clause-holds : goal.returns-clause-holds
-returns-clause-holds c = λ wanted h.
-    let old = c.args.self.now in
-    let mid : Choosing = record { found = c.push.new.self; asked = old.asked; needed = old.needed; numbers = old.numbers; fresh = old.fresh; taken = old.taken; ruled_out = old.ruled_out; dependents = old.dependents } in
-    let found : mid.found.entries ≡ old.found.entries ++ (c.args.version.0, c.args.version.1) ∷ [] = c.in_ok-push.ensures in
-    c.in_ok-settle.ensures.holds wanted
-    (chosen_holds c.args.registry.now.packages wanted old mid c.keep_only.new.self c.meet.new.self c.args.version.0 c.args.version.1 c.requires.new found refl refl c.in_ok-keep_only.ensures c.in_ok-meet.ensures.meets h)
+    let new = c.meet.new.self in
+    let keeps = c.in_ok-keep_only.ensures in
+    let met = c.in_ok-meet.ensures in
+    let settles = c.in_ok-settle.ensures in
+    record {
+      found = ap (λ m. m.entries) (settles.found ∙ met.meets.found ∙ keeps.found) ∙ c.in_ok-push.ensures;
+      asks = λ whole. asks_between packages (needs_of packages c.args.version.0 c.args.version.1) old.asked.items kept.asked.items new.asked.items c.settle.new.self.asked.items (met.asks (search rules)) keeps.asked (settles.asked whole);
+      grown = grown_both old new c.settle.new.self (grown_both old kept new (grown_both old mid kept (grown_of old mid refl refl) (grown_narrows _ c.args.version.0 mid kept keeps)) met.grown) settles.grown;
+      holds = λ wanted h. settles.holds wanted (chosen_holds packages wanted old mid kept new c.args.version.0 c.args.version.1 c.requires.new c.in_ok-push.ensures refl refl keeps met.meets h);
+    }

@@ -3,7 +3,7 @@ use Rattle.std.proofs.lemmas.Bool.{and_from}
 use Rattle.terms.specs.Sets.{has}
 use Rattle.terms.specs.Terms.{true_of}
 use Rattle.terms.specs.declared.term.Term.TheVariants.{In}
-use Rattle.walk.specs.Best.{OfEach}
+use Rattle.walk.specs.Newest.{OfEach}
 use Rattle.walk.specs.Left.{term_of}
 use Rattle.walk.specs.declared.left.Left.{Left}
 use Rattle.walk.proofs.Bests.{left_read, none_both}

@@ -1,6 +1,5 @@
 use Rattle.std.proofs.Common.{◌∙◌, ap, rules}
-use Rattle.walk.proofs.Bests.{grown_both}
-use Rattle.walk.proofs.Settling.{grown_after, holds_same}
+use Rattle.walk.proofs.Bests.{grown_after, grown_both, holds_same}
 use Rattle.walk.proofs.choosing.Choosing.settle.Goals as goal
 
 pub returns-in_default-clause-holds : goal.returns-in_default-clause-holds

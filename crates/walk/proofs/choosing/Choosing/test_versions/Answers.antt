@@ -1,6 +1,5 @@
 use Rattle.std.proofs.Common.{◌∙◌, ap, rules}
-use Rattle.walk.proofs.Bests.{grown_of}
-use Rattle.walk.proofs.Settling.{grown_after, holds_same}
+use Rattle.walk.proofs.Bests.{grown_after, grown_of, holds_same}
 use Rattle.walk.proofs.choosing.Choosing.test_versions.Goals as goal
 
 pub returns-in_default-clause-holds : goal.returns-in_default-clause-holds

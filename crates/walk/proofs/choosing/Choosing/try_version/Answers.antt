@@ -1,5 +1,5 @@
 use Rattle.std.proofs.Common.{◌≡◌, ◌∙◌, ℕ, List, ap, rules, subst, sym}
-use Rattle.walk.specs.Best.{IsOut}
+use Rattle.walk.specs.Newest.{IsOut}
 use Rattle.walk.proofs.Bests.{chosen_choosing, choosing_same, holds_taken, out_tried, taken_same}
 use Rattle.walk.proofs.choosing.Choosing.try_version.Goals as goal
 

@@ -1,0 +1,41 @@
+"""That what a subcommand takes is measured of one that does what it says, and that each kind has its figures."""
+import json
+import os
+import subprocess
+import sys
+import tempfile
+import unittest
+from unittest import mock
+
+BENCH = os.path.dirname(os.path.dirname(os.path.abspath(__file__)))
+sys.path.insert(0, BENCH)
+sys.path.insert(0, os.path.join(os.path.dirname(BENCH), "tools", "tests"))
+
+import start  # noqa: E402
+from lines import publish_lines  # noqa: E402
+from program import PROGRAM  # noqa: E402
+
+STATUSES = {"python": 0, "loading": 0, "list": 0, "search": 0, "show": 0, "resolve": 0, "tree": 0, "refused": 1}
+
+
+@mock.patch.dict(os.environ, {"REGISTRY_PROGRAM": PROGRAM})
+class Measured(unittest.TestCase):
+    def test_each_kind_has_figures(self):
+        found = start.measured(PROGRAM, 20, 1)
+        self.assertEqual(set(found), {*STATUSES, "page"})
+        for kind, figures in found.items():
+            self.assertTrue(all(it > 0 for it in figures), kind)
+
+    def test_what_is_measured_is_done(self):
+        with tempfile.TemporaryDirectory() as folder:
+            journal = os.path.join(folder, "journal")
+            lines = publish_lines(20)
+            subprocess.run([PROGRAM, "serve", "--workers", "1", "--save", journal], input="\n".join(lines).encode() + b"\n", stdout=subprocess.DEVNULL, check=True)
+            for kind, (_, words) in start.kinds(PROGRAM, journal, json.loads(lines[0])["name"]).items():
+                if kind in STATUSES:
+                    done = subprocess.run(words, stdin=subprocess.DEVNULL, capture_output=True, check=False)
+                    self.assertEqual(done.returncode, STATUSES[kind], (kind, done.stderr))
+
+
+if __name__ == "__main__":
+    unittest.main()

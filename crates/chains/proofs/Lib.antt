@@ -1,5 +1,0 @@
--- Lemmas.
-pub mod Showing
-pub mod Joining
-pub mod Within
-pub mod Members

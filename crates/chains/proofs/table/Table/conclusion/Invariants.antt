@@ -1,6 +1,0 @@
-use Rattle.std.proofs.Common.{drop}
-use Rattle.chains.proofs.Joining.{IsKeeping}
-use Rattle.chains.proofs.table.Table.conclusion.Given as goal
-
-abbrev pub invariant-loop-pkg : goal.invariant-loop-pkg
-invariant-loop-pkg l = IsKeeping l.terms l.kept.items (drop l.pkg-index l.terms)

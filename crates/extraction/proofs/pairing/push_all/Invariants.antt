@@ -1,5 +1,0 @@
-use Rattle.extraction.specs.Pairing.{Grows}
-use Rattle.extraction.proofs.pairing.push_all.Given as goal
-
-abbrev pub invariant-halve : goal.invariant-halve
-invariant-halve l = Grows l.fn.lines.items l.lines.items

@@ -1,5 +1,0 @@
-use Rattle.partial.proofs.Choices.{each_choice}
-use Rattle.partial.proofs.laws.package_by_package.Goals as goal
-
-pub returns : goal.returns
-returns c = each_choice

@@ -1,6 +1,0 @@
-use Rattle.std.proofs.Common.{take}
-use Rattle.partial.proofs.TermsSeen.{Leaves}
-use Rattle.partial.proofs.satisfaction.standing_of.Given as goal
-
-abbrev pub invariant-loop-entry : goal.invariant-loop-entry
-invariant-loop-entry l = Leaves l.trail.made.items (take l.entry-index l.terms) l.out

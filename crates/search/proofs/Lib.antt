@@ -1,0 +1,27 @@
+-- Lemmas.
+pub mod Beginnings
+pub mod Counting
+pub mod Saying
+pub mod Rank
+pub mod Decided
+pub mod Places
+pub mod Noting
+pub mod TermsSeen
+pub mod Reaching
+pub mod Satisfiers
+pub mod StillOpen
+pub mod Choices
+pub mod Falling
+pub mod Unassigning
+pub mod Standings
+pub mod Back
+pub mod Kept
+pub mod Turn
+pub mod GoingBack
+pub mod Using
+pub mod Decisions
+pub mod Beginning
+pub mod Naming
+pub mod Obstacles
+pub mod Best
+pub mod InOrder

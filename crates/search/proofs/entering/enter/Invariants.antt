@@ -1,0 +1,5 @@
+use Rattle.facts.specs.Pushing.{Extends}
+use Rattle.search.proofs.entering.enter.Given as goal
+
+abbrev pub invariant-loop-index : goal.invariant-loop-index
+invariant-loop-index l = Extends l.task l.fn.known.items l.known.items

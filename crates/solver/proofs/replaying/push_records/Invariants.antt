@@ -1,5 +1,0 @@
-use Rattle.solver.specs.Pushing.{Extends}
-use Rattle.solver.proofs.replaying.push_records.Given as goal
-
-abbrev pub invariant-loop-record : goal.invariant-loop-record
-invariant-loop-record l = Extends l.task l.fn.known.items l.known.items

@@ -1,7 +1,0 @@
-use Rattle.registry.specs.Registry.{Packages}
-use Rattle.registry.specs.Requests.{Wanted}
-use Rattle.chains.specs.Shown.{AreShown, IsShown}
-use Rattle.solver.proofs.showing.follow.Given as goal
-
-abbrev pub invariant-loop-step : goal.invariant-loop-step
-invariant-loop-step l = (packages : Packages) (wanted : Wanted) → AreShown packages wanted l.known l.made → IsShown packages wanted l.chain.table
