@@ -75,6 +75,7 @@ def main():
     asked.add_argument("--program", default=PROGRAM)
     asked = asked.parse_args()
     os.environ["REGISTRY_PROGRAM"] = asked.program
+    os.environ.pop("PYTHONDONTWRITEBYTECODE", None)  # modules have their byte code, as where they are installed
     print("versions  subcommand      clock  processors  to Python's start")
     for versions in asked.versions:
         found = measured(asked.program, versions, asked.rounds)

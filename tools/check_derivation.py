@@ -9,7 +9,6 @@ Each refusal with a derivation gets a line. Status 0: all follow; 1: one does no
 are those of Semantic Versioning 2.0.0, of the Cargo Book ("Specifying Dependencies", as the crate `semver` reads it)
 and of Dart pub's doc/solver.md. The words of explanations are not judged.
 """
-import json
 import re
 import sys
 from functools import lru_cache
@@ -236,6 +235,7 @@ def bytes_of(path):
 
 def read_lines(path):
     """The object of each line of a file; an empty one for a line that has none."""
+    import json  # who asks for a judge alone does not wait for it
     objects = []
     for line in bytes_of(path).removesuffix(b"\n").split(b"\n"):
         try:
@@ -284,7 +284,7 @@ def audit(requests, replies, journal):
 
 
 def main(words):
-    import argparse  # who asks for a judge alone does not wait for it
+    import argparse  # nor for this
     parser = argparse.ArgumentParser(prog="tools/check_derivation.py", description=__doc__, formatter_class=argparse.RawDescriptionHelpFormatter)
     for word, more in (("--journal", {}), ("lines", {}), ("replies", {"nargs": "?"})):
         parser.add_argument(word, **more)

@@ -2,25 +2,23 @@
 read: all of 49,152 commands take more than a second."""
 import json
 import re
+from collections import namedtuple
 from functools import cached_property, lru_cache
-from typing import NamedTuple
-
-from check_derivation import RELEASE, read_version
 
 from .failures import Refused
-from .refusals import not_there, unpublished
 
 # a command as a journal has it, byte for byte: the program loads no other
 COMMAND = re.compile(rb'\{"name":"([^"]+)",(?:"needs":(.*),)?"op":"(\w+)","version":"([^"]+)"\}')
-BEGINNING, END = len('{"name":"'), -len('"}')  # where a command's name begins, and its version ends
+# the same of letters, without what it needs
+LISTED = re.compile(r'\{"name":"([^"]+)",(?:"needs":.*,)?"op":"(\w+)","version":"([^"]+)"\}')
+BEGINNING = len('{"name":"')  # where a command's name begins
+RELEASE = (1,)  # as in check_derivation.py, which is loaded only where a version has more than numbers
 LEARN = b'"op":"learn"}'
 MENTION = re.compile(rb'(?:\{"name":|\[)"([^"]+)",')  # a command's package, or what it needs
 
 
-class Version(NamedTuple):
-    text: str
-    is_yanked: bool
-    needing: bytes = b"[]"  # what it needs, as JSON
+class Version(namedtuple("Version", "text is_yanked needing", defaults=[b"[]"])):
+    """A published version, and what it needs as JSON."""
 
     @property
     def needs(self):
@@ -32,23 +30,46 @@ class Version(NamedTuple):
         return precedence(self.text)[3] != RELEASE
 
 
+@lru_cache(maxsize=None)
 def precedence(text):
     """A published version as it compares. Most have numbers alone, which are told sooner."""
-    return (*map(int, text.split(".")), RELEASE) if text.replace(".", "").isdigit() else read_version(text)
+    if text.replace(".", "").isdigit():
+        return *map(int, text.split(".")), RELEASE
+    from check_derivation import read_version
+    return read_version(text)
+
+
+@lru_cache(maxsize=None)
+def rank(text):
+    """A published version as what is taken where nothing else is asked for: a pre-release only where there is nothing else."""
+    numbers = precedence(text)
+    return numbers[3] == RELEASE, numbers
 
 
 def newest(versions):
-    """The version that is taken where nothing else is asked for: the newest one that is neither yanked nor a pre-release."""
-    def rank(version):
-        numbers = precedence(version.text)
-        return not version.is_yanked, numbers[3] == RELEASE, numbers
-    return max(versions, key=rank)
+    """The version that is taken where nothing else is asked for, of those that begin with a text and whether it is yanked: such a one
+    only where there is nothing else."""
+    return max([it for it in versions if not it[1]] or versions, key=lambda it: rank(it[0]))
 
 
 def commands_in(text):
     """The lines of the commands that a whole journal has."""
     lines = text.split(b"\n")[1:-2]
     return [it for it in lines if not it.endswith(LEARN)] if LEARN in text else lines
+
+
+def listed_in(text):
+    """By package the versions that commands of a journal publish, in order of publication, as pairs of a text and whether it is yanked."""
+    listed, yanked = {}, {}
+    for name, op, version in LISTED.findall(text.decode(errors="replace")):
+        if op == "publish":
+            listed.setdefault(name, []).append((version, False))
+        else:
+            yanked[name, precedence(version)] = op == "yank"
+    # a yank is of the version that has the same precedence
+    for name in {name for name, _ in yanked}:
+        listed[name] = [(it, yanked.get((name, precedence(it)), False)) for it, _ in listed.get(name, ())]
+    return listed
 
 
 class Catalog:
@@ -80,31 +101,31 @@ class Catalog:
     def versions(self, name):
         """The versions of a package, the newest first."""
         if name not in self.lines:
+            from .refusals import unpublished
             raise Refused(unpublished(name, self.lines))
         return self.ranked(name)
 
     def version(self, name, text):
         """The version of a package that equals this one."""
+        from check_derivation import read_version
         versions = self.versions(name)
         found = next((it for it in versions if precedence(it.text) == read_version(text)), None)
         if found is None:
+            from .refusals import not_there
             raise Refused(not_there({"name": name, "version": text}, {name: [it[:2] for it in versions]}))
         return found
 
     def newest(self, name):
         return newest(self.versions(name))
 
-    def users(self, name):
-        """By package the publications that need this one."""
-        target = f'["{name}","'.encode()
-        found = ((other, [it for it in lines if target in it]) for other, lines in self.lines.items())
-        return {other: lines for other, lines in found if lines}
-
     def needing(self, name):
         """Of each package with a version that needs this one, by name: its newest such version, and the requirement."""
-        for other, lines in sorted(self.users(name).items()):
-            text, line = max(((it[it.rindex(b'"', 0, END) + 1:END].decode(), it) for it in lines), key=lambda it: precedence(it[0]))
-            yield other, text, dict(json.loads(line)["needs"])[name]
+        target, found = f'["{name}","'.encode(), {}
+        need = rb'\{"name":"([^"]+)","needs":\[.*?' + re.escape(target) + rb'([^"]+)"\].*"version":"([^"]+)"\}'
+        for other, requirement, version in re.findall(need, b"\n".join(it for it in self.all if target in it)):
+            found.setdefault(other.decode(), []).append((version.decode(), requirement.decode()))
+        for other, versions in sorted(found.items()):
+            yield other, *max(versions, key=lambda it: precedence(it[0]))
 
     def commands(self, name):
         """The commands of a package."""
@@ -118,7 +139,7 @@ class Catalog:
     @cached_property
     def listed(self):
         """By package its versions in order of publication, as pairs of a text and whether it is yanked."""
-        return {name: [it[:2] for it in self.published(name)] for name in self.lines}
+        return listed_in(b"\n".join(self.all))
 
 
 @lru_cache(maxsize=1)

@@ -32,6 +32,10 @@ class Failed(Failure):
     """What is beyond the words and the registry: a file, the program, the machine."""
 
 
+class InUse(Failed):
+    """Another session has the journal."""
+
+
 def told(fault):
     """An operating system's error in one line, with its file."""
     said = fault.strerror or str(fault)

@@ -1,6 +1,5 @@
 """Reads and replaces files of people: what is written stands whole under its name, or what stood there is as it was."""
 import os
-import tempfile
 
 from .failures import Failed, told
 
@@ -33,6 +32,7 @@ def read_plain(path):
 
 def write_file(path, text):
     """Puts a text in the place of a file. A link stays one, and the mode is as it was."""
+    import tempfile
     path = os.path.realpath(path)
     new = None
     try:

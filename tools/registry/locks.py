@@ -1,7 +1,6 @@
 """Lock files, as docs/FORMATS.md tells of them, and what changed between two."""
-import json
 import os
-from typing import NamedTuple
+from collections import namedtuple
 
 from check_derivation import NAME, PAIRS, formed, passes, read_requirement, read_version
 from limits import MOST_LINE_BYTES, MOST_NEEDS
@@ -17,11 +16,8 @@ class Unread(Failed):
     """Why a file of locks or needs can't be read: where it is at fault, and what was probably meant."""
 
 
-class Lock(NamedTuple):
+class Lock(namedtuple("Lock", "selected needs revision", defaults=[None, None])):
     """What a lock file has: versions by package and, unless it is a plain list, the needs and the revision that they were selected for."""
-    selected: dict
-    needs: list = None
-    revision: int = None
 
 
 def are_read(pairs, read):
@@ -31,6 +27,7 @@ def are_read(pairs, read):
 
 def read_lock(text, path):
     """The lock that stands in bytes of a file: a lock list, or an object that has one beside what it was made of."""
+    import json
     try:
         value = json.loads(text.decode()) if len(text) <= MOST_LINE_BYTES else None
     except (ValueError, RecursionError):
@@ -68,6 +65,7 @@ def lock_text(lock):
 
 def array(rows, before=""):
     """An array as JSON, with an item a line behind this much space."""
+    import json
     if not rows:
         return "[]"
     return "[\n" + ",\n".join(f"{before}  {json.dumps(row, ensure_ascii=False)}" for row in rows) + f"\n{before}]"

@@ -20,7 +20,7 @@ def run(words, out):
     of, rest = command_line.split(command_line.asked_help(words))
     if of is None:
         return general(rest)
-    given = command_line.reader(of).parse_intermixed_args(rest)
+    given = command_line.read(of, rest)
     given.subcommand = of.name
     choose(given)
     module = importlib.import_module(f".commands.{of.module}", __package__)
@@ -52,8 +52,9 @@ def general(words):
 
 def overview(words):
     """The help of the whole, which is what was asked for or what was missed."""
+    from . import parsing
     wants_help = "--help" in words or "-h" in words
-    print(command_line.overview(), end="", file=sys.stdout if wants_help else sys.stderr)
+    print(parsing.overview(), end="", file=sys.stdout if wants_help else sys.stderr)
     return DONE if wants_help else USAGE
 
 

@@ -1,12 +1,10 @@
 """How near a journal is to what a session takes: told from nine tenths of a limit on."""
-import re
 from collections import Counter
 
 from limits import MOST_COMMANDS, MOST_PACKAGES, MOST_VERSIONS
 
 SHORTEST = 100_000  # bytes: no journal that is shorter is near a limit, so most are not looked at
-PUBLISHED = re.compile(rb'\n\{"name":"([^"]+)","needs":')
-NEEDED = re.compile(rb'\["([^"]+)"')
+PUBLISHED, NEEDED = rb'\n\{"name":"([^"]+)","needs":', rb'\["([^"]+)"'
 LEARNT = b'"op":"learn"}\n'
 REMEDY = "`registry journal renew` begins a smaller journal"
 
@@ -15,12 +13,14 @@ def warnings(path, text):
     """A sentence for each limit of which a journal's text takes nine tenths."""
     if len(text) < SHORTEST:
         return
-    commands = text.count(b"\n") - 1 - text.count(LEARNT) - text.endswith(b"end %d\n" % (text.count(b"\n") - 2))
+    import re
+    lines = text.count(b"\n")
+    commands = lines - 1 - text.count(LEARNT) - text.endswith(b"end %d\n" % (lines - 2))
     if is_near(commands, MOST_COMMANDS):
         yield f"{path} has {commands:,} of {MOST_COMMANDS:,} commands: {REMEDY}"
     is_wide = is_near(commands + text.count(b'["'), MOST_PACKAGES)  # else no names are looked at
-    published = PUBLISHED.findall(text) if is_wide or is_near(commands, MOST_VERSIONS) else []
-    names = len({*published, *NEEDED.findall(text)}) if is_wide else 0
+    published = re.findall(PUBLISHED, text) if is_wide or is_near(commands, MOST_VERSIONS) else []
+    names = len({*published, *re.findall(NEEDED, text)}) if is_wide else 0
     if is_near(names, MOST_PACKAGES):
         yield f"{path} names {names:,} of {MOST_PACKAGES:,} packages: {REMEDY}"
     for name, count in Counter(published).items():

@@ -1,24 +1,19 @@
 """Where answers go: lines for people, wrapped and in colour on a terminal, or JSON where `--json` asks for it; and standard error."""
 import os
-import re
 import sys
 import time
-from typing import NamedTuple
+from collections import namedtuple
 
 STYLES = {"bold": "1", "faint": "2", "red": "31", "green": "32", "yellow": "33"}
 MARK = os.urandom(8).hex()  # stands for the beginning of a colour's code until a line is printed: no text has it by chance
-STYLED = re.compile(f"{MARK}[0-9;]+m")
-INDENT = re.compile(r" *(?:registry: |\([0-9]+\) +)?")  # further rows of a line are indented as far as this
+STYLED = f"{MARK}[0-9;]+m"
+INDENT = r" *(?:registry: |\([0-9]+\) +)?"  # further rows of a line are indented as far as this
 NARROWEST = 20  # columns that wrapped text has
 
 
-class Choice(NamedTuple):
-    """What the options of a command line say of all that it prints and asks."""
-    color: str = ""
-    is_quiet: bool = False
-    is_verbose: bool = False
-    seconds: int = 0  # that a search with its explanation may take; 0 is any time
-    begun: float = 0  # when the command line was read
+class Choice(namedtuple("Choice", "color is_quiet is_verbose seconds begun", defaults=["", False, False, 0, 0])):
+    """What the options of a command line say of all that it prints and asks: of `seconds` that a search with its explanation may take, 0
+    is any time, and `begun` is when the command line was read."""
 
 
 usual = chosen = Choice()  # of the shell that obeys a command line, and of that line
@@ -64,13 +59,16 @@ def numbered(code):
 
 def wrapped(line, columns):
     """A line broken between words into rows of so many columns."""
-    plain = STYLED.sub("", line)
-    indent = len(INDENT.match(plain)[0])
-    if not columns or len(plain) <= columns or columns - indent < NARROWEST:
+    if not columns:
+        return line
+    import re
+    plain = re.sub(STYLED, "", line)
+    indent = len(re.match(INDENT, plain)[0])
+    if len(plain) <= columns or columns - indent < NARROWEST:
         return line
     parts, at = [], 0
     for word in re.findall(" *[^ ]+", line):
-        wide = len(STYLED.sub("", word))
+        wide = len(re.sub(STYLED, "", word))
         if at > indent and at + wide > columns:
             parts.append("\n" + " " * indent)
             word, wide, at = word.lstrip(" "), wide - len(word) + len(word.lstrip(" ")), indent

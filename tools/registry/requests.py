@@ -3,11 +3,9 @@ import sys
 
 from check_derivation import read_version
 
-from .catalog import catalog_of
 from .failures import REFUSED
 from .locks import lock_of
 from .needs import needs_given
-from .refusals import accepted
 
 
 def request_of(given, lock=None):
@@ -22,12 +20,14 @@ def request_of(given, lock=None):
 
 def answered(session, request):
     """The reply to a request: a selection, or that there is none. A refusal by number is told."""
+    from .refusals import accepted  # while the program loads the journal
     return accepted(session, request, *session.ask(request))
 
 
 def refused(session, request, reply, out):
     """Tells why no selection meets a request, and answers the exit status."""
     from .cases import Case
+    from .catalog import catalog_of
     from .explaining import tell
     from .packages import registry_in
     from .searching import explaining
@@ -52,5 +52,6 @@ def lock_notes(path, lock, packages):
 
 def needs_of(session, selected):
     """What each selected version needs, as pairs, by package."""
+    from .catalog import catalog_of
     catalog = catalog_of(session.journal())
     return {name: catalog.version(name, version).needs for name, version in selected.items()}

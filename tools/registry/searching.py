@@ -1,7 +1,6 @@
 """What is done while the program is asked, and while its answer is explained: a terminal is told how long it takes, and what takes too
 long is ended."""
 import contextlib
-import json
 import signal
 import threading
 import time
@@ -75,6 +74,7 @@ def asking(session, requests):
     begun, is_search = time.monotonic(), all(it.get("op") == "resolve" for it in requests)
     seconds = output.chosen.seconds if is_search else 0
     for it in requests if output.chosen.is_verbose else ():
+        import json
         text = json.dumps(it, separators=(",", ":"))
         output.detail(f"asking {text[:MOST_TOLD]}{'..' * (len(text) > MOST_TOLD)}")
     with bar.timed("searching" if is_search else "waiting for the program", seconds), Limit(session, seconds):

@@ -1,9 +1,7 @@
 """Asks the program. A session that reads takes a journal as it stands at one moment, also while another one writes it, and needs
 neither its lock nor the right to write; one that writes holds the lock, and what it is told as accepted stands in the file."""
 import contextlib
-import json
 import os
-import re
 import subprocess
 import sys
 import threading
@@ -11,17 +9,17 @@ import time
 
 import tied
 
-from . import near_limits
-from .catalog import commands_in
-from .failures import Failed, Refused, Usage, told
+from . import bar, near_limits
+from .failures import Failed, InUse, Refused, Usage, told
 from .program import program
 from .searching import asking
-from .waiting import SECONDS, InUse, Turn
 
+SECONDS = 10  # that a session waits for another one
 DEFAULT, VARIABLE, SERVICE = "registry.journal", "REGISTRY_JOURNAL", "REGISTRY_CONNECT"
-HEAD, END = b"registry-journal 2\n", re.compile(rb"end [0-9]+\n")
+HEAD = b"registry-journal 2\n"
 TRIES, PAUSE = 20, 0.01  # of a file that changes while it is read
 EMPTY = {"op": "resolve", "needs": []}
+MISREAD = (ValueError, TypeError, LookupError, RecursionError)  # what comes of reading what is no journal as one
 IN_USE = r"journal .*: in use by another session"
 # what the program says as it ends, and what is told of that
 REASONS = [
@@ -79,27 +77,29 @@ def connected(service):
 
 
 def read_steady(path):
-    """The text of a journal's file, and where its end stands. Read again where that is written over meanwhile."""
+    """The text of a journal's file, and whether it has an end. Read again where that is written over meanwhile."""
     for _ in range(TRIES):
         with open(path, "rb") as file:
             text = file.read()
-        found = END.match(text, text.find(b"\nend ") + 1)
-        if found is None or found.end() == len(text):
+        at = text.find(b"\nend ") + 1
+        end = text[at:text.find(b"\n", at) + 1]
+        is_ended = end.startswith(b"end ") and end[4:-1].isdigit()
+        if not is_ended or at + len(end) == len(text):
             break
         time.sleep(PAUSE)
-    return text, found
+    return text, is_ended
 
 
 def snapshot(path):
     """The text of a journal as it stands, up to its last whole line, with an end. While a session writes it there is none."""
     try:
-        text, found = read_steady(path)
+        text, is_ended = read_steady(path)
     except FileNotFoundError:
         raise Failed(f"{path}: there is no such journal: `registry publish` or `registry import` begins one, and --journal FILE "
                      f"names another") from None
     except OSError as fault:
         raise Failed(told(fault)) from None
-    if found is None:
+    if not is_ended:
         text = text[:text.rfind(b"\n") + 1] or HEAD
         return text + b"end %d\n" % (text.count(b"\n") - 1)
     return text
@@ -119,6 +119,7 @@ def shared(text):
 
 def reason(said, path):
     """Why a program ended, by what it said on standard error; nothing where that tells no reason."""
+    import re
     for form, told_as in REASONS:
         found = re.fullmatch(f"registryd: {form}\n", said)
         if found:
@@ -153,6 +154,7 @@ class Session:
 
     def each(self, requests):
         """The replies to requests, each as it comes."""
+        import json
         text = b"".join(json.dumps(it, separators=(",", ":")).encode() + b"\n" for it in requests)
         threading.Thread(target=self.write, args=(text,), daemon=True).start()
         for _ in requests:
@@ -185,6 +187,7 @@ class Session:
             self.process.kill()
             status = self.process.wait()
         self.hearing.join()
+        import re
         kind = InUse if re.fullmatch(f"registryd: {IN_USE}\n", self.said) else Failed
         return kind(reason(self.said, self.path) or f"the program {' '.join(program())} ended with status {status} before it had answered")
 
@@ -236,16 +239,29 @@ class Reading(Session):
 
     def commands(self):
         """The accepted commands, in order."""
+        import json
+
+        from .catalog import commands_in
         return [json.loads(it) for it in commands_in(self.journal())]
+
+    def finish(self):
+        """Returns once the program has loaded the journal: it finds what is at fault there."""
+        with bar.timed("waiting for the program"):
+            list(self.each([EMPTY]))
 
     def warn(self):
         near_limits.tell(self.warnings)
+
+    def __exit__(self, kind, *_):
+        """What comes of reading a journal that is at fault is told as that fault, which the program finds."""
+        super().__exit__(None if kind and issubclass(kind, MISREAD) else kind)
 
 
 class Writing(Session):
     """A session that goes on with a journal's file, or begins one. Where another session has that, it waits so many seconds."""
 
     def __init__(self, path, patience=SECONDS):
+        from .waiting import Turn
         self.turn = Turn(path, patience)
         try:
             while not self.has_begun(path):

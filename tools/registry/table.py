@@ -1,5 +1,5 @@
 """The subcommands of `registry`, with their words. What reads words, the help, the completions and the manual page are made of it."""
-from typing import NamedTuple
+from collections import namedtuple
 
 from limits import MOST_VERSIONS
 
@@ -10,16 +10,10 @@ MODES = ("600", "660", "666")
 COLORS = ("auto", "always", "never")
 
 
-class Word(NamedTuple):
-    """A word of a subcommand, or an option where it has a flag. `many` says how many: one, `?`, `*` or `+`, as argparse does."""
-    names: tuple
-    about: str
-    takes: object = TEXT
-    flag: str = ""
-    many: str = ""
-    kept_as: str = ""  # under which name its value is found, where its own can't be one
-    default: object = None  # its value where it isn't given
-    short: str = ""  # its flag in short, as -q
+class Word(namedtuple("Word", "names about takes flag many kept_as default short", defaults=[TEXT, "", "", "", None, ""])):
+    """A word of a subcommand, or an option where it has a flag, which in short is as -q. `many` says how many: one, `?`, `*` or `+`, as
+    argparse does. `kept_as` is the name under which its value is found where its own can't be one, and `default` its value where it
+    isn't given."""
 
     @property
     def member(self):
@@ -27,13 +21,8 @@ class Word(NamedTuple):
         return self.kept_as or (self.flag.lstrip("-") or self.names[0].lower()).replace("-", "_")
 
 
-class Subcommand(NamedTuple):
-    name: str  # one word or two, as `journal verify`
-    module: str  # in `commands`
-    summary: str
-    words: tuple
-    examples: tuple
-    more: str = ""  # sentences for its help and for the manual page
+class Subcommand(namedtuple("Subcommand", "name module summary words examples more", defaults=[""])):
+    """A name of one word or two, as `journal verify`; the module in `commands`; and `more` sentences for its help and the manual page."""
 
 
 def word(name, about, takes=TEXT, many=""):

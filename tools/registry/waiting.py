@@ -7,29 +7,21 @@ import contextlib
 import fcntl
 import os
 import time
-from typing import NamedTuple
-
-from registryd_lines.fault import shown
+from collections import namedtuple
 
 from .command_line import split
-from .failures import Failed, Usage
+from .failures import InUse, Usage
 from .output import Output
 
-SECONDS = 10  # that a session waits
 LOOK, LONGEST, SILENT = 0.1, 0.5, 1  # seconds: between two looks, at most between two tries, and until it is told
 
 
-class InUse(Failed):
-    """Another session has the journal."""
-
-
-class Holder(NamedTuple):
-    """The process that has a journal's lock, or the command `registry` that has begun it."""
-    pid: int
-    words: list  # its command line
+class Holder(namedtuple("Holder", "pid words")):
+    """The process that has a journal's lock, or the command `registry` that has begun it, and its command line."""
 
     def __str__(self):
         """Who it is, as far as that is known."""
+        from registryd_lines.fault import shown
         name, *others = self.words or [""]
         command = shown(" ".join([os.path.basename(name), *others]))
         return f"process {self.pid}" + (f", {command}" if name else "")

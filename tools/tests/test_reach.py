@@ -66,7 +66,7 @@ class Reach(unittest.TestCase):
 
     def test_a_call_that_is_taken_out_is_missed(self):
         """Each of these is called in one file alone."""
-        for path, call in (("registryd/src/main.rt", "run_command"), ("registryd/src/run_command.rt", "serve_durably"),
+        for path, call in (("registryd/src/main.rt", "run_program"), ("registryd/src/run_command.rt", "serve_durably"),
                            ("registryd/src/recovered.rt", "recover_session")):
             with self.subTest(call):
                 text, count = re.subn(rf"\b{call}\(", f"not_{call}(", self.texts[path])

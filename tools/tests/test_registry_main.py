@@ -11,7 +11,7 @@ from unittest import mock
 from program import TOP
 
 sys.path.insert(0, os.path.join(TOP, "tools"))
-from registry import command_line, completion, main, manual, program
+from registry import completion, main, manual, parsing, program
 from registry.failures import Failed, Refused, Usage
 
 ASKS_NO_PROGRAM = True
@@ -115,7 +115,7 @@ class Ends(Printed):
         scripts = {"ash": "a script\n", "bsh": "another\n"}
         with mock.patch.object(completion, "complete", lambda words: ["words", *words]), mock.patch.object(completion, "SCRIPTS", scripts), \
                 mock.patch.object(manual, "page", lambda: "the page\n"), mock.patch.object(program, "version", lambda: "9.9"), \
-                mock.patch.object(command_line, "overview", lambda: "all of it\n"):
+                mock.patch.object(parsing, "overview", lambda: "all of it\n"):
             for words, status, told in ((["--complete", "a", "b"], 0, "words\na\nb\n"), (["--complete"], 0, "words\n"), (["--completion", "bsh"], 0, "another\n"), (["--manual"], 0, "the page\n"),
                                         (["--version"], 0, "9.9\n"), (["-V"], 0, "9.9\n"), (["--help"], 0, "all of it\n"), (["-h"], 0, "all of it\n"), (["--json", "-h"], 0, "all of it\n"), ([], 2, "all of it\n"),
                                         (["--json"], 2, "all of it\n"), (["--completion"], 2, "registry: --completion takes one of ash, bsh\n"),

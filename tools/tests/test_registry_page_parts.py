@@ -77,7 +77,7 @@ class Views(Shown):
         with mock.patch.object(Program, "warnings", ["near"]):
             made = View(self.source)
         self.assertEqual((made.names, made.revision, made.counts, made.warnings), (["app", "log", "zlib"], 6, {"packages": 2, "versions": 5, "yanked": 1}, ["near"]))
-        self.assertEqual([[*made.users(name)] for name in ("log", "zlib", "app", "none")], [["app"], ["app"], [], []])
+        self.assertEqual([[other for other, *_ in made.needing(name)] for name in ("log", "zlib", "app", "none")], [["app"], ["app"], [], []])
         self.assertEqual([it.text for it in made.versions("log")], ["1.10.0", "1.9.0", "1.0.0"])
         self.assertIs(made.versions("log"), made.versions("log"))  # worked out once
         self.assertEqual(list(made.needing("zlib")), [("app", "1.1.0", "*")])
@@ -99,7 +99,7 @@ class Views(Shown):
             made = View(self.source)
             self.assertEqual((len(made.names), made.counts), (500, {"packages": 500, "versions": 2000, "yanked": 0}))
             self.assertEqual([call.args for call in asked.call_args_list], [({"op": "resolve", "needs": []},)])
-            self.assertEqual(set(made.users("p0000")), {f"p{number:04}" for number in range(1, 500)})
+            self.assertEqual({other for other, *_ in made.needing("p0000")}, {f"p{number:04}" for number in range(1, 500)})
             found = made.newest("p0007")
         self.assertEqual((found.text, found.is_yanked, found.needs), ("1.3.0", False, [["p0000", "^1"]]))
 

@@ -158,6 +158,15 @@ class Journals(Folder):
                                                                 "why, and `registry journal repair registry.journal` keeps what is before it\n"), text)
             self.assertEqual(self.text("registry.journal"), text)
 
+    def test_what_is_no_version_in_one_that_is_damaged(self):
+        self.hold(publish("a", "1.0.0"), publish("a", "1.1.0", ["b *"]), publish("c", "1.0.0", ["a ^1"]))
+        whole = self.text("registry.journal")
+        for version in ("x", "1", "1.0.0.0", "\u00b2", "\u0663.0.0", "1.1.0-", "9" * 5000):
+            self.path("registry.journal", whole.replace("1.1.0", version))
+            for words in (["list"], ["search", "a"], ["show", "a"], ["show", "b"], ["resolve", "a"]):
+                status, said, fault = self.registry(*words)
+                self.assertEqual((status, said, fault.partition(" is at fault")[0]), (3, "", "registry: registry.journal: line 3"), (words, version))
+
     def test_one_that_is_no_file(self):
         self.assertEqual(registry("list", "--journal", self.folder), (3, "", f"registry: {self.folder}: Is a directory\n"))
         self.assertEqual(registry("publish", "a", "1.0.0", "--journal", self.folder),

@@ -77,12 +77,18 @@ class Read(unittest.TestCase):
             made = catalog.Catalog(text)
             self.assertEqual((len(made.listed), made.revision), (301, 1204))
             self.assertEqual([it.text for it in made.versions("p0")], ["1.3.0", "1.2.0", "1.1.0", "1.0.0"])
-            self.assertEqual({name: len(lines) for name, lines in made.users("p0").items()}, {f"p{number}": 4 for number in range(1, 301)})
+            self.assertEqual(sorted(made.needing("p0")), sorted((f"p{number}", "1.3.0", "^1") for number in range(1, 301)))
             self.assertEqual(read, [])
             self.assertEqual([it.needs for it in made.versions("p0")], [[["q", "^1"]]] * 4)
             self.assertEqual(len(read), 4)
-            self.assertEqual({(text, requirement) for _, text, requirement in made.needing("p0")}, {("1.3.0", "^1")})
-            self.assertEqual(len(read), 304)  # of each package its newest version
+
+    def test_who_needs_a_package(self):
+        # the first, a middle and the last of several needs; names that begin or end as the package's, and one with letters that a pattern has
+        lines = [publish("a", "1.0.0", ["log ^1", "z *"]), publish("a", "1.2.0", ["b *", "log >=1, <3", "z *"]), publish("a", "1.10.0-a", ["log-x *", "x-log *"]),
+                 publish("b", "2.0.0", ["a *", "log *"]), publish("b", "1.0.0", ["log =1.0.0"]), yank("b", "2.0.0"), publish("log", "1.0.0", ["lo ^1"])]
+        made = catalog.Catalog(journal(lines))
+        self.assertEqual(list(made.needing("log")), [("a", "1.2.0", ">=1, <3"), ("b", "2.0.0", "*")])
+        self.assertEqual((list(made.needing("lo")), list(made.needing("l.g"))), ([("log", "1.0.0", "^1")], []))
 
     def test_what_versions_compare_by(self):
         rising = ["0.9.10", "0.10.0-0", "0.10.0-9.1", "0.10.0-a", "0.10.0", "0.10.1", "1.0.0-1", "1.0.0+9", "2.0.0", "10.0.0"]

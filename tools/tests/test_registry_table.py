@@ -8,7 +8,7 @@ from unittest import mock
 from program import TOP
 
 sys.path.insert(0, os.path.join(TOP, "tools"))
-from registry import command_line, table
+from registry import command_line, parsing, table
 from registry.failures import Usage
 from registry.table import COMMON, SUBCOMMANDS, Subcommand, Word, flag, option, subcommand, word
 
@@ -64,8 +64,11 @@ SMALL = Subcommand("cut here", "cut", "Cut something off", (word("FILE", "a file
 
 
 def read(line):
+    """The values of a line's words: the same as argparse reads, which has all those that are at fault."""
     found, rest = command_line.split(line.split())
-    return vars(command_line.reader(found).parse_intermixed_args(rest))
+    values = vars(parsing.reader(found).parse_intermixed_args(rest))
+    assert vars(command_line.read(found, rest)) == values, line
+    return values
 
 
 class Words(unittest.TestCase):
@@ -141,7 +144,7 @@ class Help(unittest.TestCase):
         self.enterContext(mock.patch.dict(os.environ, {"COLUMNS": "90"}))
 
     def test_of_a_subcommand(self):
-        said = command_line.reader(SMALL).format_help()
+        said = parsing.reader(SMALL).format_help()
         self.assertTrue(said.startswith("usage: registry cut here [-h] [--most N] [--all] "), said)
         self.assertIn("\n\nCut something off.\n\nIt cuts and cuts", said)
         self.assertLessEqual(max(map(len, said.partition("Cut something")[2].partition("positional")[0].splitlines())), 78)
@@ -149,10 +152,10 @@ class Help(unittest.TestCase):
         self.assertRegex(said, r"\n  FILE +a file of 100 %\n")
         self.assertRegex(said, r"\n  --most N +no more\n  --all +all of it\n")
         self.assertTrue(said.endswith("\nexample:\n  registry cut here x\n"), said)
-        self.assertEqual(command_line.shown(("a", "b")), "examples:\n  a\n  b")
+        self.assertEqual(parsing.shown(("a", "b")), "examples:\n  a\n  b")
 
     def test_of_the_whole(self):
-        said = command_line.overview()
+        said = parsing.overview()
         self.assertTrue(said.startswith("usage: registry SUBCOMMAND ..\n\nA package registry with a version solver, over one file.\n\nsubcommands:\n"
                                         "  publish           Publish a version of a package\n"), said)
         self.assertRegex(said, r"\n  --json +the answer as JSON, one line\n  --color WHEN +whether lines are in colour: auto \(on a terminal\), always or never\n"

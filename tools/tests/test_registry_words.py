@@ -56,7 +56,7 @@ class Table(unittest.TestCase):
                 first, *words = shlex.split(example.split(" | ")[0].split(" < ")[0])
                 found, rest = command_line.split(words)
                 self.assertEqual((first, found.name), ("registry", it.name), example)
-                command_line.reader(found).parse_intermixed_args(rest)
+                command_line.read(found, rest)
 
     def test_the_help_has_each_word_and_each_example(self):
         for it in table.SUBCOMMANDS:
@@ -289,6 +289,8 @@ class Loaded(Folder):
             found = self.loaded(*words)
             self.assertEqual({it.split(".")[2] for it in found if it.startswith("registry.commands.")}, needed)
             self.assertFalse({"registry.drawing", "registry.indexes.index", "registry.completion", "registry.manual", "dataclasses", "inspect", "tomllib"} & found, words)
+            if words[0] in ("list", "show", "resolve", "tree"):
+                self.assertFalse({"argparse", "registry.parsing", "registry.waiting", "tempfile"} & found, words)
             if words[0] != "outdated":
                 self.assertFalse({"registry.cases", "registry.telling", "registry.derivation"} & found, words)
 

@@ -1,13 +1,14 @@
 -- Publications that need what the one before them does.
-use Rattle.std.proofs.Common.{◌≡◌, ◌<◌, ◌≤◌, ◌+◌, ◌∙◌, ◌⊎◌, inl, inr, ℕ, zero, suc, List, [], ◌∷◌, ◌++◌, drop, get_or, length, refl, sym, ap, arith, Bool, true}
+use Rattle.std.proofs.Common.{◌≡◌, ◌<◌, ◌≤◌, ◌+◌, ◌∙◌, ◌⊎◌, inl, inr, ℕ, zero, suc, List, [], ◌∷◌, ◌++◌, drop, get_or, length, refl, sym, subst, ap, arith, Bool, true}
 use Rattle.std.specs.Prelude.{◌↔◌, IsTrue, Option, None, Some, map, slice_get}
 use Rattle.std.proofs.lemmas.Bool.{cases_eq, cases_lt}
 use Rattle.std.proofs.lemmas.Option.{none-some, same_Some}
 use Rattle.std.proofs.lemmas.List.{length_push, map_push}
 use Rattle.releases.specs.declared.release.Release.{Release}
 use Rattle.versions.specs.Words.{Text}
-use Rattle.registry.specs.Publications.{publications_of, AreAlike, AreCounted, AreSame, EndsWith, IsAlike}
+use Rattle.registry.specs.Publications.{any_yanked, publications_of, AreAlike, AreCounted, AreSame, EndsWith, EndWithin, IsAlike}
 use Rattle.registry.specs.Registry.{needs_or_none}
+use Rattle.registry.specs.declared.place.Place.{Place}
 use Rattle.registry.specs.declared.span.Span.{Span}
 
 abbrev Needs : Type 0
@@ -176,3 +177,22 @@ pub nothing-past : (needs : List Needs) (k : ℕ) → length needs ≤ k → len
 nothing-past [] k past = refl
 nothing-past (n ∷ ns) zero past = absurd (omega (arith, past))
 nothing-past (n ∷ ns) (suc k) past = nothing-past ns k (omega (arith, past))
+
+-- ---- what the lists of the publications of a package say of one another
+
+-- how many there are, which are alike, whether one is yanked, and where the places of each end
+abbrev pub AreTied : List Needs → List Bool → List Release → List Place → List Span → Bool → Bool → Type 0
+AreTied needs marks releases places spans are_alike yanks =
+    (length needs ≡ length releases) × AreAlike marks needs × (yanks ≡ any_yanked releases) × (length spans ≡ length needs)
+    × EndWithin (length places) spans × AreCounted spans needs × (IsTrue are_alike ↔ AreSame needs)
+
+-- lists that are as they were say the same
+pub tied-same : {needs old-needs : List Needs} {marks old-marks : List Bool} {releases old-releases : List Release} {places old-places : List Place} {spans old-spans : List Span} (are_alike yanks : Bool)
+    → needs ≡ old-needs → marks ≡ old-marks → releases ≡ old-releases → places ≡ old-places → spans ≡ old-spans
+    → AreTied old-needs old-marks old-releases old-places old-spans are_alike yanks → AreTied needs marks releases places spans are_alike yanks
+tied-same {needs} {old-needs} {marks} {old-marks} {releases} {old-releases} {places} {old-places} {spans} are_alike yanks needs-is marks-is releases-is places-is spans-is tied =
+    subst (λ l. AreTied l marks releases places spans are_alike yanks) (sym needs-is)
+    (subst (λ l. AreTied old-needs l releases places spans are_alike yanks) (sym marks-is)
+    (subst (λ l. AreTied old-needs old-marks l places spans are_alike yanks) (sym releases-is)
+    (subst (λ l. AreTied old-needs old-marks old-releases l spans are_alike yanks) (sym places-is)
+    (subst (λ l. AreTied old-needs old-marks old-releases old-places l are_alike yanks) (sym spans-is) tied))))

@@ -4,10 +4,12 @@ pub mod ServedLemmas
 pub mod LoadedLemmas
 pub mod SessionLemmas
 pub mod SessionRows
+pub mod StepRows
 pub mod WaitLemmas
 pub mod FaultLemmas
 pub mod FedLemmas
 pub mod CallLemmas
+pub mod StepLemmas
 pub mod GrowthLemmas
 pub mod LogLemmas
 pub mod RestLemmas
@@ -16,5 +18,8 @@ pub mod EndLemmas
 pub mod CommitLemmas
 pub mod SavableLemmas
 pub mod CrashLemmas
+pub mod CountLemmas
+pub mod GenerationLemmas
+pub mod LineLemmas
 mod TellingLemmas
 pub mod AgreeLemmas

@@ -1,4 +1,5 @@
 pub mod SessionState
+pub mod Step
 pub mod Putting
 pub mod Streams
 pub mod Session
@@ -10,3 +11,5 @@ pub mod Durable
 pub mod Committing
 pub mod Fed
 pub mod Agreeing
+pub mod Generations
+pub mod ReplyLines

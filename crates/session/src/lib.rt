@@ -40,7 +40,8 @@ pub use durable::serve_durably;
 pub use fed::Fed;
 pub use journal::{Begun, load, recover_session, save_session};
 pub use laws::{
-    fed_calls_add_up, nothing_told_is_lost, saved_sessions_load, sessions_select_the_same,
+    each_line_has_a_reply_line, fed_calls_add_up, no_generation_is_lost, nothing_told_is_lost,
+    saved_sessions_load, sessions_are_reachable, sessions_select_the_same,
 };
 pub use limits::limits_in_numbers;
 pub use serve::{run, serve_session};

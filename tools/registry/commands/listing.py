@@ -1,32 +1,40 @@
 """`registry list` and `registry search`: the packages, each with its newest version."""
 from types import SimpleNamespace
 
-from registryd_lines.nearest import nearest
-
-from ..catalog import Version, newest
 from ..failures import REFUSED
-from ..refusals import listed
-from ..session import reading
+from ..session import Reading, reading
 
 
 def run(given, out):
-    with reading(given) as session:
-        packages = listed(session)
     text = getattr(given, "text", "")
-    found = [name for name in packages if text.lower() in name]
-    rows = [row(name, packages[name]) for name in found]
-    out.give([vars(it) for it in rows], lines(rows, out))
-    if text and not found:
+    with reading(given) as session:
+        packages = packages_of(session)
+        rows = [row(name, packages[name]) for name in sorted(packages) if text.lower() in name]
+        shown = list(lines(rows, out))
+        if isinstance(session, Reading):
+            session.finish()
+    out.give([vars(it) for it in rows], shown)
+    if text and not rows:
+        from registryd_lines.nearest import nearest
         near = nearest(text, packages)
         out.note(f"no package's name has {text} in it" + (f"; did you mean {near}?" if near else ""))
         return REFUSED
     return None
 
 
+def packages_of(session):
+    """By package its versions. They are read from a journal while the program loads it; what holds one already is asked for them."""
+    if isinstance(session, Reading):
+        from ..catalog import listed_in
+        return listed_in(session.text)
+    from ..refusals import listed
+    return listed(session)
+
+
 def row(name, versions):
     """A package in short."""
-    all_of = [Version(text, is_yanked) for text, is_yanked in versions]
-    return SimpleNamespace(name=name, newest=newest(all_of).text, versions=len(all_of), yanked=sum(it.is_yanked for it in all_of))
+    from ..catalog import newest
+    return SimpleNamespace(name=name, newest=newest(versions)[0], versions=len(versions), yanked=sum(yanked for _, yanked in versions))
 
 
 def lines(rows, out):

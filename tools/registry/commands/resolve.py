@@ -6,7 +6,6 @@ from ..files import write_file
 from ..locks import DEFAULT, changed, changes, counted, lock_of, lock_text, renewed
 from ..needs import needs_path, write_needs
 from ..output import say
-from ..refusals import listed
 from ..requests import answered, lock_notes, refused, request_of
 from ..session import reading
 
@@ -21,6 +20,7 @@ def run(given, out):
     with reading(given) as session:
         reply = answered(session, request)
         if given.lock:
+            from ..refusals import listed
             for it in lock_notes(given.lock, dict(request["lock"]), listed(session)):
                 out.note(it)
         if "selected" not in reply:

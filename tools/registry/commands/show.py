@@ -1,14 +1,14 @@
 """`registry show`: one package, its versions, what the newest needs, and who needs it."""
-from ..catalog import catalog_of
 from ..session import reading
 
 
 def run(given, out):
     with reading(given) as session:
+        from ..catalog import catalog_of
         catalog = catalog_of(session.journal())
-    versions, newest = catalog.versions(given.name), catalog.newest(given.name)
-    told_of = catalog.version(given.name, given.version) if given.version else newest
-    needing = list(catalog.needing(given.name))
+        versions, newest = catalog.versions(given.name), catalog.newest(given.name)
+        told_of = catalog.version(given.name, given.version) if given.version else newest
+        needing = list(catalog.needing(given.name))
     out.give({"name": given.name,
               "versions": [{"version": it.text, "yanked": it.is_yanked, "needs": it.needs} for it in versions],
               "newest": newest.text,

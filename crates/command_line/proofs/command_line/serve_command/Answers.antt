@@ -1,5 +1,5 @@
 use Rattle.std.proofs.Common.{ap, ap₂, codes, false, ◌≡◌, ◌∙◌, ◌||◌}
-use Rattle.std.proofs.lemmas.Result.{IfOk-weaker}
+use Rattle.std.proofs.lemmas.Result.{IfOk-from_err, IfOk-weaker}
 use Rattle.clap.specs.Simple.{app_of_fields}
 use Rattle.clap.specs.Words.{app_of, new_app, with_rule}
 use Rattle.clap.specs.declared.Command.{Command}
@@ -28,3 +28,18 @@ returns-clause-local c =
     let save : (fields_of c.in_ok-with_save.with_save).has_globals ≡ false = c.in_ok-with_save.ensures.globals ∙ ap₂ ◌||◌ load c.file_option-3.ensures.local in
     let budget : (fields_of c.in_ok-with_budget.with_budget).has_globals ≡ false = c.in_ok-with_budget.ensures.globals ∙ ap₂ ◌||◌ save c.budget_option.ensures.local in
     IfOk-weaker c.arg-6.result _ _ (λ whole adds. adds.globals ∙ ap₂ ◌||◌ budget c.newest_flag.ensures.local) c.arg-6.ensures
+
+pub returns-in_err-with_workers : goal.returns-in_err-with_workers
+returns-in_err-with_workers c = let failed = c.from_residual in record { app = IfOk-from_err failed.result _ failed.ensures.0; local = IfOk-from_err failed.result _ failed.ensures.0 }
+
+pub returns-in_err-with_journal : goal.returns-in_err-with_journal
+returns-in_err-with_journal c = let failed = c.from_residual-in_err-with_journal in record { app = IfOk-from_err failed.result _ failed.ensures.0; local = IfOk-from_err failed.result _ failed.ensures.0 }
+
+pub returns-in_err-with_load : goal.returns-in_err-with_load
+returns-in_err-with_load c = let failed = c.from_residual-in_err-with_load in record { app = IfOk-from_err failed.result _ failed.ensures.0; local = IfOk-from_err failed.result _ failed.ensures.0 }
+
+pub returns-in_err-with_save : goal.returns-in_err-with_save
+returns-in_err-with_save c = let failed = c.from_residual-in_err-with_save in record { app = IfOk-from_err failed.result _ failed.ensures.0; local = IfOk-from_err failed.result _ failed.ensures.0 }
+
+pub returns-in_err-with_budget : goal.returns-in_err-with_budget
+returns-in_err-with_budget c = let failed = c.from_residual-in_err-with_budget in record { app = IfOk-from_err failed.result _ failed.ensures.0; local = IfOk-from_err failed.result _ failed.ensures.0 }

@@ -1,4 +1,5 @@
 use Rattle.std.proofs.Common.{List, ap, refl, sym, subst, true, [], ◌∷◌, inl, inr, ◌≡◌, ◌∙◌}
+use Rattle.std.proofs.lemmas.Result.{IfOk-from_err}
 use Rattle.clap.specs.Words.{App, HasKind, IsAmong, Kinds, Text, fault_of, is_simple, is_simple_and_free, kind_of, subcommand_of, takes}
 use Rattle.clap.specs.declared.error.Error.{Error}
 use Rattle.clap.specs.declared.error.kind.ErrorKind.TheVariants.{DisplayHelp, OutOfMemory}
@@ -74,3 +75,12 @@ returns-in-Err-clause-helped c = λ bad asked.
     let other = c.fault_in.ensures.bad (cc) in
     let kinds = faults _ _ c.in-Err.e c.in_ok-command.ensures c.in-Err.ensures.kinds in
     memory_or_help c.in-Err.e other.0 other.1 (subst (λ kinds. HasKind kinds c.in-Err.e) asked kinds)
+
+pub returns-in_err-command-clause-ok : goal.returns-in_err-command-clause-ok
+returns-in_err-command-clause-ok c = IfOk-from_err c.from_residual.result _ c.from_residual.ensures.0
+
+pub returns-in_err-command-clause-given : goal.returns-in_err-command-clause-given
+returns-in_err-command-clause-given c = IfOk-from_err c.from_residual.result _ c.from_residual.ensures.0
+
+pub returns-in_err-command-clause-taken : goal.returns-in_err-command-clause-taken
+returns-in_err-command-clause-taken c = IfOk-from_err c.from_residual.result _ c.from_residual.ensures.0

@@ -1,5 +1,6 @@
 use Rattle.std.proofs.Common.{◌≡◌, ◌∙◌, codes, sym, ap, length, List, ℕ, Some, arith, string_bytes, Bor, String, Global, map}
 use Rattle.std.proofs.lemmas.List.{length-map}
+use Rattle.std.proofs.lemmas.Result.{IfOk-from_err}
 use Rattle.clap.specs.Words.{found_of, Text}
 use Rattle.clap.proofs.WalkLemmas.{raw_values-rows}
 use Rattle.command_line.proofs.words.race_words.Goals as goal
@@ -30,3 +31,6 @@ returns-clause-ok c =
     let most : length c.in_ok-files.files.items ≡ length c.in-Some.files.now
     = sym (length-map c.in_ok-files.files.items (λ (s : String Global). string_bytes s)) ∙ ap length all ∙ length-map c.in-Some.files.now (λ (t : Bor (List ℕ)). t.now) in
     (omega (arith, len, given.2), omega (arith, most, c.if-files-gt-MOST_FILES.false), whole ∙ sym given.1)
+
+pub returns-in_err-files-clause-ok : goal.returns-in_err-files-clause-ok
+returns-in_err-files-clause-ok c = IfOk-from_err c.from_residual.result _ c.from_residual.ensures.0

@@ -4,9 +4,10 @@ use Rattle.std.proofs.lemmas.List.Quantifiers.{position-Some}
 use Rattle.versions.specs.Words.{Text}
 use Rattle.std.specs.List.{list_any}
 use Rattle.std.specs.Str.{bytes_eq}
+use Rattle.std.proofs.lemmas.Result.{IfOk-from_err}
 use Rattle.registry.specs.Places.{Extends}
 use Rattle.registry.specs.Rooms.{unknown_names}
-use Rattle.registry.proofs.PlaceLemmas.{extends-then}
+use Rattle.registry.proofs.PlaceLemmas.{extends-none, extends-then}
 use Rattle.registry.proofs.ready.make_ready.Goals as goal
 
 pub make_room-requires : goal.make_room-requires
@@ -66,3 +67,21 @@ returns-in-Ok-clause-extends c =
     let names = c.args.names.now.keys in
     subst (λ ks. Extends names c.args.lists.now.items ks c.make_room.new.lists.items) (sym c.make_room.ensures.keys)
     (extends-then names names names c.args.lists.now.items c.named_needs.new.lists.items c.make_room.new.lists.items c.named_needs.ensures.extends (c.make_room.ensures.extends names))
+
+pub returns-in_err-place-clause-extends : goal.returns-in_err-place-clause-extends
+returns-in_err-place-clause-extends c = extends-none c.args.names.now.keys c.args.lists.now.items
+
+pub returns-in_err-needs-clause-extends : goal.returns-in_err-needs-clause-extends
+returns-in_err-needs-clause-extends c = c.named_needs.ensures.extends
+
+pub returns-in_err-place-clause-ready : goal.returns-in_err-place-clause-ready
+returns-in_err-place-clause-ready c = IfOk-from_err c.from_residual.result _ c.from_residual.ensures.0
+
+pub returns-in_err-place-clause-publication : goal.returns-in_err-place-clause-publication
+returns-in_err-place-clause-publication c = IfOk-from_err c.from_residual.result _ c.from_residual.ensures.0
+
+pub returns-in_err-needs-clause-ready : goal.returns-in_err-needs-clause-ready
+returns-in_err-needs-clause-ready c = IfOk-from_err c.from_residual-in_err-needs.result _ c.from_residual-in_err-needs.ensures.0
+
+pub returns-in_err-needs-clause-publication : goal.returns-in_err-needs-clause-publication
+returns-in_err-needs-clause-publication c = IfOk-from_err c.from_residual-in_err-needs.result _ c.from_residual-in_err-needs.ensures.0

@@ -2,9 +2,10 @@ use Rattle.std.proofs.Common.{◌≡◌, ◌∙◌, [], arith, drop, refl, sym, 
 use Rattle.std.proofs.lemmas.List.{append-nil, drop_all, take_all}
 use Rattle.std.specs.List.{list_any}
 use Rattle.std.specs.Str.{bytes_eq}
+use Rattle.std.proofs.lemmas.Result.{IfOk-from_err}
 use Rattle.registry.specs.Rooms.{names_in}
 use Rattle.registry.proofs.ReadyLemmas.{taken-push, unknown-more}
-use Rattle.registry.proofs.PlaceLemmas.{extends-then}
+use Rattle.registry.proofs.PlaceLemmas.{extends-none, extends-then}
 use Rattle.registry.proofs.ready.name_needs.Goals as goal
 
 pub loop-need-preserved : goal.loop-need-preserved
@@ -42,3 +43,24 @@ pub returns-in_err-add_need-clause-extends : goal.returns-in_err-add_need-clause
 returns-in_err-add_need-clause-extends c =
     extends-then c.args.names.now.keys c.args.names.now.keys c.args.names.now.keys c.args.lists.now.items c.loop-need.lists.items c.add_need.new.lists.items
     c.loop-need.invariant.extends c.add_need.ensures.extends
+
+pub returns-in_err-with_capacity-clause-extends : goal.returns-in_err-with_capacity-clause-extends
+returns-in_err-with_capacity-clause-extends c = extends-none c.args.names.now.keys c.args.lists.now.items
+
+pub returns-in_err-with_capacity-clause-same : goal.returns-in_err-with_capacity-clause-same
+returns-in_err-with_capacity-clause-same c = IfOk-from_err c.from_residual.result _ c.from_residual.ensures.0
+
+pub returns-in_err-with_capacity-clause-named : goal.returns-in_err-with_capacity-clause-named
+returns-in_err-with_capacity-clause-named c = IfOk-from_err c.from_residual.result _ c.from_residual.ensures.0
+
+pub returns-in_err-with_capacity-clause-empty : goal.returns-in_err-with_capacity-clause-empty
+returns-in_err-with_capacity-clause-empty c = IfOk-from_err c.from_residual.result _ c.from_residual.ensures.0
+
+pub returns-in_err-add_need-clause-same : goal.returns-in_err-add_need-clause-same
+returns-in_err-add_need-clause-same c = IfOk-from_err c.from_residual-in_err-add_need.result _ c.from_residual-in_err-add_need.ensures.0
+
+pub returns-in_err-add_need-clause-named : goal.returns-in_err-add_need-clause-named
+returns-in_err-add_need-clause-named c = IfOk-from_err c.from_residual-in_err-add_need.result _ c.from_residual-in_err-add_need.ensures.0
+
+pub returns-in_err-add_need-clause-empty : goal.returns-in_err-add_need-clause-empty
+returns-in_err-add_need-clause-empty c = IfOk-from_err c.from_residual-in_err-add_need.result _ c.from_residual-in_err-add_need.ensures.0

@@ -1,5 +1,5 @@
-use Rattle.std.proofs.Common.{◌≡◌, ◌∙◌, ◌++◌, ◌∷◌, [], List, inl, inr, ap, arith, false, length, length-append, subst, sym}
-use Rattle.std.specs.Prelude.{◌↔◌, IsTrue, Some, slice_get, slice_range}
+use Rattle.std.proofs.Common.{◌≡◌, ◌<◌, ◌∙◌, ◌++◌, ◌∷◌, [], ℕ, List, inl, inr, ap, arith, false, length, length-append, subst, sym}
+use Rattle.std.specs.Prelude.{◌↔◌, IsTrue, Some, min, slice_get, slice_range}
 use Rattle.std.proofs.lemmas.List.{length-map}
 use Rattle.std.proofs.lemmas.Option.{none-some}
 use Rattle.versions.specs.Words.{Text}
@@ -73,6 +73,26 @@ latest c names named right old =
             (omega (arith, paired, c.self.invariant.3)) own old)
       ]
     ]
+
+-- room in all is room in each
+each : (a b c d : ℕ) → 0 < min (min a b) (min c d) → (0 < a) × (0 < b) × (0 < c) × (0 < d)
+each a b c d room = (omega arith, omega arith, omega arith, omega arith)
+
+pub unwrap-requires : goal.unwrap-requires
+unwrap-requires c =
+    let room = each _ _ _ _ (rw (← c.self.view_is) at c.requires.room) in c.push.ensures.succeeds (omega (arith, room.3))
+
+pub unwrap-requires-2 : goal.unwrap-requires-2
+unwrap-requires-2 c =
+    let room = each _ _ _ _ (rw (← c.self.view_is) at c.requires.room) in c.push-2.ensures.succeeds (omega (arith, room.1))
+
+pub push-requires-3-clause-room : goal.push-requires-3-clause-room
+push-requires-3-clause-room c =
+    let room = each _ _ _ _ (rw (← c.self.view_is) at c.requires.room) in room.0
+
+pub unwrap-requires-3 : goal.unwrap-requires-3
+unwrap-requires-3 c =
+    let room = each _ _ _ _ (rw (← c.self.view_is) at c.requires.room) in c.push-4.ensures.succeeds (omega (arith, room.2))
 
 pub push-requires-3-clause-new : goal.push-requires-3-clause-new
 push-requires-3-clause-new c =

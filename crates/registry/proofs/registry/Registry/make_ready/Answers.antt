@@ -1,4 +1,5 @@
 use Rattle.std.proofs.Common.{◌≡◌, ◌∙◌, ap, length, subst, sym, List}
+use Rattle.std.proofs.lemmas.Result.{IfOk-from_err}
 use Rattle.versions.specs.Words.{Text}
 use Rattle.registry.specs.Lawful.{IsRegistry}
 use Rattle.registry.specs.Publications.{PublicationList, lists_of, packages_in, packages_of}
@@ -35,3 +36,6 @@ invariant_of-self-2 c = (
   rw c.replace.ensures.after c.in_ok-ready.ensures.ready,
   c.make_ready.ensures.extends.placed c.self.invariant.3,
 )
+
+pub returns-in_err-ready-clause-ok : goal.returns-in_err-ready-clause-ok
+returns-in_err-ready-clause-ok c = IfOk-from_err c.from_residual.result _ c.from_residual.ensures.0
