@@ -1,5 +1,5 @@
 -- The seats of a race: their ways as backends, what they answer, and what a race prints.
-use Rattle.std.specs.Prelude.{◌≡◌, ◌⊎◌, ℕ, ◌+◌, ◌<◌, List, [], ◌∷◌, ◌++◌, All, Contains, flat_map, length, map, slice_get, slice_index, Ok, Option, Some, None}
+use Rattle.std.specs.Prelude.{◌≡◌, ◌⊎◌, ℕ, ◌+◌, ◌-◌, ◌<◌, ◌≤◌, List, [], ◌∷◌, ◌++◌, All, Contains, flat_map, length, map, slice_get, slice_index, Ok, Option, Some, None}
 use Rattle.std.specs.Io.KnownBytes.{Appends}
 use Rattle.versions.specs.Words.{Text}
 use Rattle.versions.specs.declared.refusal.Refusal.TheVariants.{Stray}
@@ -66,7 +66,7 @@ AreRun settings row number (file ∷ files) (replies ∷ rest) [] = ⊥
 
 -- the seat with this number came further than this place, where the seats came to these, in order of their numbers, which begin with 1
 abbrev pub IsOwn : List ℕ → ℕ → ℕ → Type 0
-IsOwn places seat at = (n : ℕ) × (seat ≡ n + 1) × (at < slice_index places n)
+IsOwn places seat at = (1 ≤ seat) × (at < slice_index places (seat - 1))
 
 -- each entry was seen by the seat whose number it bears
 abbrev pub AreOwn : List ℕ → List Entry → Type 0
