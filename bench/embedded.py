@@ -64,13 +64,13 @@ class Row:
         return times[min(len(times) - 1, int(len(times) * share))] / 1000
 
 
-def compiled(folder, library):
-    """The commands of the languages that can be compiled here."""
+def compiled(folder, library, optimized):
+    """The commands of the languages that can be compiled here; who tests them need not wait for a compiler that optimizes."""
     commands = {"C": [folder / "c"], "Python": [sys.executable, HERE / "round_trips.py"]}
-    subprocess.run(["cc", "-O2", "-I", TOP / "clients" / "c", HERE / "round_trips.c", "-L", library, "-l:libregistryd.a", "-lpthread",
+    subprocess.run(["cc", *(["-O2"] if optimized else []), "-I", TOP / "clients" / "c", HERE / "round_trips.c", "-L", library, "-l:libregistryd.a", "-lpthread",
                     "-o", folder / "c"], check=True)
     if shutil.which("rustc"):
-        rustc = ["rustc", "--edition", "2021", "-O", "--out-dir", folder, "-L", f"native={library}"]
+        rustc = ["rustc", "--edition", "2021", *(["-O"] if optimized else []), "--out-dir", folder, "-L", f"native={library}"]
         subprocess.run([*rustc, "--crate-type", "rlib", "--crate-name", "registryd", "--cfg", 'feature="embedded"', "-l", "static=registryd",
                         TOP / "clients" / "rust" / "src" / "lib.rs"], check=True)
         subprocess.run([*rustc, "--extern", f"registryd={folder / 'libregistryd.rlib'}", HERE / "round_trips.rs"], check=True)
@@ -102,13 +102,13 @@ def listening(program, path):
             process.wait()
 
 
-def measured(program, library, trips, rounds):
+def measured(program, library, trips, rounds, optimized=True):
     """A row for each language and way, of so many round trips in all."""
     with tempfile.TemporaryDirectory() as name:
         folder = Path(name)
         (folder / "lines").write_text("\n".join(publications()) + "\n", encoding="ascii")
         given = {**os.environ, "REGISTRYD_LIBRARY": str(Path(library) / "libregistryd.so")}
-        rows = [Row(language, way, command) for language, command in compiled(folder, library).items() for way in WAYS]
+        rows = [Row(language, way, command) for language, command in compiled(folder, library, optimized).items() for way in WAYS]
         with listening(program, folder / "socket") as path:
             targets = {"embedded": "-", "child": program, "socket": path}
             for row in rows * rounds:

@@ -46,15 +46,17 @@ def demand(holds, told, kind=Fault):
 
 def formed(value, form):
     """Whether a JSON value has a form: members, the form of each item or of all, rising ordinals, a number, a text, a type."""
+    if form is ORDINALS:
+        return formed(value, [int]) and all(low < high for low, high in zip(value, value[1:]))
+    if isinstance(form, type):
+        return type(value) is form and (form is not int or 0 <= value < 2 ** 32)
     if isinstance(form, dict):
         return isinstance(value, dict) and set(value) == set(form) and all(formed(value[it], form[it]) for it in form)
     if isinstance(form, tuple):
         return isinstance(value, list) and len(value) == len(form) and all(map(formed, value, form))
     if isinstance(form, list):
         return isinstance(value, list) and all(formed(it, form[0]) for it in value)
-    if form is ORDINALS:
-        return formed(value, [int]) and all(low < high for low, high in zip(value, value[1:]))
-    return value == form if isinstance(form, str) else type(value) is form and (form is not int or 0 <= value < 2 ** 32)
+    return value == form
 
 
 @lru_cache(maxsize=None)

@@ -2,8 +2,7 @@
 """Draws which crate stands on which, from crates.txt, as docs/crates.svg.
 
 A crate stands below all that stand on it, as near to them as it can: by the longest way down from the program, and from the
-static library beside it. A line is drawn only where no others say it already. What neither stands on is for the tests or an
-example, and apart.
+static library beside it. A line is drawn only where no others say it already. What neither stands on is for the tests, and apart.
 """
 import os
 import random
@@ -194,7 +193,7 @@ def kit_of(crates, name):
 
 def apart(crates, edges, names, y):
     """The crates beside these, one under the other, each with those right below it in words."""
-    said = [text(MARGIN, y, "for the tests, and an example", 12, "#667788", "start")]
+    said = [text(MARGIN, y, "for the tests", 12, "#667788", "start")]
     for place, name in enumerate(names):
         top = y + 14 + place * (HEIGHT + 10)
         said += box(MARGIN + WIDTH / 2, top, name, kit_of(crates, name))

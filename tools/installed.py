@@ -147,6 +147,7 @@ def tool_pieces():
             yield Piece(importlib.util.cache_from_source(path), byte_code(path, data))
 
 
+@functools.cache
 def byte_code(path, data):
     """What a Python of this version keeps of a module, which else it compiles at each start. It holds as long as the module has these
     bytes, whatever time its file has (PEP 552: a hash that is checked)."""
@@ -165,7 +166,12 @@ def command_pieces():
 
 def renamed(text):
     """A text that speaks of the program and its tools as they are called in a checkout, with their installed names."""
-    for name, file in TOOLS.items():
+    return renamed_by(text, tuple(TOOLS.items()))
+
+
+@functools.cache
+def renamed_by(text, tools):
+    for name, file in tools:
         text = re.sub(rf"(?<![\w/.])tools/{re.escape(file)}(?![\w/])", name, text)
     return re.sub(rf"(?<![\w/.])\./({NAME}|{COMMAND})(?![\w/-])", r"\1", text)
 

@@ -1,4 +1,6 @@
 """The kit's folder, and its commands as a module, for what they don't do by themselves."""
+import functools
+import shutil
 import subprocess
 import sys
 from importlib.machinery import SourceFileLoader
@@ -7,7 +9,12 @@ from pathlib import Path
 
 
 def folder():
-    page = subprocess.run(["rt", "doc"], stdin=subprocess.DEVNULL, stdout=subprocess.PIPE, text=True, check=True).stdout.strip()
+    return folder_of(shutil.which("rt") or "rt")
+
+
+@functools.cache  # the command is a Python that takes its time to begin
+def folder_of(command):
+    page = subprocess.run([command, "doc"], stdin=subprocess.DEVNULL, stdout=subprocess.PIPE, text=True, check=True).stdout.strip()
     return Path(page).parent
 
 

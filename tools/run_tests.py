@@ -13,6 +13,7 @@ import re
 import sys
 import time
 import unittest
+import unittest.mock  # noqa: F401, loads much that most files of tests ask for: once, before their processes are forked
 from multiprocessing import get_context
 from multiprocessing.connection import wait
 
@@ -152,6 +153,9 @@ def told_of(left, number):
 
 def run_all(processors, builds=NOTHING, is_quick=False):
     """Runs them all, or those that a quick run has; answers the counts of all tests."""
+    # tests begin hundreds of Pythons, each of which would compile the same modules anew
+    os.environ.pop("PYTHONDONTWRITEBYTECODE", None)
+    sys.dont_write_bytecode = False
     *others, last = files()
     left = left_out(others) if is_quick else {}
     came, took = {}, {}

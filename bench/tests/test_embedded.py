@@ -35,7 +35,7 @@ class Embedded(unittest.TestCase):
     @needs_library
     @skip_without("cc", "gcc")
     def test_each_language_by_each_way(self):
-        rows = measured(PROGRAM, FOLDER, TRIPS, ROUNDS)
+        rows = measured(PROGRAM, FOLDER, TRIPS, ROUNDS, optimized=False)
         languages = ["C", "Python", *(["Rust"] if shutil.which("rustc") else [])]
         self.assertEqual([(row.language, row.way) for row in rows], [(it, way) for it in languages for way in ("embedded", "child", "socket")])
         for row in rows:

@@ -12,7 +12,9 @@ enum slot_answer { SLOT_OK = 0, SLOT_MISUSE = 1, SLOT_MEMORY = 2, SLOT_JOURNAL =
 uint32_t registryd_slot_open(struct slot *slot);
 /* A whole journal. Where its text is at fault, `line` is the first line that is. */
 uint32_t registryd_slot_load(struct slot *slot, const uint8_t *journal, size_t length, size_t *line);
-/* What stands in the file of a journal that is kept as the session goes: how many of its bytes stay. */
+/* What stands in the file of a journal that is kept as the session goes: how many of its bytes stay. What is behind them is cut off, and
+ * the first line of the second format is written over their first 19, or where none stay at the front: then the file has the lines of
+ * the session's items, and may be gone on with once that outlasts a crash. */
 uint32_t registryd_slot_recover(struct slot *slot, const uint8_t *journal, size_t length, size_t *kept, size_t *line);
 uint32_t registryd_slot_feed(struct slot *slot, const uint8_t *bytes, size_t length);
 /* How many reply bytes may be taken: none while one of them rests on a command that is not said to be safe. */

@@ -7,11 +7,13 @@ from functools import cached_property, lru_cache
 
 from .failures import Refused
 
-# a command as a journal has it, byte for byte: the program loads no other
-COMMAND = re.compile(rb'\{"name":"([^"]+)",(?:"needs":(.*),)?"op":"(\w+)","version":"([^"]+)"\}')
-# the same of letters, without what it needs
+# commands as a journal has them, byte for byte: the program loads no others. Those of one package most often follow each other
+RUN = re.compile(rb'\{"name":"([^"]+)",.*\n(?:\{"name":"\1",.*\n)*')
+# a command as letters, without what it needs
 LISTED = re.compile(r'\{"name":"([^"]+)",(?:"needs":.*,)?"op":"(\w+)","version":"([^"]+)"\}')
-BEGINNING = len('{"name":"')  # where a command's name begins
+PUBLICATION = re.compile(rb'"needs":(.*),"op":"publish","version":"([^"]+)"\}')
+YANK = re.compile(rb'"op":"(yank|unyank)","version":"([^"]+)"\}')
+PIECE = 65_536  # bytes
 RELEASE = (1,)  # as in check_derivation.py, which is loaded only where a version has more than numbers
 LEARN = b'"op":"learn"}'
 MENTION = re.compile(rb'(?:\{"name":|\[)"([^"]+)",')  # a command's package, or what it needs
@@ -52,6 +54,16 @@ def newest(versions):
     return max([it for it in versions if not it[1]] or versions, key=lambda it: rank(it[0]))
 
 
+def pieces(text):
+    """A journal's text in parts of whole lines. What is found in one takes the memory of what was found in the one before, so a search in
+    each takes a fifth less than one in the whole."""
+    at = 0
+    while at < len(text):
+        end = text.find(b"\n", at + PIECE) + 1 or len(text)
+        yield text[at:end]
+        at = end
+
+
 def commands_in(text):
     """The lines of the commands that a whole journal has."""
     lines = text.split(b"\n")[1:-2]
@@ -61,11 +73,12 @@ def commands_in(text):
 def listed_in(text):
     """By package the versions that commands of a journal publish, in order of publication, as pairs of a text and whether it is yanked."""
     listed, yanked = {}, {}
-    for name, op, version in LISTED.findall(text.decode(errors="replace")):
-        if op == "publish":
-            listed.setdefault(name, []).append((version, False))
-        else:
-            yanked[name, precedence(version)] = op == "yank"
+    for piece in pieces(text):
+        for name, op, version in LISTED.findall(piece.decode(errors="replace")):
+            if op == "publish":
+                listed.setdefault(name, []).append((version, False))
+            else:
+                yanked[name, precedence(version)] = op == "yank"
     # a yank is of the version that has the same precedence
     for name in {name for name, _ in yanked}:
         listed[name] = [(it, yanked.get((name, precedence(it)), False)) for it, _ in listed.get(name, ())]
@@ -76,21 +89,20 @@ class Catalog:
     """The packages of a journal's text, and the lines that each has there."""
 
     def __init__(self, text):
-        self.all, found = commands_in(text), {}
-        for it in self.all:
-            found.setdefault(it[BEGINNING:it.find(b'"', BEGINNING)], []).append(it)
-        self.lines = {name.decode(errors="replace"): of_name for name, of_name in found.items()}
-        self.revision = len(self.all)
+        self.text, found = text, {}
+        for it in RUN.finditer(text):
+            found.setdefault(it[1], []).append(it[0])
+        self.lines = {name.decode(errors="replace"): b"".join(runs) for name, runs in found.items()}
+
+    @cached_property
+    def revision(self):
+        return sum(it.count(b"\n") for it in self.lines.values())
 
     def published(self, name):
         """The versions of a package in order of publication."""
-        versions, yanked = [], {}
-        for it in filter(None, map(COMMAND.fullmatch, self.lines.get(name, ()))):
-            _, needs, op, text = it.groups()
-            if op == b"publish":
-                versions.append(Version(text.decode(), False, needs))
-            else:
-                yanked[precedence(text.decode())] = op == b"yank"
+        lines = self.lines.get(name, b"")
+        versions = [Version(text.decode(), False, needs) for needs, text in PUBLICATION.findall(lines)]
+        yanked = {precedence(text.decode()): op == b"yank" for op, text in YANK.findall(lines)}
         # a yank is of the version that has the same precedence
         return [it._replace(is_yanked=yanked.get(precedence(it.text), False)) for it in versions] if yanked else versions
 
@@ -120,26 +132,27 @@ class Catalog:
 
     def needing(self, name):
         """Of each package with a version that needs this one, by name: its newest such version, and the requirement."""
-        target, found = f'["{name}","'.encode(), {}
-        need = rb'\{"name":"([^"]+)","needs":\[.*?' + re.escape(target) + rb'([^"]+)"\].*"version":"([^"]+)"\}'
-        for other, requirement, version in re.findall(need, b"\n".join(it for it in self.all if target in it)):
-            found.setdefault(other.decode(), []).append((version.decode(), requirement.decode()))
-        for other, versions in sorted(found.items()):
-            yield other, *max(versions, key=lambda it: precedence(it[0]))
+        target = f'["{name}","'.encode()
+        need = re.compile(re.escape(target) + rb'([^"]+)"\].*"version":"([^"]+)"\}')
+        for other, lines in sorted(self.lines.items()):
+            found = need.findall(lines) if target in lines else ()
+            if found:
+                requirement, version = max(found, key=lambda it: precedence(it[1].decode()))
+                yield other, version.decode(), requirement.decode()
 
     def commands(self, name):
         """The commands of a package."""
-        return map(json.loads, self.lines.get(name, ()))
+        return map(json.loads, self.lines.get(name, b"").splitlines())
 
     @cached_property
     def mentioned(self):
         """The names of all packages, also of those that are only needed, in the order in which they are first mentioned."""
-        return [it.decode(errors="replace") for it in dict.fromkeys(MENTION.findall(b"\n".join(self.all)))]
+        return [it.decode(errors="replace") for it in dict.fromkeys(MENTION.findall(self.text))]  # what was learnt names no others
 
     @cached_property
     def listed(self):
         """By package its versions in order of publication, as pairs of a text and whether it is yanked."""
-        return listed_in(b"\n".join(self.all))
+        return listed_in(self.text)
 
 
 @lru_cache(maxsize=1)

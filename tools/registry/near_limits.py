@@ -4,7 +4,8 @@ from collections import Counter
 from limits import MOST_COMMANDS, MOST_PACKAGES, MOST_VERSIONS
 
 SHORTEST = 100_000  # bytes: no journal that is shorter is near a limit, so most are not looked at
-PUBLISHED, NEEDED = rb'\n\{"name":"([^"]+)","needs":', rb'\["([^"]+)"'
+NAMING = 10  # bytes that a journal has at least for each name: `["a","*"],`
+PUBLISHED, NEEDED = rb'\{"name":"([^"]+)","needs":', rb'\["([^"]+)"'
 LEARNT = b'"op":"learn"}\n'
 REMEDY = "`registry journal renew` begins a smaller journal"
 
@@ -18,12 +19,17 @@ def warnings(path, text):
     commands = lines - 1 - text.count(LEARNT) - text.endswith(b"end %d\n" % (lines - 2))
     if is_near(commands, MOST_COMMANDS):
         yield f"{path} has {commands:,} of {MOST_COMMANDS:,} commands: {REMEDY}"
-    is_wide = is_near(commands + text.count(b'["'), MOST_PACKAGES)  # else no names are looked at
-    published = re.findall(PUBLISHED, text) if is_wide or is_near(commands, MOST_VERSIONS) else []
-    names = len({*published, *re.findall(NEEDED, text)}) if is_wide else 0
+    is_wide = is_near(len(text) // NAMING, MOST_PACKAGES)  # else no names are looked at
+    published, needed = Counter(), set()
+    if is_wide or is_near(commands, MOST_VERSIONS):
+        from .catalog import pieces
+        for it in pieces(text):
+            published.update(re.findall(PUBLISHED, it))
+            needed.update(re.findall(NEEDED, it) if is_wide else ())
+    names = len(needed.union(published)) if is_wide else 0
     if is_near(names, MOST_PACKAGES):
         yield f"{path} names {names:,} of {MOST_PACKAGES:,} packages: {REMEDY}"
-    for name, count in Counter(published).items():
+    for name, count in published.items():
         if is_near(count, MOST_VERSIONS):
             yield f"{path} has {count:,} of {MOST_VERSIONS:,} versions of {name.decode()}: {REMEDY}"
 

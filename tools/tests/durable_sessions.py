@@ -1,4 +1,5 @@
 """Sessions that keep a journal, and clients of them that find the program gone at any moment."""
+import functools
 import json
 import os
 import select
@@ -72,6 +73,11 @@ class Client:
 def accepted(lines, before=()):
     """The commands among these lines that are accepted behind those before, as a journal has them, each with its line's number
     from 1."""
+    return list(accepted_of(tuple(lines), tuple(before)))
+
+
+@functools.lru_cache(maxsize=100)  # a session is killed at many places, over the same lines
+def accepted_of(lines, before):
     registry, found = Registry(), []
     for line in before:
         registry.apply(json.loads(line))

@@ -1,4 +1,5 @@
 """The library for C under test, and callers that are compiled against it."""
+import functools
 import os
 import subprocess
 import sys
@@ -43,10 +44,22 @@ def linked(to, source, *more):
     return str(to)
 
 
+@functools.cache
+def sources_compiled(more):
+    """The library's sources, compiled with these words of the compiler, once for all callers of a file of tests."""
+    folder = tempfile.TemporaryDirectory()
+    for cleanup in (folder.cleanup, sources_compiled.cache_clear):
+        unittest.addModuleCleanup(cleanup)
+    sources = sorted(it for it in Path(CLIENT).glob("*.c") if not it.name.startswith("example"))
+    objects = [os.path.join(folder.name, f"{it.stem}.o") for it in sources]
+    for source, to in zip(sources, objects):
+        compiled([*STRICT, *more, "-c", source, "-o", to])
+    return objects
+
+
 def linked_with_sources(to, source, *more):
     """Compiles a caller together with the library's sources, all with the same words of the compiler."""
-    sources = sorted(it for it in Path(CLIENT).glob("*.c") if not it.name.startswith("example"))
-    compiled([*STRICT, *more, source, *sources, c_library.archive()[0], c_library.heap(), "-lpthread", "-o", to])
+    compiled([*STRICT, *more, source, *sources_compiled(more), c_library.archive()[0], c_library.heap(), "-lpthread", "-o", to])
     return str(to)
 
 

@@ -18,12 +18,12 @@ class Published(plain_search.Published):
     def needs_of(self, name, version):
         return next(needs for text, needs, _ in self.versions[name] if text == version)
 
-    def next_package(self, needs, taken):
+    def next_package(self, needs, taken, needs_of=None):
         """The first package that is asked for behind those that were taken, in their order: by the needs in the order of their
         names, then by what each of them depends on, as it was published. None where each has its version."""
         lines = sorted(needs)
         for name, version in taken.items():
-            lines += self.needs_of(name, version)
+            lines += (needs_of or self.needs_of)(name, version)
         return next((name for name, _ in lines if name not in taken), None)
 
     def newest(self, needs, lock):
@@ -38,13 +38,13 @@ class Published(plain_search.Published):
 
     def first_found(self, needs, lock):
         """The same, as a search that tries the most preferred versions first and goes back one step at a time ends."""
-        in_preference = cache(lambda name: self.in_preference(name, lock))
+        in_preference, needs_of = cache(lambda name: self.in_preference(name, lock)), cache(self.needs_of)
 
         def search(taken):
-            asked = [*needs, *(line for name, version in taken.items() for line in self.needs_of(name, version))]
+            asked = [*needs, *(line for name, version in taken.items() for line in needs_of(name, version))]
             if any(name in taken and not self.matches(requirement, taken[name]) for name, requirement in asked):
                 return None
-            name = self.next_package(needs, taken)
+            name = self.next_package(needs, taken, needs_of)
             if name is None:
                 return sorted([name, version] for name, version in taken.items())
             tried = (search({**taken, name: version}) for version in in_preference(name))

@@ -60,6 +60,10 @@ def sound(value):
         raise ValueError(value)
 
 
+# Made once: to make one takes as long as to read a line.
+READ = {hook: json.JSONDecoder(parse_int=whole, parse_float=finite, parse_constant=refuse, object_pairs_hook=hook).decode for hook in (None, members)}
+
+
 def depth(text):
     """How deep brackets nest in a text that is JSON; no deeper than there are any that open."""
     deep, most = 0, text.count("[") + text.count("{")
@@ -78,7 +82,7 @@ def read_json(line):
         text = line.decode()
         # only an escape can be half of a pair of surrogates
         hook = members if "\\u" in text else None
-        value = json.loads(text, parse_int=whole, parse_float=finite, parse_constant=refuse, object_pairs_hook=hook)
+        value = READ[hook](text)
         if hook:
             sound(value)
         return value if depth(text) <= MOST_DEPTH else None

@@ -1,5 +1,6 @@
 """The programs under test, and short ways to talk to registryd."""
 import contextlib
+import functools
 import json
 import os
 import resource
@@ -65,9 +66,14 @@ def check(*needs, derivation):
 LIST = '{"op":"list"}'
 
 
+# Made once: to make one takes as long as to write a line.
+IN_ORDER = json.JSONEncoder(sort_keys=True, separators=(",", ":"))
+
+
+@functools.lru_cache(maxsize=100_000)  # a test has all commands that a session may have, some times
 def journal_line(line):
     """The line that a publish, yank or unyank line has in a journal's file."""
-    return json.dumps(json.loads(line), sort_keys=True, separators=(",", ":"))
+    return IN_ORDER.encode(json.loads(line))
 
 
 def run(words, given=b"", most=None, **more):

@@ -11,7 +11,7 @@ TAKES_NONE = {"registry::Registry::check", "store::Store::check", "book::Replica
 OF_RACES = {"journals::can_be_saved"}
 # What the probe stands on, what is tried through the calls of the registry and of the solver, and what is tried through the
 # lines of the program (`test_memory.py`).
-NO_PART = {"rows", "engine", "intake", "answers", "session", "race", "command_line"}
+NO_PART = {"rows", "engine", "propagation", "intake", "answers", "session", "race", "command_line"}
 TAKES_MEMORY = re.compile(r"-> (?:io::)?Result<")
 
 

@@ -252,7 +252,8 @@ class Reader:
         count, rng = 1, random.Random(len(names))
         for it in ranges:
             count *= len(it)
-        tried = itertools.product(*ranges) if count <= TRIES else ([rng.choice(it) for it in ranges] for _ in range(TRIES))
+        # all choices of a name at once, in less time than one after another
+        tried = itertools.product(*ranges) if count <= TRIES else zip(*(rng.choices(it, k=TRIES) for it in ranges))
         for choices in tried:
             chosen = dict(zip(names, choices))
             if not any(all(chosen[name] in term for name, term in it.items()) for it in premises):

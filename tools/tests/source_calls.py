@@ -91,19 +91,22 @@ class Sources:
             self.named[function.name].add(function)
         crates = {function.crate for function in bodies}
         imports = {path: imports_of(text, crates) for path, text in texts.items()}
-        self.calls = {function: set().union(*(self.meant(function.crate, imports[function.path], *call)
+        self.calls = {function: set().union(*(self.meant(function, imports[function.path], *call)
                                               for call in calls_in(body, function.owner)))
                       for function, body in bodies.items()}
 
-    def meant(self, crate, imports, is_method, owner, name):
-        """The functions that a call in a crate may mean."""
+    def meant(self, caller, imports, is_method, owner, name):
+        """The functions that a call in a function may mean."""
         there = self.named.get(name, set())
         if is_method:
             return {one for one in there if one.owner}
         if owner and owner[0].isupper():
             # a parameter's or a trait's function is any type's
             return {one for one in there if one.owner == owner} or {one for one in there if one.owner and len(owner) < 3}
-        return {one for one in there if not one.owner and one.crate == imports.get(name, crate)}
+        found = {one for one in there if not one.owner and one.crate == imports.get(name, caller.crate)}
+        # a name alone means the file's own function, where it has one
+        own = {one for one in found if one.path == caller.path}
+        return own if own and not owner else found
 
     def reached(self, roots):
         """All functions to which the roots lead, they among them."""

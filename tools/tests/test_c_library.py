@@ -24,6 +24,8 @@ from programs import COMPILED, PROVED, Program
 
 NOT_QUICK = "the static library"
 package = tool("package")
+# how a package is compressed in little time
+SOON = ("-Zxz", "-z0")
 EXAMPLE = os.path.join(CLIENT, "example.c")
 VERSION = Path(TOP, "VERSION").read_text(encoding="ascii").strip()
 
@@ -216,7 +218,8 @@ class Installed(unittest.TestCase):
     @skip_without("dpkg-deb", "dpkg")
     def test_the_package_has_it(self):
         program, library = Program(Path(PROGRAM), COMPILED, ""), Library(FOLDER, COMPILED)
-        made = package.build(program, self.folder, library)
+        with mock.patch.object(package, "COMPRESSED", SOON):
+            made = package.build(program, self.folder, library)
         there = said("dpkg-deb", "-c", made)
         for name in ("lib/libregistryd.a", "lib/libregistryd.so.0", "include/registryd.h", "lib/pkgconfig/registryd.pc"):
             self.assertRegex(there, rf"-rw-r--r-- root/root .* \./usr/{re.escape(name)}\n")

@@ -39,8 +39,8 @@ class Picture(unittest.TestCase):
             self.assertEqual(draw_crates.reached(edges, name), draw_crates.reached(crates, name))
 
     def test_few_lines_cross(self):
-        """Eighteen pairs do: `journals` and `answers` stand on crates of three rows, and `session`, `race` and `endings` on both of them,
-        beside what `commits` adds, and `lines`, on which `wire` stands."""
+        """Twelve pairs do: `journals` and `answers` stand on crates of three rows, and `session` and `race` on both of them, and on
+        `lines`, on which `wire` stands."""
         edges = draw_crates.edges_of(draw_crates.stands_on())
         rows, short = draw_crates.rows_of(edges, draw_crates.depths_of(edges, draw_crates.TOPS))
-        self.assertEqual(draw_crates.crossings(draw_crates.ordered(rows, short), short), 18)
+        self.assertEqual(draw_crates.crossings(draw_crates.ordered(rows, short), short), 12)

@@ -15,8 +15,8 @@ sys.path.insert(0, os.path.join(TOP, "tools"))
 from doc_comments import CRATES, Fault, faults, faults_of  # noqa: E402
 
 ASKS_NO_PROGRAM = True
-# What only the tests are made of, and the example.
-OF_TESTS = {"rows", "probe", "team"}
+# What only the tests are made of.
+OF_TESTS = {"rows", "probe"}
 # Crates that don't keep to it yet. One is taken out once it does.
 TO_COME = set()
 SOURCE = """\

@@ -10,8 +10,8 @@ sys.path.insert(0, os.path.join(TOP, "tools"))
 from edit_files import CRATES, edits_of, functions_in  # noqa: E402
 
 ASKS_NO_PROGRAM = True
-# What only the tests are made of, and the example.
-OF_TESTS = {"rows", "team"}
+# What only the tests are made of.
+OF_TESTS = {"rows"}
 # The others: a line has the crate, the function and why it has no wrong body.
 WITHOUT = os.path.join(TOP, "tools", "tests", "functions_without_edits.txt")
 REASONS = {"reads", "looks-up", "compares", "copies", "wraps", "makes-empty", "law", "promises-nothing"}

@@ -113,7 +113,7 @@ class Map(unittest.TestCase):
 
 class Solver(unittest.TestCase):
     def test_each_file_of_the_search_is_named(self):
-        there = {os.path.basename(path) for crate in ("solver", "engine", "search", "checker", "facts", "oracle")
+        there = {os.path.basename(path) for crate in ("solver", "engine", "propagation", "search", "checker", "facts", "oracle")
                  for path in glob.glob(os.path.join(TOP, "crates", crate, "src", "*.rt"))}
         named = set(re.findall(r"`(\w+\.rt)`", read(os.path.join(TOP, "docs", "SOLVER.md"))))
         self.assertEqual(there - {"lib.rt"}, named)

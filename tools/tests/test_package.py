@@ -27,6 +27,8 @@ package = tool("package")
 VERSION = Path(TOP, "VERSION").read_text(encoding="ascii").strip()
 SESSION = ('{"op":"publish","name":"a","version":"1.0.0","needs":[]}\n{"op":"resolve","needs":[["a","^1"]]}\n',
            '{"ok":true,"revision":1}\n{"revision":1,"selected":[["a","1.0.0"]]}\n')
+# how a package is compressed in little time, where it doesn't matter how small it is
+SOON = ("-Zxz", "-z0")
 # the lines of deb-changelog(5)
 HEAD = re.compile(r"registryd \((\S+)\) unstable; urgency=medium")
 TRAILER = re.compile(r" -- \S.* <\S+@\S+>  (Mon|Tue|Wed|Thu|Fri|Sat|Sun), \d\d \w{3} \d{4} \d\d:\d\d:\d\d \+0000")
@@ -69,6 +71,7 @@ class Made(unittest.TestCase):
 
     @classmethod
     def setUpClass(cls):
+        cls.enterClassContext(mock.patch.object(package, "COMPRESSED", SOON))
         cls.folder = Path(cls.enterClassContext(tempfile.TemporaryDirectory()))
         cls.folder.chmod(0o755)
         cls.program = Program(Path(PROGRAM), COMPILED, "")

@@ -10,7 +10,7 @@ from source_calls import Sources, sources_below
 
 ASKS_NO_PROGRAM = True
 # the program, and the example that the probe runs
-BEGINNINGS = {("registryd/src/main.rt", "main"), ("team/src/lib.rt", "run")}
+BEGINNINGS = {("registryd/src/main.rt", "main"), ("probe/src/team.rt", "run")}
 SOURCE = """\
 impl Clone for Room {
     ghost is_clone = { λ room copy. copy ≡ room };

@@ -12,7 +12,7 @@ ENTRY = re.compile(r"\[`([^`]+)`\]\(\.\./crates/([^)#]+\.rt)\)")
 NAME = re.compile(r"`((?:[A-Z]\w*::)?\w+)`")
 # no program stands on these
 OF_TESTS = ("probe", "rows")
-BEGINNINGS = {("registryd/src/main.rt", "main"), ("team/src/lib.rt", "run")}
+BEGINNINGS = {("registryd/src/main.rt", "main"), ("probe/src/team.rt", "run")}
 
 
 def page(name):
@@ -66,7 +66,7 @@ class Reach(unittest.TestCase):
 
     def test_a_call_that_is_taken_out_is_missed(self):
         """Each of these is called in one file alone."""
-        for path, call in (("registryd/src/main.rt", "run_command"), ("registryd/src/run_command.rt", "serve_durably"),
+        for path, call in (("registryd/src/main.rt", "run_program"), ("registryd/src/run_command.rt", "serve_durably"),
                            ("registryd/src/recovered.rt", "recover_session")):
             with self.subTest(call):
                 text, count = re.subn(rf"\b{call}\(", f"not_{call}(", self.texts[path])
@@ -74,11 +74,14 @@ class Reach(unittest.TestCase):
                 self.assertEqual(unreached(f"`{call}`", "", Sources(self.texts | {path: text})), [call])
 
     def test_a_call_of_tests_alone_is_missed(self):
-        texts = self.texts | {"walk/src/left.rt": "pub fn left_alone(count: usize) -> usize {\n    count\n}\n",
-                              "probe/src/left.rt": "use walk::left_alone;\nfn probes() {\n    left_alone(1);\n}\n"}
-        self.assertEqual(unreached("`left_alone`", self.using, Sources(texts)), ["left_alone"])
-        entry = self.using + "\n| [`left_alone`](../crates/walk/src/left.rt) | | |\n"
-        self.assertEqual(unreached("`left_alone`", entry, Sources(texts)), [])
+        """Also of one that has the name of a function of the example, which stands in another file of the same crate."""
+        for name in ("probes", "publish"):
+            with self.subTest(name):
+                texts = self.texts | {"walk/src/left.rt": "pub fn left_alone(count: usize) -> usize {\n    count\n}\n",
+                                      "probe/src/left.rt": f"use walk::left_alone;\nfn {name}() {{\n    left_alone(1);\n}}\n"}
+                self.assertEqual(unreached("`left_alone`", self.using, Sources(texts)), ["left_alone"])
+                entry = self.using + "\n| [`left_alone`](../crates/walk/src/left.rt) | | |\n"
+                self.assertEqual(unreached("`left_alone`", entry, Sources(texts)), [])
 
 
 if __name__ == "__main__":

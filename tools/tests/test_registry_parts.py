@@ -5,6 +5,7 @@ import io
 import json
 import os
 import signal
+import string
 import sys
 import tempfile
 import unittest
@@ -170,6 +171,8 @@ class Limits(unittest.TestCase):
             told_of = list(near_limits.warnings("j", text))
             # with its end or without it, the same stands there
             self.assertEqual(list(near_limits.warnings("j", text[:text.rindex(b"end ")])), told_of)
+            with mock.patch.object(catalog, "PIECE", 1):
+                self.assertEqual(list(near_limits.warnings("j", text)), told_of)
             return [it.removesuffix(": `registry journal renew` begins a smaller journal") for it in told_of]
 
     def test_from_nine_tenths_on(self):
@@ -181,6 +184,9 @@ class Limits(unittest.TestCase):
         self.assertEqual((self.warned(*some, MOST_PACKAGES=2), self.warned(*some, MOST_PACKAGES=3)), (["j names 2 of 2 packages"], []))
         self.assertEqual((self.warned(*some, MOST_VERSIONS=10), self.warned(*some, MOST_VERSIONS=11)), (["j has 9 of 10 versions of a"], []))
         self.assertEqual(self.warned(*some, MOST_COMMANDS=9, SHORTEST=10_000), [])
+        # as many names as a journal has room for: only the first is published
+        short = publish("a", "0.0.0", [f"{name} *" for name in string.ascii_lowercase[1:]])
+        self.assertEqual((self.warned(short, MOST_PACKAGES=28), self.warned(short, MOST_PACKAGES=29)), (["j names 26 of 28 packages"], []))
         many = [publish("a", f"{number}.0.0", [f"p{number} *"]) for number in range(1000)]
         self.assertEqual(self.warned(*many, MOST_COMMANDS=1111, MOST_PACKAGES=1112, MOST_VERSIONS=1111),
                          ["j has 1,000 of 1,111 commands", "j names 1,001 of 1,112 packages", "j has 1,000 of 1,111 versions of a"])

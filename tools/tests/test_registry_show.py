@@ -7,7 +7,7 @@ from unittest import mock
 
 from program import TOP, publish, yank
 from registry_folder import Folder
-from test_journals import journal
+from test_journals import journal, learn
 
 sys.path.insert(0, os.path.join(TOP, "tools"))
 from registry import catalog
@@ -90,6 +90,27 @@ class Read(unittest.TestCase):
         self.assertEqual(list(made.needing("log")), [("a", "1.2.0", ">=1, <3"), ("b", "2.0.0", "*")])
         self.assertEqual((list(made.needing("lo")), list(made.needing("l.g"))), ([("log", "1.0.0", "^1")], []))
 
+    def test_commands_that_do_not_follow_each_other(self):
+        # names that begin as others; what was learnt stands between, and what is only needed has no commands
+        lines = [publish("a", "1.0.0", ["b ^1"]), publish("a", "1.1.0", ["only *"]), publish("a-b", "1.0.0", ["a *"]), publish("b", "1.0.0", ["c ^1"]), learn(0), publish("c", "1.0.0"),
+                 yank("a", "1.1.0"), publish("a", "1.2.0", ["a-b *", "b *"]), learn(0, 5), publish("b", "1.1.0", ["only ^1"])]
+        made = catalog.Catalog(journal(lines))
+        self.assertEqual((list(made.lines), made.mentioned, made.revision), (["a", "a-b", "b", "c"], ["a", "b", "only", "a-b", "c"], 8))
+        self.assertEqual({name: [it[:2] for it in made.published(name)] for name in [*made.lines, "only"]}, {**made.listed, "only": []})
+        self.assertEqual(made.published("a"), [("1.0.0", False, b'[["b","^1"]]'), ("1.1.0", True, b'[["only","*"]]'), ("1.2.0", False, b'[["a-b","*"],["b","*"]]')])
+        self.assertEqual([it["version"] for it in made.commands("a")], ["1.0.0", "1.1.0", "1.1.0", "1.2.0"])
+        self.assertEqual((list(made.needing("only")), list(made.needing("b"))), ([("a", "1.1.0", "*"), ("b", "1.1.0", "^1")], [("a", "1.2.0", "*")]))
+
+    def test_a_text_in_pieces(self):
+        text = journal(LINES)
+        whole = catalog.listed_in(text)
+        for most in (1, 70, len(text)):
+            with mock.patch.object(catalog, "PIECE", most):
+                parts = list(catalog.pieces(text))
+                self.assertEqual((b"".join(parts), {it[-1:] for it in parts}, catalog.listed_in(text)), (text, {b"\n"}, whole))
+                self.assertEqual(len(parts), {1: text.count(b"\n"), len(text): 1}.get(most, len(parts)))
+        self.assertEqual((list(catalog.pieces(b"")), list(catalog.pieces(b"x\ny"))), ([], [b"x\ny"]))
+
     def test_what_versions_compare_by(self):
         rising = ["0.9.10", "0.10.0-0", "0.10.0-9.1", "0.10.0-a", "0.10.0", "0.10.1", "1.0.0-1", "1.0.0+9", "2.0.0", "10.0.0"]
         self.assertEqual(sorted(reversed(rising), key=catalog.precedence), rising)
@@ -122,6 +143,16 @@ class Lists(Folder):
         self.assertEqual(self.registry("search", "lgo"), (1, "", "registry: no package's name has lgo in it; did you mean log?\n"))
         self.assertEqual(self.registry("search", "zebra"), (1, "", "registry: no package's name has zebra in it\n"))
         self.assertEqual(self.registry("search", "zebra", "--json")[:2], (1, "[]\n"))
+
+    def test_a_journal_that_the_program_did_not_write(self):
+        self.hold(publish("a", "1.0.0", ["b *"]), publish("b", "1.0.0"))
+        with open(self.journal, encoding="utf-8") as file:
+            text = file.read()
+        for right, wrong in (('"name":"b"', '"name":"\\u0062"'), ('"name":"b"', '"name": "b"'), ('"name":"b"', '"name":"b\n"'), ('{"name":"b",', '{"name":"",')):
+            self.path("registry.journal", text.replace(right, wrong))
+            for words in (["list"], ["show", "b"], ["show", "a"], ["resolve", "a"]):
+                status, said, fault = self.registry(*words)
+                self.assertEqual((status, said, fault.partition(" is at fault")[0]), (3, "", "registry: registry.journal: line 3"), (words, wrong))
 
     def test_wrong_words(self):
         self.hold()

@@ -43,6 +43,7 @@ FILES = {
                            "            open(os.environ['NOTE'], 'w').close()\n            said.REQUESTS['once'] = 1\n            self.fail('once')\n",
     "test_asks_none.py": "ASKS_NO_PROGRAM = True\n" + HEAD + "    def test_t(self):\n        import os\n        print('given', os.environ['PROBE'])\n",
     "test_asks.py": HEAD + "    def test_u(self):\n        import os\n        print('given', os.environ['PROBE'])\n",
+    "test_keeps.py": HEAD + "    def test_v(self):\n        import os, sys\n        print('kept', os.environ.get('PYTHONDONTWRITEBYTECODE'), sys.dont_write_bytecode)\n",
     "test_ends.py": HEAD + "    def test_f(self):\n        import os\n        os._exit(3)\n",
     "test_empty.py": "",
     "test_written_lines.py": HEAD + "    def test_g(self):\n        self.assertEqual((said.REQUESTS, said.REPLIES), ({'a': 1}, {'c': 1}))\n",
@@ -62,7 +63,7 @@ class Counted(unittest.TestCase):
             for file in glob.glob(os.path.join(TOP, "tools", "*.py")):
                 shutil.copy(file, os.path.join(top, "tools"))
             # the tools draw with what the command for people draws with
-            shutil.copytree(os.path.join(TOP, "tools", "registry"), os.path.join(top, "tools", "registry"))
+            os.symlink(os.path.join(TOP, "tools", "registry"), os.path.join(top, "tools", "registry"))
             shutil.copy(os.path.join(TOP, "test"), top)
             for name in ("said.py", *names, "test_written_lines.py"):
                 with open(os.path.join(tests, name), "w", encoding="utf-8") as file:
@@ -123,6 +124,10 @@ class Counted(unittest.TestCase):
         for name, given in (("test_asks.py", "/a/probe"), ("test_asks_none.py", "none")):
             said, status = self.run_these(name, last=PASSING, PROBE="/a/probe")
             self.assertEqual((re.findall("given .*", said), status), ([f"given {given}"], 0), said)
+
+    def test_python_keeps_what_it_compiles_whatever_the_environment_says(self):
+        said, status = self.run_these("test_keeps.py", last=PASSING, PYTHONDONTWRITEBYTECODE="1")
+        self.assertEqual((re.findall("kept .*", said), status), (["kept None False"], 0), said)
 
     def test_what_could_not_run_is_skipped_and_told(self):
         said, status = self.run_these("test_skips.py", "test_skips_all.py", last=PASSING)

@@ -8,7 +8,7 @@ from test_map import LINK, declares, read
 from test_readme import blocks
 
 PAGE = "docs/USING.md"
-EXAMPLE = os.path.join(TOP, "crates", "team", "src", "lib.rt")
+EXAMPLE = os.path.join(TOP, "crates", "probe", "src", "team.rt")
 
 
 def plain(lines):

@@ -4,7 +4,6 @@ pub mod JournalLemmas
 pub mod RefusalLemmas
 pub mod CallLemmas
 pub mod MarkLemmas
-pub mod AnswerLemmas
 pub mod ScheduleLemmas
 pub mod AgreeLemmas
 pub mod WorkedRows

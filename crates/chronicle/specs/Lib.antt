@@ -2,8 +2,10 @@
 pub mod Cells
 pub mod Offers
 pub mod Journals
-pub mod Answers
+pub mod Calls
 pub mod Seats
 pub mod Notes
 pub mod World
+pub mod Rules
+pub mod Results
 pub mod Rows

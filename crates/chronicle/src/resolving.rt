@@ -1,24 +1,23 @@
 //! What a seat answers to requests.
-ghost use Rattle.std.specs.Prelude.{◌≡◌, ◌⊎◌, true, Err, IfErr, IfOk, IfSome};
-ghost use Rattle.chronicle.specs.Answers.{MayStop, NonePreferred, OnlyWhereNone, Resolves};
-ghost use Rattle.chronicle.specs.Journals.{packages_of};
-ghost use Rattle.chronicle.specs.Seats.{IsStopped, MayHaveSeen};
+ghost use Rattle.std.specs.Prelude.{◌≡◌, ◌⊎◌, true, Err, IfErr, IfOk, IfSome, Some, None};
+ghost use Rattle.solver.specs.Outcomes.{IsAnswer, IsLawful, MayStop, NonePreferred, answer_of};
+ghost use Rattle.chronicle.specs.Calls.{Resolve};
+ghost use Rattle.chronicle.specs.Journals.{packages_of, stamp_of};
+ghost use Rattle.chronicle.specs.Seats.{HasCalled, IsStopped, told_of};
 
 use crate::entry::Stamp;
 use crate::seat::Seat;
-use derivations::derivations_refute;
 use registry::Request;
-use solver::{Options, Outcome, solve_with};
+use solver::{Options, Outcome, an_outcome_is_the_answer, solve_with};
 use versions::Refusal;
 
 impl<'a> Seat<'a> {
     /// Resolves a request at the place where the seat then stands, which the stamp names: by the newest
     /// selection, or by why there is none. Errors are [`Refusal::NoMemory`] and [`Refusal::Stray`].
     pub fn resolve(&mut self, request: &Request) -> Result<(Stamp, Outcome), Refusal>
-        ensures seen { MayHaveSeen self.old self.new }
         ensures again { IfSome self.old.stray (λ e. result ≡ Err Refusal.Stray) }
-        ensures answered { IfOk result (λ r. Resolves self.new.journal request.now true r.0.place r.0.revision r.1) }
-        ensures none { IfOk result (λ r. OnlyWhereNone (packages_of self.new.journal) request.now r.1) }
+        ensures call { HasCalled self.old self.new (Resolve request.now None) (told_of result) }
+        ensures lawful { IfOk result (λ r. IsLawful (packages_of self.new.journal) request.now true r.1) }
         ensures reason { IfErr result (IsStopped self.new) }
     {
         self.resolve_with(
@@ -38,10 +37,9 @@ impl<'a> Seat<'a> {
         request: &Request,
         budget: u32,
     ) -> Result<(Stamp, Outcome), Refusal>
-        ensures seen { MayHaveSeen self.old self.new }
         ensures again { IfSome self.old.stray (λ e. result ≡ Err Refusal.Stray) }
-        ensures answered { IfOk result (λ r. Resolves self.new.journal request.now true r.0.place r.0.revision r.1) }
-        ensures none { IfOk result (λ r. OnlyWhereNone (packages_of self.new.journal) request.now r.1) }
+        ensures call { HasCalled self.old self.new (Resolve request.now (Some budget)) (told_of result) }
+        ensures lawful { IfOk result (λ r. IsLawful (packages_of self.new.journal) request.now true r.1) }
         ensures reason { IfErr result (λ e. IsStopped self.new e ⊎ ((e ≡ Refusal.BudgetSpent) × NonePreferred (packages_of self.new.journal) request.now)) }
     {
         self.resolve_with(
@@ -59,10 +57,9 @@ impl<'a> Seat<'a> {
         request: &Request,
         options: Options,
     ) -> Result<(Stamp, Outcome), Refusal>
-        ensures seen { MayHaveSeen self.old self.new }
         ensures again { IfSome self.old.stray (λ e. result ≡ Err Refusal.Stray) }
-        ensures answered { IfOk result (λ r. Resolves self.new.journal request.now options.explain r.0.place r.0.revision r.1) }
-        ensures none { IfOk result (λ r. OnlyWhereNone (packages_of self.new.journal) request.now r.1) }
+        ensures call { HasCalled self.old self.new (Resolve request.now options.budget) (told_of result) }
+        ensures lawful { IfOk result (λ r. IsLawful (packages_of self.new.journal) request.now options.explain r.1) }
         ensures reason { IfErr result (λ e. IsStopped self.new e ⊎ MayStop (packages_of self.new.journal) request.now options.budget e) }
     {
         self.catch_up()?;
@@ -76,15 +73,14 @@ fn answer_here(
     request: &Request,
     options: Options,
 ) -> Result<(Stamp, Outcome), Refusal>
-    ensures answered { IfOk result (λ r. Resolves seat.now.journal request.now options.explain r.0.place r.0.revision r.1) }
-    ensures none { IfOk result (λ r. OnlyWhereNone (packages_of seat.now.journal) request.now r.1) }
+    ensures stamp { IfOk result (λ r. r.0 ≡ stamp_of seat.now.journal) }
+    ensures lawful { IfOk result (λ r. IsLawful (packages_of seat.now.journal) request.now options.explain r.1) }
+    ensures answer { IfOk result (λ r. IsAnswer (packages_of seat.now.journal) request.now (answer_of r.1)) }
     ensures only { IfErr result (MayStop (packages_of seat.now.journal) request.now options.budget) }
 {
-    derivations_refute();
+    an_outcome_is_the_answer();
     let stamp = seat.stamp();
     let registry = seat.registry();
-    // That commands made the registry is told with its revision.
-    let _revision = registry.revision();
     let outcome = solve_with(seat.alloc(), registry, request, seat.store(), options)?;
     Ok((stamp, outcome))
 }

@@ -1,13 +1,8 @@
 //! What a refusal rests on: few of the incompatibilities, mostly.
 
-use crate::bits::Bits;
 use crate::engine::Engine;
-use crate::incompats::Term;
-use crate::origins::{Origin, Step};
 use crate::plain::is_plain;
-use crate::stop::{at, at_mut, count_of};
-use crate::trail::Entry;
-use oracle::Stop;
+use propagation::{Bits, Entry, Origin, Step, Stop, Term, at, at_mut, count_of};
 use std::alloc::{AllocError, Global};
 
 /// By how many steps what is told of what was learnt follows at most, all of it together: more is not offered to be

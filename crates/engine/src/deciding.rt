@@ -1,8 +1,7 @@
 //! Decisions (doc/solver.md, "Decision Making").
 
-use crate::bits::{Bits, choice_of};
 use crate::engine::{Engine, Verdict};
-use oracle::Stop;
+use propagation::{Bits, Stop, choice_of};
 use terms::Pkg;
 
 impl Engine<'_> {

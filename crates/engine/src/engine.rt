@@ -1,16 +1,13 @@
 //! The state of a search, and its turns (doc/solver.md, "The Algorithm").
 
-use crate::analysis::{Analysis, level_of};
-use crate::incompats::{Incompats, Term};
 use crate::opening::PageOf;
-use crate::order::Order;
-use crate::origins::{Step, learnt_from};
 use crate::pages::Paged;
-use crate::stop::count_of;
-use crate::trail::Trail;
 use crate::turn::Turn;
 use crate::view::View;
-use oracle::{Stop, Task};
+use oracle::Task;
+use propagation::{
+    Analysis, Incompats, Order, Step, Stop, Term, Trail, count_of, learnt_from, level_of,
+};
 
 /// For so many conflicts the dependencies of a version become incompatibilities when it is about to be
 /// decided, as in doc/solver.md. Few requests meet more, and those that do are hard. With 4 in place of 2

@@ -2,7 +2,8 @@
 
 use crate::engine::Engine;
 use crate::workspace::Workspace;
-use oracle::{Claim, Oracle, Stop, Task, Trace};
+use oracle::{Claim, Oracle, Task, Trace};
+use propagation::Stop;
 
 /// The engine, which is made once it is asked.
 #[derive(Drop)]

@@ -1,14 +1,10 @@
 //! Needs and dependencies become incompatibilities (doc/solver.md, "Decision Making").
 
-use crate::bits::{Bits, choice_of};
 use crate::engine::{Engine, Phase};
-use crate::incompats::Term;
 use crate::opening::PageOf;
-use crate::origins::Origin;
 use crate::pages::Page;
-use crate::stop::{at, at_mut, count_of};
 use crate::view::{Span, several_depend_alike};
-use oracle::Stop;
+use propagation::{Bits, Origin, Stop, Term, at, at_mut, choice_of, count_of};
 use terms::Pkg;
 use versions::Name;
 

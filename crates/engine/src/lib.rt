@@ -2,29 +2,21 @@
 //! there is no selection. It is proved to be safe and to end, and nothing else.
 #![tactic(auto)]
 
-mod analysis;
-mod bits;
 mod cited;
 mod deciding;
 mod engine;
 mod engine_oracle;
 mod entering;
-mod incompats;
 mod meeting;
 mod members;
 mod opening;
-mod order;
-mod origins;
 mod pages;
 mod plain;
 mod ruling;
-mod stop;
 mod trace;
-mod trail;
 mod turn;
 mod verdict;
 mod view;
-mod watches;
 mod workspace;
 
 pub use engine::Engine;

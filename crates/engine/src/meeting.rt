@@ -1,10 +1,9 @@
 //! What meets the requirements by which packages are reached.
 
-use crate::bits::{Bits, choice_of};
 use crate::engine::Engine;
-use crate::origins::Origin;
 use crate::view::Dependency;
-use oracle::{Stop, Task};
+use oracle::Task;
+use propagation::{Bits, Origin, Stop, choice_of};
 use terms::{Pkg, VSet};
 use versions::Need;
 

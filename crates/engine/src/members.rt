@@ -4,11 +4,7 @@
 // few of its conflicts again.
 
 use crate::engine::Engine;
-use crate::incompats::Term;
-use crate::origins::Origin;
-use crate::stop::count_of;
-use crate::trail::Trail;
-use oracle::Stop;
+use propagation::{Origin, Stop, Term, Trail, count_of};
 use std::mem;
 use terms::Pkg;
 

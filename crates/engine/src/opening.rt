@@ -1,14 +1,9 @@
 //! Pages come in, and what requirements say of them.
 
-use crate::bits::Bits;
 use crate::engine::Engine;
-use crate::incompats::Term;
 use crate::meeting::{choices_among, versions_meeting};
-use crate::origins::Origin;
 use crate::pages::{Page, Paged};
-use crate::stop::{at, at_mut, count_of, index_of};
-use crate::trail::Variable;
-use oracle::Stop;
+use propagation::{Bits, Origin, Stop, Term, Variable, at, at_mut, count_of, index_of};
 use terms::{Pkg, VSet};
 
 /// A page of a package: the number of the package among those that have pages, and that of the page.

@@ -13,11 +13,10 @@
 // what two lines say of the package on which they are resolved, and meets what they say of each other package. After a
 // step with a tie the terms on the package hold less often than before. So a line may say more than the engine knows.
 
-use crate::bits::{Bits, MOST_CHOICES, choice_of};
 use crate::cited::{is_set, unset};
-use crate::stop::{at, at_mut, count_of, index_of};
 use crate::view::Span;
-use oracle::{Stop, Task};
+use oracle::Task;
+use propagation::{Bits, MOST_CHOICES, Stop, at, at_mut, choice_of, count_of, index_of};
 use registry::{Matching, Registry};
 use std::alloc::{AllocError, Global};
 use std::cmp::Ordering;

@@ -6,10 +6,7 @@
 
 use crate::cited::is_set;
 use crate::engine::Engine;
-use crate::incompats::Term;
-use crate::origins::Origin;
-use crate::trail::Entry;
-use oracle::Stop;
+use propagation::{Entry, Origin, Stop, Term};
 
 /// Whether the package of a term comes before.
 fn is_passed(engine: &Engine<'_>, passed: &[bool], term: &Term) -> Result<bool, Stop> {

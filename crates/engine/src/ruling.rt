@@ -10,12 +10,9 @@
 
 use crate::cited::{Cited, is_set};
 use crate::engine::Engine;
-use crate::incompats::Term;
-use crate::origins::{Origin, Step as Kept};
-use crate::stop::{at, count_of};
 use crate::trace::Writer;
-use crate::trail::Entry;
-use oracle::{Record, Stop};
+use oracle::Record;
+use propagation::{Entry, Origin, Step as Kept, Stop, Term, at, count_of};
 
 impl Writer {
     // ---- the lines of entries

@@ -5,9 +5,8 @@
 
 use crate::cited::{Cited, cited_by, cited_by_learnt, cited_by_selection, is_set};
 use crate::engine::Engine;
-use crate::origins::{Origin, Step as Kept};
-use crate::stop::{at, count_of, index_of};
-use oracle::{Record, Step, Stop, Trace};
+use oracle::{Record, Step, Trace};
+use propagation::{Origin, Step as Kept, Stop, at, count_of, index_of};
 
 /// A trace that is being written.
 #[derive(Drop)]

@@ -4,11 +4,8 @@
 // A search that decides in this order, each package for its best version that is left, ends with the newest
 // selection.
 
-use crate::bits::Bits;
 use crate::engine::Engine;
-use crate::stop::{at_mut, count_of, rows_from};
-use crate::trail::Trail;
-use oracle::Stop;
+use propagation::{Bits, Stop, Trail, at_mut, count_of, rows_from};
 use std::alloc::Global;
 use std::cmp::Ordering;
 use terms::Pkg;

@@ -1,10 +1,10 @@
 //! What a search finds.
 
 use crate::engine::{Engine, Verdict};
-use crate::stop::count_of;
 use crate::trace::{trace_of, trace_of_learnt, trace_of_need, trace_of_selection};
 use indexmap::IndexMap;
-use oracle::{Claim, Stop, Trace};
+use oracle::{Claim, Trace};
+use propagation::{Stop, count_of};
 use terms::Pkg;
 
 impl Engine<'_> {

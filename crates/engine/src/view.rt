@@ -5,9 +5,7 @@
 // stand for the texts here, and what meets a requirement is read where it is kept: nothing is tested or looked up
 // by its text. If a place were wrong, so might be what the search claims: that is refused, and another search answers.
 
-use crate::bits::{Bits, choice_of};
-use crate::stop::{at, at_mut, count_of, index_of};
-use oracle::Stop;
+use propagation::{Bits, Stop, at, at_mut, choice_of, count_of, index_of};
 use registry::{Place, Registry};
 use std::alloc::Global;
 use std::mem;

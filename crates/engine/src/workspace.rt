@@ -2,18 +2,13 @@
 //
 // Most of what a search of few conflicts does is to take memory and to list dependencies.
 
-use crate::analysis::Analysis;
 use crate::engine::{Engine, Late, Phase};
-use crate::incompats::{Incompats, Term};
 use crate::opening::PageOf;
-use crate::order::Order;
-use crate::origins::Step;
 use crate::pages::Paged;
-use crate::stop::at_mut;
-use crate::trail::Trail;
 use crate::turn::Turn;
 use crate::view::View;
 use oracle::Task;
+use propagation::{Analysis, Incompats, Order, Step, Term, Trail, at_mut};
 use std::alloc::Global;
 
 /// The memory of a search that had more incompatibilities is not kept: some 4 MB.

@@ -3,12 +3,11 @@
 
 mod options;
 mod oracle;
-mod stop;
 mod task;
 mod trace;
 
 pub use options::Options;
 pub use oracle::{Claim, Oracle};
-pub use stop::Stop;
+pub use propagation::Stop;
 pub use task::Task;
 pub use trace::{Record, Step, Trace};

@@ -1,8 +1,8 @@
 //! Who is asked for the answer of a hard request. What it says is checked, so no proof rests on it.
 
-use crate::stop::Stop;
 use crate::trace::Trace;
 use indexmap::IndexMap;
+use propagation::Stop;
 use terms::Pkg;
 
 /// What an oracle claims.

@@ -21,6 +21,7 @@ mod registry_calls;
 mod seat_steps;
 mod session;
 mod solver_calls;
+mod team;
 mod term_calls;
 mod walk_calls;
 

@@ -1,12 +1,13 @@
 -- The seats of a race: their ways as backends, what they answer, and what a race prints.
-use Rattle.std.specs.Prelude.{◌≡◌, ◌⊎◌, ℕ, ◌+◌, List, [], ◌∷◌, ◌++◌, All, Contains, flat_map, length, Option, Some, None}
+use Rattle.std.specs.Prelude.{◌≡◌, ◌⊎◌, ℕ, ◌+◌, ◌-◌, ◌<◌, ◌≤◌, List, [], ◌∷◌, ◌++◌, All, Contains, flat_map, length, map, slice_get, slice_index, Ok, Option, Some, None}
 use Rattle.std.specs.Io.KnownBytes.{Appends}
 use Rattle.versions.specs.Words.{Text}
 use Rattle.versions.specs.declared.refusal.Refusal.TheVariants.{Stray}
 use Rattle.book.specs.declared.item.Item.{Item}
+use Rattle.chronicle.specs.Calls.{Enter}
 use Rattle.chronicle.specs.Cells.{Cells}
 use Rattle.chronicle.specs.Journals.{Begins, items_of, packages_of, refusal_at, revision_of}
-use Rattle.chronicle.specs.Seats.{Accepted, IsStray, MayHaveSeen, SeatState}
+use Rattle.chronicle.specs.Seats.{HasCalled, IsStray, MayHaveSeen, SeatState}
 use Rattle.chronicle.specs.declared.entry.Entry.{Entry}
 use Rattle.chronicle.specs.declared.entry.Stamp.{Stamp}
 use Rattle.chronicle.specs.declared.row.TheConstants.{CAPACITY_LIMIT}
@@ -37,7 +38,7 @@ seat_ways = record {
   standing = λ seat. record { revision = revision_of seat.journal; stamp = Some (record { place = length seat.journal; seat = seat.number }) };
   packages = λ seat. packages_of seat.journal;
   looks = MayHaveSeen;
-  enters = λ old i new. (stamp : Stamp) × Accepted old new i stamp;
+  enters = λ old i new. (stamp : Stamp) × HasCalled old new (Enter i) (Ok stamp);
   refusal = λ seat i. refusal_at seat.row.capacity seat.journal i;
   halts = λ seat refusal. (refusal ≡ Stray) × IsStray seat;
 }
@@ -63,14 +64,23 @@ AreRun settings row number [] (replies ∷ rest) all = ⊥
 AreRun settings row number (file ∷ files) [] all = ⊥
 AreRun settings row number (file ∷ files) (replies ∷ rest) [] = ⊥
 
--- There is a row of so many cells, and each file has its replies within such settings by a seat of it, which has seen a beginning of the journal. Unless the
--- journal is empty, one of them has seen all of it.
+-- the seat with this number came further than this place, where the seats came to these, in order of their numbers, which begin with 1
+abbrev pub IsOwn : List ℕ → ℕ → ℕ → Type 0
+IsOwn places seat at = (1 ≤ seat) × (at < slice_index places (seat - 1))
+
+-- each entry was seen by the seat whose number it bears
+abbrev pub AreOwn : List ℕ → List Entry → Type 0
+AreOwn places journal = (k : ℕ) (e : Entry) → slice_get journal k ≡ Some e → IsOwn places e.seat k
+
+-- There is a row of so many cells, and each file has its replies within such settings by a seat of it, which has seen a beginning of the journal, and in that
+-- each entry that bears its number. Unless the journal is empty, one of them has seen all of it.
 pub record IsRace (settings : Settings) (files : List Text) (journal : List Entry) (replies : List (List Reply)) : Type 0 where
   pub row : Cells
   pub sized : row.capacity ≡ CAPACITY_LIMIT
   pub seen : List (List Entry)
   pub runs : AreRun settings row 1 files replies seen
   pub begins : All (λ (entries : List Entry). Begins entries journal) seen
+  pub own : AreOwn (map length seen) journal
   pub whole : (journal ≡ []) ⊎ Contains seen journal
 
 -- ---- what is printed

@@ -1,26 +1,15 @@
 -- What words ask that were read.
-use Rattle.std.proofs.Common.{◌≡◌, ◌⊎◌, ◌<◌, ℕ, Bool, nat_eq, List, [], Option, None, Some, String, Global, inl, inr, refl, sym, subst, ap, arith, codes, length, true≢false, ◌∙◌}
-use Rattle.std.proofs.KnownBytes.{Keeps-refl}
-use Rattle.std.specs.Io.KnownBytes.{Appends}
+use Rattle.std.proofs.Common.{◌≡◌, ◌⊎◌, ◌<◌, ◌≤◌, ℕ, Bool, nat_eq, List, [], Option, None, Some, String, Vec, Global, inl, inr, sym, subst, ap, arith, codes, length, true≢false, ◌∙◌}
+use Rattle.std.proofs.lemmas.List.{length-map}
 use Rattle.std.specs.Option.{option_map_or}
 use Rattle.std.specs.Prelude.{IsSome, option_map, string_bytes}
 use Rattle.clap.specs.Words.{Row, Text, all_of, fault_of, first_of, subcommand_of}
-use Rattle.journals.specs.declared.load.LoadFault.{LoadFault}
-use Rattle.journals.specs.declared.load.LoadFault.TheVariants as unloaded
 use Rattle.command_line.specs.CommandLine.{program_app}
-use Rattle.endings.specs.Ending.{IsUnread, end_of_load, end_of_run}
-use Rattle.registryd.specs.CommandOutcomes.{BreaksFrom, Ends, Falls, HasBroken, HasFallen, HasHelped, HasKept, HasNoJournal, HasNotBegun, HasServed, HasStopped, ServesFrom, Stops, TellsOfFile}
-use Rattle.session.specs.Streams.{AreUntouched, streams}
-use Rattle.command_line.specs.Words.{AreMixed, AskToKeep, AskToRace, AskToServe, HasManyFiles, HasMixedFiles, IsKeep, IsServe, MayAskForHelp, Says}
+use Rattle.command_line.specs.Words.{AreMixed, AskForHelp, AskToKeep, AskToRace, AskToServe, HasManyFiles, HasMixedFiles, IsKeep, IsRaceOf, IsServe, Says, texts}
 use Rattle.command_line.specs.declared.words.TheConstants.{MOST_FILES}
-use Rattle.endings.specs.Shown.{shown_text}
-use Rattle.endings.specs.declared.fault.FileFault.{FileFault}
-use Rattle.endings.specs.declared.ends.End.TheVariants as end
-use Rattle.answers.specs.declared.fault.RunFault.{RunFault}
-use Rattle.answers.specs.declared.settings.Settings.{Settings}
-use Rattle.answers.specs.declared.fault.RunFault.TheVariants.{Input, Memory, Output}
 use Rattle.command_line.specs.declared.words.Words.{Words}
-use Rattle.command_line.specs.declared.words.Words.TheVariants.{Keep, Serve}
+use Rattle.command_line.specs.declared.words.Words.TheVariants.{Keep, Race, Serve}
+use Rattle.registryd.specs.Behaves.{AskForNothing}
 
 -- serving, with the files that are named
 serve_asked : (words : Words) (workers : ℕ) (budget : Option ℕ) (load save : Option (String Global)) (given : Option (Text × List Row)) (from to : Option Text) → Says words given
@@ -50,6 +39,21 @@ keep_asked words workers budget journal given name says is name_is =
 pub keep_asks : (line : List Text) (words : Words) (workers : ℕ) (budget : Option ℕ) (journal : String Global) (name : Text) → fault_of program_app line ≡ [] → Says words (subcommand_of program_app line)
     → words ≡ Keep workers budget journal → name ≡ string_bytes journal → AskToKeep line budget name
 keep_asks line words workers budget journal name taken says is name_is = (taken, keep_asked words workers budget journal (subcommand_of program_app line) name says is name_is)
+
+-- a race of these files
+race_asked : (words : Words) (files : Vec (String Global) Global) (names : List (String Global)) (given : Option (Text × List Row)) → Says words given → words ≡ Race files → names ≡ files.items
+    → IsRaceOf (length names) given
+race_asked words files names given says is names_are =
+    let read : Says (Race files) given = subst (λ (w : Words). Says w given) is says in
+    let same : length files.items ≡ length names = sym (ap (λ (l : List (String Global)). length l) names_are) in
+    elim read.1 [
+      | inl serve ↦ absurd serve.1
+      | inr race ↦ (read.0, texts files.items, race.0, sym race.1.2, length-map files.items string_bytes ∙ same, subst (λ (n : ℕ). n ≤ MOST_FILES) same race.1.1)
+    ]
+
+pub race_asks : (line : List Text) (words : Words) (files : Vec (String Global) Global) (names : List (String Global)) → fault_of program_app line ≡ [] → Says words (subcommand_of program_app line)
+    → words ≡ Race files → names ≡ files.items → AskToRace line (length names)
+race_asks line words files names taken says is names_are = (taken, race_asked words files names (subcommand_of program_app line) says is names_are)
 
 -- ---- words that ask for nothing
 
@@ -105,57 +109,5 @@ module _ (line : List Text) (bad : fault_of program_app line ≡ [] → HasManyF
           let len : length files ≡ length found = ap (λ (o : Option (List Text)). option_map_or (λ (l : List Text). length l) o 0) same in
           omega arith
 
--- how the program ends where a journal isn't loaded
-pub load_ends : (fault : LoadFault) → IsUnread (end_of_load fault)
-load_ends (unloaded.Line line) = tt
-load_ends unloaded.Memory = tt
-load_ends unloaded.Input = tt
-
--- ---- what comes of the words
-
-module _ (words : List Text) (r0 r w0 w : Option (List ℕ)) (settings : Settings) (load save : Option Text) (asked : AskToServe words settings.budget load save) where
-  pub has_served : (lines_in : List ℕ → List (List ℕ)) → ServesFrom settings load (streams r0 r w0 w) lines_in → HasServed words (streams r0 r w0 w) lines_in
-  has_served lines_in (loaded, items, begins, serves) =
-      record { settings = settings; load = load; save = save; asked = asked; loaded = loaded; begins = begins; accepted = items; serves = serves }
-
-  pub has_broken : BreaksFrom settings load (streams r0 r w0 w) → HasBroken words (streams r0 r w0 w)
-  has_broken (loaded, begins, breaks) = record { settings = settings; load = load; save = save; asked = asked; loaded = loaded; begins = begins; breaks = breaks }
-
--- a journal is named
-pub has_no_journal : (words : List Text) (r0 r w0 w : Option (List ℕ)) (settings : Settings) (load save : Option Text) → AskToServe words settings.budget load save → IsSome load → AreUntouched (streams r0 r w0 w)
-    → HasNoJournal words (streams r0 r w0 w)
-has_no_journal words r0 r w0 w settings None save asked some none = absurd (true≢false (sym some))
-has_no_journal words r0 r w0 w settings (Some load) save asked some none = record { settings = settings; load = load; save = save; asked = asked; none = none }
-
--- a journal is kept
-module _ (words : List Text) (r0 r w0 w : Option (List ℕ)) (settings : Settings) (journal : Text) (asked : AskToKeep words settings.budget journal) where
-  pub has_kept : Ends settings (streams r0 r w0 w) → HasKept words (streams r0 r w0 w)
-  has_kept ends = record { settings = settings; journal = journal; asked = asked; ends = ends }
-
-  pub has_stopped : Stops settings (streams r0 r w0 w) → HasStopped words (streams r0 r w0 w)
-  has_stopped stops = record { settings = settings; journal = journal; asked = asked; stops = stops }
-
-  pub has_fallen : Falls settings (streams r0 r w0 w) → HasFallen words (streams r0 r w0 w)
-  has_fallen falls = record { settings = settings; journal = journal; asked = asked; falls = falls }
-
-  pub has_not_begun : AreUntouched (streams r0 r w0 w) → HasNotBegun words (streams r0 r w0 w)
-  has_not_begun none = record { settings = settings; journal = journal; asked = asked; none = none }
-
-pub tells_of_file : (words : List Text) (settings : Settings) (journal : Text) → AskToKeep words settings.budget journal → (fault : FileFault) → fault.name.items ≡ shown_text journal → TellsOfFile words fault
-tells_of_file words settings journal asked fault named = record { settings = settings; journal = journal; asked = asked; named = named }
-
--- help is asked for, and a text is written
-pub has_helped : (words : List Text) (r w0 w : Option (List ℕ)) → MayAskForHelp words → (text : List ℕ) × Appends w0 w text → HasHelped words (streams r r w0 w)
-has_helped words r w0 w asked (text, written) = record { asked = asked; read = Keeps-refl r; text = text; written = written }
-
--- an end that tells a failed read comes of one
-pub input_ended : (fault : RunFault) → end_of_run fault ≡ end.Input → fault ≡ Input
-input_ended Input is = refl
-input_ended Output is = cc
-input_ended Memory is = cc
-
--- an end that tells a failed write comes of one
-pub output_ended : (fault : RunFault) → end_of_run fault ≡ end.Output → fault ≡ Output
-output_ended Input is = cc
-output_ended Output is = refl
-output_ended Memory is = cc
+  pub asks_for_nothing : (AskForHelp line → ⊥) → AskForNothing line
+  asks_for_nothing help = record { serve = asks_no_serve; keep = asks_no_keep; race = asks_no_race; help = help }

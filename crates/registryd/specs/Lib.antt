@@ -1,3 +1,10 @@
+pub mod Behaves
+pub mod Calls
 pub mod CommandOutcomes
+pub mod Ending
+pub mod Faults
+pub mod FoundFiles
 pub mod Repairs
+pub mod Shown
+pub mod Targets
 pub mod Unbegun

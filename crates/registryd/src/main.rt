@@ -3,6 +3,9 @@
 
 ghost use Rattle.std.specs.Prelude.{◌≡◌, drop};
 
+mod device_calls;
+mod ends;
+mod fault;
 mod files;
 mod folder;
 mod freed;
@@ -11,49 +14,61 @@ mod journal_file;
 mod links;
 mod recovered;
 mod run_command;
+mod run_program;
 mod system;
 mod target;
+mod written;
 
-use command_line::{Words, advice_on, read_words};
-use endings::{End, ending};
+use command_line::{Words, read_words};
+use device_calls::PlainCalls;
+use ends::End;
 use freed::keep_what_is_freed;
 use lines::write_text;
-use run_command::{CommandOutcome, run_command};
+use run_program::{Exit, run_program};
 use std::alloc::{Alloc, Global};
 use std::env::Env;
-use std::io::{IsTerminal, Write};
+use std::io::{ErrorKind, IsTerminal, Write};
 use std::process::ExitCode;
 use std::{env, io};
+use written::ending;
 
 // What a session at a terminal says before its first line.
 const WAITING: &str =
     "registryd: waiting for request lines, such as {\"op\":\"list\"}; Ctrl-D ends them\n";
 
 fn main(rt: HostRuntime) -> ExitCode {
-    let end = match begin(&rt) {
+    match begin(&rt) {
         Ok(words) => {
             let words = after_name(words.as_slice());
             let mut input = rt.stdin();
             if input.is_terminal() {
                 greet(rt.alloc(), words, &mut rt.stderr());
             }
-            let CommandOutcome { end, writer: _ } = run_command(
+            let Exit {
+                status,
+                writer: _,
+                calls: _,
+            } = run_program(
                 &rt,
                 rt.alloc(),
                 words,
                 &mut input,
                 rt.stdout(),
+                &mut rt.stderr(),
+                PlainCalls,
             );
-            if matches!(end, End::Words) {
-                advise(rt.alloc(), words, &mut rt.stderr());
-            }
-            end
+            ExitCode::from(status)
         }
-        Err(e) if e.kind() == io::ErrorKind::OutOfMemory => End::Memory,
-        // A word is no text.
-        Err(_) => End::Words,
-    };
-    ExitCode::from(ending(&end, &mut rt.stderr()))
+        Err(e) => ExitCode::from(ending(&end_without_words(&e), &mut rt.stderr())),
+    }
+}
+
+// How the program ends where its words are not had: memory lacks, or a word is no text.
+fn end_without_words(e: &io::Error) -> End {
+    match e.kind() {
+        ErrorKind::OutOfMemory => End::Memory,
+        _ => End::Words,
+    }
 }
 
 // Settles what is done with freed memory, and gives the words of the command line.
@@ -71,13 +86,6 @@ fn words_given<R: Env + Alloc>(rt: &R) -> io::Result<Vec<String<R::A>, R::A>> {
 fn greet<W: Write>(alloc: Global, words: &[String], writer: &mut W) {
     if let Ok(Words::Serve { .. } | Words::Keep { .. }) = read_words(alloc, words) {
         let _ = write_text(writer, WAITING.as_bytes());
-    }
-}
-
-// Tells what is wrong in the words. What can't be written is given up: the status tells that something is.
-fn advise<W: Write>(alloc: Global, words: &[String], writer: &mut W) {
-    if let Ok(text) = advice_on(alloc, words) {
-        let _ = write_text(writer, text.as_bytes());
     }
 }
 

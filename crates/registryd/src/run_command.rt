@@ -1,23 +1,22 @@
 //! What the words of the command line ask for, done.
-ghost use Rattle.std.specs.Prelude.{◌≡◌, ◌≢◌, ◌⊎◌, ◌<◌, ◌≤◌, ℕ, List, length, option_map, string_bytes, vec_len, IfOk, IsSome, None, Some, Option};
-ghost use Rattle.std.specs.Io.KnownBytes.{Appends, Keeps, IsAtEnd};
-ghost use Rattle.versions.specs.Words.{Text};
-ghost use Rattle.book.specs.declared.item.Item.{Item};
-ghost use Rattle.lines.specs.Lines.{lines_of, whole_lines_of};
-ghost use Rattle.registryd.specs.CommandOutcomes.{AskForNothing, BreaksFrom, Ends, Falls, FallsAtMost, HasEnded, HasLostInput, HasLostJournal, HasLostOutput};
-ghost use Rattle.registryd.specs.CommandOutcomes.{HasNoJournal, ServesFrom, Stops};
-ghost use Rattle.endings.specs.Shown.{shown_text};
-ghost use Rattle.endings.specs.declared.fault.Failure.{Failure};
-ghost use Rattle.endings.specs.declared.fault.FileFault.{FileFault};
-ghost use Rattle.race.specs.Racing.{Races, RacesInPart};
+ghost use Rattle.std.specs.Prelude.{◌≡◌, ◌≢◌, ◌<◌, ◌≤◌, ℕ, length, option_map, string_bytes, vec_len, IfOk};
 ghost use Rattle.session.specs.SessionState.{MayBeServed};
 ghost use Rattle.journals.specs.Files.{IsHistory};
 ghost use Rattle.journals.specs.declared.format.Format.TheVariants.{Two};
-ghost use Rattle.session.specs.Session.{Serves, Breaks};
-ghost use Rattle.session.specs.Streams.{AreUntouched, streams_of};
-ghost use Rattle.command_line.specs.Words.{AskForHelp, AskToKeep, AskToRace, AskToServe, texts};
+ghost use Rattle.session.specs.Step.{state_of};
+ghost use Rattle.session.specs.Streams.{streams_of};
+ghost use Rattle.command_line.specs.Words.{texts};
 ghost use Rattle.command_line.specs.declared.words.TheConstants.{MOST_FILES, MOST_WORKERS};
+ghost use Rattle.registryd.specs.Behaves.{Behaves, HasHelped, HasKept, HasRaced, HasServed, HasServedFrom};
+ghost use Rattle.registryd.specs.Calls.{file_view, io_of};
+ghost use Rattle.registryd.specs.FoundFiles.{IsFoundIn};
+ghost use Rattle.registryd.specs.Shown.{shown_text};
+ghost use Rattle.registryd.specs.declared.fault.Failure.{Failure};
+ghost use Rattle.registryd.specs.declared.fault.FileFault.{FileFault};
 
+use crate::device_calls::DeviceCalls;
+use crate::ends::{End, end_of_making, end_of_read};
+use crate::fault::{Failure, shown, told};
 use crate::files::loaded_from;
 use crate::journal_devices::JournalDevices;
 use crate::journal_file::{Opened, open_journal};
@@ -26,55 +25,44 @@ use crate::system::SystemFile;
 use crate::target::{Target, saved_to, target_of};
 use answers::{RunFault, Settings};
 use command_line::{WordFault, Words, advice_on, read_words};
-use endings::{End, Failure, end_of_making, end_of_read, shown, told};
 use lines::write_text;
 use race::race;
 use session::{SessionState, serve_durably, serve_session};
 use std::alloc::Global;
-use std::fs::OpenFile;
 use std::io::{Read, Write};
 use std::rt::Files;
 use std::sync::Wait;
 use std::thread::Threads;
 use std::{fs, io, mem};
 
-/// How the program ends, and the writer of replies with what it took.
-pub struct CommandOutcome<W> {
+/// How the program ends, the writer of replies with what it took, and who made the calls at a kept journal.
+pub struct CommandOutcome<W, C> {
     pub end: End,
     pub writer: W,
+    pub calls: C,
 }
 
 /// Does what the words after the program's name ask for, over standard input and output, and tells
 /// how that ended.
-pub fn run_command<H: Wait + Threads + Sync + Files + AllocGlobal, R: Read, W: Write>(
+pub fn run_command<
+    H: Wait + Threads + Sync + Files + AllocGlobal,
+    R: Read,
+    W: Write,
+    C: DeviceCalls,
+>(
     rt: &H,
     alloc: Global,
     words: &[String],
     reader: &mut R,
     writer: W,
-) -> CommandOutcome<W>
+    calls: C,
+) -> CommandOutcome<W, C>
 where
     H::File: SystemFile,
-    // Each line has its lawful reply, in order; those of a race by one journal, which is printed. Of a journal that is kept, each
-    // went out once what it rests on was durable. Words that ask for help get that.
-    ensures done { result.end ≡ End.Done → HasEnded (texts words.now) (streams_of R.remaining W.contents reader.old reader.new writer result.writer) }
-    // Each whole line that was read has its lawful reply. Without a journal to begin from none is read, and of a race nothing is written.
-    ensures input { result.end ≡ End.Input → HasLostInput (texts words.now) (streams_of R.remaining W.contents reader.old reader.new writer result.writer) }
-    // A beginning of the lawful replies, or of the help, is written; or all replies, and the journal is not saved.
-    ensures output { result.end ≡ End.Output → HasLostOutput (texts words.now) (streams_of R.remaining W.contents reader.old reader.new writer result.writer) }
-    // A line of the journal to begin from is at fault.
-    ensures journal { (line : ℕ) → result.end ≡ End.Journal line
-        → HasNoJournal (texts words.now) (streams_of R.remaining W.contents reader.old reader.new writer result.writer) }
-    // Something is the matter with the journal that is kept, and it is told of its name: nothing was read or written, or a
-    // beginning of the lawful replies is, each of which rests on what is durable.
-    ensures kept { (fault : FileFault) → result.end ≡ End.Kept fault
-        → HasLostJournal (texts words.now) (streams_of R.remaining W.contents reader.old reader.new writer result.writer) fault }
-    // Nothing was read or written.
-    ensures memory { result.end ≡ End.Memory → AreUntouched (streams_of R.remaining W.contents reader.old reader.new writer result.writer) }
-    // Nothing was read or written, and the words ask neither to serve nor for a race, nor for help alone.
-    ensures words { result.end ≡ End.Words → Keeps (R.remaining reader.old) (R.remaining reader.new) × AskForNothing (texts words.now) }
-    ensures quiet { result.end ≡ End.Words → Keeps (W.contents writer) (W.contents result.writer) }
-    ensures no_help { result.end ≡ End.Words → AskForHelp (texts words.now) → ⊥ }
+    // Each line that was read has its lawful reply, in order, as far as it went; those of a race by one journal, which is printed. Of a
+    // journal that is kept, each reply went out once what it rests on was durable.
+    ensures { Behaves (texts words.now) (io_of (streams_of R.remaining W.contents reader.old reader.new writer result.writer)
+        (C.events calls) (C.events result.calls) (file_view H.File.remaining H.File.contents H.File.bytes)) result.end }
 {
     let mut writer = writer;
     match read_words(alloc, words) {
@@ -90,7 +78,7 @@ where
             let from = lent_name(&load);
             let to = lent_name(&save);
             let end = serve(rt, alloc, reader, &mut writer, workers, settings, from, to);
-            CommandOutcome { end, writer }
+            CommandOutcome { end, writer, calls }
         }
         Ok(
             Words::Keep {
@@ -105,27 +93,29 @@ where
                 alloc,
                 reader,
                 writer,
+                calls,
                 workers,
                 settings,
                 journal.as_str(),
             )
         }
         Ok(Words::Race { files }) => {
-            let settings = Settings { budget: None };
-            let end = race_files(rt, alloc, settings, files.as_slice(), &mut writer);
-            CommandOutcome { end, writer }
+            let end = race_files(rt, alloc, files.as_slice(), &mut writer);
+            CommandOutcome { end, writer, calls }
         }
         Err(WordFault::Help) => {
             let end = show_help(alloc, words, &mut writer);
-            CommandOutcome { end, writer }
+            CommandOutcome { end, writer, calls }
         }
         Err(WordFault::Bad) => CommandOutcome {
             end: End::Words,
             writer,
+            calls,
         },
         Err(WordFault::Memory) => CommandOutcome {
             end: End::Memory,
             writer,
+            calls,
         },
     }
 }
@@ -155,20 +145,7 @@ fn serve<H: Threads + Wait + Sync + Files, R: Read, W: Write>(
 where
     H::File: SystemFile,
     requires { (1 ≤ workers) × (workers ≤ MOST_WORKERS) }
-    ensures done { result ≡ End.Done → IsAtEnd (R.remaining reader.new)
-        × ServesFrom settings (option_map (λ t. t.now) load.entry) (streams_of R.remaining W.contents reader.old reader.new writer.old writer.new) lines_of }
-    ensures input { result ≡ End.Input
-        → ServesFrom settings (option_map (λ t. t.now) load.entry) (streams_of R.remaining W.contents reader.old reader.new writer.old writer.new) whole_lines_of
-        ⊎ (IsSome (option_map (λ t. t.now) load.entry) × AreUntouched (streams_of R.remaining W.contents reader.old reader.new writer.old writer.new)) }
-    ensures output { result ≡ End.Output
-        → BreaksFrom settings (option_map (λ t. t.now) load.entry) (streams_of R.remaining W.contents reader.old reader.new writer.old writer.new)
-        ⊎ (IsAtEnd (R.remaining reader.new)
-        × ServesFrom settings (option_map (λ t. t.now) load.entry) (streams_of R.remaining W.contents reader.old reader.new writer.old writer.new) lines_of) }
-    ensures journal { (line : ℕ) → result ≡ End.Journal line → IsSome (option_map (λ t. t.now) load.entry)
-        × AreUntouched (streams_of R.remaining W.contents reader.old reader.new writer.old writer.new) }
-    ensures memory { result ≡ End.Memory → AreUntouched (streams_of R.remaining W.contents reader.old reader.new writer.old writer.new) }
-    ensures kept { (fault : FileFault) → result ≢ End.Kept fault }
-    ensures words { result ≢ End.Words }
+    ensures { HasServedFrom H.File.remaining settings (option_map (λ t. t.now) load.entry) (streams_of R.remaining W.contents reader.old reader.new writer.old writer.new) result }
 {
     match loaded_from(rt, alloc, load) {
         Ok(served) => serve_to(rt, alloc, reader, writer, workers, settings, served, save),
@@ -190,19 +167,7 @@ fn serve_to<H: Threads + Wait + Sync + Files, R: Read, W: Write>(
 where
     H::File: SystemFile,
     requires { (1 ≤ workers) × (workers ≤ MOST_WORKERS) }
-    ensures done { result ≡ End.Done → IsAtEnd (R.remaining reader.new) × ((accepted : List Item)
-        × Serves settings (streams_of R.remaining W.contents reader.old reader.new writer.old writer.new) lines_of begun accepted) }
-    ensures input { result ≡ End.Input → (accepted : List Item)
-        × Serves settings (streams_of R.remaining W.contents reader.old reader.new writer.old writer.new) whole_lines_of begun accepted }
-    ensures output { result ≡ End.Output
-        → Breaks settings (streams_of R.remaining W.contents reader.old reader.new writer.old writer.new) begun
-        ⊎ (IsAtEnd (R.remaining reader.new) × ((accepted : List Item)
-        × Serves settings (streams_of R.remaining W.contents reader.old reader.new writer.old writer.new) lines_of begun accepted)) }
-    ensures memory { result ≡ End.Memory
-        → AreUntouched (streams_of R.remaining W.contents reader.old reader.new writer.old writer.new) }
-    ensures kept { (fault : FileFault) → result ≢ End.Kept fault }
-    ensures words { result ≢ End.Words }
-    ensures no_journal { (line : ℕ) → result ≢ End.Journal line }
+    ensures { HasServed settings (state_of begun) (streams_of R.remaining W.contents reader.old reader.new writer.old writer.new) result }
 {
     match target_of(rt, alloc, save) {
         Ok(target) => serve_from(rt, alloc, reader, writer, workers, settings, begun, target),
@@ -227,19 +192,7 @@ fn serve_from<H: Threads + Wait + Sync + Files, R: Read, W: Write>(
 where
     H::File: SystemFile,
     requires { (1 ≤ workers) × (workers ≤ MOST_WORKERS) }
-    ensures done { result ≡ End.Done → IsAtEnd (R.remaining reader.new) × ((accepted : List Item)
-        × Serves settings (streams_of R.remaining W.contents reader.old reader.new writer.old writer.new) lines_of begun accepted) }
-    ensures input { result ≡ End.Input → (accepted : List Item)
-        × Serves settings (streams_of R.remaining W.contents reader.old reader.new writer.old writer.new) whole_lines_of begun accepted }
-    ensures output { result ≡ End.Output
-        → Breaks settings (streams_of R.remaining W.contents reader.old reader.new writer.old writer.new) begun
-        ⊎ (IsAtEnd (R.remaining reader.new) × ((accepted : List Item)
-        × Serves settings (streams_of R.remaining W.contents reader.old reader.new writer.old writer.new) lines_of begun accepted)) }
-    ensures memory { result ≡ End.Memory
-        → AreUntouched (streams_of R.remaining W.contents reader.old reader.new writer.old writer.new) }
-    ensures kept { (fault : FileFault) → result ≢ End.Kept fault }
-    ensures words { result ≢ End.Words }
-    ensures no_journal { (line : ℕ) → result ≢ End.Journal line }
+    ensures { HasServed settings (state_of begun) (streams_of R.remaining W.contents reader.old reader.new writer.old writer.new) result }
 {
     match serve_session(rt, alloc, reader, writer, begun, workers, settings) {
         Ok(served) => {
@@ -253,40 +206,37 @@ where
 }
 
 /// Serves the lines of a reader, with a journal's file that has what was accepted before it is told.
-fn keep<H: Threads + Wait + Sync + Files, R: Read, W: Write>(
+fn keep<H: Threads + Wait + Sync + Files, R: Read, W: Write, C: DeviceCalls>(
     rt: &H,
     alloc: Global,
     reader: &mut R,
     writer: W,
+    calls: C,
     workers: usize,
     settings: Settings,
     journal: &str,
-) -> CommandOutcome<W>
+) -> CommandOutcome<W, C>
 where
     H::File: SystemFile,
     requires { (1 ≤ workers) × (workers ≤ MOST_WORKERS) }
-    ensures done { result.end ≡ End.Done → Ends settings (streams_of R.remaining W.contents reader.old reader.new writer result.writer) }
-    ensures input { result.end ≡ End.Input → Stops settings (streams_of R.remaining W.contents reader.old reader.new writer result.writer) }
-    ensures output { result.end ≡ End.Output → Falls settings (streams_of R.remaining W.contents reader.old reader.new writer result.writer) }
-    ensures kept { (fault : FileFault) → result.end ≡ End.Kept fault → (fault.name.items ≡ shown_text journal.now)
-        × FallsAtMost settings (streams_of R.remaining W.contents reader.old reader.new writer result.writer) }
-    ensures memory { result.end ≡ End.Memory → AreUntouched (streams_of R.remaining W.contents reader.old reader.new writer result.writer) }
-    ensures words { result.end ≢ End.Words }
-    ensures no_journal { (line : ℕ) → result.end ≢ End.Journal line }
+    ensures { HasKept settings journal.now (io_of (streams_of R.remaining W.contents reader.old reader.new writer result.writer)
+        (C.events calls) (C.events result.calls) (file_view H.File.remaining H.File.contents H.File.bytes)) result.end }
 {
     let Ok(name) = shown(alloc, journal) else {
         return CommandOutcome {
             end: End::Memory,
             writer,
+            calls,
         };
     };
     match open_journal(rt, alloc, journal) {
         Ok(opened) => keep_in(
-            rt, alloc, reader, writer, workers, settings, journal, name, opened,
+            rt, alloc, reader, writer, calls, workers, settings, journal, name, opened,
         ),
         Err(why) => CommandOutcome {
             end: end_without(alloc, name, why),
             writer,
+            calls,
         },
     }
 }
@@ -309,33 +259,31 @@ fn end_without(alloc: Global, name: Vec<u8>, why: Unbegun) -> End
 }
 
 /// Serves the lines of a reader by a session that stands already, whose journal is in a file.
-fn keep_in<H: Threads + Wait + Sync + Files, R: Read, F: Write + OpenFile + Drop, W: Write>(
+fn keep_in<
+    H: Threads + Wait + Sync + Files,
+    R: Read,
+    F: Read + Write + SystemFile + Drop,
+    W: Write,
+    C: DeviceCalls,
+>(
     rt: &H,
     alloc: Global,
     reader: &mut R,
     writer: W,
+    calls: C,
     workers: usize,
     settings: Settings,
     journal: &str,
     name: Vec<u8>,
     opened: Opened<F>,
-) -> CommandOutcome<W>
+) -> CommandOutcome<W, C>
     requires workers { (1 ≤ workers) × (workers ≤ MOST_WORKERS) }
     requires served { MayBeServed opened.begun }
     requires history { IsHistory Two opened.begun }
-    // Each line has its lawful reply, and at the end the file has the lines of all items.
-    ensures done { result.end ≡ End.Done → Ends settings (streams_of R.remaining W.contents reader.old reader.new writer result.writer) }
-    // Each whole line that was read has its lawful reply.
-    ensures input { result.end ≡ End.Input → Stops settings (streams_of R.remaining W.contents reader.old reader.new writer result.writer) }
-    // A beginning of the lawful replies is written.
-    ensures output { result.end ≡ End.Output → Falls settings (streams_of R.remaining W.contents reader.old reader.new writer result.writer) }
-    // The same, and a call failed at the file, whose name is told.
-    ensures fallen { (fault : FileFault) → result.end ≡ End.Kept fault
-        → Falls settings (streams_of R.remaining W.contents reader.old reader.new writer result.writer) }
-    ensures kept { (fault : FileFault) → result.end ≡ End.Kept fault → fault.name ≡ name }
-    ensures memory { result.end ≡ End.Memory → AreUntouched (streams_of R.remaining W.contents reader.old reader.new writer result.writer) }
-    ensures words { result.end ≢ End.Words }
-    ensures no_journal { (line : ℕ) → result.end ≢ End.Journal line }
+    requires found { IsFoundIn F.remaining F.bytes opened.begun opened.file }
+    requires named { name.items ≡ shown_text journal.now }
+    ensures { HasKept settings journal.now (io_of (streams_of R.remaining W.contents reader.old reader.new writer result.writer)
+        (C.events calls) (C.events result.calls) (file_view F.remaining F.contents F.bytes)) result.end }
 {
     let Opened {
         file,
@@ -348,6 +296,7 @@ fn keep_in<H: Threads + Wait + Sync + Files, R: Read, F: Write + OpenFile + Drop
         name: journal,
         file,
         replies: writer,
+        calls,
         held,
         len,
         failure: None,
@@ -358,6 +307,7 @@ fn keep_in<H: Threads + Wait + Sync + Files, R: Read, F: Write + OpenFile + Drop
         name: _,
         file,
         replies: writer,
+        calls,
         held: _,
         len: _,
         failure,
@@ -370,11 +320,13 @@ fn keep_in<H: Threads + Wait + Sync + Files, R: Read, F: Write + OpenFile + Drop
             CommandOutcome {
                 end: End::Done,
                 writer,
+                calls,
             }
         }
         Err(fault) => CommandOutcome {
             end: end_of_keeping(alloc, name, fault, failure),
             writer,
+            calls,
         },
     }
 }
@@ -396,27 +348,19 @@ fn end_of_keeping(alloc: Global, name: Vec<u8>, fault: RunFault, failure: Option
     }
 }
 
-/// Runs the race of these files within these settings. Each file is read whole first.
+/// Runs the race of these files. Each file is read whole first.
 fn race_files<H: Threads + Sync + Files + AllocGlobal, W: Write>(
     rt: &H,
     alloc: Global,
-    settings: Settings,
     names: &[String],
     writer: &mut W,
 ) -> End
     requires some { 0 < length names.now }
     requires few { length names.now ≤ MOST_FILES }
-    ensures done { result ≡ End.Done → (files : List Text) × (length files ≡ length names.now) × Races settings (W.contents writer.old) (W.contents writer.new) files }
-    ensures input { result ≡ End.Input → Keeps (W.contents writer.old) (W.contents writer.new) }
-    ensures output { result ≡ End.Output → (files : List Text) × (length files ≡ length names.now)
-        × (Keeps (W.contents writer.old) (W.contents writer.new) ⊎ RacesInPart settings (W.contents writer.old) (W.contents writer.new) files) }
-    ensures memory { result ≡ End.Memory → Keeps (W.contents writer.old) (W.contents writer.new) }
-    ensures kept { (fault : FileFault) → result ≢ End.Kept fault }
-    ensures words { result ≢ End.Words }
-    ensures no_journal { (line : ℕ) → result ≢ End.Journal line }
+    ensures { HasRaced (length names.now) (W.contents writer.old) (W.contents writer.new) result }
 {
     match read_files(rt, alloc, names) {
-        Ok(files) => match race(rt, alloc, files, writer, settings) {
+        Ok(files) => match race(rt, alloc, files, writer, Settings { budget: None }) {
             Ok(()) => End::Done,
             Err(fault) => End::from(fault),
         },
@@ -441,12 +385,7 @@ fn read_files<H: Files + AllocGlobal>(
 
 /// Writes the help that these words ask for.
 fn show_help<W: Write>(alloc: Global, words: &[String], writer: &mut W) -> End
-    ensures shown { (text : List ℕ) × Appends (W.contents writer.old) (W.contents writer.new) text }
-    ensures memory { result ≡ End.Memory → Keeps (W.contents writer.old) (W.contents writer.new) }
-    ensures input { result ≢ End.Input }
-    ensures kept { (fault : FileFault) → result ≢ End.Kept fault }
-    ensures words { result ≢ End.Words }
-    ensures no_journal { (line : ℕ) → result ≢ End.Journal line }
+    ensures { HasHelped (W.contents writer.old) (W.contents writer.new) result }
 {
     let Ok(text) = advice_on(alloc, words) else {
         return End::Memory;

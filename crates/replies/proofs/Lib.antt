@@ -5,3 +5,4 @@ pub mod PutLemmas
 pub mod ListingLemmas
 pub mod WrittenLemmas
 pub mod PlainJson
+pub mod LineLemmas

@@ -10,3 +10,4 @@ pub mod Joined
 pub mod Replied
 pub mod Plain
 pub mod Putting
+pub mod ReplyLines

@@ -15,7 +15,7 @@ mod selection;
 mod told;
 mod written;
 
-pub use laws::{puts_add_up, texts_are_utf8, texts_need_no_escapes};
+pub use laws::{puts_add_up, replies_are_lines, texts_are_utf8, texts_need_no_escapes};
 pub use listing::Listing;
 pub use lock::write_lock;
 pub use needs::put_needs;

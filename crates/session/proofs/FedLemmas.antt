@@ -19,7 +19,6 @@ use Rattle.wire.specs.Shapes.{Request, check, command, listing, resolve}
 use Rattle.wire.specs.declared.request.Asked.{Asked}
 use Rattle.wire.specs.declared.request.Asked.TheVariants as asked_as
 use Rattle.answers.specs.Answering.{IsReadWithin}
-use Rattle.answers.specs.Laws.{RepliesAddUp}
 use Rattle.answers.specs.Lawful.{IsLawfulWithin, IsRefused, MayAnswer, asked_within, bounded_if}
 use Rattle.answers.specs.declared.settings.Settings.{Settings}
 use Rattle.session.specs.Committing.{FrontOf}
@@ -27,6 +26,7 @@ use Rattle.session.specs.Fed.{Answers, FedSession, Feeding, Feeds, IsElseSame, I
 use Rattle.session.specs.Session.{session_ways}
 use Rattle.session.proofs.BatchLemmas.{refuses_within}
 use Rattle.session.proofs.RestLemmas.{front_longer}
+use Rattle.session.proofs.StepLemmas.{session_line, session_more, session_none}
 use Rattle.session.proofs.ServeLemmas.{no_feeds-append, replies_text-more, with_feeds-append}
 
 -- ---- some line is too long, and each buffer stands for some text
@@ -102,12 +102,12 @@ needs_read settings (Err fault) line old new lawful is = either_same (is_search 
 -- ---- lines that are answered
 
 answers_none : {settings : Settings} (old : List Item) (needs : ℕ) → Answers settings [] old [] old needs needs
-answers_none old needs = record { session = refl; rests = inl (refl, refl) }
+answers_none {settings} old needs = record { session = session_none settings old; rests = inl (refl, refl) }
 
-answers_more : {settings : Settings} → RepliesAddUp session_ways → (lines : List (List ℕ)) (replies : List Reply) (old mid new : List Item) (needs_before needs needs' : ℕ) → Answers settings lines old replies mid needs_before needs
+answers_more : {settings : Settings} → (lines : List (List ℕ)) (replies : List Reply) (old mid new : List Item) (needs_before needs needs' : ℕ) → Answers settings lines old replies mid needs_before needs
     → (line : List ℕ) (reply : Reply) → IsLawfulWithin settings session_ways line mid reply new → needs' ≡ needs_of line mid new → Answers settings (lines ++ line ∷ []) old (replies ++ reply ∷ []) new needs_before needs'
-answers_more {settings} laws lines replies old mid new needs_before needs needs' a line reply lawful is = record {
-  session = laws.lines settings lines (line ∷ []) replies (reply ∷ []) old mid new a.session (new, lawful, refl);
+answers_more {settings} lines replies old mid new needs_before needs needs' a line reply lawful is = record {
+  session = session_more settings old mid new lines (line ∷ []) replies (reply ∷ []) a.session (session_line settings line mid reply new lawful);
   rests = inr (record {
     before = lines;
     line = line;
@@ -117,7 +117,7 @@ answers_more {settings} laws lines replies old mid new needs_before needs needs'
     lines_are = refl;
     replies_are = refl;
     session = a.session;
-    lawful = lawful;
+    at_last = session_line settings line mid reply new lawful;
     needs_are = is;
   });
 }
@@ -198,9 +198,9 @@ module _ {settings : Settings} (r0 r : Option (List ℕ)) (old mid new : List It
   one_no_feed = no_feeds-append f.lines (line ∷ []) f.no_feeds (at_front.no_feed, tt)
 
   -- a line was replied to
-  pub feeding_replies : RepliesAddUp session_ways → (after' : List ℕ) (needs' : ℕ) → after' ≡ after ++ reply_text reply → needs' ≡ needs_of line mid new
+  pub feeding_replies : (after' : List ℕ) (needs' : ℕ) → after' ≡ after ++ reply_text reply → needs' ≡ needs_of line mid new
       → Feeding settings r0 r old new held' before after' needs_before needs'
-  feeding_replies laws after' needs' all is = record {
+  feeding_replies after' needs' all is = record {
     input = f.input;
     lines = f.lines ++ line ∷ [];
     rest = at_front.rest;
@@ -209,7 +209,7 @@ module _ {settings : Settings} (r0 r : Option (List ℕ)) (old mid new : List It
     split = one_more;
     no_feeds = one_no_feed;
     stands = at_front.held;
-    answers = answers_more laws f.lines f.replies old mid new needs_before needs needs' f.answers line reply lawful is;
+    answers = answers_more f.lines f.replies old mid new needs_before needs needs' f.answers line reply lawful is;
     told = all ∙ ap (λ (l : List ℕ). l ++ reply_text reply) f.told ∙ append_assoc before (replies_text f.replies) (reply_text reply)
         ∙ ap (λ (l : List ℕ). before ++ l) (sym (replies_text-more f.replies reply));
   }
@@ -224,7 +224,7 @@ module _ {settings : Settings} (r0 r : Option (List ℕ)) (old mid new : List It
     read = f.read;
     front = (f.rest, f.split, f.no_feeds);
     answers = f.answers;
-    lost = inr (line, reply, (at_front.rest, one_more, one_no_feed), lawful);
+    lost = inr (line, reply, (at_front.rest, one_more, one_no_feed), session_line settings line mid reply new lawful);
     told = same ∙ f.told;
   }
 

@@ -4,17 +4,23 @@ pub mod ServedLemmas
 pub mod LoadedLemmas
 pub mod SessionLemmas
 pub mod SessionRows
+pub mod StepRows
 pub mod WaitLemmas
 pub mod FaultLemmas
 pub mod FedLemmas
 pub mod CallLemmas
+pub mod StepLemmas
 pub mod GrowthLemmas
 pub mod LogLemmas
+pub mod EventLemmas
 pub mod RestLemmas
 pub mod DurableLemmas
 pub mod EndLemmas
 pub mod CommitLemmas
 pub mod SavableLemmas
 pub mod CrashLemmas
+pub mod CountLemmas
+pub mod GenerationLemmas
+pub mod LineLemmas
 mod TellingLemmas
 pub mod AgreeLemmas

@@ -11,12 +11,13 @@ use Rattle.lines.specs.Texts.{IsBeginning}
 use Rattle.lines.specs.Unread.{Unread, StandsFor}
 use Rattle.replies.specs.Replies.{Reply, reply_text, replies_text}
 use Rattle.book.specs.declared.item.Item.{Item}
-use Rattle.answers.specs.Laws.{RepliesAddUp}
 use Rattle.answers.specs.Lawful.{AreLawfulWithin}
 use Rattle.answers.specs.declared.settings.Settings.{Settings}
 use Rattle.session.specs.Serving.{Progress}
-use Rattle.session.specs.Session.{Breaks, Serves, session_ways}
+use Rattle.session.specs.Session.{Accepts, Breaks, IsSession, Serves, ServesItems, session_ways}
+use Rattle.session.specs.Step.{AreReplies, accepted_of, state_of}
 use Rattle.session.specs.Streams.{streams}
+use Rattle.session.proofs.StepLemmas.{session_more, session_none, session_told}
 
 -- ---- lines that end in line feeds
 
@@ -49,7 +50,7 @@ starts {settings} r w old held waiting stands none = record {
   split = refl;
   no_feeds = tt;
   stands = stands;
-  session = refl;
+  session = session_none settings old;
   written = Appends-nil w;
   said = none;
 }
@@ -61,10 +62,10 @@ pub record Answered (settings : Settings) (w w' : Option (List ℕ)) (rest : Lis
   pub replies : List Reply
   pub whole : rest ≡ with_feeds lines ++ after
   pub no_feeds : AllByRecursion HasNoFeed lines
-  pub session : AreLawfulWithin settings session_ways lines mid replies new
+  pub session : IsSession settings mid lines replies new
   pub appends : Appends w w' written
 
-module _ {settings : Settings} (laws : RepliesAddUp session_ways) (r0 r w0 w w' : Option (List ℕ)) (old mid new : List Item) (held : Unread) (waiting written : List ℕ) (p : Progress settings r0 r w0 w old mid held waiting)
+module _ {settings : Settings} (r0 r w0 w w' : Option (List ℕ)) (old mid new : List Item) (held : Unread) (waiting written : List ℕ) (p : Progress settings r0 r w0 w old mid held waiting)
     (a : Answered settings w w' p.rest mid new written) where
   pub all_split : p.input ≡ with_feeds (p.lines ++ a.lines) ++ a.after
   all_split = p.split ∙ ap (λ l. with_feeds p.lines ++ l) a.whole ∙ sym (with_feeds-append p.lines a.lines a.after)
@@ -72,8 +73,8 @@ module _ {settings : Settings} (laws : RepliesAddUp session_ways) (r0 r w0 w w' 
   pub all_feeds : AllByRecursion HasNoFeed (p.lines ++ a.lines)
   all_feeds = no_feeds-append p.lines a.lines p.no_feeds a.no_feeds
 
-  pub all_lawful : AreLawfulWithin settings session_ways (p.lines ++ a.lines) old (p.replies ++ a.replies) new
-  all_lawful = laws.lines settings p.lines a.lines p.replies a.replies old mid new p.session a.session
+  pub all_session : IsSession settings old (p.lines ++ a.lines) (p.replies ++ a.replies) new
+  all_session = session_more settings old mid new p.lines a.lines p.replies a.replies p.session a.session
 
   pub all_said : (text : List ℕ) → written ++ text ≡ waiting ++ replies_text a.replies → (p.text ++ written) ++ text ≡ replies_text (p.replies ++ a.replies)
   all_said text all = append_assoc p.text written text ∙ ap (λ l. p.text ++ l) all ∙ sym (append_assoc p.text waiting (replies_text a.replies))
@@ -91,7 +92,7 @@ module _ {settings : Settings} (laws : RepliesAddUp session_ways) (r0 r w0 w w' 
     split = all_split;
     no_feeds = all_feeds;
     stands = stands;
-    session = all_lawful;
+    session = all_session;
     written = Appends-trans w0 w w' p.text written p.written a.appends;
     said = all_said waiting' all;
   }
@@ -103,16 +104,15 @@ module _ {settings : Settings} (laws : RepliesAddUp session_ways) (r0 r w0 w w' 
   answers_left held' waiting' stands all = (answers held' waiting' stands all, refl)
 
   -- the write of the replies failed
-  pub answer_fails : LinesInFront → WholeLinesInFront → IsBeginning written (waiting ++ replies_text a.replies) → Breaks settings (streams r0 r w0 w') old
+  pub answer_fails : LinesInFront → WholeLinesInFront → IsBeginning written (waiting ++ replies_text a.replies) → Breaks settings (streams r0 r w0 w') (state_of old)
   answer_fails in_front whole_in_front (more, is) = record {
     input = p.input;
     count = length (p.lines ++ a.lines);
     replies = p.replies ++ a.replies;
-    new = new;
     text = p.text ++ written;
     read = p.read;
     whole = inl (omega (arith, ap length whole, length-append (p.lines ++ a.lines) (whole_lines_of a.after)));
-    session = subst (λ ls. AreLawfulWithin settings session_ways ls old (p.replies ++ a.replies) new) (sym front) all_lawful;
+    replied = subst (λ ls. AreReplies settings.budget (state_of old) ls (p.replies ++ a.replies)) (sym front) all_session.replied;
     written = Appends-trans w0 w w' p.text written p.written a.appends;
     beginning = (more, all_said more is);
   }
@@ -156,12 +156,12 @@ reads_none {settings} goes_on r0 r r' w0 w old new held held' waiting piece p no
 
 -- a read failed when no whole line was left, and all replies were sent
 pub read_fails : {settings : Settings} → WholeLinesInFront → NoWholeLine → (r0 r r' w0 w : Option (List ℕ)) (old new : List Item) (held : Unread) (waiting : List ℕ)
-    → (p : Progress settings r0 r w0 w old new held waiting) → HasNoFeed p.rest → waiting ≡ [] → Keeps r r' → Serves settings (streams r0 r' w0 w) whole_lines_of old new
+    → (p : Progress settings r0 r w0 w old new held waiting) → HasNoFeed p.rest → waiting ≡ [] → Keeps r r' → Serves settings (streams r0 r' w0 w) whole_lines_of (state_of old)
 read_fails {settings} whole_in_front no_line r0 r r' w0 w old new held waiting p no_feed none kept = record {
   input = p.input;
   replies = p.replies;
   read = Consumes-kept r0 r r' p.input p.read kept;
-  session = subst (λ ls. AreLawfulWithin settings session_ways ls old p.replies new) (sym all) p.session;
+  replied = subst (λ ls. AreReplies settings.budget (state_of old) ls p.replies) (sym all) p.session.replied;
   written = subst (Appends w0 w) (sym (append-nil p.text) ∙ ap (λ l. p.text ++ l) (sym none) ∙ p.said) p.written;
 }
   where
@@ -170,17 +170,23 @@ read_fails {settings} whole_in_front no_line r0 r r' w0 w old new held waiting p
         ∙ ap (λ ls. p.lines ++ ls) (no_line p.rest no_feed) ∙ append-nil p.lines
 
 -- the text ended, and the rest of it was answered
-pub ends : {settings : Settings} → RepliesAddUp session_ways → LinesInFront → (r0 r w0 w w' : Option (List ℕ)) (old mid new : List Item) (held : Unread) (waiting : List ℕ) (after : List Reply) (written : List ℕ)
+pub ends : {settings : Settings} → LinesInFront → (r0 r w0 w w' : Option (List ℕ)) (old mid new : List Item) (held : Unread) (waiting : List ℕ) (after : List Reply) (written : List ℕ)
     → (p : Progress settings r0 r w0 w old mid held waiting) → waiting ≡ [] → AreLawfulWithin settings session_ways (lines_of p.rest) mid after new → Appends w w' written → written ≡ replies_text after
-    → Serves settings (streams r0 r w0 w') lines_of old new
-ends {settings} laws in_front r0 r w0 w w' old mid new held waiting after written p none session appends is = record {
-  input = p.input;
-  replies = p.replies ++ after;
-  read = p.read;
-  session = subst (λ ls. AreLawfulWithin settings session_ways ls old (p.replies ++ after) new) (sym all) (laws.lines settings p.lines (lines_of p.rest) p.replies after old mid new p.session session);
-  written = subst (Appends w0 w') text (Appends-trans w0 w w' p.text written p.written appends);
+    → ServesItems settings (streams r0 r w0 w') lines_of old new
+ends {settings} in_front r0 r w0 w w' old mid new held waiting after written p none session appends is = record {
+  serves = record {
+    input = p.input;
+    replies = p.replies ++ after;
+    read = p.read;
+    replied = subst (λ ls. AreReplies settings.budget (state_of old) ls (p.replies ++ after)) (sym all) whole.replied;
+    written = subst (Appends w0 w') text (Appends-trans w0 w w' p.text written p.written appends);
+  };
+  journal = subst (λ ls. Accepts old (accepted_of ls (p.replies ++ after)) new) (sym all) whole.journal;
 }
   where
+    whole : IsSession settings old (p.lines ++ lines_of p.rest) (p.replies ++ after) new
+    whole = session_more settings old mid new p.lines (lines_of p.rest) p.replies after p.session (session_told settings (lines_of p.rest) mid after new session)
+
     all : lines_of p.input ≡ p.lines ++ lines_of p.rest
     all = ap lines_of p.split ∙ in_front p.lines p.rest p.no_feeds
 
@@ -189,18 +195,18 @@ ends {settings} laws in_front r0 r w0 w w' old mid new held waiting after writte
         ∙ sym (flat_map-append reply_text p.replies after)
 
 -- the text ended, and the write of the last reply failed
-pub end_fails : {settings : Settings} → RepliesAddUp session_ways → LinesInFront → (r0 r w0 w w' : Option (List ℕ)) (old mid new : List Item) (held : Unread) (waiting : List ℕ) (after : List Reply) (written : List ℕ)
+pub end_fails : {settings : Settings} → LinesInFront → (r0 r w0 w w' : Option (List ℕ)) (old mid new : List Item) (held : Unread) (waiting : List ℕ) (after : List Reply) (written : List ℕ)
     → (p : Progress settings r0 r w0 w old mid held waiting) → IsAtEnd r → waiting ≡ [] → AreLawfulWithin settings session_ways (lines_of p.rest) mid after new → Appends w w' written → IsBeginning written (replies_text after)
-    → Breaks settings (streams r0 r w0 w') old
-end_fails {settings} laws in_front r0 r w0 w w' old mid new held waiting after written p at_end none session appends (more, is) = record {
+    → Breaks settings (streams r0 r w0 w') (state_of old)
+end_fails {settings} in_front r0 r w0 w w' old mid new held waiting after written p at_end none session appends (more, is) = record {
   input = p.input;
   count = length (p.lines ++ lines_of p.rest);
   replies = p.replies ++ after;
-  new = new;
   text = p.text ++ written;
   read = p.read;
   whole = inr at_end;
-  session = subst (λ ls. AreLawfulWithin settings session_ways ls old (p.replies ++ after) new) (sym front) (laws.lines settings p.lines (lines_of p.rest) p.replies after old mid new p.session session);
+  replied = subst (λ ls. AreReplies settings.budget (state_of old) ls (p.replies ++ after)) (sym front)
+      (session_more settings old mid new p.lines (lines_of p.rest) p.replies after p.session (session_told settings (lines_of p.rest) mid after new session)).replied;
   written = Appends-trans w0 w w' p.text written p.written appends;
   beginning = (
     more,

@@ -3,7 +3,7 @@ use Rattle.std.proofs.Common.{◌≡◌, ◌<◌, ◌∙◌, ◌||◌, ℕ, zero
 use Rattle.std.proofs.lemmas.Bool.{cases_Bool, eqb-true}
 use Rattle.std.proofs.lemmas.Option.{none-some, same_Some}
 use Rattle.std.specs.List.{AllByRecursion, IsDistinct}
-use Rattle.std.specs.Prelude.{Option, None, Some, Contains, slice_get, take}
+use Rattle.std.specs.Prelude.{Option, None, Some, Ok, Contains, slice_get, take}
 use Rattle.versions.specs.OnLiterals.{semver_on_literals}
 use Rattle.versions.specs.Words.{Text, meets, parts_of_text, precedence, same_precedence}
 use Rattle.versions.specs.declared.refusal.Refusal.TheVariants.{BudgetSpent}
@@ -11,11 +11,6 @@ use Rattle.registry.specs.Registry.{Packages, Publication, needs_of, number_of, 
 use Rattle.registry.specs.Requests.{Wanted, is_allowed}
 use Rattle.registry.specs.Selections.{Choices, IsMet, IsReached, Meets, along, needed}
 use Rattle.registry.specs.Preference.{IsPreferredSelection, preferred}
-use Rattle.registry.specs.Step as registry
-use Rattle.registry.specs.declared.commands.Command.TheVariants as command
-use Rattle.book.specs.Items.{after, empty, packages_of, refusal, revision_of, stepped}
-use Rattle.book.specs.declared.item.Item.{Item}
-use Rattle.book.specs.declared.item.Item.TheVariants as item
 use Rattle.terms.specs.Incompats.{joined, true_at}
 use Rattle.terms.specs.Terms.{is_in}
 use Rattle.terms.specs.declared.term.Term.TheVariants.{In, NotIn}
@@ -33,8 +28,7 @@ use Rattle.derivations.specs.declared.facts.Cause.TheVariants as cause
 use Rattle.by_name.specs.NamedLines.{NamedLine}
 use Rattle.solver.specs.Outcomes.{NonePreferred}
 use Rattle.answers.specs.Outcomes.{IsRefuted, Proves, TellsNone, TellsSpent, TellsVerdict}
-use Rattle.answers.specs.Lawful.{Answers, reply_at}
-use Rattle.session.specs.Session.{session_ways}
+use Rattle.session.specs.Step.{IsTold, State, nowhere}
 
 -- what holds of the needs one by one holds of each that is among them
 each-need : (P : Text → Text → Type 0) (needs : List (Text × Text)) → AllByRecursion (λ (d : Text × Text). P d.0 d.1) needs → (name need : Text) → Contains needs (name, need) → P name need
@@ -47,29 +41,18 @@ each-need P needs h name need among = by needs h among.0 among.1 among.2
 
 -- ---- `a` 1.0.0 is published, and `a` with `^1` is asked for
 
-unfoldable one : List Item
-one = item.Command (command.Publish (codes "a") (codes "1.0.0") []) ∷ []
-
-unfoldable a_alone : Packages
+unfoldable pub a_alone : Packages
 a_alone = (record { name = codes "a"; versions = (record { version = codes "1.0.0"; needs = []; yanked = false }) ∷ [] }) ∷ []
 
-abbrev needs_a : Wanted
+-- where a session stands that accepted it
+abbrev pub at_a : State
+at_a = record { packages = a_alone; revision = 1 }
+
+abbrev pub needs_a : Wanted
 needs_a = record { needs = (codes "a", codes "^1") ∷ []; lock = [] }
 
-abbrev a_selected : List (Text × Text)
+abbrev pub a_selected : List (Text × Text)
 a_selected = (codes "a", codes "1.0.0") ∷ []
-
-at-one : packages_of one ≡ a_alone
-unfolding semver_on_literals one a_alone refusal empty stepped after registry.refusal_of registry.after same_precedence precedence parts_of_text
-at-one = refl
-
-revision-one : 1 ≡ revision_of one
-unfolding semver_on_literals one refusal empty stepped after registry.refusal_of registry.after same_precedence precedence parts_of_text
-revision-one = refl
-
--- a reply at its revision
-after-one : (body : Body) → record { revision = 1; stamp = None; body = body } ≡ reply_at session_ways one body
-after-one body = ap (λ (n : ℕ). record { revision = n; stamp = None; body = body }) revision-one
 
 -- its one version
 abbrev first : Choices
@@ -190,39 +173,29 @@ first-newest : IsNewest a_alone needs_a first
 unfolding a_found
 first-newest = record { found = a_found; selects = refl; meets = first-meets; best = record { turns = a-turns } }
 
--- the reply that lists `a` 1.0.0 is lawful, under every budget and without one, and whether an explanation is asked or not
-listed-a : (explain : Bool) (budget : Option ℕ) → Answers session_ways (resolve needs_a explain budget) one (record { revision = 1; stamp = None; body = selected a_selected }) one
-listed-a explain budget =
+-- `a` 1.0.0 is told, under every budget and without one, and whether an explanation is asked or not
+pub selected-a : (explain : Bool) (budget own : Option ℕ) → IsTold budget at_a (Ok (resolve needs_a explain own)) (selected a_selected)
+selected-a explain budget own =
     let newest : TellsNewest a_alone needs_a a_selected = record { selection = first; newest = first-newest; tells = a-tells } in
-    let told = inl (a_selected, subst (λ packages. TellsNewest packages needs_a a_selected) (sym at-one) newest, refl) in
-    inl (one, (refl, (selected a_selected, told, after-one (selected a_selected))), ([], refl))
+    inl (inl (a_selected, newest, refl))
 
--- and no reply that none meets the request is
-refuted-none : IsRefuted (packages_of one) needs_a → ⊥
-refuted-none refuted = refuted.none first (subst (λ packages. Meets packages needs_a first) (sym at-one) first-meets)
+-- and it is not told that none meets the request
+refuted-none : IsRefuted a_alone needs_a → ⊥
+refuted-none refuted = refuted.none first first-meets
 
-told-none : (explain : Bool) (body : Body) → TellsNone (packages_of one) needs_a explain body → ⊥
+told-none : (explain : Bool) (body : Body) → TellsNone a_alone needs_a explain body → ⊥
 told-none false body told = refuted-none told.0
 told-none true body told = refuted-none told.refuted
 
--- nor one that a budget is spent
-told-spent : (budget : Option ℕ) (body : Body) → TellsSpent (packages_of one) needs_a budget body → ⊥
+-- nor that a budget is spent
+told-spent : (budget : Option ℕ) (body : Body) → TellsSpent a_alone needs_a budget body → ⊥
 told-spent None body told = told
-told-spent (Some budget) body told =
-    told.0 first (subst (λ packages. IsPreferredSelection packages needs_a first) (sym at-one) first-preferred) (subst (λ packages. Meets packages needs_a first) (sym at-one) first-meets)
+told-spent (Some budget) body told = told.0 first first-preferred first-meets
 
 -- ---- nothing is published, and `zed` is asked for
 
-abbrev needs_zed : Wanted
+abbrev pub needs_zed : Wanted
 needs_zed = record { needs = (codes "zed", codes "*") ∷ []; lock = [] }
-
-at-none : packages_of [] ≡ []
-unfolding empty
-at-none = refl
-
-after-none : (body : Body) → record { revision = 0; stamp = None; body = body } ≡ reply_at session_ways [] body
-unfolding empty
-after-none body = refl
 
 zed-terms : need_terms [] (codes "zed") (codes "*") ≡ (0, In (0 ∷ [])) ∷ []
 unfolding number_of
@@ -263,16 +236,19 @@ zed-derivation =
 zed-none : DerivationsRefute → NoSelection [] needs_zed
 zed-none refute = refute [] needs_zed (end ∷ []) zed-derivation
 
-zed-refuted : DerivationsRefute → IsRefuted (packages_of []) needs_zed
-zed-refuted refute = subst (λ packages. IsRefuted packages needs_zed) (sym at-none) (record { lines = end ∷ []; derivation = zed-derivation; none = zed-none refute })
+zed-refuted : DerivationsRefute → IsRefuted [] needs_zed
+zed-refuted refute = record { lines = end ∷ []; derivation = zed-derivation; none = zed-none refute }
 
-refused-zed : DerivationsRefute → (budget : Option ℕ) → Answers session_ways (resolve needs_zed false budget) [] (record { revision = 0; stamp = None; body = no_selection }) []
-refused-zed refute budget = inl ([], (refl, (no_selection, inr (zed-refuted refute, refl), after-none no_selection)), ([], refl))
+-- it is told that none meets the request
+pub refused-zed : DerivationsRefute → (budget own : Option ℕ) → IsTold budget nowhere (Ok (resolve needs_zed false own)) no_selection
+refused-zed refute budget own = inl (inr (zed-refuted refute, refl))
 
--- under a budget it may be told that this is spent
-spent-zed : DerivationsRefute → Answers session_ways (resolve needs_zed false (Some 0)) [] (record { revision = 0; stamp = None; body = refused BudgetSpent }) []
-spent-zed refute =
-    inr (refl, (refused BudgetSpent, (subst (λ packages. NonePreferred packages needs_zed) (sym at-none) (λ s is meets. zed-none refute s meets), refl), after-none (refused BudgetSpent)))
+-- under a budget, of the line or of the session, it may be told that this is spent
+pub spent-zed : DerivationsRefute → (budget : Option ℕ) → IsTold budget nowhere (Ok (resolve needs_zed false (Some 0))) (refused BudgetSpent)
+spent-zed refute budget = inr (λ s is meets. zed-none refute s meets, refl)
+
+pub spent-within : DerivationsRefute → IsTold (Some 0) nowhere (Ok (resolve needs_zed false None)) (refused BudgetSpent)
+spent-within refute = inr (λ s is meets. zed-none refute s meets, refl)
 
 -- and without one it may not
 unspent-zed : (body : Body) → TellsSpent [] needs_zed None body → ⊥
@@ -283,14 +259,14 @@ unspent-zed body told = told
 zed_named : List NamedLine
 zed_named = record { conclusion = []; causes = (cause.Need 0, cause.Root); pivot = None } ∷ []
 
-zed-proves : Proves (packages_of []) needs_zed zed_named
+zed-proves : Proves [] needs_zed zed_named
 unfolding zed_named end
-zed-proves = (end ∷ [], record { same = refl; lawful = (tt, tt) }, subst (λ packages. IsDerivation packages needs_zed (end ∷ [])) (sym at-none) zed-derivation)
+zed-proves = (end ∷ [], record { same = refl; lawful = (tt, tt) }, zed-derivation)
 
 -- it may be told to follow
-follows-zed : Answers session_ways (check needs_zed zed_named) [] (record { revision = 0; stamp = None; body = follows true }) []
-follows-zed = (refl, (follows true, (true, (λ _. zed-proves, λ _. refl), refl), after-none (follows true)))
+follows-zed : IsTold None nowhere (Ok (check needs_zed zed_named)) (follows true)
+follows-zed = (true, (λ _. zed-proves, λ _. refl), refl)
 
 -- and may not be told not to
-denied-zed : TellsVerdict (packages_of []) needs_zed zed_named (follows false) → ⊥
+denied-zed : TellsVerdict [] needs_zed zed_named (follows false) → ⊥
 denied-zed (holds, exact, told) = let yes_is : holds ≡ true = exact.1 zed-proves in let no_is : follows false ≡ follows holds = told in cc

@@ -6,13 +6,13 @@ use Rattle.registry.specs.Requests.{Wanted}
 use Rattle.derivations.specs.Lines.{Line}
 use Rattle.book.specs.Laws.{ReplayGrows}
 use Rattle.book.specs.declared.item.Item.{Item}
-use Rattle.commits.specs.Events.{Seen}
 use Rattle.lines.specs.Texts.{Puts}
 use Rattle.lines.specs.Unread.{Unread}
 use Rattle.replies.specs.Putting.{PutsAddUp}
 use Rattle.answers.specs.declared.settings.Settings.{Settings}
 use Rattle.session.specs.Batches.{Question, Tells}
 use Rattle.session.specs.Committing.{Telling, TellsOn}
+use Rattle.session.specs.Events.{Seen}
 use Rattle.session.specs.declared.committed.Committed.{Committed}
 use Rattle.session.proofs.BatchLemmas.{HasTold, drop_past, part_length, tells_err, tells_ok, tells_puts_none, tells_then}
 use Rattle.oracle.specs.declared.options.Options.{Options}

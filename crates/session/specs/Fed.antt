@@ -14,12 +14,12 @@ use Rattle.wire.specs.declared.request.Asked.{Asked}
 use Rattle.wire.specs.declared.request.Asked.TheVariants as asked_as
 use Rattle.journals.specs.Logs.{count_behind, lines_behind}
 use Rattle.journals.specs.Saved.{saved_end}
-use Rattle.commits.specs.Events.{EachMoment, Event, IsDurable, handed, replied, taken}
-use Rattle.answers.specs.Lawful.{AreLawfulWithin, IsLawfulWithin}
+use Rattle.answers.specs.Lawful.{IsLawfulWithin}
 use Rattle.answers.specs.declared.settings.Settings.{Settings}
 use Rattle.session.specs.Committing.{FrontOf}
 use Rattle.session.specs.Durable.{IsBacked, IsLog}
-use Rattle.session.specs.Session.{session_ways}
+use Rattle.session.specs.Events.{EachMoment, Event, IsDurable, handed, replied, taken}
+use Rattle.session.specs.Session.{IsSession, session_ways}
 
 -- ---- between two calls
 
@@ -109,13 +109,13 @@ pub record Last (settings : Settings) (lines : List (List ℕ)) (old : List Item
   pub mid : List Item
   pub lines_are : lines ≡ before ++ line ∷ []
   pub replies_are : replies ≡ told ++ reply ∷ []
-  pub session : AreLawfulWithin settings session_ways before old told mid
-  pub lawful : IsLawfulWithin settings session_ways line mid reply new
+  pub session : IsSession settings old before told mid
+  pub at_last : IsSession settings mid (line ∷ []) (reply ∷ []) new
   pub needs_are : needs ≡ needs_of line mid new
 
 -- Each of these lines has its lawful reply, in order, and the replies rest on what that to the last line rests on.
 pub record Answers (settings : Settings) (lines : List (List ℕ)) (old : List Item) (replies : List Reply) (new : List Item) (needs_before needs : ℕ) : Type 0 where
-  pub session : AreLawfulWithin settings session_ways lines old replies new
+  pub session : IsSession settings old lines replies new
   pub rests : ((lines ≡ []) × (needs ≡ needs_before)) ⊎ Last settings lines old replies new needs
 
 -- nothing else changed
@@ -142,7 +142,7 @@ pub record Feeds (text bytes : List ℕ) (old new : FedSession) : Type 0 where
 -- One more line may have been answered, whose reply is lost.
 abbrev pub LosesOne : Settings → List ℕ → List (List ℕ) → List Item → List Item → Type 0
 LosesOne settings input lines here new = (new ≡ here) ⊎ ((line : List ℕ) × (reply : Reply) × FrontOf input (lines ++ line ∷ [])
-    × IsLawfulWithin settings session_ways line here reply new)
+    × IsSession settings here (line ∷ []) (reply ∷ []) new)
 
 -- The bytes were fed behind a text of which no line had ended, and there was no memory for a reply: of the whole lines of both the first ones
 -- have their lawful replies, in order and whole, behind the replies that waited, and the session takes no more.
@@ -264,7 +264,7 @@ pub record AreAllReplies (begun : List Item) (input told : List ℕ) (s : FedSes
   pub split : input ≡ with_feeds (whole_lines_of input) ++ rest
   pub no_feed : HasNoFeed rest
   pub stands : StandsFor s.unread rest
-  pub session : AreLawfulWithin s.settings session_ways (whole_lines_of input) begun replies s.items
+  pub session : IsSession s.settings begun (whole_lines_of input) replies s.items
   pub all : told ++ s.waiting ≡ replies_text replies
 
 -- The replies, taken or not, are those to the first whole lines of all that was fed, and of one more the reply may be lost.
@@ -273,12 +273,12 @@ pub record AreFirstReplies (begun : List Item) (input told : List ℕ) (s : FedS
   pub replies : List Reply
   pub here : List Item
   pub front : FrontOf input lines
-  pub session : AreLawfulWithin s.settings session_ways lines begun replies here
+  pub session : IsSession s.settings begun lines replies here
   pub lost : LosesOne s.settings input lines here s.items
   pub all : told ++ s.waiting ≡ replies_text replies
 
-abbrev pub AreReplies : List Item → List ℕ → List ℕ → FedSession → Type 0
-AreReplies begun input told s = MatchBool s.is_spent (AreFirstReplies begun input told s) (AreAllReplies begun input told s)
+abbrev pub HasReplied : List Item → List ℕ → List ℕ → FedSession → Type 0
+HasReplied begun input told s = MatchBool s.is_spent (AreFirstReplies begun input told s) (AreAllReplies begun input told s)
 
 -- At each moment what had gone out rested on what was durable, for the first lines of what was fed; and the file has the lines of the items that
 -- are safe.
@@ -293,5 +293,5 @@ pub record IsKept (begun : List Item) (input : List ℕ) (events : List Event) (
 -- What calls do adds up: to the replies of one session, and where it keeps its journal, to one that no reply outruns.
 abbrev pub CallsAddUp : Type 0
 CallsAddUp = (keeps : Bool) (settings : Settings) (begun : List Item) (first last : FedSession) (calls : List Call) → IsBegun keeps settings begun first
-    → Do calls first last → (last.settings ≡ settings) × AreReplies begun (fed_of calls) (replied (events_of calls)) last
+    → Do calls first last → (last.settings ≡ settings) × HasReplied begun (fed_of calls) (replied (events_of calls)) last
     × (keeps ≡ true → IsKept begun (fed_of calls) (events_of calls) last)

@@ -1,4 +1,7 @@
+pub mod Events
+pub mod Laws
 pub mod SessionState
+pub mod Step
 pub mod Putting
 pub mod Streams
 pub mod Session
@@ -10,3 +13,5 @@ pub mod Durable
 pub mod Committing
 pub mod Fed
 pub mod Agreeing
+pub mod Generations
+pub mod ReplyLines

@@ -6,10 +6,9 @@ use Rattle.lines.specs.Lines.{HasNoFeed, with_feeds}
 use Rattle.lines.specs.Unread.{StandsFor, Unread}
 use Rattle.replies.specs.Replies.{Reply, replies_text}
 use Rattle.book.specs.declared.item.Item.{Item}
-use Rattle.answers.specs.Lawful.{AreLawfulWithin}
 use Rattle.answers.specs.declared.settings.Settings.{Settings}
 use Rattle.session.specs.Batches.{AreAsked, Question}
-use Rattle.session.specs.Session.{session_ways}
+use Rattle.session.specs.Session.{IsSession}
 
 -- Whole lines of what was read were answered, and the rest is held; the replies are written or wait.
 pub record Progress (settings : Settings) (r0 r w0 w : Option (List ℕ)) (old new : List Item) (held : Unread) (waiting : List ℕ) : Type 0 where
@@ -22,7 +21,7 @@ pub record Progress (settings : Settings) (r0 r w0 w : Option (List ℕ)) (old n
   pub split : input ≡ with_feeds lines ++ rest
   pub no_feeds : AllByRecursion HasNoFeed lines
   pub stands : StandsFor held rest
-  pub session : AreLawfulWithin settings session_ways lines old replies new
+  pub session : IsSession settings old lines replies new
   pub written : Appends w0 w text
   pub said : text ++ waiting ≡ replies_text replies
 

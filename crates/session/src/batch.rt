@@ -6,12 +6,12 @@ ghost use Rattle.session.specs.Putting.{PutsReplies};
 ghost use Rattle.session.specs.Session.{session_ways};
 
 use crate::committed::Committed;
+use crate::devices::Devices;
 use crate::putting::{learn_offered, send_if, try_put};
 use crate::session_state::SessionState;
 use crate::telling::tell_in_order;
 use crate::telling_kept::tell_kept_in_order;
 use book::journals_grow;
-use commits::Devices;
 use derivations::Learnt;
 use lines::Outbox;
 use pool::{RequestWithOptions, THREAD};

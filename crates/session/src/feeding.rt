@@ -12,7 +12,7 @@ ghost use Rattle.session.specs.Session.{session_ways};
 
 use crate::found::{read_found, reply_to};
 use crate::session_state::SessionState;
-use answers::{Settings, lawful_replies_add_up};
+use answers::Settings;
 use intake::RequestReader;
 use lines::{LineBuffer, Next, Outbox, reading_goes_on};
 use std::alloc::{AllocError, Global};
@@ -41,7 +41,6 @@ pub(crate) fn feed_lines<R: Read>(
     ensures sent { OnOk result (outbox.new ≡ []) }
 {
     reading_goes_on();
-    lawful_replies_add_up::<SessionState>();
     for _ in 0..u64::MAX {
         match lines.next() {
             Next::More => match lines.read_more(reader) {

@@ -10,6 +10,8 @@
 //! | `telling_kept` | the same, in a session whose journal is kept in a file |
 //! | `found` | lines that were found: each is replied to, or waits to be answered with its neighbours |
 //! | `serve` | serving the lines of a reader |
+//! | `devices` | a file that grows and where replies go, watched together |
+//! | `group` | append, sync, reply |
 //! | `committed` | how far a session's journal is in its file |
 //! | `committing` | what was accepted goes to that file, and then the replies go out |
 //! | `replying` | the replies to requests that wait, with a commit before each search that may be long |
@@ -22,10 +24,12 @@
 mod batch;
 mod committed;
 mod committing;
+mod devices;
 mod durable;
 mod fed;
 mod feeding;
 mod found;
+mod group;
 mod journal;
 mod laws;
 mod limits;
@@ -36,11 +40,13 @@ mod session_state;
 mod telling;
 mod telling_kept;
 
+pub use devices::Devices;
 pub use durable::serve_durably;
 pub use fed::Fed;
 pub use journal::{Begun, load, recover_session, save_session};
 pub use laws::{
-    fed_calls_add_up, nothing_told_is_lost, saved_sessions_load, sessions_select_the_same,
+    each_line_has_a_reply_line, fed_calls_add_up, no_generation_is_lost, nothing_told_is_lost,
+    saved_sessions_load, sessions_are_reachable, sessions_select_the_same,
 };
 pub use limits::limits_in_numbers;
 pub use serve::{run, serve_session};

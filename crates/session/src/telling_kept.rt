@@ -6,11 +6,11 @@ ghost use Rattle.session.specs.Committing.{TellsOn};
 
 use crate::committed::Committed;
 use crate::committing::commit_if;
+use crate::devices::Devices;
 use crate::putting::put_answer;
 use crate::session_state::SessionState;
 use answers::Backend;
 use book::journals_grow;
-use commits::Devices;
 use derivations::Learnt;
 use lines::{Outbox, lines_end_at_feeds};
 use pool::{Answers, Consumer, Gate, Query, RequestWithOptions, answer_in_order};

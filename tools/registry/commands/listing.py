@@ -33,8 +33,10 @@ def packages_of(session):
 
 def row(name, versions):
     """A package in short."""
-    from ..catalog import newest
-    return SimpleNamespace(name=name, newest=newest(versions)[0], versions=len(versions), yanked=sum(yanked for _, yanked in versions))
+    from ..catalog import rank
+    held = [text for text, is_yanked in versions if not is_yanked]
+    newest = max(held or [text for text, _ in versions], key=rank)
+    return SimpleNamespace(name=name, newest=newest, versions=len(versions), yanked=len(versions) - len(held))
 
 
 def lines(rows, out):

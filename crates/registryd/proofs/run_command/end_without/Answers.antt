@@ -1,5 +1,5 @@
 use Rattle.std.proofs.Common.{◌≡◌, ◌∙◌, ap, refl}
-use Rattle.endings.specs.declared.fault.Failure.{Failure}
+use Rattle.registryd.specs.declared.fault.Failure.{Failure}
 use Rattle.registryd.specs.declared.recovered.Unbegun.TheVariants as unbegun
 use Rattle.registryd.proofs.run_command.end_without.Goals as goal
 

@@ -1,10 +1,10 @@
 use Rattle.std.proofs.Common.{◌≡◌, ◌++◌, drop, List, ℕ, Option}
 use Rattle.book.specs.declared.item.Item.{Item}
-use Rattle.commits.specs.Events.{Seen}
 use Rattle.lines.specs.Unread.{Unread}
 use Rattle.session.specs.Batches.{Question}
 use Rattle.answers.specs.declared.settings.Settings.{Settings}
 use Rattle.session.specs.Committing.{Telling}
+use Rattle.session.specs.Events.{Seen}
 use Rattle.session.proofs.telling_kept.tell_each.Given as goal
 
 abbrev pub invariant-loop-place : goal.invariant-loop-place

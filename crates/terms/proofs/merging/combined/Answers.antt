@@ -1,4 +1,5 @@
 use Rattle.std.proofs.Common.{◌≡◌, ap, false, true, ◌∙◌}
+use Rattle.std.proofs.lemmas.Result.{IfOk-from_err}
 use Rattle.terms.proofs.MergedWords.{begin, merged, only-kept, some-left, turn}
 use Rattle.terms.specs.Merges.{is_over, pushed}
 use Rattle.terms.proofs.merging.combined.Goals as goal
@@ -25,3 +26,9 @@ pub returns-clause-kept : goal.returns-clause-kept
 returns-clause-kept c =
     let over : is_over c.args.rule c.merge.left.now c.merge.right.now ≡ true = cc in
     merged c.args.rule c.args.first.now c.args.second.now c.merge.kept.items c.merge.left.now c.merge.right.now c.requires.first c.requires.second c.merge.invariant over
+
+pub returns-in_err-push_word : goal.returns-in_err-push_word
+returns-in_err-push_word c = let failed = c.from_residual in record { words = IfOk-from_err failed.result _ failed.ensures.0; kept = IfOk-from_err failed.result _ failed.ensures.0 }
+
+pub returns-in_err-push_word-2 : goal.returns-in_err-push_word-2
+returns-in_err-push_word-2 c = let failed = c.from_residual-in_err-push_word-2 in record { words = IfOk-from_err failed.result _ failed.ensures.0; kept = IfOk-from_err failed.result _ failed.ensures.0 }

@@ -1,4 +1,5 @@
 use Rattle.std.proofs.Common.{◌≡◌, ◌<◌, ◌≤◌, ◌+◌, ◌∙◌, List, [], ◌∷◌, ap, arith, length, nat_eq, refl, sym}
+use Rattle.std.proofs.lemmas.Result.{IfOk-from_err}
 use Rattle.terms.proofs.MergedTerms.{Follows-end, begin, falls, pushed, turn}
 use Rattle.terms.proofs.resolving.resolved.Goals as goal
 use Rattle.terms.proofs.resolving.resolved.Goals.{After-behind_package-right, then-left-gt0, else-left-gt0+then-right-gt0, in-Some+in_ok-push-in-Some, in-None}
@@ -40,3 +41,12 @@ returns-clause-follows c =
 
 pub returns-clause-ascending : goal.returns-clause-ascending
 returns-clause-ascending c = c.merge.invariant.terms
+
+pub returns-in_err-kept : goal.returns-in_err-kept
+returns-in_err-kept c = let failed = c.from_residual in record { ordered = IfOk-from_err failed.result _ failed.ensures.0; follows = IfOk-from_err failed.result _ failed.ensures.0; ascending = IfOk-from_err failed.result _ failed.ensures.0 }
+
+pub returns-in_err-term : goal.returns-in_err-term
+returns-in_err-term c = let failed = c.from_residual-in_err-term in record { ordered = IfOk-from_err failed.result _ failed.ensures.0; follows = IfOk-from_err failed.result _ failed.ensures.0; ascending = IfOk-from_err failed.result _ failed.ensures.0 }
+
+pub returns-in_err-push-in-Some : goal.returns-in_err-push-in-Some
+returns-in_err-push-in-Some c = let failed = c.from_residual-in_err-push-in-Some in record { ordered = IfOk-from_err failed.result _ failed.ensures.0; follows = IfOk-from_err failed.result _ failed.ensures.0; ascending = IfOk-from_err failed.result _ failed.ensures.0 }

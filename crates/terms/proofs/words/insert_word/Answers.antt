@@ -1,6 +1,7 @@
 use Rattle.std.proofs.Common.{[], ◌∷◌, sym, ◌∙◌, ◌+◌, ◌≤◌, List, Result, Ok, Err, ap, arith, refl, true≢false}
 use Rattle.std.specs.Prelude.{OnErr, is_ok, slice_get}
 use Rattle.std.specs.List.{length_refill}
+use Rattle.std.proofs.lemmas.Result.{IfOk-from_err}
 use Rattle.smallvec.specs.SmallVec.{SmallVec, small_vec_len, with_items}
 use Rattle.terms.specs.declared.words.Word.{Word}
 use Rattle.terms.specs.Words.{has_bit}
@@ -67,3 +68,6 @@ returns-in_err-insert-in-Err-clause-succeeds c = λ room. absurd (true≢false (
 
 pub returns-in_err-insert-in-Err-clause-unchanged : goal.returns-in_err-insert-in-Err-clause-unchanged
 returns-in_err-insert-in-Err-clause-unchanged c = on_err c.from_residual.result _ (ap (λ (words : SmallVec Word). words.items) c.in_err-insert-in-Err.ensures.err)
+
+pub returns-in_err-insert-in-Err-clause-added : goal.returns-in_err-insert-in-Err-clause-added
+returns-in_err-insert-in-Err-clause-added c = IfOk-from_err c.from_residual.result _ c.from_residual.ensures.0

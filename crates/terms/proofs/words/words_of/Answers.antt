@@ -1,5 +1,6 @@
 use Rattle.std.proofs.Common.{[], ◌≡◌, ◌∙◌, ◌%◌, ◌/◌, ◌^◌, ap, arith, get_or, ◌+◌, sym, refl}
 use Rattle.std.proofs.lemmas.List.{nil_from_length}
+use Rattle.std.proofs.lemmas.Result.{IfOk-from_err}
 use Rattle.terms.specs.Sets.{has}
 use Rattle.terms.specs.Words.{ordinals_of}
 use Rattle.terms.proofs.Inserting.{word_of-is}
@@ -48,3 +49,9 @@ insert_word-requires-2-clause-words c = c.loop-ordinal.invariant.in_order
 
 pub insert_word-requires-2-clause-word : goal.insert_word-requires-2-clause-word
 insert_word-requires-2-clause-word c = c.loop-ordinal.invariant.one
+
+pub returns-in_err-insert_word : goal.returns-in_err-insert_word
+returns-in_err-insert_word c = let failed = c.from_residual in record { words = IfOk-from_err failed.result _ failed.ensures.0; members = IfOk-from_err failed.result _ failed.ensures.0 }
+
+pub returns-in_err-insert_word-2 : goal.returns-in_err-insert_word-2
+returns-in_err-insert_word-2 c = let failed = c.from_residual-in_err-insert_word-2 in record { words = IfOk-from_err failed.result _ failed.ensures.0; members = IfOk-from_err failed.result _ failed.ensures.0 }
