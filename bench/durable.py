@@ -1,12 +1,11 @@
-#!/usr/bin/env python3
 """What it costs to keep a journal: a session with `--journal` beside one without, in the same run and on the same disk.
 
-    bench/durable.py [--lines 49152] [--asked 2000] [--rounds 5] [--folder FOLDER] [--program PATH]
+    python3 -m bench.durable [--lines 49152] [--asked 2000] [--rounds 5] [--folder FOLDER] [--program PATH]
 
 Prints what a sync takes in the folder, then the best times over the rounds as ratios: of publish lines that are all at hand, of a
 client that sends a line and waits for its reply, and of a session without a line that begins with the journal which the others
 leave; the syncs of each, and how much more memory a session had at its peak. Syncs are counted in a run that is not timed, by
-`tools/watch_calls`, which takes a C compiler.
+`tests/support/c/watch_calls.c`, which takes a C compiler.
 """
 import argparse
 import itertools
@@ -19,8 +18,8 @@ import tempfile
 import time
 from dataclasses import dataclass
 
-from ingest import PROGRAM
-from lines import publish_lines
+from bench.ingest import PROGRAM
+from bench.lines import publish_lines
 
 TOP = os.path.dirname(os.path.dirname(os.path.abspath(__file__)))
 SYNCS = 200  # that are measured by themselves
@@ -108,7 +107,7 @@ class Bench:
     def syncs(self):
         """How many syncs a session makes of lines that are at hand, and one of a client that waits, beyond those of beginning."""
         library = os.path.join(self.folder, "watch.so")
-        subprocess.run(["cc", "-O1", "-shared", "-fPIC", "-o", library, os.path.join(TOP, "tools", "watch_calls", "watch.c")], check=True)
+        subprocess.run(["cc", "-O1", "-shared", "-fPIC", "-o", library, os.path.join(TOP, "tests", "support", "c", "watch_calls.c")], check=True)
         return self.counted(library, session, self.given), self.counted(library, waiting, self.asked)
 
     def counted(self, library, run, given):

@@ -1,7 +1,6 @@
-#!/usr/bin/env python3
 """What one request takes that is asked and waited for: in the caller's process, of a child, and over a socket, from C, Rust and Python.
 
-    bench/embedded.py [--trips 20000] [--rounds 5] [--program PATH] [--library FOLDER]
+    python3 -m bench.embedded [--trips 20000] [--rounds 5] [--program PATH] [--library FOLDER]
 
 Over 160 publications of 8 packages it asks for `app ^1`, which selects all of them, and for `json ^1`, which selects one. The clients in
 Rust and Python make values of the replies; in C, and over the socket, the bytes are read and no more. Behind the socket, one of Unix,
@@ -10,7 +9,6 @@ to C in process. The ways take turns, round by round. It takes a C compiler, and
 """
 import argparse
 import contextlib
-import json
 import os
 import shutil
 import socket
@@ -21,14 +19,12 @@ import threading
 from dataclasses import dataclass, field
 from pathlib import Path
 
-from ingest import PROGRAM
-from workloads import publish, resolve
+from bench.ingest import PROGRAM
+from bench.workloads import publish, resolve
+from dev.building import c_library
 
 TOP = Path(__file__).resolve().parent.parent
 HERE = TOP / "bench" / "round_trips"
-sys.path.insert(0, str(TOP / "tools"))
-import c_library
-
 PACKAGES = ("app", "http", "json", "log", "net", "rand", "time", "tls")
 REQUESTS = {"app ^1": resolve([["app", "^1"]]), "json ^1": resolve([["json", "^1"]])}
 WAYS = {"embedded": "in process", "child": "a child", "socket": "a socket"}

@@ -1,7 +1,6 @@
-#!/usr/bin/env python3
 """How much fronts over etcd take in and answer, against a race in memory.
 
-    bench/etcd.py [--fronts 1 3 10] [--seconds 5] [--folder DIR] [--entries 49152]
+    python3 -m bench.etcd [--fronts 1 3 10] [--seconds 5] [--folder DIR] [--entries 49152]
 
 Starts three members of etcd on loopback, whose data lies in a folder (by itself the system's for temporary files, on a
 disk). Prints for each number of fronts how many publications are accepted a second and how long one takes, when each client
@@ -9,7 +8,7 @@ sends one line and waits, and when it sends 64 at once; the same of resolve line
 program without a front that is asked the same in turn, with what a linearizable read takes alone; then what a race of as many files accepts a second, and how long a new front needs for all entries: from
 the cells, from a snapshot, from a file. Each figure is of this machine, with members, fronts and clients on it.
 
-    bench/etcd.py --only resolves --fronts 1       prints no more than what one front answers, beside the program
+    python3 -m bench.etcd --only resolves --fronts 1       prints no more than what one front answers, beside the program
 """
 import argparse
 import itertools
@@ -21,16 +20,12 @@ import tempfile
 import threading
 import time
 
-TOP = os.path.dirname(os.path.dirname(os.path.abspath(__file__)))
-sys.path.insert(0, os.path.join(TOP, "tools", "tests"))
-import fronts
-import program
-from lines import publish_lines
-from members import Members, is_installed
-from race import race, write
-
-from etcd.cells import Cell, Cells
-from etcd.gateway import Gateway, endpoints
+from bench.lines import publish_lines
+from bench.race import race, write
+from registry_etcd.cells import Cell, Cells
+from registry_etcd.gateway import Gateway, endpoints
+from tests.support import fronts, program
+from tests.support.members import Members, is_installed
 
 TOGETHER, MANY = 64, 1_024
 ENTRIES = 3_000  # of the journal that is asked

@@ -1,7 +1,6 @@
-#!/usr/bin/env python3
 """What the costliest lines cost, beside the lines that they ask about.
 
-    bench/hostile.py [--rounds 3] [--program PATH] [NAME ..]
+    python3 -m bench.hostile [--rounds 3] [--program PATH] [NAME ..]
 
 Prints for each workload the lines with the time in which the process loaded them, the bytes that are asked then and that are answered,
 the best time of that in so many processes, and two ratios of this time: to that of loading, and to the time in which publish lines
@@ -10,10 +9,10 @@ that what else runs beside changes little.
 """
 import argparse
 
-from hostile_lines import HOSTILE
-from ingest import PROGRAM
-from lines import publish_lines
-from resolve import Session
+from bench.hostile_lines import HOSTILE
+from bench.ingest import PROGRAM
+from bench.lines import publish_lines
+from bench.resolve import Session
 
 USUAL = 20_000  # lines
 

@@ -4,8 +4,9 @@ Each workload is a list of publish lines, and a list of lines that are asked the
 """
 import json
 
-from workloads import publish, resolve  # and then what stands in tools can be found
-from limits import MOST_NEEDS, MOST_VERSIONS as VERSIONS
+from bench.workloads import publish, resolve
+from registry_cli.limits import MOST_NEEDS
+from registry_cli.limits import MOST_VERSIONS as VERSIONS
 
 MEGABYTE = 1_040_000  # bytes, some less than a line may have
 ZED = ["zed", "*"]  # a need that can't be met

@@ -1,8 +1,7 @@
-#!/usr/bin/env python3
 """How fast publish lines are taken in, as a ratio to Python's json.loads over the
 same lines in the same run.
 
-    bench/ingest.py [--lines 49152] [--rounds 5] [--program PATH]
+    python3 -m bench.ingest [--lines 49152] [--rounds 5] [--program PATH]
 
 Prints the best time of each over the rounds, the ratio, and the program's peak
 memory beside the bytes of the lines.
@@ -16,11 +15,8 @@ import sys
 import tempfile
 import time
 
-from lines import publish_lines
-
-HERE = os.path.dirname(os.path.abspath(__file__))
-sys.path.insert(0, os.path.join(os.path.dirname(HERE), "tools"))
-from programs import path_for_tests  # noqa: E402
+from bench.lines import publish_lines
+from dev.building.programs import path_for_tests
 
 PROGRAM = path_for_tests("registryd")
 

@@ -1,7 +1,6 @@
-#!/usr/bin/env python3
 """What it takes to load a journal and to save one, beside reading the same lines as requests.
 
-    bench/journals.py [--lines 24576 49152] [--rounds 5] [--program PATH]
+    python3 -m bench.journals [--lines 24576 49152] [--rounds 5] [--program PATH]
 
 Prints for each number of publish lines the best times over the rounds, less that of a session without a line: of reading the lines
 as requests, replies included; of loading the journal that they lead to; and how much longer a session takes that saves it. Then
@@ -15,8 +14,8 @@ import sys
 import tempfile
 import time
 
-from ingest import PROGRAM
-from lines import publish_lines
+from bench.ingest import PROGRAM
+from bench.lines import publish_lines
 
 
 def seconds(program, given, *files):

@@ -1,8 +1,7 @@
-#!/usr/bin/env python3
 """How long files take that race for one journal, as a ratio to as many sessions, one after another, each on the lines
 of all files.
 
-    bench/race.py [--files 8] [--lines 6000] [--rounds 5] [--program PATH]
+    python3 -m bench.race [--files 8] [--lines 6000] [--rounds 5] [--program PATH]
 
 Every seat of a race replays what all files enter, which is the work of one session on all their lines. Prints the best
 time of each over the rounds, the ratio, and how many processors there are: a ratio of 1 or less is what the race is
@@ -15,8 +14,8 @@ import sys
 import tempfile
 import time
 
-from ingest import PROGRAM, serve
-from lines import publish_lines
+from bench.ingest import PROGRAM, serve
+from bench.lines import publish_lines
 
 
 def dealt(lines, count):

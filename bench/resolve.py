@@ -1,7 +1,6 @@
-#!/usr/bin/env python3
 """How fast requests are resolved, as a share of the time in which the same process loaded the same registry.
 
-    bench/resolve.py [--rounds 20] [--program PATH] [--plot FILE]
+    python3 -m bench.resolve [--rounds 20] [--program PATH] [--plot FILE]
 
 Prints for each workload and size the best time of a resolve over the rounds, the time of loading, the share, and how
 the time grew with the number of publish lines since the smallest size: an exponent of 1 is linear. Writes a plot of
@@ -14,9 +13,9 @@ import sys
 import threading
 import time
 
-from ingest import PROGRAM
-from plot import svg
-from workloads import WORKLOADS
+from bench.ingest import PROGRAM
+from bench.plot import svg
+from bench.workloads import WORKLOADS
 
 
 class Session:

@@ -1,7 +1,6 @@
-#!/usr/bin/env python3
 """What a request gains by what earlier ones led to, and what a full store costs one that gains nothing.
 
-    bench/reuse.py [--rounds 10] [--program PATH] [--sessions 200]
+    python3 -m bench.reuse [--rounds 10] [--program PATH] [--sessions 200]
 
 Prints for each workload the conflicts and the time of a request that is asked twice, and of a session of different
 requests beside as many sessions of one request; then the time of a request and of publications where 4,096 members
@@ -12,11 +11,19 @@ import argparse
 import json
 import sys
 
-from ingest import PROGRAM
-from lines import publish_lines
-from resolve import Session
-from workloads import SHARED, about_one, chain, crossed, dead_ends, tower, worn  # and then what stands in tools can be found
-from limits import MOST_STORED as STORE
+from bench.ingest import PROGRAM
+from bench.lines import publish_lines
+from bench.resolve import Session
+from bench.workloads import (
+    SHARED,
+    about_one,
+    chain,
+    crossed,
+    dead_ends,
+    tower,
+    worn,
+)
+from registry_cli.limits import MOST_STORED as STORE
 
 SPENT = b'"error":22'
 MOST_CONFLICTS = 4_294_967_295

@@ -1,9 +1,8 @@
-#!/usr/bin/env python3
 """How much a service takes in and answers, beside one session over a pipe.
 
-    bench/service.py [--clients 1 10 100 1000] [--seconds 5] [--folder DIR]
-    bench/service.py --kills 1000 [--seed 1]
-    bench/service.py --memory 1000000
+    python3 -m bench.service [--clients 1 10 100 1000] [--seconds 5] [--folder DIR]
+    python3 -m bench.service --kills 1000 [--seed 1]
+    python3 -m bench.service --memory 1000000
 
 The first prints for a session over a pipe, and for each number of clients of a service, how many requests and publications are
 answered a second and how long one takes, where each client sends one line and waits for its reply; then the same while another client
@@ -25,13 +24,11 @@ import tempfile
 import time
 from dataclasses import dataclass
 
-TOP = os.path.dirname(os.path.dirname(os.path.abspath(__file__)))
-sys.path.insert(0, os.path.join(TOP, "tools", "tests"))
-import program
-from program import journal_line
-from registry_folder import pigeons
-from services import Service, wait_for
-from test_service_stops import Load
+from tests.servers.test_service_stops import Load
+from tests.support import program
+from tests.support.program import journal_line
+from tests.support.registry_folder import pigeons
+from tests.support.services import Service, wait_for
 
 PACKAGES, VERSIONS, COMMANDS = 8, 20, 40_000  # of the registry that is asked, and how many more fit into a journal
 REQUEST = program.resolve("app ^1").encode() + b"\n"
@@ -225,7 +222,7 @@ def memory(bench, count):
 
 
 def main(words):
-    parser = argparse.ArgumentParser(prog="bench/service.py", description=__doc__, formatter_class=argparse.RawDescriptionHelpFormatter)
+    parser = argparse.ArgumentParser(prog="python3 -m bench.service", description=__doc__, formatter_class=argparse.RawDescriptionHelpFormatter)
     parser.add_argument("--clients", nargs="+", type=int, default=[1, 10, 100, 1000], metavar="N")
     parser.add_argument("--seconds", type=float, default=5, metavar="S", help="how long each figure is measured (else: 5)")
     parser.add_argument("--folder", metavar="DIR", help="where journals lie (else: where the system has temporary files)")

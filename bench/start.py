@@ -1,7 +1,6 @@
-#!/usr/bin/env python3
 """What a subcommand of `registry` takes, beside what the program alone takes to load the journal and Python to start.
 
-    bench/start.py [--versions 1514 49152] [--rounds 10] [--program PATH]
+    python3 -m bench.start [--versions 1514 49152] [--rounds 10] [--program PATH]
 
 Prints for each number of publications, and for each subcommand: the median of the times by the clock, the median of the processor times
 of all that it starts, and that less what loading the journal takes, divided by what `python3 -S -c pass` takes. `page` is the page until
@@ -17,8 +16,8 @@ import time
 import urllib.request
 from statistics import median
 
-from ingest import PROGRAM
-from lines import publish_lines
+from bench.ingest import PROGRAM
+from bench.lines import publish_lines
 
 REGISTRY = os.path.join(os.path.dirname(os.path.dirname(os.path.abspath(__file__))), "registry")
 PYTHON, LOADING = "python", "loading"

@@ -1,15 +1,13 @@
-#!/usr/bin/env python3
 """Lines that feel a constant of the program which no other workload feels: publications, and then requests.
 
-    bench/tuned_lines.py NAME     prints the lines of a workload; without a name, the names
+    python3 -m bench.tuned_lines NAME     prints the lines of a workload; without a name, the names
 
 docs/BENCHMARKS.md, Constants, has what they showed. The same name gives the same lines.
 """
-import json
 import random
 import sys
 
-from workloads import about_one, crossed, publish, resolve, through_hubs
+from bench.workloads import about_one, crossed, publish, resolve, through_hubs
 
 STEP = 1_099_511_628_211  # of the key of a requirement, and the chains that keys fall into
 CHAINS = 16_384

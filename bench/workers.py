@@ -1,7 +1,6 @@
-#!/usr/bin/env python3
 """How many requests are answered a second by so many workers.
 
-    bench/workers.py [--packages 300] [--requests 256] [--rounds 10] [--program PATH] [--plot FILE]
+    python3 -m bench.workers [--packages 300] [--requests 256] [--rounds 10] [--program PATH] [--plot FILE]
 
 Sends different requests of the workload `lockfile` at once, so that they are answered together, and prints for each number
 of workers the best time over the rounds until the last reply, the requests answered a second, and these as a ratio to one
@@ -12,10 +11,10 @@ import argparse
 import os
 import sys
 
-from ingest import PROGRAM
-from plot import svg
-from resolve import Session
-from workloads import lockfile
+from bench.ingest import PROGRAM
+from bench.plot import svg
+from bench.resolve import Session
+from bench.workloads import lockfile
 
 WORKERS = [1, 2, 4, 8, 64]
 

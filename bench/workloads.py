@@ -3,12 +3,9 @@
 Each workload is a list of publish lines and a list of resolve lines.
 """
 import json
-import os
 import random
-import sys
 
-sys.path.insert(0, os.path.join(os.path.dirname(os.path.dirname(os.path.abspath(__file__))), "tools"))
-from limits import MOST_NEEDS
+from registry_cli.limits import MOST_NEEDS
 
 
 def publish(name, version, needs):

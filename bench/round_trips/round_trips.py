@@ -5,7 +5,6 @@ import sys
 import time
 from pathlib import Path
 
-sys.path.insert(0, str(Path(__file__).resolve().parents[2] / "clients" / "python"))
 from registryd import Line, Registry
 
 

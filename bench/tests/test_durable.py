@@ -1,15 +1,10 @@
 """That what a journal costs is measured of what it says: sessions that keep one, their syncs, and a journal that has all lines."""
 import os
-import sys
 import tempfile
 import unittest
 
-BENCH = os.path.dirname(os.path.dirname(os.path.abspath(__file__)))
-sys.path.insert(0, BENCH)
-sys.path.insert(0, os.path.join(os.path.dirname(BENCH), "tools", "tests"))
-
-from durable import Bench, sync_of  # noqa: E402
-from program import PROGRAM, skip_without  # noqa: E402
+from bench.durable import Bench, sync_of
+from tests.support.program import PROGRAM, skip_without
 
 LINES, ASKED = 1_500, 20
 

@@ -1,20 +1,18 @@
 """That round trips are measured of what is said: each language and way gives the same replies, as many times as trips are asked for,
 and the table has a row for each."""
 import json
-import os
 import re
 import shutil
-import sys
 import unittest
 
-NOT_QUICK = "the static library"
-BENCH = os.path.dirname(os.path.dirname(os.path.abspath(__file__)))
-sys.path.insert(0, BENCH)
-sys.path.insert(0, os.path.join(os.path.dirname(BENCH), "tools", "tests"))
+import pytest
 
-from embedded import PACKAGES, REQUESTS, Row, measured, publications, table  # noqa: E402
-from library import FOLDER, needs_library  # noqa: E402
-from program import PROGRAM, skip_without  # noqa: E402
+from bench.embedded import PACKAGES, REQUESTS, Row, measured, publications, table
+from tests.support.library import FOLDER, needs_library
+from tests.support.program import PROGRAM, skip_without
+
+pytestmark = pytest.mark.not_quick("the static library")
+
 
 TRIPS, ROUNDS = 6, 2
 NUMBER = r"\d+\.\d"

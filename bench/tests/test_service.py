@@ -1,15 +1,10 @@
 """That what a service costs is measured of what it says: each request and publication is answered, and kills lose nothing."""
 import os
-import sys
 import tempfile
 import unittest
 
-BENCH = os.path.dirname(os.path.dirname(os.path.abspath(__file__)))
-sys.path.insert(0, BENCH)
-sys.path.insert(0, os.path.join(os.path.dirname(BENCH), "tools", "tests"))
-
-import service  # noqa: E402
-from service import Bench, follow, registry  # noqa: E402
+from bench import service
+from bench.service import Bench, follow, registry
 
 
 class Measured(unittest.TestCase):

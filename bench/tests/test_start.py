@@ -2,18 +2,13 @@
 import json
 import os
 import subprocess
-import sys
 import tempfile
 import unittest
 from unittest import mock
 
-BENCH = os.path.dirname(os.path.dirname(os.path.abspath(__file__)))
-sys.path.insert(0, BENCH)
-sys.path.insert(0, os.path.join(os.path.dirname(BENCH), "tools", "tests"))
-
-import start  # noqa: E402
-from lines import publish_lines  # noqa: E402
-from program import PROGRAM  # noqa: E402
+from bench import start
+from bench.lines import publish_lines
+from tests.support.program import PROGRAM
 
 STATUSES = {"python": 0, "loading": 0, "list": 0, "search": 0, "show": 0, "resolve": 0, "tree": 0, "refused": 1}
 

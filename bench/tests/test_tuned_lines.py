@@ -1,18 +1,24 @@
 """That the lines which feel a constant are lawful, and that each request has the answer which its workload says."""
 import itertools
 import json
-import os
 import re
-import sys
 import unittest
 
-BENCH = os.path.dirname(os.path.dirname(os.path.abspath(__file__)))
-sys.path.insert(0, BENCH)
-sys.path.insert(0, os.path.join(os.path.dirname(BENCH), "tools", "tests"))
-
-from program import serve  # noqa: E402
-from tuned_lines import (TUNED, chain_number, chain_of, dead_chains, in_one_chain, long_requirements, needs_each, one_chain, one_hub,  # noqa: E402
-                         pigeons, refused, wide_formulas)
+from bench.tuned_lines import (
+    TUNED,
+    chain_number,
+    chain_of,
+    dead_chains,
+    in_one_chain,
+    long_requirements,
+    needs_each,
+    one_chain,
+    one_hub,
+    pigeons,
+    refused,
+    wide_formulas,
+)
+from tests.support.program import serve
 
 REFUSED = {"chain": chain_of(3, 5), "pigeons": pigeons(4, 3), "one chain": one_chain(2, 3), "refused": refused(3), "one hub": one_hub(3)}
 

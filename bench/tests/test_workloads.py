@@ -3,25 +3,35 @@ import itertools
 import json
 import os
 import random
-import sys
 import tempfile
 import unittest
 
-BENCH = os.path.dirname(os.path.dirname(os.path.abspath(__file__)))
-sys.path.insert(0, BENCH)
-sys.path.insert(0, os.path.join(os.path.dirname(BENCH), "tools", "tests"))
-
-from hostile import measured, size  # noqa: E402
-from hostile_lines import HOSTILE, MEGABYTE  # noqa: E402
-from journals import seconds  # noqa: E402
-from lines import publish_lines  # noqa: E402
-from plot import svg  # noqa: E402
-from workers import WORKERS, alone, by_workers  # noqa: E402
-from race import dealt  # noqa: E402
-from program import PROGRAM, serve  # noqa: E402
-from teaching import TEACHING  # noqa: E402
-from workloads import (SHARED, about_one, chain, clauses, conflicting, crossed, dead_ends, lockfile, partial, publish, resolve, sat, tower,  # noqa: E402
-                       towers, worn)
+from bench.hostile import measured, size
+from bench.hostile_lines import HOSTILE, MEGABYTE
+from bench.journals import seconds
+from bench.lines import publish_lines
+from bench.plot import svg
+from bench.race import dealt
+from bench.workers import WORKERS, alone, by_workers
+from bench.workloads import (
+    SHARED,
+    about_one,
+    chain,
+    clauses,
+    conflicting,
+    crossed,
+    dead_ends,
+    lockfile,
+    partial,
+    publish,
+    resolve,
+    sat,
+    tower,
+    towers,
+    worn,
+)
+from tests.support.program import PROGRAM, serve
+from tests.support.teaching import TEACHING
 
 
 class Workloads(unittest.TestCase):

@@ -1,0 +1,30 @@
+"""How pytest runs the tests of this repository: in which order, how long each may take, and that what was said in them is kept."""
+import os
+
+import pytest
+
+from dev import measured
+from tests.support import said
+from tests.support.time_limit import limited
+
+# What each file took, so that those that take longest begin first, and one that nobody has measured with them.
+MEASURED = os.path.join(os.path.dirname(os.path.abspath(__file__)), "tests", "seconds.txt")
+# A test has so many seconds, in case that it waits for what never comes; a class may have others, with the reason: LONGEST.
+SECONDS = float(os.environ.get("TEST_SECONDS", 120))
+
+
+def pytest_collection_modifyitems(items):
+    """Files that take longest come first, and what judges all others last."""
+    took = measured.read(MEASURED)
+    items.sort(key=lambda it: (it.path.name == said.LAST, -took.get(it.path.name, float("inf")), it.path))
+
+
+@pytest.hookimpl(hookwrapper=True)
+def pytest_runtest_protocol(item):
+    """What a test that takes too long has begun is ended, again and again until the test has: so none hangs the others."""
+    with limited(getattr(item.cls, "LONGEST", SECONDS)):
+        yield
+
+
+def pytest_sessionfinish():
+    said.keep()

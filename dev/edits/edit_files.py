@@ -1,0 +1,156 @@
+"""The wrong bodies under `edits/NAME`: what each changes in the crate NAME, and in which functions.
+
+An edit is a file of lines: `file: PATH` of the crate, then pairs `old: TEXT` and `new: TEXT`. With a line `only: FUNCTION`
+each run of the tests tries it."""
+import os
+import re
+from functools import cache
+from typing import NamedTuple
+
+from dev.building.progress import TOP
+
+CRATES, EDITS = os.path.join(TOP, "crates"), os.path.join(TOP, "edits")
+
+
+class Function(NamedTuple):
+    """A function of a source file: its path as the prover writes it, and its first and last line."""
+    path: str
+    first: int
+    last: int
+
+
+class Edit(NamedTuple):
+    crate: str
+    file: str
+    # the function that each run tries the edit by
+    only: str | None
+    # (file, old text, new text)
+    changes: tuple
+
+
+def changes(text):
+    """The texts that an edit takes away, each with its file and what stands there then."""
+    path = old = None
+    for line in text.split("\n"):
+        if line.startswith("file: "):
+            path = line.removeprefix("file: ")
+        elif line.startswith("old: "):
+            old = line.removeprefix("old: ")
+        elif line.startswith("new:"):
+            yield path, old, line.removeprefix("new:").removeprefix(" ")
+
+
+def edit_of(crate, file, text):
+    only = re.search(r"^only: (\S+)$", text, re.M)
+    return Edit(crate, file, only and only[1], tuple(changes(text)))
+
+
+def edits_of(crate):
+    """The edits of a crate, by their names."""
+    folder = os.path.join(EDITS, crate)
+    for file in sorted(os.listdir(folder)) if os.path.isdir(folder) else []:
+        with open(os.path.join(folder, file), encoding="utf-8") as text:
+            yield edit_of(crate, file, text.read())
+
+
+def name_of(words, own):
+    """A type or a trait as the prover names it in an impl: its words one after another, but for the impl's own parameters."""
+    plain = re.findall(r"\b\w+\b", re.sub(r"'\w+|\b\w+::", "", words))
+    return "".join(word[0].upper() + word[1:] for word in plain if word not in (*own, "mut"))
+
+
+def owner_of(line, module, homes):
+    """What the functions below a head `impl` or `trait` stand under, or None where the line is none. The methods of a type
+    stand under it wherever they are written, those of a trait where they are written."""
+    trait = re.match(r"(?:pub(?:\(\w+\))? )?trait (\w+)", line)
+    if trait:
+        return [*module, trait[1]]
+    head = re.match(r"(?:unsafe )?impl(<.*?>)? (?:(\S.*) for )?(\S.*) \{", line)
+    if not head:
+        return None
+    own = re.findall(r"[<,] *(\w+)", head[1] or "")
+    of = re.match(r"(?:&(?:'\w+ )?(?:mut )?)?(?:\w+::)*(\w*)", head[3])[1]
+    return [*module, of[:1].upper() + of[1:] + name_of(head[2], own)] if head[2] else [*homes.get(of, module), of]
+
+
+def module_of(path):
+    module = path.removeprefix("src/").removesuffix(".rt")
+    return [] if module in ("lib", "main") else module.split("/")
+
+
+def functions(path, text, homes):
+    """The functions of a source file that have a body. By its layout a line of `}` or `{}` under a head ends its body."""
+    module, owner, begun, marked = module_of(path), None, None, None
+    for number, line in enumerate(text.split("\n"), 1):
+        owner = owner_of(line, module, homes) or owner
+        head = re.match(r'( {4}|)(?:pub(?:\(\w+\))? )?(?:const )?(?:unsafe )?(?:extern "C" )?fn (\w+)', line)
+        if head:
+            above = owner if head[1] and owner else module
+            begun = "::".join([*above, head[2]]), marked or number, (head[1] + "}", head[1] + "{}")
+        if begun and (line in begun[2] or head and line.endswith("}")):
+            yield Function(*begun[:2], number)
+            begun = None
+        # what the prover says of a function may stand at its first attribute
+        if re.match(r"\s*#\[", line):
+            marked = marked or number
+        elif not re.match(r"\s*//", line):
+            marked = None
+        if line == "}":
+            owner = begun = None
+
+
+def functions_in(folder):
+    """The functions of a crate that stands in a folder, each with its file."""
+    texts = {}
+    for at, _, files in os.walk(os.path.join(folder, "src")):
+        for file in sorted(files):
+            if file.endswith(".rt"):
+                with open(os.path.join(at, file), encoding="utf-8") as source:
+                    texts[os.path.relpath(os.path.join(at, file), folder)] = source.read()
+    declared = r"^(?:pub(?:\(\w+\))? )?(?:struct|enum|union) (\w+)"
+    homes = {name: module_of(path) for path, text in texts.items() for name in re.findall(declared, text, re.M)}
+    return [(path, function) for path, text in sorted(texts.items()) for function in functions(path, text, homes)]
+
+
+@cache
+def functions_by_file(crate):
+    found = {}
+    for path, function in functions_in(os.path.join(CRATES, crate)):
+        found.setdefault(path, []).append(function)
+    return found
+
+
+def functions_of(edit):
+    """The functions whose text an edit changes, with their files; nothing where it changes a text outside a function."""
+    found = set()
+    for path, old, _ in edit.changes:
+        with open(os.path.join(CRATES, edit.crate, path), encoding="utf-8") as source:
+            before, _, behind = source.read().partition(old)
+        first = before.count("\n") + 1
+        within = [it for it in functions_by_file(edit.crate)[path] if it.first <= first and first + old.count("\n") <= it.last]
+        if not behind or not within:
+            return set()
+        found.add((path, within[0]))
+    return found
+
+
+def put_in_place(edits, folder):
+    """Puts edits in their places in a copy of their crate, each where its text stands before any of them is put there."""
+    places = {}
+    for edit in edits:
+        for path, old, new in edit.changes:
+            places.setdefault(path, []).append((old, new))
+    for path, pairs in places.items():
+        at = os.path.join(folder, path)
+        with open(at, encoding="utf-8") as source:
+            text = source.read()
+        for old, _ in pairs:
+            if text.count(old) != 1:
+                raise ValueError(f"{old} does not stand once in {path}")
+        end = len(text)
+        for begin, old, new in sorted(((text.index(old), old, new) for old, new in pairs), reverse=True):
+            if begin + len(old) > end:
+                raise ValueError(f"{old} overlaps with another edit of {path}")
+            text, end = text[:begin] + new + text[begin + len(old):], begin
+        with open(at, "w", encoding="utf-8") as source:
+            source.write(text)

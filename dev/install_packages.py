@@ -1,0 +1,108 @@
+"""Installs from Debian what the tests need and this machine lacks. One line says what was installed, or why something lacks still:
+the tests that need it are skipped then, and counted.
+
+    python3 -m dev.install_packages          root installs what lacks
+    python3 -m dev.install_packages --list   the packages as words for apt-get install
+"""
+import os
+import shutil
+import signal
+import subprocess
+import sys
+import tempfile
+from dataclasses import dataclass
+
+LIST = os.path.join(os.path.dirname(os.path.dirname(os.path.abspath(__file__))), "tools", "debian_packages.txt")
+APT = ("apt-get", "-q", "-o", "Acquire::Retries=1", "-o", "Acquire::http::Timeout=20", "-o", "DPkg::Lock::Timeout=60")
+# how many seconds the index and the packages may take
+UPDATE, INSTALL = 120, 600
+
+
+@dataclass(frozen=True)
+class Package:
+    # one name or several, of which a Debian has one
+    names: tuple[str, ...]
+    # the command that it brings, or none
+    command: str | None
+
+    def is_there(self):
+        if self.command:
+            return shutil.which(self.command) is not None
+        return any(map(is_installed, self.names))
+
+    def name(self):
+        """The name of what is installed; else the first one."""
+        return next(filter(is_installed, self.names), self.names[0])
+
+
+def is_installed(name):
+    return answer("dpkg-query", "-W", "-f=${db:Status-Status}", name) == "installed"
+
+
+def listed(path=LIST):
+    """The packages that the tests need."""
+    with open(path, encoding="utf-8") as lines:
+        rows = [line.split() for line in lines if line.strip() and not line.startswith("#")]
+    return [Package(tuple(name for name in names if name != "or"), None if command == "-" else command) for *names, command in rows]
+
+
+def answer(*words):
+    """What a command prints; nothing where it fails or is not there."""
+    try:
+        done = subprocess.run(words, stdin=subprocess.DEVNULL, stdout=subprocess.PIPE, stderr=subprocess.DEVNULL, text=True, timeout=60)
+    except (OSError, subprocess.TimeoutExpired):
+        return ""
+    return done.stdout if done.returncode == 0 else ""
+
+
+def fault_of(words, seconds):
+    """Runs apt-get; answers why it failed, or nothing where it did what it was to do. It and what it began end in so many seconds."""
+    with tempfile.TemporaryFile("w+", errors="replace") as told:
+        given = {**os.environ, "DEBIAN_FRONTEND": "noninteractive"}
+        with subprocess.Popen([*APT, *words], env=given, stdin=subprocess.DEVNULL, stdout=told, stderr=told, start_new_session=True) as running:
+            try:
+                status = running.wait(seconds)
+            except subprocess.TimeoutExpired:
+                os.killpg(running.pid, signal.SIGKILL)
+                return f"apt-get {words[0]} took more than {seconds} seconds"
+        told.seek(0)
+        lines = told.read().splitlines()
+    if status == 0:
+        return None
+    return next((line for line in lines if line.startswith("E: ")), f"apt-get {words[0]} ended with status {status}")
+
+
+def install(packages):
+    """Installs these packages; answers why some lack still, or nothing."""
+    if not shutil.which("apt-get"):
+        return "there is no apt-get"
+    if os.geteuid() != 0:
+        return f"only root installs them: apt-get install {' '.join(package.names[0] for package in packages)}"
+    if fault := fault_of(["update"], UPDATE):
+        return fault
+    names = [next((name for name in package.names if answer("apt-cache", "show", name)), None) for package in packages]
+    unknown = [package.names[0] for package, name in zip(packages, names) if not name]
+    fault = fault_of(["install", "-y", "--no-install-recommends", *filter(None, names)], INSTALL) if any(names) else None
+    return fault or (f"this machine's Debian has no {', '.join(unknown)}" if unknown else None)
+
+
+def main(words):
+    if words == ["--list"]:
+        print(" ".join(package.names[0] for package in listed()))
+        return 0
+    if words:
+        print(__doc__, file=sys.stderr)
+        return 2
+    before = [package for package in listed() if not package.is_there()]
+    fault = install(before) if before else None
+    after = [package for package in before if not package.is_there()]
+    new = ", ".join(package.name() for package in before if package not in after)
+    lacking = ", ".join(package.names[0] for package in after)
+    told = [f"installed {new}"] if new else []
+    told += [f"the tests lack {lacking}: {fault or 'apt-get installed nothing that does'}"] if lacking else []
+    print("install_packages: " + ("; ".join(told) or "all that the tests need is there"))
+    return 1 if lacking else 0
+
+
+if __name__ == "__main__":
+    sys.exit(main(sys.argv[1:]))

@@ -1,0 +1,210 @@
+"""Sends sessions and journals to the program that nobody would write by hand, and judges every reply.
+
+    python3 -m dev.long.fuzz --sessions 1000 --lines 1000      a million lines; each session has a seed of its own, counted from --seed
+    python3 -m dev.long.fuzz --seed 17 --sessions 1            one session again
+
+Lines are good, or damaged in their bytes, tokens or members. The derivations that the program tells are sent back, good and
+damaged. What is answered, by one worker or by several, is judged by the plain readers of `tests/support`, which share nothing with the program. A session is
+sent twice, the second time with what the first one told, and saved; then its journal, what was learnt in it too, is damaged and
+loaded. Status 1 where
+anything is found; each find is told with its seed and its line.
+"""
+import argparse
+import functools
+import json
+import multiprocessing
+import os
+import random
+import sys
+import tempfile
+import time
+
+from tests.support import program, said
+from tests.support.made_lines import NAMES, Maker
+from tests.support.plain_journal import first_fault
+from tests.support.plain_session import PlainSession, Requirements
+
+# the program keeps the matching sets of so many requirements of a package
+KEPT_SETS = 128
+
+
+class Find(Exception):
+    """What is found."""
+
+
+def demand(holds, told):
+    if not holds:
+        raise Find(told)
+
+
+def run(lines, *words, workers=1):
+    """The reply lines of a session that ends well."""
+    done = program.run(["serve", "--workers", str(workers), *words], b"".join(line + b"\n" for line in lines))
+    demand((done.returncode, done.stderr) == (0, b""), f"a session ends with {done.returncode} {done.stderr[:300]}")
+    replies = done.stdout.decode().split("\n")
+    demand(replies.pop() == "" and len(replies) == len(lines), f"{len(lines)} lines have {len(replies)} replies")
+    return replies
+
+
+def named_before():
+    """Publications that name so many requirements on each package that those of the session are beyond the ones whose sets are kept."""
+    return [{"op": "publish", "name": "y", "version": f"0.0.{number}", "needs": [[name, f"<9.{number}.0"] for name in NAMES]}
+            for number in range(KEPT_SETS)]
+
+
+def first_lines(maker, count):
+    """What a session begins with, a value or none for each line, and the lines."""
+    values = named_before() if maker.rng.random() < 0.25 else []
+    count += len(values)
+    while len(values) < count:
+        values.append(maker.value())
+        if values[-1]["op"] == "resolve" and not values[-1].get("explain") and maker.rng.random() < 0.5:
+            values.append({**values[-1], "explain": True})
+    return values, [maker.line(it) for it in values]
+
+
+def told_again(maker, lines, replies):
+    """Lines that ask whether the derivations follow that were told, as they are, damaged, and with another value in one place."""
+    made = []
+    for line, reply in zip(lines, replies):
+        if reply.startswith('{"derivation"'):
+            asked, told = json.loads(line.decode()), json.loads(reply)
+            check = {"op": "check", "needs": asked["needs"], "lock": asked.get("lock", []), "derivation": told["derivation"]}
+            made.append(json.dumps(check).encode())
+            made.append(maker.line({**check, "derivation": maker.other(told["derivation"])}))
+            made += [json.dumps({**check, "derivation": maker.near(told["derivation"])}).encode() for _ in range(6)]
+            if maker.rng.random() < 0.01:
+                made.append(json.dumps({**check, "derivation": maker.repeated(told["derivation"])}).encode())
+    return made
+
+
+def judged(lines, replies):
+    """The session once more; each reply is as it may be."""
+    plain = PlainSession()
+    for number, (line, reply) in enumerate(zip(lines, replies), 1):
+        fault = plain.fault(line, reply)
+        demand(not fault, f"line {number}: {line[:3000]}\n answered {reply[:3000]}\n {fault}")
+    return plain
+
+
+def journal_text(form, accepted):
+    rows = list(map(journal_line, accepted))
+    return b"".join(row + b"\n" for row in [b"registry-journal %d" % form, *rows, b"end %d" % len(rows)])
+
+
+def saved_well(text, accepted):
+    """What was saved has the accepted commands in their order, and else what was learnt."""
+    lines = text.split(b"\n")
+    demand(lines[0] == b"registry-journal 2" and lines[-2:] == [b"end %d" % (len(lines) - 3), b""], f"a file is saved as {text[:300]}")
+    commands = [it for it in lines[1:-2] if not it.startswith(b'{"derivation"')]
+    demand(commands == list(map(journal_line, accepted)), "other commands are saved than were accepted")
+    fault = first_fault(text, Requirements())
+    demand(fault is None, f"line {fault} of what is saved is at fault:\n{text[:3000]}")
+
+
+def damaged(maker, text):
+    """A journal's text with a line or some bytes changed, or as it was."""
+    lines, kind = text.split(b"\n"), maker.rng.random()
+    place, other = maker.rng.randrange(len(lines)), maker.rng.randrange(len(lines))
+    if kind < 0.15:
+        lines[place] = maker.other_bytes(lines[place])
+    elif kind < 0.25:
+        del lines[place]
+    elif kind < 0.35:
+        lines.insert(other, lines[place])
+    elif kind < 0.45:
+        lines[place], lines[other] = lines[other], lines[place]
+    elif kind < 0.5:
+        lines.insert(place, maker.line(maker.command()))
+    elif kind < 0.6:
+        lines[place] = lines[place].replace(b",", b", ", 1) + maker.rng.choice([b"", b"\r", b" "])
+    elif kind < 0.7:
+        lines[-2:] = maker.rng.choice([lines[-2:] + text.split(b"\n"), [lines[-2].replace(b" ", b" 0"), b""], [lines[-2] + b"0", b""], [lines[-2]],
+                                       [lines[-2], b"", b""], [b"end -1", b""], [b"end 18446744073709551616", b""], [lines[-2].upper(), b""]])
+    elif kind < 0.9:
+        other_learnt(maker, lines)
+    elif kind < 0.95:
+        return text[:maker.rng.randrange(len(text) + 1)]
+    return b"\n".join(lines)
+
+
+def other_learnt(maker, lines):
+    """Changes what was learnt: the line of it, or where that stands."""
+    learnt = [place for place, line in enumerate(lines) if line.startswith(b'{"derivation"')]
+    if not learnt:
+        return
+    place = maker.rng.choice(learnt)
+    if maker.rng.random() < 0.25:
+        lines.insert(maker.rng.randrange(1, len(lines) - 1), lines.pop(place))
+        return
+    rows = json.loads(lines[place])["derivation"]
+    changed = maker.repeated(rows) if maker.rng.random() < 0.1 else maker.near(rows)
+    lines[place] = journal_line({"derivation": changed, "op": "learn"})
+
+
+def journal_line(value):
+    return json.dumps(value, sort_keys=True, separators=(",", ":")).encode()
+
+
+def loaded(maker, path, text):
+    """A journal is loaded, or its first line at fault is told, as the plain reader has it."""
+    with open(path, "wb") as out:
+        out.write(text)
+    fault, done = first_fault(text, Requirements()), program.run([*program.SERVE, "--load", path], b'{"op":"list"}\n')
+    wanted = (0, b"") if fault is None else (1, b"registryd: journal line %d\n" % fault)
+    demand((done.returncode, done.stderr) == wanted, f"a journal is loaded with {done.returncode} {done.stderr}, wanted {wanted}:\n{text[:3000]}")
+
+
+def session(seed, count, path):
+    """One session and its journal; answers how many lines were judged."""
+    maker = Maker(random.Random(seed))
+    _, lines = first_lines(maker, count)
+    workers = maker.rng.choice([1, 2, 4, 64])
+    replies = run(lines, workers=workers)
+    every = [*lines, *told_again(maker, lines, replies)]
+    again = run(every, "--save", path, workers=workers)
+    demand(again[:len(lines)] == replies, "the same lines are answered otherwise the second time")
+    plain = judged(every, again)
+    with open(path, "rb") as file:
+        text = file.read()
+    saved_well(text, plain.accepted)
+    listed = run([b'{"op":"list"}'], "--load", path)
+    demand(listed == [plain.registry.answer({"op": "list"}, ())], "what was saved is loaded otherwise")
+    for _ in range(3):
+        loaded(maker, path, damaged(maker, journal_text(maker.rng.choice([1, 2]), plain.accepted[:maker.rng.choice([3, 30, 300])])))
+    for _ in range(3):
+        loaded(maker, path, damaged(maker, text))
+    return len(every)
+
+
+def tried(seed, count):
+    """How many lines were judged, and what was found, of one seed."""
+    with tempfile.TemporaryDirectory() as folder:
+        try:
+            return session(seed, count, os.path.join(folder, "journal")), None
+        except Find as find:
+            return 0, f"seed {seed}: {find}"
+
+
+def main(words):
+    parser = argparse.ArgumentParser(description=__doc__, formatter_class=argparse.RawDescriptionHelpFormatter)
+    for word, usual in (("--seed", 1), ("--sessions", 20), ("--lines", 1000), ("--jobs", os.cpu_count())):
+        parser.add_argument(word, type=int, default=usual)
+    parser.add_argument("--program", default=program.PROGRAM)
+    given = parser.parse_args(words)
+    program.PROGRAM = given.program
+    said.is_noting = False
+    began, lines, finds = time.monotonic(), 0, 0
+    with multiprocessing.get_context("fork").Pool(given.jobs) as pool:
+        seeds = range(given.seed, given.seed + given.sessions)
+        for judged_lines, find in pool.imap_unordered(functools.partial(tried, count=given.lines), seeds):
+            lines += judged_lines
+            if find:
+                finds += 1
+                print(find, flush=True)
+    print(f"{lines:,} lines in {time.monotonic() - began:.0f} s; {finds} finds")
+    return int(finds > 0)
+
+
+if __name__ == "__main__":
+    sys.exit(main(sys.argv[1:]))

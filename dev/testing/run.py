@@ -1,0 +1,154 @@
+"""Runs the tests in Python by pytest, in several processes: those that ask for no program under test while the programs are still
+compiled, then the others, and last the file that judges what was said in all of them.
+
+Files that ask for no program stand in a folder of their own. They find none, so that a file in the wrong folder fails. A file that
+has the mark `not_quick` is left out of a quick run, which says so."""
+import contextlib
+import os
+import re
+import subprocess
+import tempfile
+import time
+from pathlib import Path
+from xml.etree import ElementTree
+
+from dev import measured
+from dev.building.progress import TOP
+from dev.testing.compiling import NOTHING, TESTED
+from dev.testing.counts import Counts
+
+# Debian's Python, which its package of pytest is for.
+PYTEST = ("/usr/bin/python3", "-m", "pytest", "-q")
+ASK_NONE, ASK = ("tests/in_process",), ("tests/program", "tests/servers", "bench/tests")
+LAST = "tests/program/test_written_lines.py"
+# What each file took, so that those that take longest begin first (`conftest.py`).
+MEASURED = os.path.join(TOP, "tests", "seconds.txt")
+# So many files run at once for each processor: they wait most of the time.
+AT_ONCE = 3
+# How often it is looked whether a program is compiled meanwhile, in seconds; how much those tests give way to that.
+LOOK, GIVE_WAY = 0.5, 3
+# A file that failed is run once more, alone. Where more files than these failed, that was no chance.
+MOST_AGAIN = 10
+NOT_QUICK = re.compile(r'^pytestmark = pytest\.mark\.not_quick\("(.+)"\)$', re.M)
+# How pytest ends where tests ran, passed or failed; and where none was found.
+RAN, NONE_RAN = (0, 1), 5
+
+
+class Session:
+    """A run of pytest, which ends with this; with as many workers as are asked for, or none."""
+
+    def __init__(self, folder, words, workers=0, gives_way=0, out=None, **variables):
+        self.report = Path(folder, f"{time.monotonic_ns()}.xml")
+        side_by_side = ["-n", str(workers), "--dist", "loadfile"] if workers else []
+        given = {**os.environ, "SAID": str(folder / "said"), **variables}
+        # tests begin hundreds of Pythons, each of which would compile the same modules anew
+        given.pop("PYTHONDONTWRITEBYTECODE", None)
+        self.running = subprocess.Popen(["nice", "-n", str(gives_way), *PYTEST, *side_by_side, f"--junitxml={self.report}", *words],
+                                        cwd=TOP, env=given, stdin=subprocess.DEVNULL, stdout=out, stderr=subprocess.STDOUT if out else None)
+
+    def __enter__(self):
+        return self
+
+    def __exit__(self, *_):
+        self.running.terminate()
+        self.running.wait()
+
+    def ended(self):
+        """What came of each file, and the seconds that it took; waits for that."""
+        status = self.running.wait()
+        if status == NONE_RAN:
+            return {}, {}
+        try:
+            counts, took = read(self.report)
+        except (OSError, ElementTree.ParseError):
+            counts, took = {}, {}
+        if status not in RAN:
+            counts["pytest"] = Counts(failed=1, told=(f"pytest ended with status {status}",))
+        return counts, took
+
+
+def read(report):
+    """What came of each file by a report of pytest, and the seconds that its tests took."""
+    counts, took = {}, {}
+    for case in ElementTree.parse(report).iter("testcase"):
+        names = f"{case.get('classname')}.{case.get('name')}".lstrip(".")
+        file = re.match(r"(?:\w+\.)*?test_\w+", names)
+        file = f"{file[0].replace('.', '/')}.py" if file else names
+        skipped = case.find("skipped")
+        if skipped is not None:
+            count = Counts(skipped=((names, skipped.get("message")),))
+        else:
+            is_wrong = case.find("failure") is not None or case.find("error") is not None
+            count = Counts(failed=1) if is_wrong else Counts(passed=1)
+        counts[file] = counts.get(file, Counts()) + count
+        took[file] = took.get(file, 0) + float(case.get("time"))
+    return counts, took
+
+
+def files():
+    """The files of tests, but for the last."""
+    found = [str(path.relative_to(TOP)) for folder in (*ASK_NONE, *ASK) for path in sorted(Path(TOP, folder).glob("test_*.py"))]
+    return [path for path in found if path != LAST]
+
+
+def left_out(paths):
+    """Which of these files a quick run leaves out, each with the reason."""
+    return {path: found[1] for path in paths if (found := NOT_QUICK.search(Path(TOP, path).read_text(encoding="utf-8")))}
+
+
+def told_of(left, number):
+    """Lines that name the files that were left out, of so many."""
+    if not left:
+        return ()
+    named = [(why, [os.path.basename(path) for path in left if left[path] == why]) for why in sorted({*left.values()})]
+    return (f"left to ./test: {len(left)} of {number} files of tests",
+            *(f"left to ./test ({why}): {' '.join(sorted(names))}" for why, names in named))
+
+
+def run_all(processors, builds=NOTHING, is_quick=False):
+    """Runs them all, or those that a quick run has; answers the counts of all tests."""
+    with tempfile.TemporaryDirectory() as folder, contextlib.ExitStack() as held:
+        folder = Path(folder)
+        (folder / "said").mkdir()
+        quick = ["-m", "not not_quick"] if is_quick else []
+        wrote = held.enter_context(open(folder / "wrote", "w+", encoding="utf-8", errors="replace"))
+        # none of them asks for a program
+        none = held.enter_context(Session(folder, [*ASK_NONE, *quick], max(1, AT_ONCE * processors // 2), GIVE_WAY, wrote,
+                                          **{name.upper(): "none" for name in TESTED}))
+        while builds.left():
+            time.sleep(LOOK)
+        came, took = {}, {}
+        if not builds.failed:
+            asking = held.enter_context(Session(folder, [*ASK, f"--ignore={LAST}", *quick], AT_ONCE * processors))
+            came, took = asking.ended()
+        counts, seconds = none.ended()
+        wrote.seek(0)
+        print(wrote.read(), end="", flush=True)
+        came, took = {**came, **counts}, {**took, **seconds}
+        paths = files()
+        told = told_of(left_out(paths), len(paths)) if is_quick else ()
+        if builds.failed:
+            return sum(came.values(), Counts(failed=1, told=told))
+        if not is_quick:
+            whole = {os.path.basename(it): took[it] for it in came if not came[it].failed and not came[it].skipped}
+            measured.note(MEASURED, whole, sorted(map(os.path.basename, paths)))
+        told += once_more(folder, came)
+        with Session(folder, [LAST]) as last:
+            return sum([*came.values(), *last.ended()[0].values()], Counts(told=told))
+
+
+def once_more(folder, came):
+    """Runs the files that failed once more, one after another, and puts what came of them then in its place; answers lines that name
+    those that passed."""
+    failed = [path for path, counts in came.items() if counts.failed]
+    told = []
+    for path in failed if len(failed) <= MOST_AGAIN else []:
+        if not Path(TOP, path).is_file():
+            continue
+        print(f"{path} failed, so it is run again, alone:", flush=True)
+        given = {name.upper(): "none" for name in TESTED} if path.startswith(ASK_NONE) else {}
+        with Session(folder, [path], **given) as again:
+            came[path] = sum(again.ended()[0].values(), Counts())
+        if came[path].passed and not came[path].failed:
+            told.append(f"failed once, passed when run again: {os.path.basename(path)}")
+    return tuple(told)

@@ -1,0 +1,44 @@
+"""`registry check`: which request lines would be refused for what they say, and what was probably meant."""
+import contextlib
+import sys
+
+from registryd_lines.fault import placed
+from registryd_lines.judging import faults
+
+from ..failures import DONE, REFUSED, Failed, told
+from ..limits import MOST_LINE_BYTES
+
+
+def run(given, out):
+    name = "<stdin>" if given.file == "-" else given.file
+    found, wrong, count = [], 0, 0
+    for count, line in enumerate(lines_of(given.file), 1):
+        of_line = faults(line)
+        wrong += bool(of_line)
+        for it in of_line:
+            if out.is_json:
+                found.append(as_json(count, it))
+            else:
+                out.give(None, [placed(name, count, it, out.style)])
+    if out.is_json:
+        out.give({"faults": found, "file": name, "lines": count, "refused": wrong}, [])
+    lines = f"{count:,} line{'' if count == 1 else 's'}"
+    out.note(f"{name}: {wrong:,} of {lines} would be refused" if wrong else f"{name}: {lines}, and no errors")
+    return REFUSED if wrong else DONE
+
+
+def lines_of(path):
+    """The lines of a file, of those that are too long a beginning that is too long as well."""
+    try:
+        with contextlib.nullcontext(sys.stdin.buffer) if path == "-" else open(path, "rb") as file:
+            while line := file.readline(MOST_LINE_BYTES + 1):
+                rest = line
+                while rest and not rest.endswith(b"\n"):
+                    rest = file.readline(MOST_LINE_BYTES)
+                yield line.removesuffix(b"\n")
+    except OSError as fault:
+        raise Failed(told(fault)) from None
+
+
+def as_json(line, fault):
+    return {"column": fault.place + 1, "error": fault.number, "line": line, "meant": fault.meant, "name": fault.name, "what": fault.what}

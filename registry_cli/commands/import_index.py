@@ -1,0 +1,97 @@
+"""`registry import`: crates that are on this machine, published in an order that is accepted."""
+import json
+import sys
+
+from ..alone import Alone
+from ..bar import Bar, busy
+from ..failures import REFUSED, Refused, Usage
+from ..files import read_bounded, write_file
+from ..indexes.cargo import Cargo
+from ..indexes.crates_io import CratesIo
+from ..indexes.debian import Debian
+from ..limits import MOST_VERSIONS
+from ..locks import Lock, lock_text
+from ..needs import needs_path, write_needs
+from ..output import aside
+from ..refusals import english, listed
+from ..session import reading, writing
+from ..shelf import Shelf, choose, commands_of, counted, noted, other_spellings, request, roots
+
+THERE_ALREADY = (7, 12)  # it is published, or yanked, already
+
+
+def run(given, out):
+    if given.ask and not given.lines:
+        raise Usage("--ask needs --lines: `registry resolve` asks the registry")
+    lock_file = getattr(given, "write", None)
+    with busy("reading the index"):
+        index = opened(given)
+        needs = roots(index, getattr(given, "from"))
+        locked = index.locked() if given.ask or lock_file else []
+        asked = request(index, needs, locked) if given.ask else None
+        shelf = Shelf(index)
+        chosen, most = choose(shelf, [name for name, _ in needs] or index.names(), given.newest or MOST_VERSIONS)
+    commands = list(commands_of(chosen))
+    if given.lines:
+        for it in [*commands, *([asked] if asked else [])]:
+            print(json.dumps(it, separators=(",", ":")))
+        sys.stdout.flush()
+        aside(f"written: {counted(chosen)}", *noted(shelf, chosen, most, index.notes))
+        return None
+    status = published(given, commands, chosen, noted(shelf, chosen, most, index.notes), out)
+    if lock_file:
+        keep(lock_file, locked, needs, out)
+    return status
+
+
+def opened(given):
+    """The reader of the index that is named."""
+    if given.subcommand == "import crates-io":
+        return CratesIo(given.dir)
+    if given.subcommand == "import cargo":
+        return Cargo(given.dir, CratesIo(given.index) if given.index else None)
+    return Debian(read_bounded(given.file).decode(errors="replace").replace("\r\n", "\n") if given.file else Debian.of_this_machine())
+
+
+def published(given, commands, chosen, notes, out):
+    """Sends the commands, and says what became of them."""
+    accepted, there, refused, reply, bar = 0, 0, {}, {"revision": 0}, Bar("importing", len(commands))
+    with writing(given) as session:
+        if not given.both_spellings:
+            refuse_spellings(other_spellings(chosen, listed(session)))
+        for command, reply in zip(commands, session.each(commands)):
+            bar.step()
+            if "error" not in reply:
+                accepted += 1
+            elif reply["error"] in THERE_ALREADY:
+                there += 1
+            else:
+                refused.setdefault(english(command, reply, dict), []).append(f"{command['name']} {command['version']}")
+    bar.end()
+    if there:
+        notes = [*notes, f"skipped: commands that were carried out before: {there}"]
+    notes += [f"refused: {said}: {len(of)} (first: {of[0]})" for said, of in refused.items()]
+    with reading(given) as session:
+        alone = Alone(session, [name for name, releases in chosen.items() if releases])
+    out.give({"accepted": accepted, "passed_over": there, "refused": sum(map(len, refused.values())), "revision": reply["revision"], "notes": notes,
+              "alone": alone.value()}, [f"imported: {counted(chosen)} (revision {reply['revision']})"])
+    sys.stdout.flush()
+    if not out.is_json:
+        aside(*notes, *alone.lines())
+    return REFUSED if refused else None
+
+
+def refuse_spellings(pairs):
+    """Ends an import of names that the journal has in another spelling: what is needed would be found under one of the two alone."""
+    if pairs:
+        name, there = pairs[0]
+        count = f"{len(pairs)} name{'s differ' if len(pairs) > 1 else ' differs'}"
+        raise Refused(f"nothing is imported: {count} from the journal's only in - and _ (first: {name}, which is {there} there): "
+                      "import into another journal, which --journal FILE names, or add --both-spellings")
+
+
+def keep(path, locked, needs, out):
+    """Writes what Cargo.lock has as a lock file, and beside it the needs that were begun with."""
+    write_file(path, lock_text(Lock(dict(locked))))
+    write_needs(needs_path(path), [list(it) for it in needs])
+    out.note(f"{path} and {needs_path(path)} are written")

@@ -1,0 +1,46 @@
+"""`registry lock check`: whether a lock file holds: each version is there, and the lock has what each needs."""
+from ..catalog import catalog_of
+from ..check_derivation import admits, read_version
+from ..failures import REFUSED
+from ..locks import lock_of
+from ..needs import needs_known
+from ..packages import registry_in
+from ..refusals import accepted, listed, not_there
+from ..session import reading
+from ..walk import walk
+
+
+def run(given, out):
+    path, lock, needs = given.file, lock_of(given.file).selected, needs_known(given.need, given.file)
+    judged = {"op": "check", "needs": needs or [], "derivation": []}  # the program says whether these are needs
+    with reading(given) as session:
+        accepted(session, judged, *session.ask(judged))
+        packages, registry = listed(session), registry_in(catalog_of(session.journal()), lock)
+    found = list(faults(lock, needs or [], registry, packages))
+    if not found and needs is not None:
+        found = [(name, f"nothing needs {name} {lock[name]}") for name in sorted(set(lock) - set(walk(needs, lock, registry)))]
+    count = f"{len(lock):,} package{'' if len(lock) == 1 else 's'}"
+    out.give({"file": path, "packages": len(lock), "faults": [{"name": name, "what": what} for name, what in found], "revision": registry.revision},
+             [f"{out.style(f'{path}:', 'bold')} {what}" for _, what in found] or [f"{path}: whole: {count}, revision {registry.revision}"])
+    return REFUSED if found else None
+
+
+def faults(lock, needs, registry, packages):
+    """What is not there, yanked or not met, each with the package that is at fault."""
+    for name, text in sorted(lock.items()):
+        release = registry.find(name, text)
+        if release is None:
+            yield name, not_there({"name": name, "version": text}, packages)
+            continue
+        if release.yanked:
+            yield name, f"{name} {text} is yanked"
+        for _, what in unmet(f"{name} {text}", release.needs.items(), lock):
+            yield name, what
+    yield from unmet("the request", needs, lock)
+
+
+def unmet(who, needs, lock):
+    """Of some needs each that the lock does not meet, with its package."""
+    for target, requirement in needs:
+        if target not in lock or not admits(requirement, read_version(lock[target])):
+            yield target, f"{who} depends on {target} {requirement}; the lock has {lock.get(target, f'no {target}')}"

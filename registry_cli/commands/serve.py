@@ -1,0 +1,35 @@
+"""`registry serve`: a service for many clients, over the one journal, until a signal ends it."""
+import asyncio
+
+from registry_service import Service
+from registry_service.pages import show
+
+from ..failures import FAILED, Usage
+from ..session import journal_of
+
+
+def run(given, out):
+    if not given.socket and given.port is None:
+        raise Usage("a service listens on --socket PATH, on --port N, or on both")
+    if given.connect:
+        raise Usage("a service keeps a journal itself: --journal FILE names it, and --connect is for those who ask it")
+    if given.group and not given.socket:
+        raise Usage("--group needs --socket")
+    return asyncio.run(serve(journal_of(given), given, out))
+
+
+async def serve(path, given, out):
+    """The exit status of a service."""
+    service = Service(path, given)
+    with service.left:
+        await service.begin()
+        names = [it if isinstance(it, str) else "{}:{}".format(*it) for it in (server.sockets[0].getsockname() for server in service.servers)]
+        where = names[:len(names) - (given.metrics_port is not None)]
+        out.give({"listening": where[0], "also": where[1:], "revision": service.keeper.revision},
+                 [f"{path} is served at {' and '.join(where)} (revision {service.keeper.revision})"])
+        await show(service, where[0], out)
+        await service.signalled.wait()
+        if await service.end():
+            return None
+    out.note(f"{path} has no end line: it has all accepted commands, and the next session continues it")
+    return FAILED

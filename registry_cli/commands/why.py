@@ -1,0 +1,113 @@
+"""`registry why`: in English why a request is refused, or why a version was not selected, from a derivation that is checked first."""
+import math
+import sys
+import time
+
+from ..cases import Case
+from ..catalog import catalog_of
+from ..check_derivation import NAME, RESOLVE, demand, formed, read_journal, read_lines, read_version
+from ..check_derivation import session as replayed
+from ..explaining import tell
+from ..failures import Failed, Refused, Usage
+from ..files import write_file
+from ..folding import MOST_SHOWN
+from ..packages import registry_in
+from ..requests import request_of
+from ..searching import explaining
+from ..session import Session, reading
+
+
+def run(given, out):
+    """Tells what is asked, and draws it; of several requests the last one."""
+    check(given)
+    picture, answers, begun = None, [], None
+    try:
+        for case in of_files(given) if given.asked else of_journal(given):
+            with explaining("selected" not in case.reply, begun):
+                lines = case.why_not(*given.version) if given.version else case.answer()
+            answers.append({"request": case.request, "reply": case.reply, "told": lines})
+            if not out.is_json:
+                out.give(None, [""] * (len(answers) > 1))
+                tell(case, lines, sys.stdout, given.full or not sys.stdout.isatty(), "--full tells all of them")
+            picture = case.draw
+            begun = time.monotonic()  # the next one has seconds of its own
+        if out.is_json:
+            out.give(answers, [])
+        if given.picture:
+            demand(picture, "there is nothing to draw", Refused)
+            write_file(given.picture, picture(math.inf if given.unfolded else MOST_SHOWN))
+    except ValueError as fault:  # what the checker of derivations says of files that can't be judged
+        raise Refused(str(fault)) from None
+
+
+def check(given):
+    """Words that don't go together."""
+    if given.asked and (given.need or given.lock or given.budget is not None):
+        raise Usage("--asked reads requests from a file: it can't be used with needs, --lock or --budget")
+    if given.asked and given.connect:
+        raise Usage("--asked can't be used with --connect: it reads a session from files")
+    if given.unfolded and not given.picture:
+        raise Usage("--unfolded needs --picture FILE")
+    if not given.asked and (given.told or given.request):
+        raise Usage("--told and --request need --asked FILE")
+    if given.version and not (NAME.fullmatch(given.version[0]) and read_version(given.version[1])):
+        raise Usage(f"these are not a package name and a version: {' '.join(given.version)!r}")
+
+
+def of_journal(given):
+    """The one case of needs that are asked for now."""
+    request = request_of(given)
+    with reading(given) as session:
+        names = set(catalog_of(session.journal()).lines)
+        budget = {name: value for name, value in request.items() if name == "budget"}
+
+        def registry(named):
+            return registry_in(catalog_of(session.journal()), named)  # a service may have more commands once it has replied
+
+        yield Case(request, None, registry, lambda it: session.ask({**it, **budget})[0], names,
+                   put=lambda question, it: question.put(session.commands(), {**it, **budget}, registry))
+
+
+def of_files(given):
+    """The cases of a session's request lines and replies that are asked for, each at its place."""
+    lines = lines_of(given.asked)
+    requests, replies = (lines, lines_of(given.told)) if given.told else (lines[::2], lines[1::2])
+    demand(len(requests) == len(replies), f"there are {len(requests)} request lines and {len(replies)} replies", Refused)
+    journal, commands, wanted = read_journal(given.journal) if given.journal else None, [], wanted_of(given, requests, replies)
+    for number, (request, reply, registry) in enumerate(replayed(requests, replies, journal), 1):
+        commands += [request] if reply.get("ok") is True else []
+        if number in wanted:
+            before = commands[:] if journal is None else journal[:registry.revision]
+            yield case_of(number, request, reply, registry, before)
+
+
+def lines_of(path):
+    try:
+        return read_lines(path)
+    except OSError as fault:
+        raise Failed(f"{path}: {fault.strerror}") from None
+
+
+def case_of(number, request, reply, registry, commands):
+    """The case of a request line and its reply, of a session that had obeyed these commands."""
+    return Case(request, reply, lambda _: registry, lambda it: asked_anew(commands, it), told=f"request {number}, ",
+                put=lambda question, it: question.put(commands, it, lambda _: registry))
+
+
+def asked_anew(commands, request):
+    """The reply of a program that has obeyed these commands."""
+    with Session("the session", ()) as session:
+        return session.ask(*commands, request)[-1]
+
+
+def wanted_of(given, requests, replies):
+    """The numbers of the requests that are told: one that is named, or the last one, or each that was refused."""
+    answered = [number for number, (request, reply) in enumerate(zip(requests, replies), 1)
+                if formed({"lock": [], "explain": True, "budget": 0, **request}, RESOLVE) and ("selected" in reply or reply.get("refused") is True)]
+    refused = [number for number in answered if "selected" not in replies[number - 1]]
+    if given.request:
+        demand(given.request in answered, f"request {given.request} is no request with a selection or a refusal", Refused)
+        return {given.request}
+    wanted = answered[-1:] if given.version or (given.picture and not refused) else refused
+    demand(wanted, "no request is refused" if answered else "there is no request with a selection or a refusal", Refused)
+    return set(wanted)

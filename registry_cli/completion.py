@@ -1,0 +1,124 @@
+"""Completion: what may stand at the end of a command line, by the table, and the few lines of each shell that ask for it."""
+from .command_line import split
+from .failures import Failure
+from .table import COMMON, FILE, FOLDER, NEED, PACKAGE, SUBCOMMANDS, VERSION
+
+# each asks `registry --complete WORD ..`: the first line answered says what may stand there, the others are words
+SCRIPTS = {
+    "bash": r"""_registry() {
+    local current=${COMP_WORDS[COMP_CWORD]} told
+    mapfile -t told < <("$1" --complete "${COMP_WORDS[@]:1:COMP_CWORD}" 2>/dev/null)
+    case ${told[0]} in
+        file) compopt -o filenames; mapfile -t COMPREPLY < <(compgen -f -- "$current") ;;
+        folder) compopt -o filenames; mapfile -t COMPREPLY < <(compgen -d -- "$current") ;;
+        *) COMPREPLY=("${told[@]:1}") ;;
+    esac
+}
+complete -F _registry registry
+""",
+    "zsh": r"""#compdef registry
+_registry() {
+    local -a told
+    told=("${(@f)$($words[1] --complete "${(@)words[2,CURRENT]}" 2>/dev/null)}")
+    case $told[1] in
+        file) _files ;;
+        folder) _files -/ ;;
+        *) compadd -- "${(@)told[2,-1]}" ;;
+    esac
+}
+if [ "$funcstack[1]" = _registry ]; then _registry "$@"; else compdef _registry registry; fi
+""",
+    "fish": r"""function __registry_told
+    set -l words (commandline -opc) (commandline -ct)
+    set -l told ($words[1] --complete $words[2..-1] 2>/dev/null)
+    switch "$told[1]"
+        case file
+            __fish_complete_path (commandline -ct)
+        case folder
+            __fish_complete_directories (commandline -ct)
+        case '*'
+            printf '%s\n' $told[2..-1]
+    end
+end
+complete -c registry -f -a '(__registry_told)'
+""",
+}
+GENERAL = ("--help", "--version")
+UNBOUNDED = 10 ** 9  # words that an option takes
+
+
+def complete(words):
+    """The lines that are answered for words of which the last one is being typed: `file`, `folder` or `words`, then words."""
+    *before, current = words or [""]
+    before = before[before[:1] == ["help"]:]
+    kind, offered = candidates(before, current)
+    return [kind, *sorted({it for it in offered if it.startswith(current)})]
+
+
+def candidates(before, current):
+    """What may stand behind some words, and those words that are known."""
+    valued = {it.flag: it for it in COMMON if it.names}
+    if before and before[-1] in valued:
+        return of_kind(valued[before[-1]].takes, before, None)
+    try:
+        of, rest = split(before)
+    except Failure:
+        first = " ".join(it for place, it in enumerate(before) if not it.startswith("-") and before[place - 1] not in valued)
+        return "words", [it.name.split(" ")[1] for it in SUBCOMMANDS if it.name.startswith(first + " ")]
+    if of is None:
+        return "words", [*(it.name.split(" ")[0] for it in SUBCOMMANDS), "help", *flags(COMMON), *GENERAL]
+    if current.startswith("-"):
+        return "words", [*flags(of.words), *flags(COMMON), "--help"]
+    takes, given = awaited(of, rest)
+    return of_kind(takes, before, given) if takes else ("words", [])
+
+
+def flags(words):
+    return [it.flag for it in words if it.flag]
+
+
+def awaited(of, rest):
+    """What the word or option of a subcommand takes whose value comes next, nothing where no more is taken; and the word before it."""
+    options = {it.flag: it for it in (*of.words, *COMMON) if it.flag}
+    places, taken, open_option, left = [it for it in of.words if not it.flag], 0, None, 0
+    for it in rest:
+        if it in options:
+            open_option = options[it]
+            left = UNBOUNDED if open_option.many in ("*", "+") else len(open_option.names)
+        elif left:
+            left -= 1
+        else:
+            taken += 1
+    before = rest[-1] if rest else None
+    if left:
+        is_version = left == 1 and open_option.names[-1] == "VERSION"
+        return VERSION if is_version else open_option.takes, before
+    if taken < len(places) or (places and places[-1].many in ("*", "+")):
+        return places[min(taken, len(places) - 1)].takes, before
+    return None, before
+
+
+def of_kind(takes, before, given):
+    """What is offered for a kind of value."""
+    if takes in (FILE, FOLDER):
+        return takes, []
+    if isinstance(takes, tuple):
+        return "words", takes
+    if takes in (PACKAGE, NEED, VERSION):
+        return "words", published(before, given if takes == VERSION else None)
+    return "words", []
+
+
+def published(before, name):
+    """The names of the packages, or the versions of one; nothing where no journal can be read and no service answers."""
+    from types import SimpleNamespace
+
+    from .refusals import listed
+    from .session import reading
+    named = {flag: value for flag, value in zip(before, before[1:])}
+    try:
+        with reading(SimpleNamespace(journal=named.get("--journal"), connect=named.get("--connect"))) as session:
+            packages = listed(session)
+    except Failure:
+        return []
+    return list(packages) if name is None else [text for text, _ in packages.get(name, [])]

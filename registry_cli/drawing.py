@@ -1,0 +1,200 @@
+"""Pictures of a derivation and of a selection, as SVG.
+
+A derivation is a column of boxes, one a line, each below those that it rests on; a line on the left leads from a box to those
+that cite it. A selection is a staircase of packages: what a package needs is found to the right of it and then down.
+"""
+import textwrap
+
+from .check_derivation import ROOT, demand
+from .derivation import FAILED, Fact, joined
+from .folding import MOST_SHOWN, cited, folded
+from .svg import arrow, dot, line, sheet, text, width
+
+MARGIN = 16
+INK, FAINT, PAPER, EDGE, ALARM = "#222222", "#5c6b7a", "#f4f6f8", "#44546a", "#b3261e"
+COLOURS = ["#3b6ea5", "#b5651d", "#3d8b57", "#8a4f9e", "#a33b5b", "#4f7f86"]
+# a box of a derivation: its letters, the rows of them, what is left free, and how far the lines on its left are apart
+SAID, WHY, ROW, GAP, LANE, MOST_LETTERS = 13, 11, 15, 8, 11, 110
+# a step of the staircase
+STAIR = 18
+# letters that stand on lines are seen whole
+HALO = '<text paint-order="stroke" stroke="#ffffff" stroke-width="3"'
+
+
+# ---- a derivation
+
+class Box:
+    """A line of a derivation: its texts, and which lines it cites. `hidden` says how many lines it rests on that have no box; its
+    other reasons are left out then."""
+
+    def __init__(self, derivation, step, failed, hidden=0):
+        self.number, self.is_last, self.hidden = step.number, step is derivation.last, hidden
+        self.cites = [] if hidden else [it.number for it in cited(step)]
+        # what has no line of its own is told by its facts
+        alone = [fact for it in step.causes for fact in (it.causes if it in step.below() and not it.number else [it]) if isinstance(fact, Fact)]
+        told = [joined(*alone, [step, *step.below()])] if len(alone) == 2 else [it.said for it in alone]
+        if hidden:
+            told = [f"of {hidden} line{'s' * (hidden > 1)}, folded here"]
+        self.said = textwrap.wrap(failed if self.is_last else derivation.conclusion(step), MOST_LETTERS)
+        self.why = textwrap.wrap("because " + " and ".join([*told, *(f"line {it}" for it in self.cites)]), MOST_LETTERS + 20)
+        self.high = 12 + (ROW + 2) * len(self.said) + ROW * len(self.why)
+        self.top = 0.0
+
+    def wide(self):
+        return max(*(width(it, SAID) for it in self.said), *(width(it, WHY) for it in self.why))
+
+    def enters(self, number):
+        """How high the line from a cited one comes in."""
+        return self.top + 11 + 9 * self.cites.index(number)
+
+    def leaves(self):
+        return self.top + self.high - 7
+
+    def drawn(self, x, gutter, wide):
+        """The box with its texts."""
+        colour, y = ALARM if self.is_last else EDGE, self.top + 19
+        dashes = ' stroke-dasharray="5 4"' if self.hidden else ""
+        said = [f'<rect x="{x:.0f}" y="{self.top:.0f}" width="{gutter + wide:.0f}" height="{self.high:.0f}" rx="5" fill="{PAPER}" '
+                f'stroke="{colour}" stroke-width="{2 if self.is_last else 1}"{dashes}/>', text(x + gutter - 8, y, str(self.number), WHY, FAINT, "end")]
+        for row in self.said:
+            said.append(text(x + gutter, y, row, SAID, colour if self.is_last else INK))
+            y += ROW + 2
+        for row in self.why:
+            said.append(text(x + gutter, y - 1, row, WHY, FAINT))
+            y += ROW
+        return said
+
+
+def lanes_of(boxes):
+    """The lane of each line that is cited: short ways next to the boxes, and no two on one piece of a lane."""
+    ends = {}
+    for place, box in enumerate(boxes):
+        for number in box.cites:
+            ends[number] = place
+    starts = {box.number: place for place, box in enumerate(boxes)}
+    lanes, taken = {}, []
+    for number in sorted(ends, key=lambda it: (ends[it] - starts[it], starts[it])):
+        start, end = starts[number], ends[number]
+        lane = next((at for at, ways in enumerate(taken) if all(end <= low or high <= start for low, high in ways)), len(taken))
+        taken += [[]] if lane == len(taken) else []
+        taken[lane].append((start, end))
+        lanes[number] = lane
+    return lanes
+
+
+def ways(boxes, lanes, left):
+    """The lines from boxes to those that cite them, each with a dot where another one is cited before the last."""
+    said, by_number = [], {box.number: box for box in boxes}
+    for number, lane in lanes.items():
+        x, colour, box = left - 14 - LANE * lane, COLOURS[lane % len(COLOURS)], by_number[number]
+        citing = [it for it in boxes if number in it.cites]
+        said.append(line([(left, box.leaves()), (x, box.leaves()), (x, citing[-1].enters(number))], colour))
+        for it in citing:
+            y = it.enters(number)
+            said += [line([(x, y), (left - 5, y)], colour), arrow(left, y, colour, right=1)]
+            said += [dot(x, y, colour)] if it is not citing[-1] else []
+    return said
+
+
+def legend(derivation, boxes):
+    """How the picture is read, and how much of the derivation it shows."""
+    told = ["A box is a line of the derivation. It rests on what it names and on the boxes that lead to it from the left."]
+    lines = sum(it.number is not None for it in derivation.steps)
+    if lines > len(boxes):
+        told.append(f"{lines - len(boxes):,} of the {lines:,} lines are folded: a dashed box says what they lead to. The sentences tell all of them.")
+    return told
+
+
+def draw_derivation(derivation, title, failed=FAILED, most=MOST_SHOWN):
+    """The picture of a derivation, folded where it has more than so many lines."""
+    title = textwrap.shorten(title, MOST_LETTERS, placeholder=" ..")
+    boxes = [Box(derivation, step, failed, hidden) for step, hidden in folded(derivation, most).items()]
+    told = legend(derivation, boxes)
+    lanes = lanes_of(boxes)
+    left = MARGIN + 14 + LANE * (max(lanes.values(), default=-1) + 1)
+    gutter = 20 + width(str(boxes[-1].number), WHY)
+    wide = 12 + max(*(box.wide() for box in boxes), width(title, SAID), *(width(it, WHY) for it in told))
+    y = MARGIN + 28 + 14 * len(told)
+    for box in boxes:
+        box.top = y
+        y += box.high + GAP
+    said = [text(left, MARGIN + 12, title, SAID), *(text(left, MARGIN + 28 + 14 * at, it, WHY, FAINT) for at, it in enumerate(told)),
+            *ways(boxes, lanes, left)]
+    for box in boxes:
+        said += box.drawn(left, gutter, wide)
+    return sheet(left + gutter + wide + MARGIN, y - GAP + MARGIN, said)
+
+
+# ---- a selection
+
+def needs_of(registry, request, selected):
+    """What the request and each selected package need, with the requirement, by package."""
+    needs = {ROOT: dict(request["needs"])}
+    for name, version in selected.items():
+        release = registry.find(name, version)
+        demand(release, f"{name} {version} was selected and is not published", ValueError)
+        needs[name] = release.needs
+    demand(all(it in needs for row in needs.values() for it in row), "the selection lacks what it needs", ValueError)
+    return needs
+
+
+def from_above(needs):
+    """The packages, each above those that it needs, but where they need each other."""
+    order, seen, open_names = [], {ROOT}, [(ROOT, reversed(needs[ROOT]))]
+    while open_names:
+        name, rest = open_names[-1]
+        below = next((it for it in rest if it not in seen), None)
+        if below is None:
+            order.append(name)
+            open_names.pop()
+        else:
+            seen.add(below)
+            open_names.append((below, reversed(needs[below])))
+    return order[::-1]
+
+
+def stairs(needs, order, places, labels):
+    """The ways from each package to what it needs: right to the other's column and down, or back beneath the names and up."""
+    said, at = [], {name: place for place, name in enumerate(order)}
+    for name in order:
+        x, y = places[name]
+        colour = COLOURS[at[name] % len(COLOURS)]
+        down = [it for it in needs[name] if at[it] > at[name]]
+        if down:
+            said.append(line([(x, y), (max(places[it][0] for it in down), y)], colour, 1))
+        citing = [it for it in order[:at[name]] if name in needs[it]]
+        if citing:
+            said += [line([(x, places[citing[0]][1]), (x, y - 6)], colour, 1), arrow(x, y - 4, colour, down=1)]
+    for name in order:
+        x, y = places[name]
+        for it in needs[name]:
+            told = f"{labels[name]} needs {it} {needs[name][it]}"
+            if at[it] > at[name]:
+                said.append(dot(places[it][0], y, INK, 3.0, told))
+            else:
+                back, up = places[it]
+                said += [line([(x, y), (x, y + STAIR / 2), (back, y + STAIR / 2), (back, up)], ALARM, 1),
+                         arrow(back, up + 4, ALARM, down=-1), dot(back, y + STAIR / 2, ALARM, 3.0, told)]
+    return said
+
+
+def draw_selection(registry, request, selected, title):
+    """The picture of a selection: the packages with who needs whom."""
+    title = textwrap.shorten(title, MOST_LETTERS, placeholder=" ..")
+    needs = needs_of(registry, request, selected)
+    order = from_above(needs)
+    labels = {name: f"{name} {selected[name]}" if name else "the request" for name in order}
+    told = ["From a package go right to each dot on its line, and from there down: that is what it needs.",
+            "From a package go up to each dot on its column, and from there left: that needs it."]
+    if any(order.index(it) < order.index(name) for name in order for it in needs[name]):
+        told.append("A red line leads back up, where packages need each other.")
+    left = MARGIN + max(width(labels[name], 12) - STAIR * place for place, name in enumerate(order)) + 10
+    head = MARGIN + 42 + 14 * len(told)
+    places = {name: (left + STAIR * place, head + STAIR * place) for place, name in enumerate(order)}
+    said = [text(MARGIN, MARGIN + 12, title, SAID), *(text(MARGIN, MARGIN + 28 + 14 * at, it, WHY, FAINT) for at, it in enumerate(told))]
+    said += stairs(needs, order, places, labels)
+    for place, name in enumerate(order):
+        x, y = places[name]
+        said += [dot(x, y, COLOURS[place % len(COLOURS)], 4.0), text(x - 9, y + 4, labels[name], 12, INK if name else EDGE, "end").replace("<text", HALO)]
+    wide = max(left + STAIR * len(order), MARGIN + max(width(it, WHY) for it in told), MARGIN + width(title, SAID))
+    return sheet(wide + MARGIN, head + STAIR * len(order) + MARGIN, said)

@@ -1,0 +1,116 @@
+"""Lock files, as docs/FORMATS.md tells of them, and what changed between two."""
+import os
+from collections import namedtuple
+
+from .check_derivation import NAME, PAIRS, formed, passes, read_requirement, read_version
+from .failures import Failed
+from .files import read_file
+from .limits import MOST_LINE_BYTES, MOST_NEEDS
+
+DEFAULT = "registry.lock"
+MADE = {"needs": PAIRS, "revision": int, "selected": PAIRS}  # the form of a lock file that says what it was made of
+
+
+class Unread(Failed):
+    """Why a file of locks or needs can't be read: where it is at fault, and what was probably meant."""
+
+
+class Lock(namedtuple("Lock", "selected needs revision", defaults=[None, None])):
+    """What a lock file has: versions by package and, unless it is a plain list, the needs and the revision that they were selected for."""
+
+
+def are_read(pairs, read):
+    """Whether a value is pairs of a name, each name once, and a text that is read."""
+    return formed(pairs, PAIRS) and len(dict(pairs)) == len(pairs) and all(NAME.fullmatch(name) and read(it) is not None for name, it in pairs)
+
+
+def read_lock(text, path):
+    """The lock that stands in bytes of a file: a lock list, or an object that has one beside what it was made of."""
+    import json
+    try:
+        value = json.loads(text.decode()) if len(text) <= MOST_LINE_BYTES else None
+    except (ValueError, RecursionError):
+        value = None
+    lock = Lock(**value) if formed(value, MADE) else Lock(value)
+    needs = lock.needs or []
+    if not (are_read(lock.selected, read_version) and are_read(needs, read_requirement) and len(needs) <= MOST_NEEDS):
+        raise Unread(faulty(path, text))
+    return lock._replace(selected=dict(lock.selected))
+
+
+def faulty(path, text):
+    """What is wrong with a lock file: the fault for which the program would refuse it."""
+    from registryd_lines.fault import placed
+    from registryd_lines.judging import lock_faults
+    fault = lock_faults(text)[0]
+    above = text.decode(errors="replace")[:fault.place].split("\n")
+    return placed(path, len(above), fault._replace(place=len(above[-1])))
+
+
+def lock_of(path):
+    """The lock of a file."""
+    if not os.path.lexists(path):
+        raise Failed(f"{path}: there is no such lock file: `registry resolve NEED .. --write {path}` makes one")
+    return read_lock(read_file(path), path)
+
+
+def lock_text(lock):
+    """The text of a lock file: a pair a line, the versions by name, so that a review sees what changed."""
+    rows = sorted(lock.selected.items(), key=lambda row: row[0].encode())
+    if lock.needs is None:
+        return array(rows) + "\n"
+    return f'{{\n  "needs": {array(lock.needs, "  ")},\n  "revision": {lock.revision},\n  "selected": {array(rows, "  ")}\n}}\n'
+
+
+def array(rows, before=""):
+    """An array as JSON, with an item a line behind this much space."""
+    import json
+    if not rows:
+        return "[]"
+    return "[\n" + ",\n".join(f"{before}  {json.dumps(row, ensure_ascii=False)}" for row in rows) + f"\n{before}]"
+
+
+def renewed(before, request, reply):
+    """The lock that takes the place of one, or of none. A plain list stays one, and what is made of the same needs stays as it was."""
+    made = Lock(dict(reply["selected"]), request["needs"], reply["revision"])
+    if before is None:
+        return made
+    if before.needs is None:
+        return Lock(made.selected)
+    return before if made[:2] == before[:2] else made
+
+
+def changes(old, new):
+    """A line for each package whose version two locks don't share, by name: what was added or removed, and from what to what."""
+    lines = []
+    for name in sorted({*old, *new}):
+        if name not in old:
+            lines.append(f"+ {name} {new[name]}")
+        elif name not in new:
+            lines.append(f"- {name} {old[name]}")
+        elif old[name] != new[name]:
+            lines.append(f"~ {name} {old[name]} -> {new[name]}{remark(old[name], new[name])}")
+    return lines
+
+
+def changed(old, new):
+    """The same as values: each package with its version before and behind, none where it was not or is not there."""
+    return [{"name": name, "from": old.get(name), "to": new.get(name)} for name in sorted({*old, *new}) if old.get(name) != new.get(name)]
+
+
+def counted(lines):
+    """How many of such lines tell of what."""
+    return ", ".join(f"{sum(line[0] == mark for line in lines)} {told}" for mark, told in (("+", "added"), ("-", "removed"), ("~", "changed")))
+
+
+def coloured(lines, out):
+    """Such lines as a terminal shows them."""
+    return [out.style(line, {"+": "green", "-": "red", "~": "yellow"}[line[0]]) for line in lines]
+
+
+def remark(old, new):
+    """What a review looks at: a step back, and a step to what `^` with the old version does not admit."""
+    one, other = read_version(old), read_version(new)
+    if other <= one:
+        return " (older)" if other < one else " (of equal precedence)"
+    return "" if passes("^", one, other) else f" (beyond ^{old})"

@@ -1,0 +1,56 @@
+"""Requests to select versions, and what is told of their answers."""
+import sys
+
+from .check_derivation import read_version
+from .failures import REFUSED
+from .locks import lock_of
+from .needs import needs_given
+
+
+def request_of(given, lock=None):
+    """The resolve line of some words: the needs that are typed or kept, and the lock file that is named, or this lock."""
+    if lock is None:
+        lock = lock_of(given.lock).selected if given.lock else {}
+    request = {"op": "resolve", "needs": needs_given(given), "lock": [list(it) for it in sorted(lock.items())], "explain": True}
+    if getattr(given, "budget", None) is not None:
+        request["budget"] = given.budget
+    return request
+
+
+def answered(session, request):
+    """The reply to a request: a selection, or that there is none. A refusal by number is told."""
+    from .refusals import accepted  # while the program loads the journal
+    return accepted(session, request, *session.ask(request))
+
+
+def refused(session, request, reply, out):
+    """Tells why no selection meets a request, and answers the exit status."""
+    from .cases import Case
+    from .catalog import catalog_of
+    from .explaining import tell
+    from .packages import registry_in
+    from .searching import explaining
+    out.give(reply, [])
+    with explaining(is_refused=True):
+        catalog = catalog_of(session.journal())
+        case = Case(request, reply, lambda named: registry_in(catalog, named), lambda it: session.ask(it)[0], set(catalog.lines))
+        lines = case.answer()
+    tell(case, lines, sys.stderr, False, "`registry why` tells all of them")
+    return REFUSED
+
+
+def lock_notes(path, lock, packages):
+    """What is worth knowing of a lock file's entries: those that are yanked, and those that are not published."""
+    for name, text in sorted(lock.items()):
+        found = [yanked for other, yanked in packages.get(name, []) if read_version(other) == read_version(text)]
+        if not found:
+            yield f"{path} names {name} {text}, which is not published"
+        elif found[0]:
+            yield f"{path} names {name} {text}, which is yanked"
+
+
+def needs_of(session, selected):
+    """What each selected version needs, as pairs, by package."""
+    from .catalog import catalog_of
+    catalog = catalog_of(session.journal())
+    return {name: catalog.version(name, version).needs for name, version in selected.items()}

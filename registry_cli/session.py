@@ -1,0 +1,288 @@
+"""Asks the program. A session that reads takes a journal as it stands at one moment, also while another one writes it, and needs
+neither its lock nor the right to write; one that writes holds the lock, and what it is told as accepted stands in the file."""
+import contextlib
+import os
+import subprocess
+import sys
+import threading
+import time
+
+from . import bar, near_limits, tied
+from .failures import Failed, InUse, Refused, Usage, told
+from .program import program
+from .searching import asking
+
+SECONDS = 10  # that a session waits for another one
+DEFAULT, VARIABLE, SERVICE = "registry.journal", "REGISTRY_JOURNAL", "REGISTRY_CONNECT"
+HEAD = b"registry-journal 2\n"
+TRIES, PAUSE = 20, 0.01  # of a file that changes while it is read
+EMPTY = {"op": "resolve", "needs": []}
+MISREAD = (ValueError, TypeError, LookupError, RecursionError)  # what comes of reading what is no journal as one
+IN_USE = r"journal .*: in use by another session"
+# what the program says as it ends, and what is told of that
+REASONS = [
+    (IN_USE, "{path} is in use by another session: try again once that has ended"),
+    (r"journal (?:.*: )?line (\d+)(?: .*)?", "{path}: line {0} is at fault: `registry journal verify {path}` says why, and `registry journal "
+                                             "repair {path}` keeps what is before it"),
+    (r"journal .*?: (.+?)(?: \(os error \d+\))?", "{path}: {0}: --journal FILE names another"),
+    (r"input failed", "{path} can't be read"),
+    (r"output failed", "{path} can't be written: it has the commands that were accepted before"),
+    (r"no memory", "there is not enough memory for {path}"),
+]
+
+
+standing = None  # what a shell keeps open: see shell.py
+
+
+def journal_of(given):
+    """The path of the journal that the words name, else that of the shell, else the environment, else the one in this folder."""
+    return given.journal or (standing and standing.path) or os.environ.get(VARIABLE) or DEFAULT
+
+
+def service_of(given):
+    """The address of the service that the words name, else, where they name no journal, that of the shell or the environment."""
+    if given.connect and given.journal:
+        raise Usage("--connect can't be used with --journal: a service has its own journal")
+    if given.connect or given.journal:
+        return given.connect
+    return standing.service if standing else os.environ.get(SERVICE)
+
+
+def patience_of(given):
+    """How many seconds a session waits for another one: as the words say, else those of the shell."""
+    named = getattr(given, "wait", None)
+    return named if named is not None else standing.patience if standing else SECONDS
+
+
+def reading(given):
+    """A session that reads. It answers `ask`, `each`, `journal`, `commands` and `close`, and one over a service answers the same."""
+    service, path = service_of(given), journal_of(given)
+    if service:
+        return connected(service)
+    return (standing and standing.lent(path, patience=patience_of(given))) or Reading(path)
+
+
+def writing(given):
+    """A session whose commands are kept."""
+    service, path, patience = service_of(given), journal_of(given), patience_of(given)
+    return connected(service) if service else (standing and standing.lent(path, True, patience)) or Writing(path, patience)
+
+
+def connected(service):
+    """A session with a service. What it takes is loaded only here."""
+    from .connected import Connected
+    return Connected(service)
+
+
+def read_steady(path):
+    """The text of a journal's file, and whether it has an end. Read again where that is written over meanwhile."""
+    for _ in range(TRIES):
+        with open(path, "rb") as file:
+            text = file.read()
+        at = text.find(b"\nend ") + 1
+        end = text[at:text.find(b"\n", at) + 1]
+        is_ended = end.startswith(b"end ") and end[4:-1].isdigit()
+        if not is_ended or at + len(end) == len(text):
+            break
+        time.sleep(PAUSE)
+    return text, is_ended
+
+
+def snapshot(path):
+    """The text of a journal as it stands, up to its last whole line, with an end. While a session writes it there is none."""
+    try:
+        text, is_ended = read_steady(path)
+    except FileNotFoundError:
+        raise Failed(f"{path}: there is no such journal: `registry publish` or `registry import` begins one, and --journal FILE "
+                     f"names another") from None
+    except OSError as fault:
+        raise Failed(told(fault)) from None
+    if not is_ended:
+        text = text[:text.rfind(b"\n") + 1] or HEAD
+        return text + b"end %d\n" % (text.count(b"\n") - 1)
+    return text
+
+
+def shared(text):
+    """A file without a name that has this text, for a program to read."""
+    if hasattr(os, "memfd_create"):
+        file = open(os.memfd_create("journal"), "w+b")
+    else:
+        import tempfile
+        file = tempfile.TemporaryFile()
+    file.write(text)
+    file.seek(0)
+    return file
+
+
+def reason(said, path):
+    """Why a program ended, by what it said on standard error; nothing where that tells no reason."""
+    import re
+    for form, told_as in REASONS:
+        found = re.fullmatch(f"registryd: {form}\n", said)
+        if found:
+            return told_as.format(*found.groups(), path=path)
+    return ""
+
+
+class Session:
+    """A program that answers request lines, begun with these words."""
+    group = None  # of processes: that of this command, so that a key that ends it ends the program too
+
+    def __init__(self, path, words, handed=()):
+        self.path = path
+        try:
+            self.process = tied.Tied([*program(), "serve", "--workers", "1", *words], stdin=subprocess.PIPE, stdout=subprocess.PIPE,
+                                     stderr=subprocess.PIPE, pass_fds=handed, process_group=self.group)
+        except OSError as fault:
+            raise Failed(f"the program can't be started: {told(fault)}") from None
+        self.said = ""
+        self.hearing = threading.Thread(target=self.hear, daemon=True)
+        self.hearing.start()
+
+    def hear(self):
+        """Keeps why the program ends, and passes on what else is said on standard error, as how far it is where it is built first."""
+        for line in self.process.stderr:
+            text = line.decode(errors="replace")
+            if reason(text, self.path):
+                self.said = text
+            else:
+                sys.stderr.write(text)
+                sys.stderr.flush()
+
+    def each(self, requests):
+        """The replies to requests, each as it comes."""
+        import json
+        text = b"".join(json.dumps(it, separators=(",", ":")).encode() + b"\n" for it in requests)
+        threading.Thread(target=self.write, args=(text,), daemon=True).start()
+        for _ in requests:
+            line = self.process.stdout.readline()
+            if not line.endswith(b"\n"):
+                raise self.ended()
+            yield json.loads(line)
+
+    def write(self, text):
+        try:
+            self.process.stdin.write(text)
+            self.process.stdin.flush()
+        except (OSError, ValueError):
+            pass  # who waits for a reply is told how the program ended
+
+    def ask(self, *requests):
+        """The replies to requests, together."""
+        with asking(self, requests):
+            return list(self.each(requests))
+
+    def end_search(self):
+        """Ends the program, since nothing else ends a search. What it was told as accepted is kept."""
+        self.process.kill()
+
+    def ended(self):
+        """Why the program has ended, or is ended since it wrote no reply."""
+        try:
+            status = self.process.wait(timeout=1)
+        except subprocess.TimeoutExpired:
+            self.process.kill()
+            status = self.process.wait()
+        self.hearing.join()
+        import re
+        kind = InUse if re.fullmatch(f"registryd: {IN_USE}\n", self.said) else Failed
+        return kind(reason(self.said, self.path) or f"the program {' '.join(program())} ended with status {status} before it had answered")
+
+    def close(self):
+        """Ends the input and waits for the program."""
+        with contextlib.suppress(OSError):
+            self.process.stdin.close()
+        if self.process.stdout.read() or self.process.wait():
+            raise self.ended()
+
+    def leave(self):
+        """Ends the program, whatever it does."""
+        if self.process.poll() is None:
+            self.process.kill()
+            self.process.wait()
+        self.hearing.join(timeout=1)  # what it has begun may hold the pipe a little longer
+        self.process.let_go()
+        for pipe in (self.process.stdin, self.process.stdout, self.process.stderr):
+            with contextlib.suppress(OSError):
+                pipe.close()
+
+    def __enter__(self):
+        return self
+
+    def __exit__(self, kind, *_):
+        try:
+            if kind is None or issubclass(kind, Refused):
+                self.close()
+                self.warn()
+        finally:
+            self.leave()
+
+    def warn(self):
+        """Tells on standard error where the journal is near a limit."""
+
+
+class Reading(Session):
+    """A session on a journal as it stood when this was begun, or as it is told to have stood."""
+
+    def __init__(self, path, text=None):
+        self.text = snapshot(path) if text is None else text
+        with shared(self.text) as file:
+            super().__init__(path, [f"--load=/dev/fd/{file.fileno()}"], [file.fileno()])
+        self.warnings = list(near_limits.warnings(path, self.text))  # while the program loads it
+
+    def journal(self):
+        """The journal's text."""
+        return self.text
+
+    def commands(self):
+        """The accepted commands, in order."""
+        import json
+
+        from .catalog import commands_in
+        return [json.loads(it) for it in commands_in(self.journal())]
+
+    def finish(self):
+        """Returns once the program has loaded the journal: it finds what is at fault there."""
+        with bar.timed("waiting for the program"):
+            list(self.each([EMPTY]))
+
+    def warn(self):
+        near_limits.tell(self.warnings)
+
+    def __exit__(self, kind, *_):
+        """What comes of reading a journal that is at fault is told as that fault, which the program finds."""
+        super().__exit__(None if kind and issubclass(kind, MISREAD) else kind)
+
+
+class Writing(Session):
+    """A session that goes on with a journal's file, or begins one. Where another session has that, it waits so many seconds."""
+
+    def __init__(self, path, patience=SECONDS):
+        from .waiting import Turn
+        self.turn = Turn(path, patience)
+        try:
+            while not self.has_begun(path):
+                self.turn.again()
+        except BaseException:
+            self.turn.leave()
+            raise
+
+    def has_begun(self, path):
+        """Whether a program has the journal, which is begun here; no other session does then."""
+        super().__init__(path, [f"--journal={path}"])
+        try:
+            list(Session.each(self, [EMPTY]))
+        except BaseException as fault:
+            super().leave()
+            if isinstance(fault, InUse):
+                return False
+            raise
+        return True
+
+    def leave(self):
+        super().leave()
+        self.turn.leave()
+
+    def warn(self):
+        near_limits.warn(self.path)

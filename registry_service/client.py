@@ -1,0 +1,141 @@
+"""A connection: its lines are answered in order, and it can't take more than its share."""
+import asyncio
+from collections import deque
+
+from registry_cli.limits import MOST_LINE_BYTES
+
+from .http import HTTP, LINES, page, spoken
+from .ops import READS, op_of
+
+MOST_ASKED = 64  # commands of a client that are under way; the lines behind them wait in the socket
+MOST_UNREAD = 64 << 20  # bytes of replies that wait for a client
+STALLED = 30  # seconds; then a client that doesn't read is cut off
+UNAVAILABLE = b'{"error":503,"name":"Unavailable","revision":%d}'
+OTHER = b'{"error":19,"name":"BadLine","revision":%d}\n'
+
+
+class Asked:
+    """A line under way."""
+    __slots__ = ("client", "line", "op", "since", "reply", "revision", "tries")
+
+    def __init__(self, client, line, op):
+        self.client, self.line, self.op, self.since = client, line, op, client.service.now()
+        self.reply, self.revision, self.tries = None, client.service.keeper.revision, 0
+
+    def answer(self, reply):
+        service, self.reply = self.client.service, reply
+        service.watch.answered(self, service.now() - self.since)
+        if self.client.asked[0] is self:
+            service.loop.call_soon(self.client.tell)
+
+    def fail(self):
+        """A program ended, or the service does: of a command it is not known whether it was accepted, so none behind it is carried out."""
+        self.client.takes_commands &= self.op in READS
+        self.answer(UNAVAILABLE % self.client.service.keeper.revision)
+
+
+class Client(asyncio.Protocol):
+    """One of them. Its lines wait in `lines`, and are in `asked` from when they are asked until their replies are written."""
+
+    def __init__(self, service):
+        self.service, self.lines, self.asked, self.rest = service, deque(), deque(), b""
+        self.speaks, self.is_ended, self.takes_commands = None, False, True
+        self.op = None  # of the first of `lines`, once it is known
+        self.clock = None  # runs while replies wait to be read
+        self.is_slow = False  # whether its last request was
+
+    def connection_made(self, transport):
+        self.transport, (self.name, self.number) = transport, self.service.watch.named(transport)
+        if not self.service.takes_in(self, self.service.clients):
+            page(self.service, transport)  # how the service is it may ask
+
+    def connection_lost(self, _):
+        self.lines.clear()
+        self.resume_writing()
+        self.service.clients.discard(self)
+
+    # ---- what it asks
+
+    def data_received(self, data):
+        *lines, rest = (self.rest + data).split(b"\n")
+        self.speaks = self.speaks or spoken(lines, rest)
+        if self.speaks not in (LINES, None):
+            self.leave_to_others(lines, rest)
+            return
+        self.rest = rest[:MOST_LINE_BYTES + 1]  # enough to show that a line is too long
+        # an empty line has the reply of such a one
+        self.lines.extend(it if len(it) <= MOST_LINE_BYTES else b"" for it in lines)
+        self.go_on()
+
+    def leave_to_others(self, lines, rest):
+        """A connection on which HTTP is spoken is that of a page. Any other is closed, so nothing that stands in what was meant for someone
+        else is carried out."""
+        if self.speaks == HTTP:
+            self.service.clients.discard(self)
+            self.service.pages.add(self.transport)
+            page(self.service, self.transport, b"\n".join([*lines, rest]))
+        else:
+            self.transport.write(OTHER % self.service.keeper.revision)
+            self.transport.close()
+
+    def eof_received(self):
+        """What came is answered, the last line too if it lacks its line feed."""
+        if self.rest:
+            self.data_received(b"\n")
+        self.end_input()
+        return True
+
+    def end_input(self):
+        """Takes no more lines: once those that came are answered, the connection is closed."""
+        self.is_ended = True
+        self.go_on()
+
+    def go_on(self):
+        """Asks what may be asked now: one request, or commands, so the replies are those that one session would give. A client's next
+        request waits for its last one: so it holds one reader at most, and revisions never fall."""
+        while self.lines and not self.clock:
+            self.op = op_of(self.lines[0]) if self.op is None else self.op
+            if self.op is None:
+                self.lines[0], self.op = b"", ""
+            if self.asked and (self.op in READS or self.asked[0].op in READS or len(self.asked) == MOST_ASKED):
+                break
+            self.asked.append(Asked(self, self.lines.popleft(), self.op))
+            self.op = None
+            self.service.ask(self.asked[-1])
+        if self.lines or self.clock or self.is_ended:
+            self.transport.pause_reading()
+        else:
+            self.transport.resume_reading()
+        if self.is_ended and not self.lines and not self.asked:
+            self.transport.close()
+
+    # ---- what it is answered
+
+    def tell(self):
+        """Writes the replies that are next."""
+        told = []
+        while self.asked and self.asked[0].reply is not None:
+            told.append(self.asked.popleft().reply)
+        if told and not self.transport.is_closing():
+            self.transport.write(b"\n".join([*told, b""]))
+            if self.transport.get_write_buffer_size() > MOST_UNREAD:
+                self.cut_off()
+        self.go_on()
+
+    def pause_writing(self, before=None):
+        """Its replies wait to be read: where of what waited before nothing was read in time, it is cut off."""
+        left = self.transport.get_write_buffer_size()
+        if before is not None and left >= before:
+            self.cut_off()
+        else:
+            self.clock = self.service.loop.call_later(STALLED, self.pause_writing, left)
+
+    def resume_writing(self):
+        if self.clock:
+            self.clock.cancel()
+        self.clock = None
+        self.go_on()
+
+    def cut_off(self):
+        self.service.watch.cut_off(self)
+        self.transport.abort()

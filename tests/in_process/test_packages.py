@@ -1,0 +1,191 @@
+"""What the tests need from Debian stands in one list, which `.ci/run` installs and the pages tell to install."""
+import contextlib
+import io
+import os
+import re
+import shutil
+import subprocess
+import tempfile
+import time
+import unittest
+from pathlib import Path
+from unittest import mock
+
+from dev import install_packages
+from dev.install_packages import Package, listed
+from tests.support.processes import is_gone
+from tests.support.program import TOP, in_time
+
+LIST = """# what a machine needs
+one            one-command
+two            -
+three or four  four-command
+
+"""
+# Stands for dpkg-query, apt-cache and apt-get: it notes its words, and what is installed in files of their names.
+STUB = """#!/bin/sh
+here={folder}
+echo "$(basename "$0") $*" >> $here/called
+echo "$DEBIAN_FRONTEND" > $here/frontend
+for word; do last=$word; done
+case "$(basename "$0") $*" in
+dpkg-query*) [ -e $here/installed-$last ] && printf installed ;;
+apt-cache*) [ $last != three ] && echo Package: $last ;;
+*" update") {update} ;;
+*" install "*) {install} ;;
+esac
+"""
+INSTALLS = """for word; do case $word in two|four) : > $here/installed-$word;; esac; done
+ln -sf {stub} {folder}/one-command; ln -sf {stub} {folder}/four-command"""
+
+
+class Installing(unittest.TestCase):
+    def setUp(self):
+        folder = tempfile.TemporaryDirectory()
+        self.addCleanup(folder.cleanup)
+        self.folder = folder.name
+        Path(self.folder, "list").write_text(LIST, encoding="utf-8")
+        self.enterContext(mock.patch.dict(os.environ, {"PATH": f"{self.folder}:/usr/bin:/bin"}))
+        self.enterContext(mock.patch.object(install_packages, "listed", lambda: listed(os.path.join(self.folder, "list"))))
+        self.enterContext(mock.patch("os.geteuid", lambda: 0))
+
+    def stub(self, update="true", install=INSTALLS):
+        path = Path(self.folder, "stub")
+        path.write_text(STUB.format(folder=self.folder, update=update, install=install.format(folder=self.folder, stub=path)), encoding="utf-8")
+        path.chmod(0o755)
+        for name in ("dpkg-query", "apt-cache", "apt-get"):
+            Path(self.folder, name).symlink_to(path)
+
+    def called(self, name):
+        path = Path(self.folder, "called")
+        lines = path.read_text(encoding="utf-8").splitlines() if path.exists() else []
+        return [line.partition(" ")[2] for line in lines if line.startswith(name)]
+
+    def run_it(self):
+        told = io.StringIO()
+        with contextlib.redirect_stdout(told):
+            status = install_packages.main([])
+        self.assertEqual(told.getvalue().count("\n"), 1)
+        return told.getvalue().strip(), status
+
+    def test_what_lacks_is_installed_without_a_question(self):
+        self.stub()
+        self.assertEqual(self.run_it(), ("install_packages: installed one, two, four", 0))
+        # it tries again once, and waits neither long for a server nor for ever for another run of dpkg
+        apt = "-q -o Acquire::Retries=1 -o Acquire::http::Timeout=20 -o DPkg::Lock::Timeout=60"
+        self.assertEqual(self.called("apt-get"), [f"{apt} update", f"{apt} install -y --no-install-recommends one two four"])
+        self.assertEqual((self.called("dpkg-query")[0], self.called("apt-cache")[0]), ("-W -f=${db:Status-Status} two", "show one"))
+
+    def test_apt_asks_nothing(self):
+        self.stub(install="cat $here/frontend > $here/asked")
+        self.run_it()
+        self.assertEqual(Path(self.folder, "asked").read_text(encoding="ascii"), "noninteractive\n")
+
+    def test_what_is_there_is_left_alone(self):
+        self.stub()
+        self.run_it()
+        os.remove(os.path.join(self.folder, "called"))
+        self.assertEqual(self.run_it(), ("install_packages: all that the tests need is there", 0))
+        self.assertEqual(self.called("apt-get"), [])
+
+    def test_only_what_lacks_is_installed(self):
+        self.stub()
+        Path(self.folder, "one-command").symlink_to("stub")
+        Path(self.folder, "four-command").symlink_to("stub")
+        self.assertEqual(self.run_it(), ("install_packages: installed two", 0))
+        self.assertTrue(self.called("apt-get")[1].endswith("--no-install-recommends two"))
+
+    def test_debian_cannot_be_reached(self):
+        self.stub(update="echo 'Err:1 http://deb.debian.org'; echo 'E: Failed to fetch it'; exit 100")
+        self.assertEqual(self.run_it(), ("install_packages: the tests lack one, two, three: E: Failed to fetch it", 1))
+        self.assertEqual(len(self.called("apt-get")), 1)
+
+    def test_what_apt_says_of_a_failure(self):
+        for said in ("E: no", r"\377\nE: no\nE: and more", r"W: odd\nE: no"):
+            self.stub(update=f"printf '{said}'; exit 100")
+            self.assertEqual(self.run_it(), ("install_packages: the tests lack one, two, three: E: no", 1))
+            for name in ("dpkg-query", "apt-cache", "apt-get"):
+                os.unlink(os.path.join(self.folder, name))
+
+    def test_its_words(self):
+        for words, status, printed in ((["--list"], 0, "one two three\n"), (["other"], 2, ""), (["--list", "other"], 2, "")):
+            out, said = io.StringIO(), io.StringIO()
+            with contextlib.redirect_stdout(out), contextlib.redirect_stderr(said):
+                self.assertEqual(install_packages.main(words), status)
+            self.assertEqual((out.getvalue(), "python3 -m dev.install_packages --list" in said.getvalue()), (printed, status == 2))
+
+    def test_a_package_that_cannot_be_installed(self):
+        self.stub(install=": > $here/installed-two; exit 7")
+        self.assertEqual(self.run_it(), ("install_packages: installed two; the tests lack one, three: apt-get install ended with status 7", 1))
+
+    def test_an_apt_that_hangs_is_ended_with_what_it_began(self):
+        self.stub(update="sleep 1000 & echo $! > $here/new; mv $here/new $here/child; wait")
+        child, wait = Path(self.folder, "child"), subprocess.Popen.wait
+
+        def wait_once_it_hangs(running, timeout=None):
+            while timeout == 0.5 and not child.exists():
+                time.sleep(0.01)
+            return wait(running, timeout)
+
+        with mock.patch.object(install_packages, "UPDATE", 0.5), mock.patch.object(subprocess.Popen, "wait", wait_once_it_hangs), in_time():
+            said, status = self.run_it()
+        self.assertEqual((said, status), ("install_packages: the tests lack one, two, three: apt-get update took more than 0.5 seconds", 1))
+        self.assertTrue(is_gone(int(child.read_text(encoding="utf-8"))))
+
+    def test_only_root_installs(self):
+        self.stub()
+        with mock.patch("os.geteuid", lambda: 1000):
+            said, status = self.run_it()
+        self.assertEqual((said, status), ("install_packages: the tests lack one, two, three: only root installs them: "
+                                          "apt-get install one two three", 1))
+        self.assertEqual(self.called("apt-get"), [])
+
+    def test_where_there_is_no_apt(self):
+        with mock.patch.dict(os.environ, {"PATH": self.folder}):
+            self.assertEqual(self.run_it(), ("install_packages: the tests lack one, two, three: there is no apt-get", 1))
+
+    def test_the_list_is_read(self):
+        self.assertEqual(listed(os.path.join(self.folder, "list")), [
+            Package(("one",), "one-command"), Package(("two",), None), Package(("three", "four"), "four-command")])
+
+
+class Pages(unittest.TestCase):
+    def test_the_pages_tell_to_install_them(self):
+        names = [package.names[0] for package in listed()]
+        self.assertIn("etcd-server", names)
+        told = {page.name: line.split() for page in (Path(TOP, "README.md"), *Path(TOP, "docs").glob("*.md"))
+                for line in re.findall("apt-get install (gcc [a-z0-9 -]+)", page.read_text(encoding="utf-8"))}
+        self.assertEqual(told, {"CONTRIBUTING.md": names})
+
+    def test_each_package_that_a_skipped_test_tells_of_is_listed(self):
+        named = set()
+        for path in Path(TOP, "tests").rglob("*.py"):
+            text = path.read_text(encoding="utf-8")
+            named |= set(re.findall(r"\(Debian(?: \d+)?: ([a-z0-9-]+)", text) + re.findall(r"skip_without\(\"\w+\", \"([^\"]+)\"", text))
+        self.assertLessEqual({"etcd-server", "openssl", "python3-jsonschema", "cargo-web"}, named)
+        self.assertEqual(named - {name for package in listed() for name in package.names}, set())
+
+
+class Gate(unittest.TestCase):
+    """`.ci/run` installs first, then runs all tests, and ends as they do."""
+
+    def run_it(self, test):
+        with tempfile.TemporaryDirectory() as top:
+            for folder in (".ci", "dev"):
+                os.mkdir(os.path.join(top, folder))
+            shutil.copy(os.path.join(TOP, ".ci", "run"), os.path.join(top, ".ci"))
+            shutil.copy(os.path.join(TOP, "__main__.py"), top)
+            Path(top, "dev", "install_packages.py").write_text("import sys\nprint('installing', sys.argv[1:], flush=True)\nsys.exit(1)\n", encoding="utf-8")
+            Path(top, "test").write_text(f"#!/bin/sh\necho testing \"$@\"\n{test}\n", encoding="utf-8")
+            os.chmod(os.path.join(top, "test"), 0o755)
+            done = subprocess.run([os.path.join(top, ".ci", "run")], cwd="/", stdout=subprocess.PIPE, text=True, timeout=60)
+        return done.stdout.splitlines(), done.returncode
+
+    def test_nothing_may_be_skipped(self):
+        wanted = ["installing []", "testing --nothing-skipped"]
+        self.assertEqual(self.run_it("exit 0"), (wanted, 0))
+        self.assertEqual(self.run_it("exit 5"), (wanted, 5))
+
+
+if __name__ == "__main__":
+    unittest.main()

@@ -1,0 +1,59 @@
+"""What docs/THEOREMS.md shows of the sources under "What an answer is" stands there word for word, each with one sentence before it."""
+import os
+import re
+import textwrap
+import unittest
+from pathlib import Path
+
+from tests.in_process.test_map import read
+from tests.support import prose
+from tests.support.program import TOP
+
+SHOWN = {"Answer", "IsAnswer", "IsNewest", "AreBest", "IsTurn", "one_answer", "OneAnswer", "some_answer", "SomeAnswer"}
+TITLE = "## What an answer is"
+BLOCK = re.compile(r"(?m)(?:^    .*\n)+")
+
+
+def shown(text):
+    """The blocks of the section, each with the paragraph before it."""
+    part = text.partition(f"{TITLE}\n")[2].partition("\n## ")[0] + "\n"
+    before = [piece.rstrip().rpartition("\n\n")[2] for piece in BLOCK.split(part)]
+    return [(textwrap.dedent(block).rstrip("\n"), told) for block, told in zip(BLOCK.findall(part), before)]
+
+
+def stands(block, texts):
+    """Whether whole lines of a source are this block, up to an empty line, a body or the source's end."""
+    return any(re.search(rf"(?m)^{re.escape(block)}\n(?=\n|{{|\Z)", text) for text in texts)
+
+
+def name_of(block):
+    """What the last of a block's lines that begin in the first column says the name of."""
+    begun = [line for line in block.splitlines() if not line.startswith(" ")][-1]
+    return re.match(r"(?:pub |data |record |fn |abbrev )*(\w+)", begun)[1]
+
+
+class Theorems(unittest.TestCase):
+    @classmethod
+    def setUpClass(cls):
+        cls.blocks = shown(read(os.path.join(TOP, "docs", "THEOREMS.md")))
+        crate = Path(TOP, "crates", "walk")
+        cls.texts = [read(path) for path in (*crate.glob("specs/*.antt"), *crate.glob("src/*.rt"))]
+
+    def test_each_block_stands_in_the_sources(self):
+        self.assertEqual([block for block, _ in self.blocks if not stands(block, self.texts)], [])
+        self.assertEqual({name_of(block) for block, _ in self.blocks}, SHOWN)
+        self.assertEqual(len(self.blocks), len(SHOWN))
+
+    def test_one_sentence_leads_to_each(self):
+        self.assertEqual([told for _, told in self.blocks if len(list(prose.sentences(told))) != 1], [])
+
+    def test_a_block_that_is_changed_or_cut_is_found(self):
+        for block, _ in self.blocks:
+            self.assertFalse(stands(block[:-1], self.texts), block)
+            self.assertFalse(stands(block[1:], self.texts), block)
+            lines = block.splitlines()
+            self.assertFalse(len(lines) > 1 and stands("\n".join(lines[:-1]), self.texts), block)
+
+
+if __name__ == "__main__":
+    unittest.main()

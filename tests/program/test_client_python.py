@@ -1,0 +1,297 @@
+"""The client in Python over the program and over the library in this process: the same calls with the same answers. What is wanted
+is worked by hand from docs/FORMATS.md and docs/REGISTRY.md."""
+import re
+import subprocess
+import sys
+import threading
+import unittest
+
+import registryd
+from registryd import (
+    REFUSALS,
+    Accepted,
+    Check,
+    Line,
+    List,
+    Listing,
+    NoSelection,
+    Publish,
+    Refusal,
+    Registry,
+    Resolve,
+    Selection,
+    Unyank,
+    Verdict,
+    Yank,
+)
+from tests.support import client_python
+from tests.support.client_python import PYTHON, SECONDS, blocks, read
+from tests.support.library import LIBRARY, needs_library
+from tests.support.program import PROGRAM, files_of_at_most
+
+WHY_ZED = [{"causes": [{"fact": "need", "index": 0}, {"fact": "root"}], "conclusion": [], "pivot": ""}]
+JOURNAL = 'registry-journal 2\n{"name":"a","needs":[["b","^1.0.0"]],"op":"publish","version":"1.0.0"}\n{"name":"a","op":"yank","version":"1.0.0"}\nend 2\n'
+# Lines that are refused, after `a` 1.0.0, yanked, and `b` 1.0.0 were published.
+REFUSED = [
+    ("BadName", Publish("A", "1.0.0")), ("BadName", Resolve({"": "*"})), ("BadName", Yank("é", "1.0.0")), ("BadVersion", Publish("a", "1.0")),
+    ("BadVersion", Unyank("a", "1.0.0\n")), ("BadRequirement", Resolve({"a": "none"})), ("RepeatedDependency", Resolve([("a", "*"), ("a", "^1")])),
+    ("SelfDependency", Publish("a", "2.0.0", {"a": "*"})), ("TooManyDependencies", Resolve({f"n{number}": "*" for number in range(65)})),
+    ("AlreadyPublished", Publish("a", "1.0.0+other")), ("NoSuchVersion", Yank("a", "3.0.0")), ("AlreadyYanked", Yank("a", "1.0.0")),
+    ("NotYanked", Unyank("b", "1.0.0")),
+    ("BadLine", Yank("\ud800", "1.0.0")), ("BadLine", Line(b"")), ("BadLine", Line(b'{"op":"yank","name":"\xff","version":"1.0.0"}')),
+    ("BadLine", Check({}, [{"causes": []}])), ("BadLine", Line(b" " * 1_048_577)),
+]
+
+
+class Calls:
+    """What each session does, whichever way it was opened."""
+
+    def open(self, **options):
+        raise NotImplementedError
+
+    def fails(self, told, call, file=None):
+        """This call tells that the session has ended: of a file in these words, which the program says of a journal that is loaded or
+        saved in other ones, `file`."""
+        raise NotImplementedError
+
+    def raises(self, name, future):
+        with self.assertRaises(Refusal) as caught:
+            future.result(SECONDS)
+        self.assertEqual(type(caught.exception).__name__, name)
+        return caught.exception
+
+    def test_each_call(self):
+        with self.open() as registry:
+            self.assertEqual(registry.publish("a", "1.0.0", {"b": "^1.0.0"}), 1)
+            self.assertEqual(registry.publish("b", "1.0.0"), 2)
+            self.assertEqual(registry.publish("b", "1.1.0+x", []), 3)
+            self.assertEqual(registry.resolve({"a": "^1"}), Selection(3, {"a": "1.0.0", "b": "1.1.0+x"}))
+            self.assertEqual(registry.resolve({"a": "^1"}, {"b": "1.0.0"}), Selection(3, {"a": "1.0.0", "b": "1.0.0"}))
+            self.assertEqual(registry.yank("b", "1.1.0"), 4)
+            self.assertEqual(registry.resolve([("a", "^1")], budget=0), Selection(4, {"a": "1.0.0", "b": "1.0.0"}))
+            self.assertEqual(registry.list(), Listing(4, {"a": (("1.0.0", False),), "b": (("1.0.0", False), ("1.1.0+x", True))}))
+            self.assertEqual(registry.unyank("b", "1.1.0"), 5)
+            self.assertEqual(registry.resolve({"zed": "*"}), NoSelection(5))
+            why = ('1. never (), because the request needs zed "*" in {} and the request must be met', "So no selection meets the request.")
+            self.assertEqual(registry.resolve({"zed": "*"}, explain=True), NoSelection(5, WHY_ZED, why))
+            self.assertIs(registry.check({"zed": "*"}, WHY_ZED), True)
+            self.assertIs(registry.check({"a": "*"}, WHY_ZED, {"a": "1.0.0"}), False)
+
+    def test_what_the_program_refuses(self):
+        with self.open() as registry:
+            registry.publish("a", "1.0.0")
+            registry.yank("a", "1.0.0")
+            registry.publish("b", "1.0.0")
+            # all at once, and one by one
+            futures = registry.many([request for _, request in REFUSED])
+            for (name, _), future in zip(REFUSED, futures):
+                self.assertEqual(self.raises(name, future).revision, 3)
+            for name, request in REFUSED:
+                self.raises(name, registry.ask(request))
+            with self.assertRaises(registryd.AlreadyPublished):
+                registry.publish("a", "1.0.0")
+            self.assertEqual(registry.list().revision, 3)
+
+    def test_a_budget_that_is_spent(self):
+        # Dart pub's doc/solver.md, "Performing Conflict Resolution": foo 2.0.0 is found out by one conflict
+        with self.open() as registry:
+            for name, version, needs in (("foo", "2.0.0", {"bar": "^1.0.0"}), ("bar", "1.0.0", {"foo": "^1.0.0"}), ("foo", "1.0.0", {})):
+                registry.publish(name, version, needs)
+            with self.assertRaises(registryd.BudgetSpent):
+                registry.resolve({"foo": ">=1.0.0"}, budget=0)
+            self.assertEqual(registry.resolve({"foo": ">=1.0.0"}).selected, {"foo": "1.0.0"})
+
+    def test_many_at_once(self):
+        with self.open(**self.several) as registry:
+            futures = registry.many(Publish("a", f"{number}.0.0") for number in range(2000))
+            futures += registry.many(Resolve({"a": f"={number}"}) for number in range(2000))
+            replies = [future.result(SECONDS) for future in futures]
+        self.assertEqual(replies[:2000], [Accepted(number + 1) for number in range(2000)])
+        self.assertEqual(replies[2000:], [Selection(2000, {"a": f"{number}.0.0"}) for number in range(2000)])
+
+    def test_threads_that_share_a_session(self):
+        answered = {}
+
+        def call(number):
+            revisions = [registry.publish(f"a{number}", f"1.{minor}.0") for minor in range(50)]
+            answered[number] = revisions, registry.resolve({f"a{number}": "*"}).selected
+
+        with self.open() as registry:
+            threads = [threading.Thread(target=call, args=(number,)) for number in range(8)]
+            for thread in threads:
+                thread.start()
+            for thread in threads:
+                thread.join(SECONDS)
+        self.assertEqual(sorted(revision for revisions, _ in answered.values() for revision in revisions), list(range(1, 401)))
+        self.assertEqual([answered[number][1] for number in range(8)], [{f"a{number}": "1.49.0"} for number in range(8)])
+
+    def test_a_line_that_cannot_be_written_sends_none(self):
+        with self.open() as registry:
+            for bad in (Line(b"a\nb"), Publish("a", b"1.0.0")):
+                with self.assertRaises((ValueError, TypeError)):
+                    registry.many([Publish("a", "1.0.0"), bad])
+            self.assertEqual(registry.list(), Listing(0, {}))
+
+    def test_a_long_reply(self):
+        # a derivation of more bytes than are taken at once: each of 1,500 versions is ruled out for a reason of its own
+        with self.open() as registry:
+            for future in registry.many(Publish("a", f"{number}.0.0", {f"needed-by-version-{number}": "*"}) for number in range(1500)):
+                future.result(SECONDS)
+            why = registry.resolve({"a": "*"}, explain=True)
+            self.assertGreater(len("".join(why.explanation)), 65_536)
+            self.assertIs(registry.check({"a": "*"}, why.derivation), True)
+            self.assertEqual(registry.resolve({"a": "*"}), NoSelection(1500))
+
+    def test_no_requests(self):
+        with self.open() as registry:
+            self.assertEqual(registry.many([]), [])
+            self.assertEqual(registry.list(), Listing(0, {}))
+
+    def test_a_journal_is_saved_and_loaded(self):
+        path = self.path("journal")
+        with self.open(save=path) as registry:
+            futures = registry.many([Publish("a", "1.0.0", {"b": "^1.0.0"}), Yank("a", "1.0.0")])
+        # a session that is closed has answered all lines
+        self.assertEqual([future.result(0) for future in futures], [Accepted(1), Accepted(2)])
+        self.assertEqual(read(path), JOURNAL)
+        with self.open(load=path) as registry:
+            self.assertEqual(registry.list(), Listing(2, {"a": (("1.0.0", True),)}))
+        with open(path, "w", encoding="ascii") as out:
+            out.write(JOURNAL.replace('"a"', '"A"', 1))
+        self.fails(f"journal {path}: line 2 is not a journal's, and nothing was changed", lambda: self.open(load=path), "journal line 2")
+
+    def test_a_journal_that_is_gone_on_with(self):
+        path = self.path("journal")
+        registry = self.open(journal=path)
+        self.assertEqual((registry.publish("a", "1.0.0", {"b": "^1.0.0"}), registry.yank("a", "1.0.0")), (1, 2))
+        # it is there before it is told, and one session has it
+        self.assertEqual(read(path), JOURNAL.replace("end 2\n", ""))
+        in_use = f"journal {path}: in use by another session"
+        self.fails(in_use, lambda: self.open(journal=path))
+        self.ends(re.escape(in_use), lambda: Registry(PROGRAM, journal=path))
+        registry.kill()
+        with self.open(journal=path, **self.several) as registry:
+            self.assertEqual(registry.list(), Listing(2, {"a": (("1.0.0", True),)}))
+        self.assertEqual(read(path), JOURNAL)
+        with open(path, "w", encoding="ascii") as out:
+            out.write(JOURNAL.replace('"a"', '"A"', 1))
+        self.fails(f"journal {path}: line 2 is not a journal's, and nothing was changed", lambda: self.open(journal=path))
+
+    def test_what_cannot_be_begun_or_saved(self):
+        none, missing = self.path("none"), "No such file or directory (os error 2)"
+        self.fails(f"journal {none}: can't be opened: {missing}", lambda: self.open(load=none), "input failed")
+        # that no file can be made is told before the first line; that its disk is full is told at the end
+        nowhere = self.path("none", "journal")
+        self.fails(f"journal {nowhere}: can't be created: {missing}", lambda: self.open(save=nowhere), "output failed")
+        registry = self.open(save="/dev/full")
+        self.assertEqual(registry.publish("a", "1.0.0"), 1)
+        full = "No space left on device (os error 28)"
+        self.fails(f"journal /dev/full: can't be written: {full}", registry.close, "output failed")
+        registry.close()
+
+    def test_a_journal_that_finds_no_room(self):
+        path, told = self.path("journal"), 0
+        # the signal that comes with it would end a program; Python passes it over
+        self.program = ["sh", "-c", "trap '' XFSZ; exec \"$0\" \"$@\"", PROGRAM]
+        with files_of_at_most(1000):
+            registry = self.open(journal=path)
+            futures = registry.many(Publish("a", f"{number}.0.0") for number in range(10))
+            self.assertEqual([future.result(SECONDS).revision for future in futures], list(range(1, 11)))
+            futures = registry.many(Publish("b", f"{number}.0.0") for number in range(100))
+            full = f"journal {path}: can't be written: File too large (os error 27)"
+            told = sum(not future.exception(SECONDS) for future in futures)
+            self.fails(full, futures[-1].result)
+            self.fails(full, lambda: registry.publish("c", "1.0.0"))
+            self.fails(full, registry.close)
+            registry.close()
+        # what was told is there, and the next session goes on
+        with self.open(journal=path) as registry:
+            self.assertGreaterEqual(registry.list().revision, 10 + told)
+
+    def test_a_closed_session_answers_no_more(self):
+        for end in (Registry.close, Registry.kill):
+            registry = self.open()
+            end(registry)
+            for call in (registry.list, lambda: registry.ask(List())):
+                self.ends("the session was closed", call)
+            registry.close()
+
+
+class WithProgram(Calls, client_python.Case):
+    program = PROGRAM
+    several = {"workers": 3}
+
+    def open(self, **options):
+        return Registry(self.program, **options)
+
+    def fails(self, told, call, file=None):
+        self.assertEqual(self.ends(f"^the program ended with status 1: registryd: {re.escape(file or told)}$", call), 1)
+
+
+@needs_library
+class InProcess(Calls, client_python.Case):
+    several = {}
+
+    def open(self, **options):
+        return Registry(embedded=True, library=LIBRARY, **options)
+
+    def fails(self, told, call, file=None):
+        self.assertIsNone(self.ends(f"^{re.escape(told)}$", call))
+
+
+class Values(client_python.Case):
+    def test_each_refusal_has_an_exception(self):
+        told = re.findall(r"^\| (\d+) \| ([A-Z]\w+) \|", read("docs/REGISTRY.md"), re.M)
+        self.assertEqual([(str(number), kind.__name__) for number, kind in sorted(REFUSALS.items())], told)
+        self.assertEqual(len(told), 22)
+        for number, name in told:
+            reply = registryd.answer(f'{{"error":{number},"name":"{name}","revision":7}}'.encode())
+            self.assertEqual((type(reply).__name__, reply.number, reply.revision), (name, int(number), 7))
+            self.assertRegex(str(reply), f"^{name}: .*, at revision 7$")
+
+    def test_lines_are_written(self):
+        needs, derivation = {"b": "^1.0.0", "c": "*"}, [{"causes": []}]
+        for request, line in [
+            (Publish("a", "1.0.0", needs), '{"op":"publish","name":"a","version":"1.0.0","needs":[["b","^1.0.0"],["c","*"]]}'),
+            (Publish("a", "1.0.0", list(needs.items())[:1]), '{"op":"publish","name":"a","version":"1.0.0","needs":[["b","^1.0.0"]]}'),
+            (Yank('a"', "1\n"), r'{"op":"yank","name":"a\"","version":"1\n"}'),
+            (Unyank("é", "\ud800"), r'{"op":"unyank","name":"\u00e9","version":"\ud800"}'),
+            (Resolve({}), '{"op":"resolve","needs":[]}'),
+            (Resolve(needs, [("a", "1.0.0")], 7, True),
+             '{"op":"resolve","needs":[["b","^1.0.0"],["c","*"]],"lock":[["a","1.0.0"]],"budget":7,"explain":true}'),
+            (Resolve({}, budget=0), '{"op":"resolve","needs":[],"budget":0}'),
+            (Check({"b": "*"}, derivation, {"a": "1"}), '{"op":"check","needs":[["b","*"]],"lock":[["a","1"]],"derivation":[{"causes":[]}]}'),
+            (List(), '{"op":"list"}'), (Line(b"x \xff"), "x \udcff"),
+        ]:
+            self.assertEqual(registryd.written(request), line.encode(errors="surrogateescape") + b"\n")
+
+    def test_replies_are_read(self):
+        for line, reply in [
+            ('{"ok":true,"revision":3}', Accepted(3)), ('{"follows":false,"revision":1}', Verdict(1, False)),
+            ('{"revision":2,"selected":[["a","1.0.0"],["b","2.0.0"]]}', Selection(2, {"a": "1.0.0", "b": "2.0.0"})),
+            ('{"refused":true,"revision":0}', NoSelection(0)),
+            ('{"derivation":[],"explanation":["1. \\"","So."],"refused":true,"revision":1}', NoSelection(1, [], ('1. "', "So."))),
+            ('{"packages":[["a",[["1.0.0",true]]]],"revision":2}', Listing(2, {"a": (("1.0.0", True),)})),
+        ]:
+            self.assertEqual(registryd.answer(line.encode() + b"\n"), reply)
+
+    def check_example(self, at, journal, variables):
+        """The example of a page does what is shown behind it."""
+        typed, printed = blocks("clients/README.md")[at:at + 2]
+        # the second time it goes on with its journal
+        for _ in range(2):
+            done = subprocess.run([sys.executable, "-c", typed.replace("./registryd", PROGRAM)], cwd=self.folder, env=variables,
+                                  stdout=subprocess.PIPE, text=True, timeout=SECONDS)
+            self.assertEqual((done.returncode, done.stdout.strip()), (0, printed))
+            self.assertEqual(read(self.path(journal)).count('"name":"app"'), 1)
+
+    def test_the_example(self):
+        self.check_example(0, "python.journal", PYTHON)
+
+    @needs_library
+    def test_the_example_in_process(self):
+        self.check_example(2, "embedded.journal", {**PYTHON, "REGISTRYD_LIBRARY": LIBRARY})
+
+
+if __name__ == "__main__":
+    unittest.main()

@@ -1,0 +1,60 @@
+"""Sessions in process under a careless caller: nulls, lengths, numbers of no session, many sessions, processes that are forked, threads at
+one session; by itself, under valgrind, and under the sanitizers of the C compiler."""
+import os
+import subprocess
+import tempfile
+import unittest
+
+import pytest
+
+from tests.support.library import TESTS, linked, linked_with_sources, needs_library
+from tests.support.program import PROGRAM, skip_without
+
+pytestmark = pytest.mark.not_quick("the static library")
+CALLS = os.path.join(TESTS, "c_embedded_calls.c")
+PATIENCE = 300  # seconds, under valgrind and on a busy machine too
+ADDRESS = ["-g", "-fsanitize=address,undefined", "-fno-sanitize-recover"]
+THREADS = ["-g", "-fsanitize=thread"]
+# What the archive keeps of a session that a forked process forsakes is no leak of the process itself.
+VALGRIND = ["valgrind", "-q", "--error-exitcode=99", "--leak-check=full", "--errors-for-leak-kinds=definite", "--trace-children=no"]
+
+
+@needs_library
+@skip_without("cc", "gcc")
+class Calls(unittest.TestCase):
+    LONGEST = PATIENCE  # under valgrind
+
+    def setUp(self):
+        folder = tempfile.TemporaryDirectory()
+        self.addCleanup(folder.cleanup)
+        self.folder = folder.name
+        self.caller = os.path.join(self.folder, "caller")
+
+    def tried(self, *what, before=()):
+        """The calls of such a kind hold, and nothing is said."""
+        for word in what:
+            with self.subTest(word), tempfile.TemporaryDirectory(dir=self.folder) as folder:
+                done = subprocess.run([*before, self.caller, word, PROGRAM], cwd=folder, stdin=subprocess.DEVNULL, stdout=subprocess.PIPE,
+                                      stderr=subprocess.PIPE, timeout=PATIENCE, check=False)
+                self.assertEqual((done.returncode, done.stdout, done.stderr), (0, b"", b""))
+
+    def test_by_itself(self):
+        linked(self.caller, CALLS)
+        self.tried("calls", "forks", "forks beside a thread", "threads")
+
+    @skip_without("valgrind", "valgrind")
+    def test_under_valgrind(self):
+        linked(self.caller, CALLS, "-g")
+        self.tried("calls", "threads", before=VALGRIND)
+
+    def test_under_the_sanitizers_of_addresses_and_of_what_is_undefined(self):
+        linked_with_sources(self.caller, CALLS, *ADDRESS)
+        self.tried("calls", "forks", "threads")
+
+    def test_under_the_sanitizer_of_threads(self):
+        linked_with_sources(self.caller, CALLS, *THREADS)
+        self.tried("calls", "threads")
+
+
+if __name__ == "__main__":
+    unittest.main()

@@ -1,0 +1,107 @@
+"""The manual pages: they can be shown, and name what the program and the tools take, print and end with."""
+import os
+import re
+import subprocess
+import tempfile
+import unittest
+
+from dev.installing import installed
+from dev.installing.completions import COMMANDS
+from tests.support.program import PROGRAM, TOP, skip_without
+
+VERSION = open(os.path.join(TOP, "VERSION"), encoding="ascii").read().strip()
+# The tools of the second page, each with the words before its options.
+TOOLS = {name: (called, [""]) for name, (called, _) in installed.TOOLS.items()}
+
+
+def page(name):
+    with open(os.path.join(TOP, "docs", name), encoding="utf-8") as text:
+        return text.read()
+
+
+def sections(text, mark):
+    """The sections of a page, or the subsections, by their titles."""
+    first, *others = re.split(rf"^\.{mark} (.*)\n", text, flags=re.M)
+    return dict(zip(others[::2], others[1::2]))
+
+
+def options(text):
+    """The options that a text names, without the one for help."""
+    return set(re.findall(r"\bFl \\-([a-z-]+)", text)) - {"help"}
+
+
+def examples(text):
+    """What an example tells to type."""
+    return re.findall(r"^\.Bd .*\n((?:.*\n)*?)\.Ed", text, re.M)
+
+
+class Pages(unittest.TestCase):
+    @skip_without("man", "man-db")
+    @skip_without("groff", "groff-base")
+    def test_they_are_shown_without_a_warning(self):
+        for name in ("registryd.1", "registry-tools.1"):
+            with self.subTest(name):
+                words = ["man", "--warnings", "-E", "UTF-8", "-l", os.path.join(TOP, "docs", name)]
+                done = subprocess.run(words, stdout=subprocess.PIPE, stderr=subprocess.PIPE, check=True, timeout=60,
+                                      env={**os.environ, "MANWIDTH": "100", "LC_ALL": "C.UTF-8"})
+                self.assertEqual(done.stderr, b"")
+                self.assertIn("EXIT STATUS", done.stdout.decode())
+
+    def test_they_have_the_version(self):
+        for name in ("registryd.1", "registry-tools.1"):
+            self.assertIn(f'.Os "registryd {VERSION}"\n', page(name))
+
+
+class OfTheProgram(unittest.TestCase):
+    def test_each_option_is_in_the_synopsis_and_told(self):
+        parts = sections(page("registryd.1"), "Sh")
+        taken = {it.name for command in COMMANDS for it in command.options} | {"version"}
+        self.assertEqual(options(parts["SYNOPSIS"]), taken)
+        told = re.findall(r"^\.It Fl \\-([a-z-]+)", parts["OPTIONS"], re.M)
+        self.assertEqual(sorted(told), sorted([*taken, "help"]))
+        self.assertEqual(re.findall(r"^\.Cm (\w+)", parts["SYNOPSIS"], re.M), [it.name for it in COMMANDS])
+
+    def test_each_status_and_each_line_of_standard_error_is_there(self):
+        with open(os.path.join(TOP, "docs", "FORMATS.md"), encoding="utf-8") as text:
+            rows = re.findall(r"^\| (\d) \|.*\| (nothing|`registryd: (.*)`) \|$", text.read(), re.M)
+        parts = sections(page("registryd.1"), "Sh")
+        self.assertEqual(re.findall(r"^\.It (\d)$", parts["EXIT STATUS"], re.M), sorted({status for status, *_ in rows}))
+        told = [line.replace(" Ar ", " ") for line in re.findall(r"^\.It Li registryd: (.*)$", parts["DIAGNOSTICS"], re.M)]
+        self.assertEqual(sorted(told), sorted({line for *_, line in rows if line}))
+
+    def test_the_example_can_be_typed(self):
+        first, _ = examples(page("registryd.1"))
+        with tempfile.TemporaryDirectory() as folder:
+            os.symlink(PROGRAM, os.path.join(folder, "registryd"))
+            done = subprocess.run(["sh", "-c", first], cwd=folder, env={**os.environ, "PATH": f"{folder}:{os.environ['PATH']}"},
+                                  stdout=subprocess.PIPE, text=True, check=True, timeout=60)
+        self.assertEqual(done.stdout.splitlines(), ['{"ok":true,"revision":1}', '{"revision":1,"selected":[["app","1.0.0"]]}'])
+
+
+class OfTheTools(unittest.TestCase):
+    def taken(self, file, commands):
+        """The options that the help of a tool names."""
+        found = set()
+        for command in commands:
+            words = [os.path.join(TOP, file), *command.split(), "--help"]
+            said = subprocess.run(words, stdout=subprocess.PIPE, text=True, check=True, timeout=60).stdout
+            found |= set(re.findall(r"^  (?:-h, )?--([a-z-]+)", said, re.M)) - {"help"}
+        return found
+
+    def test_each_option_is_told(self):
+        parts = sections(sections(page("registry-tools.1"), "Sh")["OPTIONS"], "Ss")
+        self.assertEqual(list(parts), list(TOOLS))
+        for name, (file, commands) in TOOLS.items():
+            told = set(re.findall(r"\bFl \\-([a-z-]+)", "".join(re.findall(r"^\.It .*$", parts[name], re.M))))
+            self.assertEqual(told, self.taken(file, commands), name)
+
+    def test_each_option_is_in_the_synopsis(self):
+        synopsis = re.split(r"^\.Nm ", sections(page("registry-tools.1"), "Sh")["SYNOPSIS"], flags=re.M)[1:]
+        for name, (file, commands) in TOOLS.items():
+            if name != "registryd-etcd":  # its synopsis has no room for them
+                told = options("".join(it for it in synopsis if it.split()[0] == name))
+                self.assertEqual(told, self.taken(file, commands), name)
+
+
+if __name__ == "__main__":
+    unittest.main()

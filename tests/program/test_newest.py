@@ -1,0 +1,233 @@
+"""The newest selection by its definition: worked cases, what follows from it over random registries, and the tool that judges a
+program by it."""
+import json
+import random
+import unittest
+
+from dev.long import newest_many
+from tests.support.plain_newest import Published
+from tests.support.plain_search import key
+from tests.support.small_registries import small_case
+
+# What is published, as texts `name version: need, need`, with what is yanked; the needs, the lock; and the newest selection, worked by hand.
+WORKED = [
+    ("the preferred selection serves",
+     ["a 1.0.0: b *", "a 2.0.0: b *", "b 1.0.0", "b 2.0.0"], [], ["a *"], [], "a 2.0.0, b 2.0.0"),
+    ("a need that comes earlier by its name is served first, in whatever order the needs are given",
+     ["x 1.0.0", "x 2.0.0: y =1.0.0", "y 1.0.0", "y 2.0.0"], [], ["y *", "x *"], [], "x 2.0.0, y 1.0.0"),
+    ("the same with the names the other way round",
+     ["x 1.0.0", "x 2.0.0", "w 1.0.0", "w 2.0.0: x =1.0.0"], [], ["x *", "w *"], [], "w 2.0.0, x 1.0.0"),
+    ("the needs come before what is needed for them",
+     ["a 1.0.0: m *", "m 1.0.0", "m 2.0.0: z =1.0.0", "z 1.0.0", "z 2.0.0"], [], ["a *", "z *"], [], "a 1.0.0, m 1.0.0, z 2.0.0"),
+    ("breadth first: what the first version depends on in second place comes before what its first dependency needs",
+     ["a 1.0.0: p *, q *", "p 1.0.0: r *", "q 1.0.0", "q 2.0.0: r =1.0.0", "r 1.0.0", "r 2.0.0"], [], ["a *"], [], "a 1.0.0, p 1.0.0, q 2.0.0, r 1.0.0"),
+    ("dependencies are taken in the order in which they were published, not by name",
+     ["a 1.0.0: q *, p *", "p 1.0.0", "p 2.0.0: q =1.0.0", "q 1.0.0", "q 2.0.0"], [], ["a *"], [], "a 1.0.0, p 1.0.0, q 2.0.0"),
+    ("a version whose dependency has none that serves is passed over",
+     ["a 1.0.0", "a 2.0.0: b >1.0.0", "b 1.0.0"], [], ["a *"], [], "a 1.0.0"),
+    ("a branch that is not taken leaves nothing behind",
+     ["a 1.0.0: c *", "a 2.0.0: b *", "b 1.0.0: d *", "c 1.0.0", "c 2.0.0"], [], ["a *"], [], "a 1.0.0, c 2.0.0"),
+    ("what the lock names comes first where it can be had",
+     ["a 1.0.0", "a 2.0.0: b =1.0.0", "b 1.0.0", "b 2.0.0"], [], ["a *", "b *"], ["b 2.0.0"], "a 2.0.0, b 1.0.0"),
+    ("and keeps a version that is yanked",
+     ["a 1.0.0", "a 2.0.0", "a 3.0.0"], ["a 2.0.0", "a 3.0.0"], ["a *"], ["a 2.0.0"], "a 2.0.0"),
+    ("the lock by equal precedence",
+     ["a 1.0.0+one", "a 2.0.0"], [], ["a *"], ["a 1.0.0+two"], "a 1.0.0+one"),
+    ("where the lock's version can't be had, the highest that can is next",
+     ["a 1.0.0: b *", "a 2.0.0: b *", "a 3.0.0: b =1.0.0", "b 2.0.0"], [], ["a *"], ["a 3.0.0"], "a 2.0.0, b 2.0.0"),
+    ("a pre-release that no requirement names is not had",
+     ["a 1.0.0", "a 2.0.0-rc.1"], [], ["a *"], [], "a 1.0.0"),
+    ("one that is named may be the highest",
+     ["a 1.0.0", "a 2.0.0-rc.1"], [], ["a >=2.0.0-rc.1"], [], "a 2.0.0-rc.1"),
+    ("packages that need each other",
+     ["a 1.0.0: b =1.0.0", "a 2.0.0: b =2.0.0", "b 1.0.0: a =1.0.0", "b 2.0.0: a =1.0.0"], [], ["a *"], [], "a 1.0.0, b 1.0.0"),
+    ("nothing is needed", ["a 1.0.0"], [], [], [], ""),
+    ("nothing serves", ["a 1.0.0: b =2.0.0", "b 1.0.0"], [], ["a *"], [], None),
+]
+
+
+def publication(text):
+    version, _, needs = text.partition(": ")
+    name, number = version.split(" ")
+    return {"op": "publish", "name": name, "version": number, "needs": [need.split(" ", 1) for need in needs.split(", ") if need]}
+
+
+def pairs(texts):
+    return [text.split(" ", 1) for text in texts]
+
+
+def worked(published, yanked, needs, lock):
+    """The commands and the request of a worked case."""
+    commands = [publication(text) for text in published]
+    commands += [{"op": "yank", "name": name, "version": version} for name, version in pairs(yanked)]
+    return commands, {"op": "resolve", "needs": pairs(needs), "lock": pairs(lock)}
+
+
+def made(commands):
+    registry = Published()
+    for command in commands:
+        registry.apply(command)
+    return registry
+
+
+class Worked(unittest.TestCase):
+    def test_each_worked_case(self):
+        for told, published, yanked, needs, lock, wanted in WORKED:
+            with self.subTest(told):
+                commands, request = worked(published, yanked, needs, lock)
+                selection = None if wanted is None else pairs(it for it in wanted.split(", ") if it)
+                registry = made(commands)
+                self.assertEqual(registry.newest(request["needs"], request["lock"]), selection)
+                self.assertEqual(registry.first_found(request["needs"], request["lock"]), selection)
+
+
+class Defined(unittest.TestCase):
+    """What follows from the definition, over random registries."""
+
+    @classmethod
+    def setUpClass(cls):
+        cls.cases = []
+        for seed in range(200):
+            case = small_case(random.Random(seed))
+            registry = made(case.commands)
+            needs, lock = case.request["needs"], case.request.get("lock", [])
+            cls.cases.append((seed, case, registry, needs, lock, registry.newest(needs, lock)))
+
+    def test_a_search_that_goes_back_step_by_step_ends_there(self):
+        met = 0
+        for seed, _, registry, needs, lock, newest in self.cases:
+            self.assertEqual(registry.first_found(needs, lock), newest, seed)
+            met += newest is not None
+        self.assertGreater(min(met, len(self.cases) - met), 30)
+
+    def test_the_preferred_selection_is_the_newest_where_it_serves(self):
+        serves = other = 0
+        for seed, _, registry, needs, lock, newest in self.cases:
+            preferred = registry.preferred_selection(needs, lock)
+            if preferred in registry.selections(needs, lock):
+                self.assertEqual(newest, preferred, seed)
+                serves += 1
+            elif newest is not None:
+                other += 1
+        self.assertGreater(serves, 50)
+        self.assertGreater(other, 8)
+
+    def test_what_was_selected_stays_where_it_is_the_lock(self):
+        for seed, case, _, needs, _, newest in self.cases:
+            if newest is not None:
+                yanks = [{"op": "yank", "name": name, "version": version} for name, version in newest]
+                self.assertEqual(made([*case.commands, *yanks]).newest(needs, newest), newest, seed)
+
+    def test_the_order_of_the_needs_and_of_the_lock_is_nothing(self):
+        for seed, _, registry, needs, lock, newest in self.cases:
+            self.assertEqual(registry.newest(needs[::-1], lock[::-1]), newest, seed)
+
+    def test_a_yank_of_what_is_not_selected_changes_nothing(self):
+        tried = 0
+        for seed, case, _, needs, lock, newest in self.cases:
+            if newest is None:
+                continue
+            rng = random.Random(seed)
+            command = rng.choice([it for it in case.commands if it["op"] == "publish"])
+            name, version = command["name"], command["version"]
+            if [name, version] not in newest:
+                yanked = made([*case.commands, {"op": "yank", "name": name, "version": version}])
+                self.assertEqual(yanked.newest(needs, lock), newest, seed)
+                tried += 1
+        self.assertGreater(tried, 50)
+
+    def test_a_publication_changes_it_only_to_a_selection_that_has_it(self):
+        changed = tried = 0
+        for seed, case, _, needs, lock, newest in self.cases:
+            *before, last = [it for it in case.commands if it["op"] == "publish"]
+            yanks = [it for it in case.commands if it["op"] == "yank" and (it["name"], it["version"]) != (last["name"], last["version"])]
+            earlier, later = made([*before, *yanks]).newest(needs, lock), made([*before, last, *yanks]).newest(needs, lock)
+            tried += 1
+            if earlier != later:
+                self.assertIn([last["name"], last["version"]], later, seed)
+                changed += 1
+        self.assertGreater(changed, 12)
+        self.assertGreater(tried - changed, 12)
+
+
+class Anyhow(Published):
+    """Some selection: the first that is found of all."""
+
+    def newest(self, needs, lock):
+        return next(iter(self.selections(needs, lock)), None)
+
+
+class AsListed(Published):
+    """The needs as they were given, and not by name."""
+
+    def next_package(self, needs, taken):
+        lines = [*needs, *(line for name, version in taken.items() for line in self.needs_of(name, version))]
+        return next((name for name, _ in lines if name not in taken), None)
+
+
+class DepthFirst(Published):
+    """What the last package depends on before what the first one does."""
+
+    def next_package(self, needs, taken):
+        lines = [line for name, version in reversed(taken.items()) for line in self.needs_of(name, version)]
+        return next((name for name, _ in [*lines, *sorted(needs)] if name not in taken), None)
+
+
+class WithoutLock(Published):
+    """The highest versions, whatever the lock names."""
+
+    def in_preference(self, name, lock):
+        return sorted((text for text, _ in self.allowed(name, lock)), key=key, reverse=True)
+
+
+class SecondBest(Published):
+    """The second best of the first package that has two."""
+
+    def newest(self, needs, lock):
+        best = super().newest(needs, lock)
+        first = best and self.next_package(needs, {})
+        others = [it for it in self.selections(needs, lock) if first and dict(it)[first] != dict(best)[first]]
+        return others[0] if others else best
+
+
+def served_by(kind):
+    """What answers lines as a session does, by the selections of such a registry. Each case has a registry of its own."""
+    def serve(lines, _workers):
+        registries, replies = {}, []
+        for line in lines:
+            number = (line["name"] if "name" in line else line["needs"][0][0]).rpartition("-")[2]
+            registry = registries.setdefault(number, kind())
+            if line["op"] == "resolve":
+                found = registry.newest(line["needs"], line.get("lock", []))
+                replies.append(json.dumps({"refused": True} if found is None else {"selected": found}))
+            else:
+                registry.apply(line)
+                replies.append("{}")
+        return replies
+    return serve
+
+
+class Judged(unittest.TestCase):
+    """What `newest_many` tells of programs that answer rightly, or not."""
+
+    # among them cases in which each of the wrong kinds below selects something else
+    SEEDS = (5_004, 5_013, 5_038, 5_039, 5_053, 5_060, 5_076, 5_081)
+
+    def test_the_newest_selection_is_no_find(self):
+        self.assertEqual(newest_many.faults(self.SEEDS, served_by(Published)), [])
+
+    def test_each_other_selection_is_a_find(self):
+        for kind in (Anyhow, AsListed, DepthFirst, WithoutLock, SecondBest):
+            with self.subTest(kind.__doc__):
+                found = newest_many.faults(self.SEEDS, served_by(kind))
+                self.assertGreater(len(found), 0)
+                self.assertRegex(found[0], r"seed \d+, \w.*: .* is answered, and .* is the newest")
+
+    def test_a_refusal_of_what_can_be_met_is_a_find(self):
+        def refuses(lines, _workers):
+            return ['{"refused":true}' for _ in lines]
+        self.assertEqual(len(newest_many.faults(self.SEEDS, refuses)), 3 * len(self.SEEDS))
+
+
+if __name__ == "__main__":
+    unittest.main()

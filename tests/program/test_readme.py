@@ -1,0 +1,122 @@
+"""What the pages tell a reader to type can be typed, and answers what they say; and README is short, and leads on."""
+import importlib.util
+import os
+import re
+import shutil
+import subprocess
+import tempfile
+import unittest
+
+from tests.support.program import PROGRAM, TOP
+
+# how many lines README has at most
+MOST_LINES = 60
+PAGES = ["README.md", *(os.path.join("docs", page) for page in sorted(os.listdir(os.path.join(TOP, "docs"))) if page.endswith(".md"))]
+
+
+def page(name):
+    with open(os.path.join(TOP, name), encoding="utf-8") as text:
+        return text.read()
+
+
+def blocks(name="README.md"):
+    """A page's indented blocks, each a list of lines."""
+    return [re.findall("^    (.*)$", block, re.M) for block in re.findall("(?:^    .*\n)+", page(name), re.M)]
+
+
+def answers(folder, lines):
+    """What a shell in a folder prints for lines that are typed, and its exit status."""
+    typed = "\n".join(lines).replace("./registryd", PROGRAM).replace("tools/", os.path.join(TOP, "tools", ""))
+    typed = re.sub(r"\./registry\b", os.path.join(TOP, "registry"), typed)
+    variables = {**os.environ, "REGISTRY_PROGRAM": PROGRAM, "NO_COLOR": "1"}
+    variables.pop("REGISTRY_JOURNAL", None)
+    done = subprocess.run(["sh", "-c", typed], cwd=folder, env=variables, stdin=subprocess.DEVNULL, stdout=subprocess.PIPE, text=True, timeout=300)
+    return done.stdout.splitlines(), done.returncode
+
+
+FORMATS = blocks("docs/FORMATS.md")
+CLIENTS = ["clients/README.md", "clients/rust/README.md", "clients/c/README.md"]
+# where an example begins a journal's file
+BEGUN = re.compile(r"""(?:--save |--journal |\./example |journal="|Some\(")([\w-]+\.journal)""")
+
+
+class Readme(unittest.TestCase):
+    def test_each_file_that_is_typed_can_be_run(self):
+        words = [line.split()[0] for name in ("README.md", "docs/WHY.md", "docs/BENCHMARKS.md") for block in blocks(name) for line in block]
+        files = {word for word in words if re.fullmatch(r"[a-z./_]+", word) and "/" in word}
+        self.assertLessEqual({"./registryd", "./registry", "tools/check_derivation.py"}, files)
+        files.add("./test")
+        self.assertEqual([file for file in sorted(files) if not os.access(os.path.join(TOP, file), os.X_OK)], [])
+
+    def test_each_module_that_is_typed_can_be_run(self):
+        modules = {module for name in PAGES for module in re.findall(r"python3 -m ((?:bench|dev)[.\w]*)", page(name))}
+        self.assertLessEqual({"bench.resolve", "dev.long.fuzz"}, modules)
+        self.assertEqual([module for module in sorted(modules) if not importlib.util.find_spec(module)], [])
+
+    def test_it_is_short(self):
+        self.assertLessEqual(len(page("README.md").splitlines()), MOST_LINES)
+
+    @unittest.skipUnless(shutil.which("rt"), "no command rt on the path")
+    def test_it_names_the_logic_of_the_kit(self):
+        told = subprocess.run(["rt", "version"], stdout=subprocess.PIPE, text=True, check=True, timeout=60).stdout
+        self.assertEqual(re.findall(r"`rattle-kit-\w+ logic ([0-9a-f]+)`", page("README.md")), re.findall(r"logic ([0-9a-f]+)", told))
+
+    def test_each_page_that_is_named_is_there(self):
+        for name in PAGES:
+            for link in re.findall(r"\]\(([^)#]+)(?:#[^)]*)?\)", page(name)):
+                if "://" not in link:
+                    self.assertTrue(os.path.exists(os.path.join(TOP, os.path.dirname(name), link)), f"{name}: {link}")
+
+    def test_each_page_is_named(self):
+        self.assertEqual([name for name in PAGES[1:] if f"({name})" not in page("README.md")], [])
+
+    def test_no_two_examples_share_a_file(self):
+        begun = [(file, block[0]) for name in [*PAGES, *CLIENTS] for block in blocks(name) for file in set(BEGUN.findall("\n".join(block)))]
+        self.assertLessEqual({"a.journal", "python.journal", "rust.journal", "c.journal"}, {file for file, _ in begun})
+        self.assertEqual(len(begun), len({file for file, _ in begun}), begun)
+
+    def test_the_first_session(self):
+        typed, told = blocks()[:2]
+        with tempfile.TemporaryDirectory() as folder:
+            self.assertEqual(answers(folder, typed), (told, 0))
+
+    def test_what_is_kept(self):
+        at = next(at for at, block in enumerate(FORMATS) if "--save saved.journal" in block[0])
+        typed, told = FORMATS[at:at + 2]
+        with tempfile.TemporaryDirectory() as folder:
+            self.assertEqual(answers(folder, typed), (told, 0))
+            # the line that is printed last asks for the same
+            replies = answers(folder, [f"echo '{told[-1]}' | ./registryd serve --workers 1 --load saved.journal", "cat selected.line"])
+            self.assertEqual(replies, (['{"revision":1,"selected":[["app","1.0.0"]]}'] * 2, 0))
+
+    def test_a_journal_that_is_gone_on_with(self):
+        at = next(at for at, block in enumerate(FORMATS) if "--journal a.journal" in block[0])
+        typed, told = FORMATS[at:at + 2]
+        with tempfile.TemporaryDirectory() as folder:
+            self.assertEqual(answers(folder, typed), (told, 0))
+
+    def test_each_journal_that_is_shown_is_loaded(self):
+        shown = [block for block in FORMATS if block[0].startswith("registry-journal")]
+        self.assertEqual([block[0] for block in shown], ["registry-journal 1", "registry-journal 2"])
+        for block in shown:
+            with tempfile.TemporaryDirectory() as folder:
+                with open(os.path.join(folder, "journal"), "w", encoding="ascii") as out:
+                    out.write("".join(line + "\n" for line in block))
+                typed = ["./registryd serve --workers 1 --load journal --save saved < /dev/null", "cat saved"]
+                self.assertEqual(answers(folder, typed), (["registry-journal 2", *block[1:]], 0))
+
+    def test_the_command_for_people(self):
+        at = next(at for at, block in enumerate(blocks()) if block[0].startswith("./registry "))
+        typed, told = blocks()[at:at + 2]
+        with tempfile.TemporaryDirectory() as folder:
+            self.assertEqual(answers(folder, typed), (told, 0))
+
+    def test_the_race(self):
+        at = next(at for at, block in enumerate(FORMATS) if "./registryd race" in block[-1])
+        typed, told = FORMATS[at:at + 2]
+        # either file may be first
+        turned = [told[1].replace('"seat":2', '"seat":1'), told[0].replace('"seat":1', '"seat":2'), *told[2:]]
+        with tempfile.TemporaryDirectory() as folder:
+            printed, status = answers(folder, typed)
+            self.assertIn(printed, (told, turned))
+            self.assertEqual(status, 0)

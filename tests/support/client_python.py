@@ -1,0 +1,60 @@
+"""The client in Python, as these tests load it, what stands for the program in their sessions, and how a session tells its end."""
+import os
+import re
+import sys
+import tempfile
+import unittest
+
+from registryd import Ended, Publish, Registry, Resolve
+from tests.support.program import PATIENCE, TOP, in_time
+
+SECONDS = PATIENCE  # that nothing here may take
+PYTHON = {**os.environ, "PYTHONPATH": os.path.join(TOP, "clients", "python")}
+SOON = 45  # seconds in which it is over, on a busy machine too, where a search would go on
+PIGEONS = 15
+HOPELESS = Resolve({f"pigeon-{pigeon}": "*" for pigeon in range(PIGEONS)})
+
+
+def read(name):
+    with open(os.path.join(TOP, name), encoding="utf-8") as text:
+        return text.read()
+
+
+def blocks(name):
+    """A page's indented blocks, without their indent."""
+    return [re.sub("^    ", "", block, flags=re.M).strip() for block in re.findall("(?:^    .*\n)+", read(name), re.M)]
+
+
+def other(script, **more):
+    """A session with a program in Python in the place of the real one: it has answered the first line, and sleeps where the
+    session is to end it."""
+    begun = "import sys, os, time\nsys.stdin.readline()\nprint('{\"revision\":0,\"selected\":[]}', flush=True)\n"
+    return Registry([sys.executable, "-c", begun + script], **more)
+
+
+def pigeons(registry):
+    """Publishes pigeons with one hole too few, and answers a request for all of them, whose search outlasts each test."""
+    holes = [Publish(f"hole-{hole}", f"{pigeon}.0.0") for hole in range(PIGEONS - 1) for pigeon in range(PIGEONS)]
+    birds = [Publish(f"pigeon-{pigeon}", f"{hole}.0.0", {f"hole-{hole}": f"={pigeon}.0.0"}) for pigeon in range(PIGEONS) for hole in range(PIGEONS - 1)]
+    for future in registry.many(holes + birds):
+        future.result(SECONDS)
+    return HOPELESS
+
+
+class Case(unittest.TestCase):
+    """A test with a folder, and a limit on its time."""
+
+    def setUp(self):
+        self.enterContext(in_time(SECONDS))
+        folder = tempfile.TemporaryDirectory()
+        self.addCleanup(folder.cleanup)
+        self.folder = folder.name
+
+    def path(self, *names):
+        return os.path.join(self.folder, *names)
+
+    def ends(self, told, call):
+        """This call tells that the session has ended, and how."""
+        with self.assertRaisesRegex(Ended, told) as caught:
+            call()
+        return caught.exception.status

@@ -1,0 +1,69 @@
+"""Reads tables of command lines: words of the program, and what becomes of a run with each of them.
+
+    # title: what the table shows. Source: where that comes from.
+    file NAME LINE     for the words of this table there is a file of this line, which may be empty; of several, where more name it
+    $ WORDS            the words behind the program's name; several of these in a row end in the same way
+    break CALL N HOW   the Nth call of a function of the C library fails, by an error's name, or is `short`: of one byte
+    break CALL N/K HOW the same of each Kth call from there on
+    room N             standard output takes so many bytes, and then fails
+    input LINE         a line of standard input, which else is empty
+    output LINE        a line of standard output: all of them, in order, or as much of them as there is room for
+    has TEXT           a part of standard output, of which the rest is left open; without either there is none
+    status N           the exit status
+    error LINE         a line on standard error, which else is empty
+    says TEXT          a part of what stands before these lines there, which is left open else; without it nothing does
+    left NAME LINE     a line of a file that is there then: all of them, in order
+    none NAME          no such file is there then
+"""
+from tests.support.preloaded import Break
+
+PARTS = ("break", "room", "input", "output", "has", "status", "error", "says", "left", "none")
+
+
+class Case:
+    """Words that end in the same way, with the files that there are for them."""
+
+    def __init__(self, title, files, place):
+        self.title, self.files, self.place = title, files, place
+        self.words = []
+        self.told = {part: [] for part in PARTS}
+
+    def text(self, part):
+        return "".join(line + "\n" for line in self.told[part])
+
+    def left(self):
+        """The text of each file that is there then."""
+        texts = {}
+        for told in self.told["left"]:
+            name, _, line = told.partition(" ")
+            texts[name] = texts.get(name, "") + line + "\n"
+        return texts
+
+    def breaks(self):
+        """What is broken, or nothing."""
+        for told in self.told["break"]:
+            call, number, how = told.split()
+            first, _, every = number.partition("/")
+            return Break(call, int(first), how, int(every or 0))
+        return None
+
+
+def cases(path):
+    """The cases of a file."""
+    title, files, found, is_title = "", {}, [], False
+    with open(path, encoding="ascii") as lines:
+        for number, text in enumerate(lines, 1):
+            sign, _, rest = text.rstrip("\n").partition(" ")
+            if sign == "#":
+                title, files = (f"{title} {rest}", files) if is_title else (rest, {})
+            elif sign == "file":
+                name, _, line = rest.partition(" ")
+                files[name] = files.get(name, "") + line + "\n"
+            elif sign == "$":
+                if not found or any(found[-1].told.values()):
+                    found.append(Case(title, files, f"{path}:{number}"))
+                found[-1].words.append(rest.split())
+            elif sign:
+                found[-1].told[sign].append(rest)
+            is_title = sign == "#"
+    return found

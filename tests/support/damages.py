@@ -1,0 +1,194 @@
+"""Derivations made wrong in one place. Each damage changes the lines, or the request, of a derivation that follows into
+something that surely does not, and answers that it did; or it finds nothing to change."""
+from tests.support.refuter import BEYOND, CHOICES, ROOT, conclude
+
+FINAL = ([], [[ROOT, True, [0]]])
+
+
+class Damage:
+    """One derivation that follows, and what it may be damaged by."""
+
+    def __init__(self, known, request, rows, said, rng):
+        self.known, self.request, self.rows, self.said, self.rng = known, request, rows, said, rng
+
+    def row(self):
+        """Any line, with its place."""
+        place = self.rng.randrange(len(self.rows))
+        return place, self.rows[place]
+
+    def cause(self, kind):
+        """Any cause of a kind with its line's place and its own, or none."""
+        found = [(place, side, it) for place, row in enumerate(self.rows) for side, it in enumerate(row["causes"])
+                 if it.get("fact", "line") == kind]
+        return self.rng.choice(found) if found else (None, None, None)
+
+    def changes(self, place, side, name, choices):
+        """Whether the line would conclude something else if this cause had another term on a package."""
+        said = list(self.said[place])
+        said[side] = {**said[side], name: frozenset(choices)}
+        return self.known.written(conclude(*said, self.rows[place]["pivot"])) != self.rows[place]["conclusion"]
+
+    # What a line concludes
+
+    def a_conclusion_with_another_set(self):
+        _, row = self.row()
+        if row["conclusion"]:
+            term = self.rng.choice(row["conclusion"])
+            term[2] = sorted(set(term[2]) ^ {self.rng.randrange(4)})
+        return bool(row["conclusion"])
+
+    def a_conclusion_with_another_sign(self):
+        _, row = self.row()
+        if row["conclusion"]:
+            term = self.rng.choice(row["conclusion"])
+            term[1] = not term[1]
+        return bool(row["conclusion"])
+
+    def a_conclusion_without_a_term(self):
+        _, row = self.row()
+        told = list(row["conclusion"])
+        if told:
+            row["conclusion"].remove(self.rng.choice(told))
+        return bool(told)
+
+    def a_conclusion_with_another_term(self):
+        _, row = self.row()
+        free = [name for name in self.known.names if name not in [term[0] for term in row["conclusion"]]]
+        if free:
+            row["conclusion"].append([self.rng.choice(free), self.rng.random() < 0.5, self.rng.choice([[], [0]])])
+            row["conclusion"].sort(key=lambda term: self.known.names.index(term[0]))
+        return bool(free)
+
+    def a_conclusion_out_of_order(self):
+        _, row = self.row()
+        row["conclusion"].reverse()
+        return len(row["conclusion"]) > 1
+
+    def a_conclusion_with_a_term_twice(self):
+        _, row = self.row()
+        row["conclusion"] += row["conclusion"][-1:]
+        return bool(row["conclusion"])
+
+    def a_conclusion_on_an_unknown_package(self):
+        _, row = self.row()
+        row["conclusion"].append(["nobody", True, [0]])
+        return True
+
+    # Pivots and cited lines
+
+    def another_pivot(self):
+        place, row = self.row()
+        first, second = self.said[place]
+        row["pivot"] = self.rng.choice([it for it in [*self.known.names, "nobody"] if it != row["pivot"]])
+        return row["pivot"] not in {**first, **second} or self.known.written(conclude(first, second,
+                                                                                      row["pivot"])) != row["conclusion"]
+
+    def a_cited_line_that_does_not_stand_before(self):
+        place, row = self.row()
+        wrong = [0, place + 1, place + 2, len(self.rows) + 1, 4294967295]
+        row["causes"][self.rng.randrange(2)] = {"line": self.rng.choice(wrong)}
+        return True
+
+    def another_cited_line(self):
+        place, side, cause = self.cause("line")
+        if cause is None or place < 2:
+            return False
+        cause["line"] = self.rng.choice([it for it in range(1, place + 1) if it != cause["line"]])
+        said = list(self.said[place])
+        said[side] = {name: frozenset(it) if inside else CHOICES - set(it) for name, inside,
+                      it in self.rows[cause["line"] - 1]["conclusion"]}
+        return self.known.written(conclude(*said, self.rows[place]["pivot"])) != self.rows[place]["conclusion"]
+
+    def no_last_line(self):
+        self.rows.pop()
+        return not self.rows or self.rows[-1]["conclusion"] not in FINAL
+
+    # Facts
+
+    def a_requirement_of_another_dependency(self):
+        _, _, cause = self.cause("premise")
+        if cause:
+            texts = {text for name in self.known.names for _, needs, _ in self.known.releases(name) for _, text in needs}
+            cause["need"] = self.rng.choice(sorted((texts | {"=9.9.9"}) - {cause["need"]}))
+        return cause is not None and self.lacks(cause)
+
+    def another_target(self):
+        _, _, cause = self.cause("premise")
+        if cause:
+            cause["target"] = self.rng.choice([*self.known.names, cause["name"], "nobody"])
+        return cause is not None and self.lacks(cause)
+
+    def lacks(self, cause):
+        """Whether a version of a premise does not have the dependency that it tells."""
+        held = self.known.releases(cause["name"])
+        wanted = [cause["target"], cause["need"]]
+        return any(it >= len(held) or wanted not in held[it][1] for it in cause["versions"])
+
+    def a_version_too_many(self):
+        _, _, cause = self.cause("premise")
+        if cause:
+            cause["versions"] = sorted({*cause["versions"], self.rng.choice([0, 1, 2, BEYOND])})
+        return cause is not None and self.lacks(cause)
+
+    def a_version_too_few(self):
+        place, side, cause = self.cause("premise")
+        if cause:
+            cause["versions"].remove(self.rng.choice(cause["versions"]))
+        return cause is not None and (not cause["versions"] or self.changes(place, side, cause["name"], cause["versions"]))
+
+    def within_one_version_short(self):
+        _, _, cause = self.cause("premise")
+        matching = self.known.matching(cause["target"], cause["need"]) if cause else []
+        if matching:
+            cause["within"].remove(self.rng.choice(matching))
+        return bool(matching)
+
+    def within_one_version_wider(self):
+        place, side, cause = self.cause("premise")
+        if cause:
+            cause["within"] = sorted({*cause["within"], self.rng.randrange(BEYOND)})
+        return cause is not None and self.changes(place, side, cause["target"], CHOICES - set(cause["within"]))
+
+    def a_need_that_is_not_there(self):
+        _, _, cause = self.cause("need")
+        if cause:
+            cause["index"] = len(self.request["needs"]) + self.rng.randrange(3)
+        return cause is not None
+
+    def a_need_that_is_left_out_of_the_request(self):
+        _, _, cause = self.cause("need")
+        if cause:
+            self.request["needs"] = self.request["needs"][:cause["index"]]
+        return cause is not None
+
+    def an_allowed_version_called_not_allowed(self):
+        _, _, cause = self.cause("disallowed")
+        if not cause:
+            return False
+        barred = self.known.yanked(cause["name"], self.request.get("lock", []))
+        allowed = [it for it in range(len(self.known.releases(cause["name"]))) if it not in barred]
+        if allowed:
+            cause["versions"] = sorted({*cause["versions"], self.rng.choice(allowed)})
+        return bool(allowed)
+
+    def a_yanked_version_that_the_lock_names(self):
+        _, _, cause = self.cause("disallowed")
+        held = self.known.releases(cause["name"]) if cause else []
+        barred = [it for it in cause["versions"] if it < len(held)] if cause else []
+        if barred:
+            others = [line for line in self.request.get("lock", []) if line[0] != cause["name"]]
+            self.request["lock"] = [*others, [cause["name"], held[self.rng.choice(barred)][0] + "+locked"]]
+        return bool(barred)
+
+    def another_kind_of_cause(self):
+        _, row = self.row()
+        side = self.rng.randrange(2)
+        strange = [{"fact": "root", "index": 0}, {"fact": "ROOT"}, {}, {"line": 1, "fact": "root"},
+                   {"fact": "disallowed", "name": ROOT, "versions": []},
+                   {"fact": "disallowed", "name": "nobody", "versions": [0]}, {"fact": "line", "line": 1}, {"fact": "judge"},
+                   {"fact": ["root"]}]
+        row["causes"][side] = self.rng.choice(strange)
+        return True
+
+
+KINDS = [name for name in vars(Damage) if name not in ("row", "cause", "changes", "lacks") and not name.startswith("__")]

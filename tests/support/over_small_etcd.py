@@ -1,0 +1,90 @@
+"""Tests of fronts over a small etcd in memory: what they have in common."""
+import json
+import tempfile
+import unittest
+
+from tests.support import fronts, program
+from tests.support.fake_etcd import Drop, Gate, SmallEtcd
+from tests.support.program import publish
+
+A1, A2, B1 = publish("a", "1.0.0"), publish("a", "2.0.0", ["b ^1"]), publish("b", "1.0.0")
+
+
+def accepted(place, revision=None, seat=1):
+    return f'{{"ok":true,"place":{place},"revision":{revision or place},"seat":{seat}}}'
+
+
+def refused(number, name, place, revision, seat=1):
+    return f'{{"error":{number},"name":"{name}","place":{place},"revision":{revision},"seat":{seat}}}'
+
+
+def deaf(moment, path, asked):
+    """A hook by which a front hears no news."""
+    if path == "/v3/watch":
+        raise Drop
+
+
+class Case(unittest.TestCase):
+    @classmethod
+    def setUpClass(cls):
+        # a journal is founded once, and each test goes on from there
+        cls.founded = SmallEtcd()
+        gate = Gate(cls.founded)
+        ended = fronts.run("found", [gate.url])
+        gate.close()
+        assert (ended.returncode, ended.stdout, ended.stderr) == (0, b"", b""), ended
+
+    def setUp(self):
+        self.enterContext(program.in_time(2 * program.PATIENCE))
+        self.etcd = self.founded.copy()
+        self.gate = self.opened()
+        folder = tempfile.TemporaryDirectory()
+        self.addCleanup(folder.cleanup)
+        self.folder = folder.name
+
+    def opened(self, hook=lambda moment, path, asked: None):
+        gate = Gate(self.etcd, hook)
+        self.addCleanup(gate.close)
+        return gate
+
+    def done(self, what, *more, given=b"", gate=None):
+        """What a run prints that ends as it should."""
+        ended = fronts.run(what, [(gate or self.gate).url], *more, given=given)
+        self.assertEqual((ended.returncode, ended.stderr), (0, b""))
+        return ended.stdout.decode()
+
+    def fails(self, what, *more):
+        """What a run says that ends with status 1."""
+        ended = fronts.run(what, [self.gate.url], *more)
+        self.assertEqual(ended.returncode, 1)
+        return ended.stderr.decode()
+
+    def front(self, seat=1, *more, hook=None, gate=None, writer=None):
+        gate = gate or (self.opened(hook) if hook else self.gate)
+        front = fronts.Front([gate.url], seat, "--timeout", "60", *more, writer=writer)  # nothing is lost but what a test loses
+        front.begin()
+        self.addCleanup(self.ended, front)
+        return front
+
+    def ended(self, front):
+        if front.child.poll() is None:
+            self.assertEqual(front.end(), (0, ""))
+
+    def journal(self):
+        return self.done("journal")
+
+    def cells(self):
+        """The entries that stand, by their keys."""
+        return {key.decode(): json.loads(value) for key, (_, _, _, value) in sorted(self.etcd.kept.items()) if b"/cells/" in key}
+
+    def once(self, moment, do):
+        """A hook that does this to the first transaction of a front that puts into cells, at this moment."""
+        left = [do]
+
+        def hook(at, path, asked):
+            if at == moment and path == "/v3/kv/txn" and left:
+                left.pop()(asked)
+        return hook
+
+    def drop(self, asked):
+        raise Drop

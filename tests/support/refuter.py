@@ -1,0 +1,159 @@
+"""Derivations of refusals, found by trying the versions of each package in turn: plain Python that shares
+nothing with the program, nor with the tool that checks derivations."""
+from tests.support.plain_search import Published, key, matches
+
+NONE = -1  # the choice of no version
+BEYOND = 17  # an ordinal that no small package has published
+CHOICES = frozenset(range(NONE, BEYOND + 1))  # what a term may be true of; one that is true of all says nothing
+ROOT = ""
+
+
+def conclude(first, second, pivot):
+    """What follows from two incompatibilities, each a set of choices by package."""
+    terms = {}
+    for name in {**first, **second}:
+        one, other = first.get(name, CHOICES), second.get(name, CHOICES)
+        terms[name] = one | other if name == pivot else one & other
+    return without(terms)
+
+
+def without(terms):
+    """The terms without those that say nothing."""
+    return {name: frozenset(term) for name, term in terms.items() if term != CHOICES}
+
+
+class Known:
+    """The packages of a list of accepted commands, numbered by first mention."""
+
+    def __init__(self, commands):
+        self.published, self.names = Published(), [ROOT]
+        for command in commands:
+            for name in [command["name"], *(target for target, _ in command.get("needs", []))]:
+                if name not in self.names:
+                    self.names.append(name)
+            self.published.apply(command)
+
+    def releases(self, name):
+        return self.published.versions.get(name, [])
+
+    def matching(self, name, requirement):
+        # the plain search reads comparators with all three numbers
+        asked = {"^1": "^1.0.0"}.get(requirement, requirement)
+        return [place for place, row in enumerate(self.releases(name)) if matches(asked, row[0])]
+
+    def yanked(self, name, lock):
+        """The ordinals that a request with this lock may not have."""
+        locked = [key(version) for package, version in lock if package == name]
+        return [place for place, (text, _, yanked) in enumerate(self.releases(name)) if yanked and key(text) not in locked]
+
+    def written(self, terms):
+        """The terms as a conclusion has them."""
+        rows = []
+        for name in sorted(terms, key=self.names.index):
+            inside = NONE not in terms[name]
+            rows.append([name, inside, sorted(terms[name] if inside else CHOICES - terms[name])])
+        return rows
+
+    def said(self, rows, request):
+        """What the two causes of each line of a derivation say."""
+        said, drawn = [], []
+        for row in rows:
+            said.append(tuple(self.terms(cause, drawn, request) for cause in row["causes"]))
+            drawn.append({name: frozenset(them) if inside else CHOICES - set(them) for name, inside, them in row["conclusion"]})
+        return said
+
+    def terms(self, cause, drawn, request):
+        """What one cause says, where these are the conclusions above it."""
+        if "line" in cause:
+            return drawn[cause["line"] - 1]
+        if cause["fact"] == "need":
+            target, requirement = request["needs"][cause["index"]]
+            return without({ROOT: {0}, target: CHOICES - set(self.matching(target, requirement))})
+        if cause["fact"] == "disallowed":
+            return without({cause["name"]: set(cause["versions"])})
+        if cause["fact"] == "premise":
+            return without({cause["name"]: set(cause["versions"]), cause["target"]: CHOICES - set(cause["within"])})
+        return {ROOT: CHOICES - {0}}
+
+
+class Refuter:
+    """Refutes one request. A fact or a line is a pair: its terms, and the cause that cites it."""
+
+    def __init__(self, known, request, rng):
+        self.known, self.request, self.rng = known, request, rng
+        self.rows = []  # the lines
+        self.root = ({ROOT: CHOICES - {0}}, {"fact": "root"})
+        self.facts = [*self.needs(), *self.disallowed(), *self.premises()]
+        rng.shuffle(self.facts)
+
+    def needs(self):
+        for index, (target, requirement) in enumerate(self.request["needs"]):
+            within = self.known.matching(target, requirement)
+            yield without({ROOT: {0}, target: CHOICES - set(within)}), {"fact": "need", "index": index}
+
+    def disallowed(self):
+        for name in self.known.names[1:]:
+            yanked = self.known.yanked(name, self.request.get("lock", []))
+            for versions in [[BEYOND], [*yanked, BEYOND], *([it] for it in yanked)]:
+                yield {name: frozenset(versions)}, {"fact": "disallowed", "name": name, "versions": versions}
+
+    def premises(self):
+        """Versions with the same dependency share a premise or have their own; some say less than they could."""
+        for name in self.known.names[1:]:
+            users = {}
+            for place, (_, needs, _) in enumerate(self.known.releases(name)):
+                for need in needs:
+                    users.setdefault(tuple(need), []).append(place)
+            for (target, requirement), places in users.items():
+                for versions in [places] if self.rng.random() < 0.5 else [[it] for it in places]:
+                    within = self.known.matching(target, requirement) + [BEYOND] * (self.rng.random() < 0.2)
+                    yield (without({name: set(versions), target: CHOICES - set(within)}),
+                           {"fact": "premise", "name": name, "need": requirement, "target": target, "versions": versions, "within": within})
+
+    def line(self, first, second, pivot):
+        """A line from two causes, and what it concludes."""
+        terms = conclude(first[0], second[0], pivot)
+        self.rows.append({"causes": [first[1], second[1]], "conclusion": self.known.written(terms), "pivot": pivot})
+        return terms, {"line": len(self.rows)}
+
+    def refute(self, chosen):
+        """A fact or line that is true of these choices in each of its terms; none where they can be completed."""
+        forced = None
+        for fact in self.facts:
+            if any(name in chosen and chosen[name] not in term for name, term in fact[0].items()):
+                continue
+            left = [name for name in fact[0] if name not in chosen]
+            if not left:
+                return fact
+            if len(left) == 1 and NONE in fact[0][left[0]]:
+                forced = (fact, left[0])
+        if not forced:
+            return None
+        known, name = forced
+        for choice in sorted(CHOICES - known[0][name]):
+            found = self.refute({**chosen, name: choice})
+            if found is None or name not in found[0]:
+                return found
+            known = self.line(known, found, name)
+        return known
+
+    def derivation(self):
+        """The lines of a refusal; none where there is a selection."""
+        found = self.refute({ROOT: 0})
+        if found is None:
+            return None
+        if "line" not in found[1] or self.rng.random() < 0.2:
+            self.line(found, self.root, ROOT)
+        if self.rng.random() < 0.7:
+            self.cut()
+        return self.rows
+
+    def cut(self):
+        """Leaves only the lines that the last one rests on."""
+        kept = {len(self.rows)}
+        for number in range(len(self.rows), 0, -1):
+            if number in kept:
+                kept |= {it["line"] for it in self.rows[number - 1]["causes"] if "line" in it}
+        places = {number: place for place, number in enumerate(sorted(kept), 1)}
+        self.rows = [{**self.rows[number - 1], "causes": [{"line": places[it["line"]]} if "line" in it else it
+                                                          for it in self.rows[number - 1]["causes"]]} for number in places]
