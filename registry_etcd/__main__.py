@@ -61,7 +61,7 @@ def name(word):
 
 
 def reader_of_words():
-    asked = Words(description=__doc__, formatter_class=argparse.RawDescriptionHelpFormatter, allow_abbrev=False)
+    asked = Words(prog="registryd-etcd", description=__doc__, formatter_class=argparse.RawDescriptionHelpFormatter, allow_abbrev=False)
     asked.add_argument("what", choices=("found", "serve", "journal", "compact"))
     asked.add_argument("--endpoints", default="127.0.0.1:2379", help="the members' addresses for clients, HOST:PORT or URL, with commas between them")
     asked.add_argument("--prefix", type=name, default="registry", help="what the journal's keys begin with")

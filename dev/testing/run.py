@@ -18,7 +18,7 @@ from dev.testing.compiling import NOTHING, TESTED
 from dev.testing.counts import Counts
 
 # Debian's Python, which its package of pytest is for.
-PYTEST = ("/usr/bin/python3", "-m", "pytest", "-q")
+PYTEST = ("/usr/bin/python3", "-m", "pytest", "-q", "--continue-on-collection-errors")
 ASK_NONE, ASK = ("tests/in_process",), ("tests/program", "tests/servers", "bench/tests")
 LAST = "tests/program/test_written_lines.py"
 # What each file took, so that those that take longest begin first (`conftest.py`).
@@ -39,7 +39,7 @@ class Session:
 
     def __init__(self, folder, words, workers=0, gives_way=0, out=None, **variables):
         self.report = Path(folder, f"{time.monotonic_ns()}.xml")
-        side_by_side = ["-n", str(workers), "--dist", "loadfile"] if workers else []
+        side_by_side = ["-n", str(workers)] if workers else []
         given = {**os.environ, "SAID": str(folder / "said"), **variables}
         # tests begin hundreds of Pythons, each of which would compile the same modules anew
         given.pop("PYTHONDONTWRITEBYTECODE", None)

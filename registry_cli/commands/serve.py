@@ -1,7 +1,7 @@
 """`registry serve`: a service for many clients, over the one journal, until a signal ends it."""
 import asyncio
 
-from registry_service import Service
+from registry_service.service import Service
 from registry_service.pages import show
 
 from ..failures import FAILED, Usage

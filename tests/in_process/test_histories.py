@@ -1,5 +1,4 @@
 """The judge of the histories of fronts over etcd: a true history, and lies about it, each of which it has to find."""
-import os
 import signal
 import sys
 import unittest
@@ -214,7 +213,7 @@ class Clients(unittest.TestCase):
         words = self.begun[0][0]
         # nothing is looked for beside what comes with Python
         self.assertEqual(words[:2], [sys.executable, "-S"])
-        self.assertEqual(words[2:], [os.path.join(TOP, "tools", "registryd-etcd"), "serve", "--endpoints", "http://x", "--program", program.PROGRAM, "--seat", "3", "--more", "--writer", "w"])
+        self.assertEqual(words[2:], [TOP, "registry_etcd", "serve", "--endpoints", "http://x", "--program", program.PROGRAM, "--seat", "3", "--more", "--writer", "w"])
 
     def test_words_without_a_name(self):
         self.front([(0, "")])

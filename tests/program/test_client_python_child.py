@@ -14,7 +14,7 @@ import registryd
 from registryd import Accepted, BudgetSpent, Ended, List, Listing, NoSelection, Publish, Registry, Selection
 from tests.support.client_python import PYTHON, SECONDS, SOON, Case, other, pigeons
 from tests.support.processes import is_running
-from tests.support.program import PROGRAM, heed_signals
+from tests.support.program import PROGRAM, TOP, heed_signals
 from tests.support.two_selections import NEEDS, NEWEST, VERSIONS
 
 
@@ -219,10 +219,10 @@ class Child(Case):
 
     def begun(self, script, before=""):
         """A Python of its own that runs a script over a session which is searching; and the number of the program's process."""
-        text = (f"import os\nimport registryd\nfrom client_python import pigeons\nregistryd.INTERRUPTED = 0.2\nseen = os.dup(0)\n{before}\n"
+        text = (f"import os\nimport registryd\nfrom tests.support.client_python import pigeons\nregistryd.INTERRUPTED = 0.2\nseen = os.dup(0)\n{before}\n"
                 f"with registryd.Registry({PROGRAM!r}) as registry:\n    asked = pigeons(registry)\n    future = registry.ask(asked)\n"
                 f"    print(registry._session._process.pid, flush=True)\n    os.read(seen, 1)\n    {script}\n")
-        parent = subprocess.Popen([sys.executable, "-c", text], cwd=os.path.dirname(__file__), env=PYTHON, stdin=subprocess.PIPE,
+        parent = subprocess.Popen([sys.executable, "-c", text], cwd=TOP, env=PYTHON, stdin=subprocess.PIPE,
                                   stdout=subprocess.PIPE, stderr=subprocess.PIPE, text=True, preexec_fn=heed_signals)
         self.addCleanup(parent.communicate)
         self.addCleanup(parent.kill)

@@ -178,7 +178,7 @@ class Embedded(Case):
         # in a process of its own, since the search can't be ended
         script = f"""
 import os, threading, time, registryd
-from client_python import pigeons
+from tests.support.client_python import pigeons
 registry = registryd.Registry(embedded=True, library={LIBRARY!r}, journal="a.journal")
 threading.Thread(target=registry.ask, args=[pigeons(registry)], daemon=True).start()
 while not registry._session._asker:
@@ -189,7 +189,7 @@ try:
 except TimeoutError as told:
     print(time.monotonic() - begun < {SOON}, told, flush=True)
 """
-        given = {**PYTHON, "PYTHONPATH": os.pathsep.join([PYTHON["PYTHONPATH"], os.path.dirname(__file__)])}
+        given = {**PYTHON, "PYTHONPATH": os.pathsep.join([PYTHON["PYTHONPATH"], TOP])}
         done = subprocess.run([sys.executable, "-c", script], cwd=self.folder, env=given, stdout=subprocess.PIPE, text=True, timeout=SECONDS)
         told = "a search of the session still runs after 0.2 seconds, and can't be ended in this process"
         self.assertEqual((done.returncode, done.stdout.strip()), (0, f"True {told}"))

@@ -12,7 +12,7 @@ from tests.support.program import PROGRAM
 
 class Clients(Case):
     def words(self, seat):
-        return [fronts.ETCD, "--endpoints", self.gate.url, "--seat", str(seat), "--program", PROGRAM]
+        return [*fronts.ETCD, "--endpoints", self.gate.url, "--seat", str(seat), "--program", PROGRAM]
 
     def test_two_clients_share_a_journal(self):
         with Registry(self.words(1)) as first, Registry(self.words(2)) as second:

@@ -4,7 +4,6 @@ import functools
 import os
 import socket
 import subprocess
-import sys
 import tempfile
 import time
 import unittest
@@ -24,7 +23,7 @@ NO_ADDRESS = "is no address: HOST:PORT, http://HOST:PORT or https://HOST:PORT"
 def typed(*words, **more):
     """How registryd-etcd ends with these words."""
     more = {"stdin": subprocess.DEVNULL, "stdout": subprocess.PIPE, "stderr": subprocess.PIPE, **more}
-    return subprocess.run([sys.executable, "-S", fronts.ETCD, *words], timeout=100, **more)
+    return subprocess.run([*fronts.ETCD, *words], timeout=100, **more)
 
 
 class Words(unittest.TestCase):

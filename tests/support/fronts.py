@@ -3,7 +3,6 @@ the end. The judge shares nothing with the fronts and the program."""
 import bisect
 import itertools
 import json
-import os
 import re
 import signal
 import subprocess
@@ -15,7 +14,7 @@ from registry_cli import tied
 from tests.support.plain_session import PlainSession, read_request
 from tests.support.program import PROGRAM, TOP, journal_line
 
-ETCD = os.path.join(TOP, "tools", "registryd-etcd")
+ETCD = [sys.executable, "-S", TOP, "registry_etcd"]
 NOT_KEPT = "was answered before, and its reply is no longer kept"
 STAMP = re.compile(r'"place":(\d+),(.*)"revision":(\d+),"seat":(\d+)')
 
@@ -40,7 +39,7 @@ class Told(NamedTuple):
 
 def words(what, endpoints, *more):
     # without what is installed beside: a front needs the standard library alone, and begins sooner so
-    return [sys.executable, "-S", ETCD, what, "--endpoints", ",".join(endpoints), "--program", PROGRAM, *more]
+    return [*ETCD, what, "--endpoints", ",".join(endpoints), "--program", PROGRAM, *more]
 
 
 def run(what, endpoints, *more, given=b""):
