@@ -238,7 +238,7 @@ class Clients(unittest.TestCase):
         with mock.patch.object(fronts.subprocess, "run") as ran:
             fronts.run("journal", ["http://x", "http://y"], "--more", given=b"lines")
         ((words,), how) = ran.call_args
-        self.assertEqual((words[3:], how), (["journal", "--endpoints", "http://x,http://y", "--program", program.PROGRAM, "--more"], {"input": b"lines", "capture_output": True, "timeout": 100}))
+        self.assertEqual((words[4:], how), (["journal", "--endpoints", "http://x,http://y", "--program", program.PROGRAM, "--more"], {"input": b"lines", "capture_output": True, "timeout": 100}))
 
     def test_lines_are_asked_again_where_a_front_was_killed(self):
         front = self.front([accepted(1), (-signal.SIGKILL, "")], [accepted(1), accepted(2), (0, "")])

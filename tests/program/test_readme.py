@@ -26,7 +26,7 @@ def blocks(name="README.md"):
 
 def answers(folder, lines):
     """What a shell in a folder prints for lines that are typed, and its exit status."""
-    typed = "\n".join(lines).replace("./registryd", PROGRAM).replace("tools/", os.path.join(TOP, "tools", ""))
+    typed = re.sub(r"\b(tools|tests)/", rf"{TOP}/\1/", "\n".join(lines).replace("./registryd", PROGRAM))
     typed = re.sub(r"\./registry\b", os.path.join(TOP, "registry"), typed)
     variables = {**os.environ, "REGISTRY_PROGRAM": PROGRAM, "NO_COLOR": "1"}
     variables.pop("REGISTRY_JOURNAL", None)
@@ -50,7 +50,7 @@ class Readme(unittest.TestCase):
 
     def test_each_module_that_is_typed_can_be_run(self):
         modules = {module for name in PAGES for module in re.findall(r"python3 -m ((?:bench|dev)[.\w]*)", page(name))}
-        self.assertLessEqual({"bench.resolve", "dev.long.fuzz"}, modules)
+        self.assertLessEqual({"bench.resolve", "dev.mutate"}, modules)
         self.assertEqual([module for module in sorted(modules) if not importlib.util.find_spec(module)], [])
 
     def test_it_is_short(self):

@@ -113,7 +113,8 @@ class Connecting(unittest.TestCase):
         self.assertEqual(len(self.connections.asked), 3)
 
     def test_many_lines_are_sent_by_a_thread(self):
-        with mock.patch.object(connected, "SMALL", 10), mock.patch.object(connected.threading, "Thread", wraps=threading.Thread) as made:
+        made = mock.Mock(wraps=threading.Thread)
+        with mock.patch.multiple(connected, SMALL=10, threading=SimpleNamespace(Thread=made)):
             self.connected([EMPTY % 0, OK % 1]).ask(A1)
         self.assertEqual((made.call_count, [it.kwargs["daemon"] for it in made.call_args_list]), (2, [True, True]))
         sent = []

@@ -146,7 +146,7 @@ class Shelves(unittest.TestCase):
     def test_what_is_begun_with(self):
         index = self.index(Some_Name=[])
         self.assertEqual(shelf.roots(index, ["some-name@^1"]), [("some_name", "^1")])
-        for crates, told_of in ((["some-nam"], "there is no crate some-nam in the index; did you mean some_name\?"), (["zzzzzzzz"], r"there is no crate zzzzzzzz in the index\Z"),
+        for crates, told_of in ((["some-nam"], "there is no crate some-nam in the index; did you mean some_name\\?"), (["zzzzzzzz"], r"there is no crate zzzzzzzz in the index\Z"),
                                 (["some-name@^^"], r"\Asome_name@\^\^: the operator \^\^ is not one of Cargo's")):
             self.assertRaisesRegex(Unusable, told_of, shelf.roots, index, crates)
         index.own = lambda: [("Some-Name", "1.0.0"), ("a", "x")]
