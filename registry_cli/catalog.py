@@ -7,16 +7,17 @@ from functools import cached_property, lru_cache
 
 from .failures import Refused
 
-# commands as a journal has them, byte for byte: the program loads no others. Those of one package most often follow each other
-RUN = re.compile(rb'\{"name":"([^"]+)",.*\n(?:\{"name":"\1",.*\n)*')
+# Patterns, each compiled where it is used first. Commands as a journal has them, byte for byte: the program loads no others. Those of one
+# package most often follow each other
+RUN = rb'\{"name":"([^"]+)",.*\n(?:\{"name":"\1",.*\n)*'
 # a command as letters, without what it needs
-LISTED = re.compile(r'\{"name":"([^"]+)",(?:"needs":.*,)?"op":"(\w+)","version":"([^"]+)"\}')
-PUBLICATION = re.compile(rb'"needs":(.*),"op":"publish","version":"([^"]+)"\}')
-YANK = re.compile(rb'"op":"(yank|unyank)","version":"([^"]+)"\}')
+LISTED = r'\{"name":"([^"]+)",(?:"needs":.*,)?"op":"(\w+)","version":"([^"]+)"\}'
+PUBLICATION = rb'"needs":(.*),"op":"publish","version":"([^"]+)"\}'
+YANK = rb'"op":"(yank|unyank)","version":"([^"]+)"\}'
 PIECE = 65_536  # bytes
 RELEASE = (1,)  # as in check_derivation.py, which is loaded only where a version has more than numbers
 LEARN = b'"op":"learn"}'
-MENTION = re.compile(rb'(?:\{"name":|\[)"([^"]+)",')  # a command's package, or what it needs
+MENTION = rb'(?:\{"name":|\[)"([^"]+)",'  # a command's package, or what it needs
 
 
 class Version(namedtuple("Version", "text is_yanked needing", defaults=[b"[]"])):
@@ -74,7 +75,7 @@ def listed_in(text):
     """By package the versions that commands of a journal publish, in order of publication, as pairs of a text and whether it is yanked."""
     listed, yanked = {}, {}
     for piece in pieces(text):
-        for name, op, version in LISTED.findall(piece.decode(errors="replace")):
+        for name, op, version in re.findall(LISTED, piece.decode(errors="replace")):
             if op == "publish":
                 listed.setdefault(name, []).append((version, False))
             else:
@@ -90,7 +91,7 @@ class Catalog:
 
     def __init__(self, text):
         self.text, found = text, {}
-        for it in RUN.finditer(text):
+        for it in re.finditer(RUN, text):
             found.setdefault(it[1], []).append(it[0])
         self.lines = {name.decode(errors="replace"): b"".join(runs) for name, runs in found.items()}
 
@@ -101,8 +102,8 @@ class Catalog:
     def published(self, name):
         """The versions of a package in order of publication."""
         lines = self.lines.get(name, b"")
-        versions = [Version(text.decode(), False, needs) for needs, text in PUBLICATION.findall(lines)]
-        yanked = {precedence(text.decode()): op == b"yank" for op, text in YANK.findall(lines)}
+        versions = [Version(text.decode(), False, needs) for needs, text in re.findall(PUBLICATION, lines)]
+        yanked = {precedence(text.decode()): op == b"yank" for op, text in re.findall(YANK, lines)}
         # a yank is of the version that has the same precedence
         return [it._replace(is_yanked=yanked.get(precedence(it.text), False)) for it in versions] if yanked else versions
 
@@ -147,7 +148,7 @@ class Catalog:
     @cached_property
     def mentioned(self):
         """The names of all packages, also of those that are only needed, in the order in which they are first mentioned."""
-        return [it.decode(errors="replace") for it in dict.fromkeys(MENTION.findall(self.text))]  # what was learnt names no others
+        return [it.decode(errors="replace") for it in dict.fromkeys(re.findall(MENTION, self.text))]  # what was learnt names no others
 
     @cached_property
     def listed(self):

@@ -10,8 +10,8 @@ from .locks import DEFAULT, Unread, lock_of
 
 NEED = re.compile(r"\s*([^@\s]*)(?:(?:\s*@\s*|\s+)(.*))?", re.S)  # of a text without white space at its end
 # what other tools have in place of the @: `log==1.0.0`, `log:1.0.0`, `log-1.0.0`, `log/1.0.0`, `log(>=1)`
-JOINED = re.compile(r"([a-z][a-z0-9_-]*?)(?::|[-/](?=v?[0-9]+\.)|(?=[(=<>~^!]))(.*)", re.S | re.I)
-SEVERAL = re.compile(r"[a-z][a-z0-9_-]*(?: *[,;] *[a-z][a-z0-9_-]*)+")
+JOINED = r"(?si)([a-z][a-z0-9_-]*?)(?::|[-/](?=v?[0-9]+\.)|(?=[(=<>~^!]))(.*)"
+SEVERAL = r"[a-z][a-z0-9_-]*(?: *[,;] *[a-z][a-z0-9_-]*)+"
 
 
 def need_of(text):
@@ -36,10 +36,10 @@ def slip(word, before=""):
     from registryd_lines.fault import shown
     from registryd_lines.requirements import requirement_fault
     word = word.strip()
-    found = JOINED.fullmatch(word)
+    found = re.fullmatch(JOINED, word)
     if word.endswith(".lock"):
         return f"{shown(word)} is no package; did you mean {shown('--lock ' + word)}?"
-    if SEVERAL.fullmatch(word):
+    if re.fullmatch(SEVERAL, word):
         return f"{shown(word)} has a comma between packages; did you mean {' and '.join(re.split('[,; ]+', word))}, each by itself?"
     if found:
         what, name, requirement = "has no @ between the package and the requirement", found[1].lower() + "@", found[2].strip()

@@ -9,14 +9,16 @@ def run(given, out):
     text = getattr(given, "text", "")
     with reading(given) as session:
         packages = packages_of(session)
-        rows = [row(name, packages[name]) for name in sorted(packages) if text.lower() in name]
+        names = list(packages)
+        rows = [row(name, packages[name]) for name in sorted(names) if text.lower() in name]
         shown = list(lines(rows, out))
+        del packages  # to let go of many takes time, and the program still loads the journal
         if isinstance(session, Reading):
             session.finish()
     out.give([vars(it) for it in rows], shown)
     if text and not rows:
         from registryd_lines.nearest import nearest
-        near = nearest(text, packages)
+        near = nearest(text, names)
         out.note(f"no package's name has {text} in it" + (f"; did you mean {near}?" if near else ""))
         return REFUSED
     return None
