@@ -1,5 +1,5 @@
-"""Which files of tests concern a source: those that import it, or name a module or a command that does, themselves or by what they
-import."""
+"""Which files of tests concern a source: those that import it, or name a module or a command that does, themselves or
+by what they import."""
 import ast
 import os
 import re
@@ -9,7 +9,10 @@ from pathlib import Path
 
 TOP = Path(__file__).resolve().parents[2]
 # The folders that Python finds the modules of the tests in, each with its packages.
-ROOTS = {".": ("bench", "dev", "registry_cli", "registry_etcd", "registry_service", "tests"), "clients/python": ("registryd", "registryd_lines")}
+ROOTS = {
+    ".": ("bench", "dev", "registry_cli", "registry_etcd", "registry_service", "tests"),
+    "clients/python": ("registryd", "registryd_lines"),
+}
 TESTS = ("tests/*", "bench/tests")
 # The command for people loads its modules by the words that it is given.
 COMMAND, ITS_MAIN, ITS_PACKAGE = "registry", "registry_cli.main", "registry_cli"
@@ -24,7 +27,8 @@ def sources(top):
             found[dotted(path.relative_to(top / folder))].add(path)
     for path in (top / "tools").glob("*"):
         modules = re.findall(r"\w+(?:\.\w+)*", path.read_text(encoding="utf-8"))
-        found[path.stem] |= {it for module in modules for name in (module, f"{module}.__main__") for it in found.get(name, ())}
+        names = [name for module in modules for name in (module, f"{module}.__main__")]
+        found[path.stem] |= {it for name in names for it in found.get(name, ())}
     found[COMMAND] = {top / COMMAND, *(top / ITS_PACKAGE).rglob("*.py")}
     found[ITS_MAIN] |= found[COMMAND]
     return found
@@ -45,7 +49,7 @@ def is_source(path):
 
 @cache
 def named_in(top, path):
-    """The words by which a source may name others: what it imports, and each text, or the last part of that as a path."""
+    """The words by which a source may name others: what it imports, and each text, or its last part as a path."""
     found = set()
     for node in ast.walk(ast.parse(path.read_text(encoding="utf-8"))):
         if isinstance(node, ast.Import):
