@@ -12,7 +12,6 @@ import re
 from dataclasses import dataclass
 
 import c_library
-import completions
 import programs
 from prefix import Refused
 from programs import NAME, TOP
@@ -229,7 +228,11 @@ def systemd_pieces(prefix):
 def pieces(program, prefix="/usr", is_packaged=False, library=None):
     """All that is installed, for one program below a prefix, and with a library for C, if there is one; a distribution's package has
     it in its own places."""
-    scripts = {NAME: {shell: text() for shell, text in completions.SHELLS.items()}, COMMAND: completion.SCRIPTS}
-    shells = [Piece(COMPLETIONS[shell][is_packaged].format(name), text.encode()) for name, of in scripts.items() for shell, text in of.items()]
+    shells = []
+    for shell, text in completion.SCRIPTS.items():
+        places = [COMPLETIONS[shell][is_packaged].format(name) for name in (COMMAND, NAME)]
+        shells.append(Piece(places[0], text.encode()))
+        if shell != "zsh":  # the same one completes both; zsh finds it by the words of its first line
+            shells.append(Piece(places[1], link=posixpath.basename(places[0])))
     return sorted([*program_pieces(program), *library_pieces(library), *command_pieces(), *tool_pieces(), *page_pieces(),
                    *systemd_pieces(prefix), *shells], key=lambda it: it.path)

@@ -77,7 +77,7 @@ class Whole(unittest.TestCase):
                      "lib/registryd/tools/registry/page/files/page.html", "lib/registryd/tools/etcd/front.py",
                      "share/man/man1/registryd.1", "share/man/man1/registry.1", "share/man/man1/registry-tools.1",
                      "share/bash-completion/completions/registry", "share/zsh/site-functions/_registry", "share/fish/vendor_completions.d/registry.fish",
-                     "share/bash-completion/completions/registryd", "share/zsh/site-functions/_registryd",
+                     "share/bash-completion/completions/registryd",
                      "share/fish/vendor_completions.d/registryd.fish",
                      "share/registryd/lines.schema.json", "share/registryd/registry.schema.json", "share/doc/registryd/FORMATS.md",
                      "share/registryd/clients/python/registryd/__init__.py", "share/registryd/clients/c/registryd.h",

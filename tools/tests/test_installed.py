@@ -176,11 +176,11 @@ exec python3 -B -S "$here/../lib/registryd/registry" "$@"
             found = installed.pieces(self.program(COMPILED), "/a", is_packaged=is_packaged)
             self.assertEqual([it.path for it in found], sorted(self.by_path(found)))
             paths = self.by_path(found)
-            self.assertLessEqual({shell % name for name in ("registry", "registryd") for shell in shells}, set(paths))
-            self.assertTrue(all(paths[shell % name].data for name in ("registry", "registryd") for shell in shells))
+            self.assertTrue(all(paths[shell % "registry"].data for shell in shells))
+            self.assertEqual([paths[shell % "registryd"].link for shell in shells[1:]], ["registry", "registry.fish"])
             self.assertEqual(paths["lib/systemd/unit"].data, b"run /a/bin and /a\n")
-            # six completions, five of programs, eight modules, seven of them compiled, eight pages, two tools and the unit
-            self.assertEqual(len(found), 37)
+            # five completions, five of programs, eight modules, seven compiled, eight pages, two tools and the unit
+            self.assertEqual(len(found), 36)
         with mock.patch.object(installed, "library_pieces", lambda of: [Piece(f"lib/{of}")]):
             self.assertIn(Piece("lib/x"), installed.pieces(self.program(COMPILED), library="x"))
             self.assertEqual(self.by_path(installed.pieces(self.program(COMPILED)))["lib/systemd/unit"].data, b"run /usr/bin and /usr\n")

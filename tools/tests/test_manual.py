@@ -10,7 +10,7 @@ from program import PROGRAM, TOP, skip_without
 
 sys.path.insert(0, os.path.join(TOP, "tools"))
 import installed
-from completions import COMMANDS
+from registry.completion import PROGRAM as COMMANDS
 
 VERSION = open(os.path.join(TOP, "VERSION"), encoding="ascii").read().strip()
 # The tools of the second page, each with the words before its options.
@@ -58,11 +58,11 @@ class Pages(unittest.TestCase):
 class OfTheProgram(unittest.TestCase):
     def test_each_option_is_in_the_synopsis_and_told(self):
         parts = sections(page("registryd.1"), "Sh")
-        taken = {it.name for command in COMMANDS for it in command.options} | {"version"}
+        taken = {it[2:] for options in COMMANDS.values() for it in options} | {"version"}
         self.assertEqual(options(parts["SYNOPSIS"]), taken)
         told = re.findall(r"^\.It Fl \\-([a-z-]+)", parts["OPTIONS"], re.M)
         self.assertEqual(sorted(told), sorted([*taken, "help"]))
-        self.assertEqual(re.findall(r"^\.Cm (\w+)", parts["SYNOPSIS"], re.M), [it.name for it in COMMANDS])
+        self.assertEqual(re.findall(r"^\.Cm (\w+)", parts["SYNOPSIS"], re.M), [*COMMANDS])
 
     def test_each_status_and_each_line_of_standard_error_is_there(self):
         with open(os.path.join(TOP, "docs", "FORMATS.md"), encoding="utf-8") as text:
