@@ -135,7 +135,8 @@ class Completed(Folder):
                                  {**{it: bool(takes) for it, takes in options.items()}, "--help": False})
             for option, takes in options.items():
                 for value in takes if isinstance(takes, tuple) else ():
-                    done = run([PROGRAM, command, option, value])
+                    workers = ["--workers", "1"] if option != "--workers" else []
+                    done = run([PROGRAM, command, *workers, option, value])
                     self.assertEqual((done.returncode, done.stderr), (0, b""), value)
 
     def shell(self, *words):
