@@ -178,18 +178,12 @@ class Whole(unittest.TestCase):
         self.assertEqual([it for it in loaded if "__pycache__" not in it], [])
         self.assertEqual(below(self.prefix), before)
 
-    def test_the_links_of_pages_lead_somewhere(self):
-        count = 0
-        for page in [*self.prefix.rglob("*.md")]:
-            for target in re.findall(r"\]\(([^)#]+)", page.read_text(encoding="utf-8")):
-                if "://" not in target:
-                    self.assertTrue((page.parent / target).exists(), f"{page}: {target}")
-                    count += 1
-        self.assertGreater(count, 20)
-
-    def test_each_manual_page_is_found(self):
-        for name in ("registryd", *TOOLS):
-            self.assertTrue((self.prefix / f"share/man/man1/{name}.1").exists(), name)
+    def test_the_links_of_pages_lead_somewhere_and_each_command_has_a_manual_page(self):
+        found = [(page, target) for page in self.prefix.rglob("*.md")
+                 for target in re.findall(r"\]\(([^)#]+)", page.read_text(encoding="utf-8")) if "://" not in target]
+        self.assertEqual([it for it in found if not (it[0].parent / it[1]).exists()], [])
+        self.assertGreater(len(found), 20)
+        self.assertEqual([it for it in ("registryd", *TOOLS) if not (self.prefix / f"share/man/man1/{it}.1").exists()], [])
 
 
 class HugePages(Case):
@@ -259,41 +253,10 @@ class Version(Case):
 
 
 class Places(Case):
-    def test_what_was_there_stays(self):
-        (self.prefix / "bin").mkdir(parents=True)
-        (self.prefix / "bin/other").write_text("mine", encoding="ascii")
-        before = below(self.folder)
-        install(self.prefix, self.pieces())
-        self.assertEqual(remove(self.prefix), [])
-        self.assertEqual(below(self.folder), before)
-
-    def test_a_prefix_that_was_made_goes_too(self):
-        before = below(self.folder)
-        install(self.prefix, self.pieces())
-        self.assertEqual(remove(self.prefix), [])
-        self.assertEqual(below(self.folder), before)
-
     def test_nothing_outside_of_the_prefix_is_written(self):
         before = below(self.folder)
         install(self.prefix, self.pieces())
         self.assertEqual({it for it in below(self.folder) if not it.startswith("the prefix/")}, before)
-
-    def test_what_others_put_there_stays(self):
-        install(self.prefix, self.pieces())
-        (self.prefix / "share/man/man1/other.1").write_text("mine", encoding="ascii")
-        (self.prefix / "share/registryd/clients/python/__pycache__").mkdir()
-        (self.prefix / "share/registryd/clients/python/__pycache__/registryd.pyc").write_bytes(b"kept by Python")
-        stays = remove(self.prefix)
-        self.assertEqual(below(self.prefix), {"share/", "share/man/", "share/man/man1/", "share/man/man1/other.1"})
-        self.assertEqual({it.relative_to(self.prefix).as_posix() for it in stays}, {".", "share", "share/man", "share/man/man1"})
-
-    def test_a_file_of_another_is_not_replaced(self):
-        (self.prefix / "bin").mkdir(parents=True)
-        (self.prefix / "bin/registry").write_text("mine", encoding="ascii")
-        before = below(self.folder)
-        with self.assertRaisesRegex(Refused, "bin/registry is there already"):
-            install(self.prefix, self.pieces())
-        self.assertEqual((below(self.folder), (self.prefix / "bin/registry").read_text(encoding="ascii")), (before, "mine"))
 
     def test_an_earlier_install_is_replaced_while_it_runs(self):
         install(self.prefix, [*self.pieces(COMPILED), Piece("bin/registry-old", b""), Piece("share/old/file", b"")])
@@ -315,51 +278,6 @@ class Places(Case):
         self.assertEqual(run([moved / "bin/registryd", "race", "x"]).stdout, "stub: <race> <x>")
         remove(moved)
         self.assertFalse(moved.exists())
-
-
-class Broken(Case):
-    def test_a_full_disk_leaves_what_stood_there(self):
-        install(self.prefix, self.pieces(COMPILED))
-        before, said = below(self.prefix), run([self.prefix / "bin/registryd", "--version"]).stdout
-        with mock.patch.object(Path, "symlink_to", side_effect=OSError(28, "No space left on device", "it")):
-            with self.assertRaisesRegex(Refused, "No space left on device; nothing was installed"):
-                install(self.prefix, self.pieces(PROVED))
-        self.assertEqual((below(self.prefix), run([self.prefix / "bin/registryd", "--version"]).stdout), (before, said))
-
-    def test_a_full_disk_leaves_no_folder(self):
-        before = below(self.folder)
-        with mock.patch.object(Path, "symlink_to", side_effect=OSError(28, "No space left on device", "it")):
-            self.assertRaises(Refused, install, self.prefix, self.pieces())
-        self.assertEqual(below(self.folder), before)
-
-    def test_what_is_broken_off_can_be_removed_and_installed_again(self):
-        before, replaced = below(self.folder), os.replace
-        for after in (1, 2, 20, 40):
-            calls = []
-
-            def broken(old, new):
-                calls.append(new)
-                if len(calls) > after:
-                    raise OSError(5, "Input/output error", str(new))
-                replaced(old, new)
-
-            with mock.patch.object(os, "replace", broken), self.assertRaisesRegex(Refused, "not whole: install it again, or remove it"):
-                install(self.prefix, self.pieces())
-            self.assertGreater(len(below(self.prefix)), 50)
-            if after == 20:
-                install(self.prefix, self.pieces())
-                self.assertEqual(run([self.prefix / "bin/registryd", "x"]).stdout, "stub: <x>")
-            self.assertEqual(remove(self.prefix), [])
-            self.assertEqual(below(self.folder), before)
-
-    def test_a_list_that_names_what_is_elsewhere(self):
-        install(self.prefix, self.pieces())
-        outside = self.folder / "outside"
-        outside.write_text("mine", encoding="ascii")
-        for line in ("../outside", "bin/../../outside", str(outside)):
-            (self.prefix / prefix.LIST).write_text(f"bin/registryd\n{line}\n", encoding="utf-8")
-            self.assertRaisesRegex(Refused, "names what is not below", remove, self.prefix)
-        self.assertTrue(outside.exists() and (self.prefix / "bin/registryd").exists())
 
 
 class Words(Case):
@@ -419,21 +337,32 @@ class Words(Case):
         self.assertEqual((status, said, error.count("\n")), (1, "", 1))
         self.assertIn("Not a directory", error)
 
-    def test_no_prefix(self):
+    def test_without_a_prefix_or_where_it_fails(self):
         status, _, error = self.called("", proved=PROVED)
         self.assertEqual((status, error.splitlines()[-1]), (2, "tools/install: error: the prefix is a folder's name"))
-
-    def test_an_install_that_is_broken_off(self):
         before = below(self.folder)
-        with mock.patch.object(Path, "symlink_to", side_effect=KeyboardInterrupt):
-            status, said, error = self.called(self.prefix, proved=PROVED)
-        self.assertEqual((status, said, error), (1, "", "tools/install: it was broken off; nothing was installed\n"))
+        for fault, told in ((KeyboardInterrupt, "it was broken off"), (OSError(28, "No space left on device"), "full")):
+            with mock.patch.object(Path, "symlink_to", side_effect=fault):
+                status, said, error = self.called(self.prefix, proved=PROVED)
+            self.assertEqual((status, said), (1, ""))
+            self.assertRegex(error, f"({told}|No space left on device); nothing was installed\n$")
         self.assertEqual(below(self.folder), before)
 
-    def test_the_command_itself(self):
-        done = run([os.path.join(TOP, "tools", "install"), "--remove", self.prefix])
-        self.assertEqual((done.returncode, done.stdout), (1, ""))
-        self.assertIn("nothing is installed below", done.stderr)
+
+class Pieces(unittest.TestCase):
+    """Texts and choices that no whole install shows."""
+
+    def test_names_of_a_checkout(self):
+        for text, wanted in (("tools/check_derivation.py, tools/registryd-etcd.", "registry-check-derivation, registryd-etcd."),
+                             ("../tools/registryd-etcd tools/registryd-etcd/x", "../tools/registryd-etcd tools/registryd-etcd/x"),
+                             ("./registry why, ./registryd", "registry why, registryd"),
+                             ("./registry-tools ./registry/x ../registry", "./registry-tools ./registry/x ../registry")):
+            self.assertEqual(installed.renamed(text), wanted)
+
+    def test_what_systemd_reads(self):
+        for at, where in (("/usr", "/usr"), ("/usr/", "/usr"), ("/a%b", "/a%%b"), ('/a"\\', '/a\\"\\\\')):
+            unit, _ = installed.systemd_pieces(at)
+            self.assertIn(f'ExecStart="{where}/bin/registry" serve', unit.data.decode())
 
 
 if __name__ == "__main__":
