@@ -24,7 +24,6 @@ from programs import COMPILED, PROVED, Program
 
 NOT_QUICK = "the static library"
 package = tool("package")
-# how a package is compressed in little time
 EXAMPLE = os.path.join(CLIENT, "example.c")
 VERSION = Path(TOP, "VERSION").read_text(encoding="ascii").strip()
 

@@ -18,6 +18,7 @@ from test_install import below, run
 
 sys.path.insert(0, os.path.join(TOP, "tools"))
 import installed
+from prefix import Refused
 from programs import COMPILED, PROVED, Program
 
 NOT_QUICK = "packages"
@@ -169,7 +170,8 @@ class Made(unittest.TestCase):
         for it in range(2):  # the second time it is upgraded
             done = dpkg(*words, "-i", self.package)
             self.assertEqual(done.returncode, 0, done.stderr)
-            self.assertEqual(run([root / "usr/bin/registryd", "serve", "--workers", "1"], SESSION[0]).stdout, SESSION[1])
+            said = run([root / "usr/bin/registryd", "serve", "--workers", "1"], SESSION[0]).stdout
+            self.assertEqual(said, SESSION[1])
             self.assertEqual(dpkg(f"--root={root}", "--verify", "registryd").stdout, "")
             journal.parent.mkdir(exist_ok=True)
             journal.write_text("kept", encoding="ascii") if not it else None
@@ -225,7 +227,8 @@ class Words(unittest.TestCase):
         os.remove(path)
         with mock.patch.object(package, "write", lambda tree, *_: (tree / "debian").mkdir(parents=True)):
             self.assertRaises(OSError, package.build, proved, Path(folder))
-        with mock.patch.object(package, "CHANGELOG", "no changelog"), self.assertRaisesRegex(Exception, "debhelper could not"):
+        with mock.patch.object(package, "CHANGELOG", "no changelog"), \
+                self.assertRaisesRegex(Refused, "debhelper could not"):
             package.build(proved, Path(folder))
         self.assertEqual(os.listdir(folder), [])
 

@@ -102,7 +102,8 @@ class Installing(unittest.TestCase):
         child = Path(self.folder, "child")
         with mock.patch.object(install_packages, "UPDATE", 0.5), in_time():
             said, status = self.run_it()
-        self.assertEqual((said, status), ("install_packages: the tests lack one, two, three: apt-get update ended with status 124", 1))
+        told = "install_packages: the tests lack one, two, three: apt-get update ended with status 124"
+        self.assertEqual((said, status), (told, 1))
         self.assertTrue(is_gone(int(child.read_text(encoding="utf-8"))))
 
     def test_only_root_installs(self):
