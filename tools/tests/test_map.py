@@ -1,4 +1,4 @@
-"""docs/MAP.md has each error, and docs/REGISTRY.md each by its number and name. What links of pages lead to, `test_pages.py` shows."""
+"""docs/MAP.md has each error, and docs/REGISTRY.md each by its number and name. `test_pages.py` follows its links."""
 import os
 import re
 import unittest

@@ -1,4 +1,5 @@
-"""What pages and comments cite is there: links lead somewhere, and the sources have each name. A public item has a comment."""
+"""What pages and comments cite is there: links lead somewhere, and the sources have each name. A public item has a
+comment."""
 import os
 import re
 import unittest
@@ -89,7 +90,7 @@ def undeclared(text):
 
 
 def in_comments(path, text, known):
-    """What the comments of a source of the crates name that is not there, and each file that its head lists and that is gone."""
+    """What the comments of a source of the crates name that is not there, also of files that its head lists."""
     for line, code in zip(text.split("\n"), said_by_code(path, text).split("\n")):
         comment = line[len(code):]
         targets = re.findall(r"`\]\(([a-z_]\w*(?:::\w+)+)\)", comment)
@@ -160,7 +161,8 @@ class WrongPages(unittest.TestCase):
         row = "../crates/chronicle/src/row.rt"
         self.assertEqual(undeclared(f"[`Row::open`]({row}) [`row.rt`]({row}) [`read`](../tools/tests/test_map.py)"), [])
         self.assertEqual(undeclared(f"[row.rt]({row}) [src/row.rt]({row}) [doc/a.md](https://b.org/c/doc/a.md) [x.md](x.md#y) [the row]({row})"), [])
-        for wrong in (f"[`Row::close`]({row})", f"[`Seat`]({row})", f"[`seat.rt`]({row})", "[`Row`](../crates/chronicle/src/rows.rt)", f"[seat.rt]({row})", "[a/x.md](b/x.md)", "[`reads`](../tools/tests/test_map.py)"):
+        for wrong in (f"[`Row::close`]({row})", f"[`Seat`]({row})", f"[`seat.rt`]({row})", "[`Row`](../crates/chronicle/src/rows.rt)",
+                      f"[seat.rt]({row})", "[a/x.md](b/x.md)", "[`reads`](../tools/tests/test_map.py)"):
             self.assertEqual(len(undeclared(wrong)), 1, wrong)
 
     def test_a_comment_that_names_what_is_not_there(self):
@@ -174,9 +176,11 @@ class WrongPages(unittest.TestCase):
             self.assertEqual(len(list(in_comments(path, text, known))), 1, text)
 
     def test_an_item_without_a_comment(self):
-        for text in ("/// A.\npub fn a() {\n}\n", "{\n    /// A.\n    #[inline]\n    pub const fn a() {\n", "x\npub(crate) fn a"):
+        for text in ("/// A.\npub fn a() {\n}\n", "{\n    /// A.\n    #[inline]\n    pub const fn a() {\n",
+                     "x\npub(crate) fn a"):
             self.assertEqual(without_comment(text), [], text)
-        for text in ("//! A.\n\npub struct A {\n}\n", "// A.\n#[inline]\n    pub fn a() {\n", "}\npub const A: u8 = 1;"):
+        for text in ("//! A.\n\npub struct A {\n}\n", "// A.\n#[inline]\n    pub fn a() {\n",
+                     "}\npub const A: u8 = 1;"):
             self.assertEqual(len(without_comment("\n" + text)), 1, text)
 
 
