@@ -7,20 +7,13 @@ import os
 import subprocess
 import sys
 
-from progress import TOP
+from progress import TOP, stands_on
 
 PICTURE = os.path.join(TOP, "docs", "crates.svg")
 STYLE = """graph [bgcolor=white, fontname="sans-serif", nodesep=0.2, ranksep=0.4]
 node [shape=box, style="rounded,filled", fillcolor="#f4f6f8", color="#44546a", fontname="sans-serif", fontsize=14]
 edge [color="#7a8aa0", arrowhead=none]
 """
-
-
-def stands_on():
-    """What crates.txt says each crate stands on."""
-    with open(os.path.join(TOP, "crates.txt"), encoding="utf-8") as lines:
-        said = [line.split("#")[0].partition(":") for line in lines]
-    return {head.split()[0]: below.split() for head, colon, below in said if colon}
 
 
 def reached(crates, name):
