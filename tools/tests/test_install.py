@@ -122,13 +122,6 @@ class Whole(unittest.TestCase):
             done = run([*words, "serve", "--workers", "1"], LIST, **more)
             self.assertEqual((done.returncode, done.stdout, done.stderr), (0, reply, ""), words)
 
-    def test_the_programs_own_words_are_passed(self):
-        done = run([self.bin / "registryd", "serve", "--version"])
-        self.assertEqual((done.returncode, done.stdout), (2, ""))
-        self.assertIn("unexpected argument '--version' found", done.stderr)
-        done = run([self.bin / "registryd", "help", "serve"])
-        self.assertEqual((done.returncode, done.stderr), (0, ""))
-
     def test_the_version_whatever_follows(self):
         told = run([self.bin / "registryd", "--version"]).stdout
         self.assertRegex(told, r"\Aregistryd 0\.\d+\.\d+, commit .*\nThe program is .*\n\Z")
@@ -234,11 +227,6 @@ class Version(Case):
             self.assertIn(re.sub("^", "    ", self.told(PROVED), flags=re.M).rstrip() + "\n", page)
             self.assertIn(f"`{self.told(COMPILED).splitlines()[1]}`", page)
 
-    def test_it_stays_as_it_was_installed(self):
-        before = self.told(COMPILED)
-        with mock.patch.object(installed.programs, "commit", lambda: "another"):
-            self.assertEqual(run([self.prefix / "bin/registryd", "--version"]).stdout, before)
-
     def test_it_needs_no_kit_no_python_and_no_git(self):
         install(self.prefix, self.pieces())
         found = self.folder / "found"
@@ -312,19 +300,14 @@ class Words(Case):
             self.assertTrue(error.startswith("tools/install: no program") and told in error, error)
             self.assertFalse(self.prefix.exists())
 
-    def test_removing(self):
-        self.called(self.prefix, proved=PROVED)
-        self.assertEqual(self.called("--remove", self.prefix), (0, "", ""))
-        self.assertFalse(self.prefix.exists())
+    def test_removing_by_what_the_install_says(self):
+        _, said, _ = self.called(self.prefix, proved=PROVED)
+        (typed,) = re.findall("^remove it by: (.*)$", said, re.M)
+        done = run(["sh", "-c", typed], cwd=TOP)
+        self.assertEqual((done.returncode, done.stdout, done.stderr, self.prefix.exists()), (0, "", "", False))
         status, said, error = self.called("--remove", self.prefix)
         self.assertEqual((status, said), (1, ""))
         self.assertIn("nothing is installed below", error)
-
-    def test_what_says_how_to_remove_can_be_typed(self):
-        _, said, _ = self.called(self.prefix, proved=PROVED)
-        (typed,) = re.findall("^remove it by: (.*)$", said, re.M)
-        self.assertEqual(run(["sh", "-c", typed], cwd=TOP).returncode, 0)
-        self.assertFalse(self.prefix.exists())
 
     def test_below_another_folder(self):
         status, *_ = self.called("/opt/it", "--destdir", self.folder / "made", proved=PROVED)
@@ -332,11 +315,6 @@ class Words(Case):
         self.assertEqual(run([self.folder / "made/opt/it/bin/registryd", "x"]).stdout, "stub: <x>")
         self.assertEqual(self.called("/opt/it", "--destdir", self.folder / "made", "--remove")[0], 0)
         self.assertEqual(self.called("it", "--destdir", self.folder, proved=PROVED)[0], 2)
-
-    def test_where_nothing_can_be_written(self):
-        status, said, error = self.called(self.stub / "prefix", proved=PROVED)
-        self.assertEqual((status, said, error.count("\n")), (1, "", 1))
-        self.assertIn("Not a directory", error)
 
     def test_without_a_prefix_or_where_it_fails(self):
         status, _, error = self.called("", proved=PROVED)

@@ -88,14 +88,15 @@ class Installing(unittest.TestCase):
         self.assertEqual(self.run_it(), ("install_packages: all that the tests need is there", 0))
         self.assertEqual(self.called("apt-get"), [])
 
+    def test_what_apt_says_of_a_failure(self):
+        self.stub(install=": > $here/installed-two; exit 7")
+        told = "installed two; the tests lack one, three: apt-get install ended with status 7"
+        self.assertEqual(self.run_it(), (f"install_packages: {told}", 1))
+
     def test_debian_cannot_be_reached(self):
         self.stub(update="echo 'Err:1 http://deb.debian.org'; echo 'E: Failed to fetch it'; exit 100")
         self.assertEqual(self.run_it(), ("install_packages: the tests lack one, two, three: E: Failed to fetch it", 1))
         self.assertEqual(len(self.called("apt-get")), 1)
-
-    def test_a_package_that_cannot_be_installed(self):
-        self.stub(install=": > $here/installed-two; exit 7")
-        self.assertEqual(self.run_it(), ("install_packages: installed two; the tests lack one, three: apt-get install ended with status 7", 1))
 
     def test_an_apt_that_hangs_is_ended_with_what_it_began(self):
         self.stub(update="sleep 1000 & echo $! > $here/new; mv $here/new $here/child; wait")
