@@ -20,7 +20,7 @@ import installed
 import prefix
 from c_library import Library
 from installed import Piece, pieces
-from prefix import Refused, install, remove
+from prefix import install, remove
 from programs import COMPILED, PROVED, Program
 
 VERSION = Path(TOP, "VERSION").read_text(encoding="ascii").strip()

@@ -7,7 +7,6 @@ import shutil
 import subprocess
 import sys
 import tempfile
-import time
 import unittest
 from pathlib import Path
 from unittest import mock
@@ -17,7 +16,7 @@ from program import TOP, in_time
 
 sys.path.insert(0, os.path.join(TOP, "tools"))
 import install_packages
-from install_packages import Package, listed
+from install_packages import listed
 
 ASKS_NO_PROGRAM = True
 LIST = """# what a machine needs
