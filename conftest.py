@@ -1,8 +1,10 @@
-"""How pytest runs the tests of this repository: in which order, how long each may take, and that what was said in them is kept."""
+"""How pytest runs the tests of this repository: in which order, how long each may take, and that what was said in them
+is kept."""
 import os
 import shutil
 import sys
 import tempfile
+import unittest
 
 import pytest
 
@@ -10,9 +12,9 @@ from dev import measured
 from tests.support import said
 from tests.support.time_limit import limited
 
-# What each file took, so that those that take longest begin first, and one that nobody has measured with them.
+# What each file took, so that those that take longest begin first, and those that nobody has measured.
 MEASURED = os.path.join(os.path.dirname(os.path.abspath(__file__)), "tests", "seconds.txt")
-# A test has so many seconds, in case that it waits for what never comes; a class may have others, with the reason: LONGEST.
+# The seconds of a test, in case that it waits for what never comes; a class may have others, and says why: LONGEST.
 SECONDS = float(os.environ.get("TEST_SECONDS", 120))
 
 
@@ -38,23 +40,25 @@ def pytest_xdist_make_scheduler(config, log):
 
     class Files(LoadFileScheduling):
         def remove_node(self, node):
-            """A test in which its worker has ended is not run again: else that would end one worker after the other."""
-            for tests in self.assigned_work[node].values():
-                for test in [test for test, is_done in tests.items() if not is_done][:1]:
-                    tests[test] = True
-                    super().remove_node(node)
-                    return test
-            return super().remove_node(node)
+            """A test in which its worker has ended is not run again: else it would end one worker after the other."""
+            begun = self.assigned_work[node].values()
+            left = [(tests, test) for tests in begun for test, is_done in tests.items() if not is_done]
+            for tests, test in left[:1]:
+                tests[test] = True
+            super().remove_node(node)
+            return left[0][1] if left else None
 
     return Files(config, log)
 
 
 @pytest.hookimpl(hookwrapper=True)
 def pytest_runtest_protocol(item):
-    """What a test that takes too long has begun is ended, again and again until the test has: so none hangs the others."""
+    """What a test has begun that takes too long is ended, again and again until the test has: so none hangs others."""
     with limited(getattr(item.cls, "LONGEST", SECONDS)):
         yield
 
 
 def pytest_sessionfinish():
     said.keep()
+    # pytest does what tests have asked for at the end of a class, but not of a module
+    unittest.doModuleCleanups()

@@ -1,11 +1,10 @@
 """Runs every test of the repository. The last line counts those that passed, failed and were skipped, since something that they
 need is not on this machine; why each was skipped stands above it.
 
-First the gate, `rt ci`: it proves every crate, from nothing unless the same files
-were proved on this machine before, and runs the programs as two compilers build
-them. Beside it, over the libraries that it builds: the static library, and wrong bodies, by the functions that have to be refused. Then the tests in Python under tests/ and bench/,
-on the programs that it built. Where the gate passes, `./registryd` runs the proved
-program from then on.
+First the gate, `rt ci`: it proves every crate, from nothing unless the same files were proved on this machine before,
+and runs the programs as two compilers build them. Beside it, over the libraries that it builds: the static library, and
+wrong bodies, by the functions that have to be refused. Then the tests in Python under tests/ and bench/, on the programs
+that it built. Where the gate passes, `./registryd` runs the proved program from then on.
 
     ./test                   all of it
     ./test --quick           most of the Python tests alone, on programs that are compiled

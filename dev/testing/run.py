@@ -1,8 +1,8 @@
-"""Runs the tests in Python by pytest, in several processes: those that ask for no program under test while the programs are still
-compiled, then the others, and last the file that judges what was said in all of them.
+"""Runs the tests in Python by pytest, in several processes: those that ask for no program under test while the programs
+are still compiled, then the others, and last the file that judges what was said in all of them.
 
-Files that ask for no program stand in a folder of their own. They find none, so that a file in the wrong folder fails. A file that
-has the mark `not_quick` is left out of a quick run, which says so."""
+Files that ask for no program stand in a folder of their own. They find none, so that a file in the wrong folder fails.
+A file that has the mark `not_quick` is left out of a quick run, which says so."""
 import contextlib
 import os
 import re
@@ -21,6 +21,7 @@ from dev.testing.counts import Counts
 PYTEST = ("/usr/bin/python3", "-m", "pytest", "-q", "--continue-on-collection-errors")
 ASK_NONE, ASK = ("tests/in_process",), ("tests/program", "tests/servers", "bench/tests")
 LAST = "tests/program/test_written_lines.py"
+NO_PROGRAM = {name.upper(): "none" for name in TESTED}
 # What each file took, so that those that take longest begin first (`conftest.py`).
 MEASURED = os.path.join(TOP, "tests", "seconds.txt")
 # So many files run at once for each processor: they wait most of the time.
@@ -43,8 +44,9 @@ class Session:
         given = {**os.environ, "SAID": str(folder / "said"), **variables}
         # tests begin hundreds of Pythons, each of which would compile the same modules anew
         given.pop("PYTHONDONTWRITEBYTECODE", None)
-        self.running = subprocess.Popen(["nice", "-n", str(gives_way), *PYTEST, *side_by_side, f"--junitxml={self.report}", *words],
-                                        cwd=TOP, env=given, stdin=subprocess.DEVNULL, stdout=out, stderr=subprocess.STDOUT if out else None)
+        command = ["nice", "-n", str(gives_way), *PYTEST, *side_by_side, f"--junitxml={self.report}", *words]
+        self.running = subprocess.Popen(command, cwd=TOP, env=given, stdin=subprocess.DEVNULL, stdout=out,
+                                        stderr=subprocess.STDOUT if out else None)
 
     def __enter__(self):
         return self
@@ -87,13 +89,14 @@ def read(report):
 
 def files():
     """The files of tests, but for the last."""
-    found = [str(path.relative_to(TOP)) for folder in (*ASK_NONE, *ASK) for path in sorted(Path(TOP, folder).glob("test_*.py"))]
-    return [path for path in found if path != LAST]
+    found = [path for folder in (*ASK_NONE, *ASK) for path in sorted(Path(TOP, folder).glob("test_*.py"))]
+    return [path for path in (str(it.relative_to(TOP)) for it in found) if path != LAST]
 
 
 def left_out(paths):
     """Which of these files a quick run leaves out, each with the reason."""
-    return {path: found[1] for path in paths if (found := NOT_QUICK.search(Path(TOP, path).read_text(encoding="utf-8")))}
+    marks = {path: NOT_QUICK.search(Path(TOP, path).read_text(encoding="utf-8")) for path in paths}
+    return {path: found[1] for path, found in marks.items() if found}
 
 
 def told_of(left, number):
@@ -113,8 +116,8 @@ def run_all(processors, builds=NOTHING, is_quick=False):
         quick = ["-m", "not not_quick"] if is_quick else []
         wrote = held.enter_context(open(folder / "wrote", "w+", encoding="utf-8", errors="replace"))
         # none of them asks for a program
-        none = held.enter_context(Session(folder, [*ASK_NONE, *quick], max(1, AT_ONCE * processors // 2), GIVE_WAY, wrote,
-                                          **{name.upper(): "none" for name in TESTED}))
+        beside = max(1, AT_ONCE * processors // 2)
+        none = held.enter_context(Session(folder, [*ASK_NONE, *quick], beside, GIVE_WAY, wrote, **NO_PROGRAM))
         while builds.left():
             time.sleep(LOOK)
         came, took = {}, {}
@@ -138,15 +141,15 @@ def run_all(processors, builds=NOTHING, is_quick=False):
 
 
 def once_more(folder, came):
-    """Runs the files that failed once more, one after another, and puts what came of them then in its place; answers lines that name
-    those that passed."""
+    """Runs the files that failed once more, one after another, and puts what came of them then in its place; answers
+    lines that name those that passed."""
     failed = [path for path, counts in came.items() if counts.failed]
     told = []
     for path in failed if len(failed) <= MOST_AGAIN else []:
         if not Path(TOP, path).is_file():
             continue
         print(f"{path} failed, so it is run again, alone:", flush=True)
-        given = {name.upper(): "none" for name in TESTED} if path.startswith(ASK_NONE) else {}
+        given = NO_PROGRAM if path.startswith(ASK_NONE) else {}
         with Session(folder, [path], **given) as again:
             came[path] = sum(again.ended()[0].values(), Counts())
         if came[path].passed and not came[path].failed:

@@ -23,13 +23,8 @@ class Case(unittest.TestCase):
         open(os.environ["NOTE"], "w").close()
 """
 # A test that takes long.
-LONG = """import unittest
-import pytest
-pytestmark = pytest.mark.not_quick("it is long")
-class Case(unittest.TestCase):
-    def test_d(self):
-        pass
-"""
+LONG = 'import pytest, unittest\npytestmark = pytest.mark.not_quick("it is long")\n' \
+       "class Case(unittest.TestCase):\n    def test_d(self):\n        pass\n"
 LAST = "import unittest\nclass Case(unittest.TestCase):\n    def test_b(self):\n        pass\n"
 
 

@@ -1,8 +1,8 @@
 """`docs/lines.schema.json` against each line that these tests send and are answered. A request line is of the schema exactly
 where it is not answered 19, but for what a schema can't tell; and each reply and each line of a journal is of it.
 
-Each line of the tables is judged, and of the other sessions that `said.py` has noted one of each shape. By its name this test
-comes last, so that they are noted by then; alone it judges the tables."""
+Each line of the tables is judged, and of the other sessions that `said.py` has noted one of each shape. This file runs last, so that
+they are noted by then; alone it judges the tables."""
 import json
 import unittest
 

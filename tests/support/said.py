@@ -1,8 +1,8 @@
-"""What the sessions and races of the tests said: `program.run` notes here what it sent and was answered, and `test_written_lines.py`,
-the last of all tests, judges it. Where several processes run tests, each keeps what it has noted in the folder that the environment
-names (`SAID`), and the last test takes it from there. Of lines that differ in their numbers alone, or in how
-many numbers stand in a row, one is kept; of request lines, one for each refusal that such a line was answered with, and one
-where there was none."""
+"""What the sessions and races of the tests said: `program.run` notes here what it sent and was answered, and
+`test_written_lines.py`, the last of all tests, judges it. Where several processes run tests, each keeps what it has
+noted in the folder that the environment names (`SAID`), and the last test takes it from there. Of lines that differ in
+their numbers alone, or in how many numbers stand in a row, one is kept; of request lines, one for each refusal that
+such a line was answered with, and one where there was none."""
 import os
 import pickle
 import re
